@@ -1,5 +1,6 @@
 -- Entries of several indexes, and the slices that answer by them.
-use Rattle.std.proofs.Common.{◌≡◌, ℕ, zero, suc, true, false, ◌||◌, ◌&&◌, not, eqb, List, [], ◌∷◌, ◌++◌, length, take, drop, get_or, refl, sym, ap, ◌∙◌, subst, inl, inr, arith, Some, slice_get}
+use Rattle.std.proofs.Common.{◌≡◌, ◌↔◌, ℕ, zero, suc, ◌<◌, true, false, ◌||◌, ◌&&◌, not, eqb, List, [], ◌∷◌, ◌++◌, length, take, drop, get_or, refl, sym, ap, ◌∙◌}
+use Rattle.std.proofs.Common.{subst, inl, inr, arith, Some, slice_get}
 use Rattle.std.specs.List.{AllByRecursion, AllZip, Contains, list_any}
 use Rattle.std.specs.Str.{bytes_eq}
 use Rattle.std.specs.FinSet as set
@@ -7,6 +8,7 @@ use Rattle.std.proofs.lemmas.Bool.{and_from, and_parts, cases_Bool, false_from_n
 use Rattle.std.proofs.lemmas.List.{get_or_default}
 use Rattle.std.proofs.lemmas.Option.{get_or_from_slice_get, slice_get-get_or, slice_get_within}
 use Rattle.std.proofs.lemmas.Slice.Eq.{bytes_eq-Decides}
+use Rattle.std.proofs.lemmas.Slice.Zip.{AllZip-long}
 use Rattle.sha2.specs.Sha256.{sha256}
 use Rattle.macho_image.specs.Contents.{is_dsym_image}
 use Rattle.join_core.specs.Listing.{listing}
@@ -25,35 +27,21 @@ use Rattle.archive_records.proofs.Contents.{members_listed}
 use Rattle.table_index.specs.Text.{IsIndexText}
 use Rattle.indexed_answers.specs.Among.{EntryAt, IsAmong, all_of, answers_among, covers, has_live_companion, lives_under}
 use Rattle.indexed_answers.specs.Told.{admits_under, is_companion}
-use Rattle.index_laws.specs.Indexes.{AreIndexes, IsIndexFile, all_joined}
+use Rattle.index_laws.specs.Indexes.{AreIndexes, IsHeld, IsIndexFile, all_joined}
 use Rattle.index_laws.proofs.Joined.{all_content, any_of, free_if_live, has_any, live_in_all, there_if_live, to_any}
-use Rattle.index_laws.proofs.OfContent.{AreEntriesOf, IsAt, of_index, there as there_at}
-use Rattle.index_laws.proofs.Records.{IsEntryOf, IsEntryOfSlice, admits_by_tag, front_of_retirement, key_in, of_slice, rest_of, retires_by_tag, tag_of}
+use Rattle.index_laws.proofs.OfContent.{AreEntriesOf, IsAt, of_index, there as there_at, IsEntryOf, IsEntryOfSlice, admits_by_tag, front_of_retirement, key_in}
+use Rattle.index_laws.proofs.OfContent.{of_slice, rest_of, retires_by_tag, tag_of}
 
 -- ---- an entry and its key
 
-module _ (text slice e : List ℕ) (is : IsEntryOfSlice text slice e) (key : SliceKey) (is_key : IsKey key) where
-  key_there : take (length (key_bytes key)) (drop 1 e) ≡ key_bytes (key_of slice)
-  key_there =
-      ap (λ (n : ℕ). take n (drop 1 e)) (length_key_bytes key is_key.uuid)
-      ∙ key_in e (key_bytes (key_of slice)) (sha256 slice) (length-key_of slice is.valid) is.prefix
-
-  pub under_key : is_under (key_bytes key) e ≡ true → key_of slice ≡ key
-  unfolding is_under
-  under_key h =
-      let same : key_bytes key ≡ take (length (key_bytes key)) (drop 1 e) = (bytes_eq-Decides (key_bytes key) (take (length (key_bytes key)) (drop 1 e))).0 h in
-      sym (same_key key (key_of slice) is_key is.is_key (same ∙ key_there))
-
-  pub is_under_key : key_of slice ≡ key → is_under (key_bytes key) e ≡ true
-  unfolding is_under
-  is_under_key under =
-      (bytes_eq-Decides (key_bytes key) (take (length (key_bytes key)) (drop 1 e))).1 (ap key_bytes (sym under) ∙ sym key_there)
-
--- the record of a retirement, of what stands behind its tag
-retirement_again : (r pair : List ℕ) → Retires r → drop 1 r ≡ pair → r ≡ 1 ∷ pair
-retirement_again r pair b rest =
-    let behind : key_bytes b.key ++ b.digest ≡ pair = sym (ap (drop 1) b.is) ∙ rest in
-    b.is ∙ ap (λ (l : List ℕ). 1 ∷ l) behind
+-- an entry is under a key if its slice is
+under_key : (text slice e : List ℕ) → IsEntryOfSlice text slice e → (key : SliceKey) → IsKey key → (is_under (key_bytes key) e ≡ true) ↔ (key_of slice ≡ key)
+unfolding is_under
+under_key text slice e is key is_key =
+    let front : take (length (key_bytes key)) (drop 1 e) ≡ key_bytes (key_of slice) =
+    ap (λ (n : ℕ). take n (drop 1 e)) (length_key_bytes key is_key.uuid) ∙ key_in e (key_bytes (key_of slice)) (sha256 slice) (length-key_of slice is.valid) is.prefix in
+    let same = bytes_eq-Decides (key_bytes key) (take (length (key_bytes key)) (drop 1 e)) in
+    (λ h. sym (same_key key (key_of slice) is_key is.is_key (same.0 h ∙ front)), λ under. same.1 (ap key_bytes (sym under) ∙ sym front))
 
 -- ---- contents, texts and entries at one place
 
@@ -64,43 +52,17 @@ pub record IsFileAt (os : List Operations) (texts : List (List ℕ)) (indexes : 
   pub index_at : slice_get indexes i ≡ Some entries
   pub are : AreEntriesOf o text entries
 
-file_at : (os : List Operations) (texts : List (List ℕ)) (indexes : List (List (List ℕ))) (i : ℕ) (entries : List (List ℕ)) → AllZip IsIndexFile os texts → AllZip IsIndexText texts indexes → slice_get indexes i ≡ Some entries
-    → (o : Operations) × (text : List ℕ) × IsFileAt os texts indexes i o text entries
-file_at os texts [] i entries a b h = absurd cc
-file_at os [] (es ∷ indexes) i entries a b h = absurd b
-file_at [] (t ∷ texts) (es ∷ indexes) i entries a b h = absurd a
-file_at (o ∷ os) (t ∷ texts) (es ∷ indexes) zero entries a b h =
-    let same : es ≡ entries = cc in
-    (o, t, record { content_at = refl; text_at = refl; index_at = h; are = subst (λ (xs : List (List ℕ)). AreEntriesOf o t xs) same (of_index o t a.0 es b.0) })
-file_at (o ∷ os) (t ∷ texts) (es ∷ indexes) (suc i) entries a b h =
-    let f = file_at os texts indexes i entries a.1 b.1 h in
-    (f.0, f.1, record { content_at = f.2.content_at; text_at = f.2.text_at; index_at = f.2.index_at; are = f.2.are })
-
--- the place of a content
-record IsPlaceOf (os : List Operations) (texts : List (List ℕ)) (indexes : List (List (List ℕ))) (o : Operations) : Type 0 where
-  i : ℕ
-  text : List ℕ
-  entries : List (List ℕ)
-  file : IsFileAt os texts indexes i o text entries
-
-place_of : (os : List Operations) (texts : List (List ℕ)) (indexes : List (List (List ℕ))) (o : Operations) → AllZip IsIndexFile os texts → AllZip IsIndexText texts indexes → Contains os o → IsPlaceOf os texts indexes o
-place_of [] texts indexes o a b c = absurd (omega (arith, c.1))
-place_of (x ∷ os) [] indexes o a b c = absurd a
-place_of (x ∷ os) (t ∷ texts) [] o a b c = absurd b
-place_of (x ∷ os) (t ∷ texts) (es ∷ indexes) o a b (zero, lt, e) = record {
-  i = 0;
-  text = t;
-  entries = es;
-  file = record { content_at = ap Some e; text_at = refl; index_at = refl; are = subst (λ z. AreEntriesOf z t es) e (of_index x t a.0 es b.0) };
-}
-place_of (x ∷ os) (t ∷ texts) (es ∷ indexes) o a b (suc k, lt, e) =
-    let p = place_of os texts indexes o a.1 b.1 (k, omega (arith, lt), e) in
-    record {
-      i = suc p.i;
-      text = p.text;
-      entries = p.entries;
-      file = record { content_at = p.file.content_at; text_at = p.file.text_at; index_at = p.file.index_at; are = p.file.are };
-    }
+file_at : (os : List Operations) (texts : List (List ℕ)) (indexes : List (List (List ℕ))) (i : ℕ) → AllZip IsIndexFile os texts
+    → AllZip IsIndexText texts indexes → i < length os
+    → (o : Operations) × (text : List ℕ) × (entries : List (List ℕ)) × IsFileAt os texts indexes i o text entries
+file_at [] texts indexes i a b lt = absurd (omega (arith, lt))
+file_at (o ∷ os) [] indexes i a b lt = absurd a
+file_at (o ∷ os) (t ∷ texts) [] i a b lt = absurd b
+file_at (o ∷ os) (t ∷ texts) (es ∷ indexes) zero a b lt =
+    (o, t, es, record { content_at = refl; text_at = refl; index_at = refl; are = of_index o t a.0 es b.0 })
+file_at (o ∷ os) (t ∷ texts) (es ∷ indexes) (suc i) a b lt =
+    let f = file_at os texts indexes i a.1 b.1 (omega (arith, lt)) in
+    (f.0, f.1, f.2, record { content_at = f.3.content_at; text_at = f.3.text_at; index_at = f.3.index_at; are = f.3.are })
 
 contents_of : (os : List Operations) (texts : List (List ℕ)) → AllZip IsIndexFile os texts → AllByRecursion IsContent os
 contents_of [] texts a = tt
@@ -108,7 +70,7 @@ contents_of (o ∷ os) [] a = absurd a
 contents_of (o ∷ os) (t ∷ texts) a = (a.0.content, contents_of os texts a.1)
 
 -- what stands at a place is among all
-listed_at : {X : Type 0} (xs : List X) (i : ℕ) (x : X) → slice_get xs i ≡ Some x → Contains xs x
+pub listed_at : {X : Type 0} (xs : List X) (i : ℕ) (x : X) → slice_get xs i ≡ Some x → Contains xs x
 listed_at xs i x h = (i, slice_get_within xs i x h, get_or_from_slice_get xs i x x h)
 
 at_list : {X : Type 0} (xs : List X) (x : X) (c : Contains xs x) → slice_get xs c.0 ≡ Some x
@@ -147,27 +109,14 @@ module _ (os : List Operations) (texts : List (List ℕ)) (indexes : List (List 
     pub has_held : has_any os r ≡ true
     has_held = to_any (λ o. set.contains o r) os of.o (listed_at os x.input of.o of.file.content_at) held
 
+  pub is_held : (x : EntryAt) (slice : List ℕ) → IsOfSlice os texts indexes x slice → IsHeld os slice
+  is_held x slice of = (of.of.o, listed_at os x.input of.of.o of.of.file.content_at, held x (admission_record slice) of.of)
+
   pub of_record : (x : EntryAt) (slice : List ℕ) → IsValid slice → IsRecordOf os texts indexes x (admission_record slice) → IsOfSlice os texts indexes x slice
   of_record x slice valid of = record {
     of = of;
     is = of_slice of.text slice x.entry valid (of.file.are.slices slice (held x (admission_record slice) of)) (entry_of x (admission_record slice) of);
   }
-
-  pub slice_of_entry : (x : EntryAt) (r : List ℕ) → IsRecordOf os texts indexes x r → is_admission x.entry ≡ true → (slice : List ℕ) × IsOfSlice os texts indexes x slice
-  slice_of_entry x r of h =
-      let a : Admits r = admits_by_tag of.text r x.entry (entry_of x r of) (is_record x r of) h in (
-        a.slice,
-        of_record x a.slice a.valid (record {
-          o = of.o;
-          text = of.text;
-          entries = of.entries;
-          place = of.place;
-          file = of.file;
-          entry_at = of.entry_at;
-          is = of.is;
-          record_is = of.record_is ∙ a.is;
-        }),
-      )
 
   -- an entry is among all
   to_all : (x : EntryAt) → IsAmong indexes x → Contains (all_of indexes) x.entry
@@ -183,42 +132,36 @@ module _ (os : List Operations) (texts : List (List ℕ)) (indexes : List (List 
     -- each entry has its record
     pub find : (x : EntryAt) → IsAmong indexes x → (r : List ℕ) × IsRecordOf os texts indexes x r
     find x among =
-        let f = file_at os texts indexes x.input among.entries all.files all.read among.index_is in
-        let a = f.2.are.record_of x.entry (listed_at among.entries x.number x.entry among.entry_is) in (
+        let lt : x.input < length indexes = slice_get_within indexes x.input among.entries among.index_is in
+        let long : length indexes ≡ length os = AllZip-long IsIndexText texts indexes all.read ∙ AllZip-long IsIndexFile os texts all.files in
+        let f = file_at os texts indexes x.input all.files all.read (omega (arith, lt, long)) in
+        let same : among.entries ≡ f.2 = cc (among.index_is, f.3.index_at) in
+        let there : slice_get f.2 x.number ≡ Some x.entry = subst (λ (es : List (List ℕ)). slice_get es x.number ≡ Some x.entry) same among.entry_is in
+        let a = f.3.are.record_of x.entry (listed_at f.2 x.number x.entry there) in (
           get_or (listing f.0) a.0 [],
-          record {
-            o = f.0;
-            text = f.1;
-            entries = among.entries;
-            place = a.0;
-            file = f.2;
-            entry_at = among.entry_is;
-            is = a.1;
-            record_is = refl;
-          },
+          record { o = f.0; text = f.1; entries = f.2; place = a.0; file = f.3; entry_at = there; is = a.1; record_is = refl },
         )
+
+    pub slice_of_entry : (x : EntryAt) → IsAmong indexes x → is_admission x.entry ≡ true → (slice : List ℕ) × IsOfSlice os texts indexes x slice
+    slice_of_entry x among h =
+        let r = find x among in
+        let a : Admits r.0 = admits_by_tag r.1.text r.0 x.entry (entry_of x r.0 r.1) (is_record x r.0 r.1) h in
+        (a.slice, of_record x a.slice a.valid (subst (IsRecordOf os texts indexes x) a.is r.1))
 
     -- and each record an entry
     pub entry_for : (r : List ℕ) → has_any os r ≡ true → (x : EntryAt) × IsAmong indexes x × IsRecordOf os texts indexes x r
     entry_for r h =
-        let f = any_of (λ o. set.contains o r) os h in
-        let p = place_of os texts indexes f.0 all.files all.read f.1 in
-        let c = (members_listed f.0 r).1 f.2 in
-        let e = p.file.are.entry_of c.0 c.1 in
-        let x : EntryAt = record { input = p.i; number = e.1.0; entry = e.0 } in
-        let there : slice_get p.entries e.1.0 ≡ Some e.0 = at_list p.entries e.0 e.1 in (
+        let g = any_of (λ o. set.contains o r) os h in
+        let f = file_at os texts indexes g.1.0 all.files all.read g.1.1 in
+        let same : g.0 ≡ f.0 = cc (at_list os g.0 g.1, f.3.content_at) in
+        let c = (members_listed f.0 r).1 (subst (λ o. set.contains o r ≡ true) same g.2) in
+        let e = f.3.are.entry_of c.0 c.1 in
+        let x : EntryAt = record { input = g.1.0; number = e.1.0; entry = e.0 } in
+        let there : slice_get f.2 e.1.0 ≡ Some e.0 = at_list f.2 e.0 e.1 in
+        let its : get_or (listing f.0) c.0 [] ≡ r = get_or_default (listing f.0) c.0 [] r c.1 ∙ c.2 in (
           x,
-          record { entries = p.entries; index_is = p.file.index_at; entry_is = there },
-          record {
-            o = f.0;
-            text = p.text;
-            entries = p.entries;
-            place = c.0;
-            file = p.file;
-            entry_at = there;
-            is = e.2;
-            record_is = get_or_default (listing f.0) c.0 [] r c.1 ∙ c.2;
-          },
+          record { entries = f.2; index_is = f.3.index_at; entry_is = there },
+          record { o = f.0; text = f.1; entries = f.2; place = c.0; file = f.3; entry_at = there; is = e.2; record_is = its },
         )
 
     content : IsContent (all_joined os)
@@ -239,7 +182,7 @@ module _ (os : List Operations) (texts : List (List ℕ)) (indexes : List (List 
         let here : take 56 (drop 1 f) ≡ drop 1 s.0 = rest_of f s.0 (front_of_retirement s.1.text s.0 f prefix b) in
         let there : take 56 (drop 1 e) ≡ pair = rest_of e (2 ∷ pair) is.prefix in
         let rest : drop 1 s.0 ≡ pair = cc (here, there, same) in
-        let whole : s.0 ≡ 1 ∷ pair = retirement_again s.0 pair b rest in
+        let whole : s.0 ≡ 1 ∷ pair = b.is ∙ ap (λ (l : List ℕ). 1 ∷ l) (sym (ap (drop 1) b.is) ∙ rest) in
         ap (has_any os) (sym whole) ∙ has_held y.0 s.0 s.1
 
     covered_by : (text slice e : List ℕ) → IsEntryOfSlice text slice e → has_any os (retirement_record (key_of slice) (sha256 slice)) ≡ true → list_any (covers e) (all_of indexes) ≡ true
@@ -264,7 +207,7 @@ module _ (os : List Operations) (texts : List (List ℕ)) (indexes : List (List 
       pub lives_if : (x : EntryAt) (slice : List ℕ) → IsOfSlice os texts indexes x slice → lives_under prefix every x.entry ≡ true → IsLive (all_joined os) key slice
       lives_if x slice of h =
           let parts = and_parts (admits_under prefix x.entry) (not (list_any (covers x.entry) every)) h in
-          let under : key_of slice ≡ key = under_key of.of.text slice x.entry of.is key is_key (and_parts (is_admission x.entry) (is_under prefix x.entry) parts.0).1 in
+          let under : key_of slice ≡ key = (under_key of.of.text slice x.entry of.is key is_key).0 (and_parts (is_admission x.entry) (is_under prefix x.entry) parts.0).1 in
           let none : list_any (covers x.entry) every ≡ false = not-true (list_any (covers x.entry) every) parts.1 in
           let free : has_any os (retirement_record (key_of slice) (sha256 slice)) ≡ false = false_from_ne_true (has_any os (retirement_record (key_of slice) (sha256 slice))) (λ there.
           true≢false (sym (covered_by of.of.text slice x.entry of.is there) ∙ none)) in
@@ -274,7 +217,7 @@ module _ (os : List Operations) (texts : List (List ℕ)) (indexes : List (List 
       pub lives_then : (x : EntryAt) (slice : List ℕ) → IsOfSlice os texts indexes x slice → IsLive (all_joined os) key slice → lives_under prefix every x.entry ≡ true
       lives_then x slice of live =
           let tag : is_admission x.entry ≡ true = ap (λ (n : ℕ). eqb n 2) (tag_of x.entry (2 ∷ (key_bytes (key_of slice) ++ sha256 slice)) of.is.prefix) in
-          let under : is_under prefix x.entry ≡ true = is_under_key of.of.text slice x.entry of.is key is_key live.under in
+          let under : is_under prefix x.entry ≡ true = (under_key of.of.text slice x.entry of.is key is_key).1 live.under in
           let free : has_any os (retirement_record (key_of slice) (sha256 slice)) ≡ false = ap (λ k. has_any os (retirement_record k (sha256 slice))) live.under ∙ free_if_live os key slice live in
           let none : list_any (covers x.entry) every ≡ false = false_from_ne_true (list_any (covers x.entry) every) (λ there.
           let f = any_of (covers x.entry) every there in
@@ -297,8 +240,7 @@ module _ (os : List Operations) (texts : List (List ℕ)) (indexes : List (List 
           let f = any_of (λ (e : List ℕ). lives_under prefix every e && is_companion e) every h in
           let x = from_all f.0 f.1 in
           let parts = and_parts (lives_under prefix every x.0.entry) (is_companion x.0.entry) (ap (λ (e : List ℕ). lives_under prefix every e && is_companion e) x.2 ∙ f.2) in
-          let r = find x.0 x.1 in
-          let s = slice_of_entry x.0 r.0 r.1 (admission_if x.0 parts.0) in
+          let s = slice_of_entry x.0 x.1 (admission_if x.0 parts.0) in
           (s.0, lives_if x.0 s.0 s.1 parts.0, sym s.1.is.kind ∙ parts.1)
 
       companion_then : (slice : List ℕ) → IsLive (all_joined os) key slice → is_dsym_image slice ≡ true → has_live_companion prefix every ≡ true

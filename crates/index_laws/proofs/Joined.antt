@@ -6,7 +6,8 @@ use Rattle.std.specs.Ordering.{nat_cmp}
 use Rattle.std.specs.Cmp.Lexicographic.{nat_list_cmp_total, slice_cmp}
 use Rattle.std.specs.FinSet as set
 use Rattle.std.specs.FinSet.{contains, contains-empty, contains-union, same_set, union}
-use Rattle.std.proofs.lemmas.Bool.{and_from, and_left, and_parts, not_from_false, or_cases, or_left, or_right}
+use Rattle.std.proofs.lemmas.List.Folds.{list_any_at}
+use Rattle.std.proofs.lemmas.Bool.{and_from, and_left, and_parts, not_from_false, or_cases}
 use Rattle.sha2.specs.Sha256.{sha256}
 use Rattle.archive_core.specs.Content.{IsContent, IsLive, IsMade, Operations, covering, is_admission, joined}
 use Rattle.archive_core.specs.Record.{admission_record, retirement_record}
@@ -14,8 +15,8 @@ use Rattle.archive_core.specs.Valid.{IsValid, key_of}
 use Rattle.archive_core.specs.declared.keys.SliceKey.{SliceKey}
 use Rattle.archive_core.proofs.Entries.{covering_admission}
 use Rattle.archive_core.proofs.Made.{bytes_same, contains_made, joined_content, kept, made_again, made_empty}
-use Rattle.archive_core.proofs.Members.{in_cons, in_front, in_rest}
-use Rattle.index_laws.specs.Indexes.{all_joined}
+use Rattle.archive_core.proofs.Members.{in_front, in_rest}
+use Rattle.index_laws.specs.Indexes.{DigestsTell, all_joined}
 
 -- ---- what passes a test
 
@@ -27,11 +28,7 @@ any_of p (x ∷ xs) h = elim (or_cases (p x) (list_any p xs) h) [
 ]
 
 pub to_any : {X : Type 0} (p : X → Bool) (xs : List X) (x : X) → Contains xs x → p x ≡ true → list_any p xs ≡ true
-to_any p [] x (k, lt, e) h = absurd (omega (arith, lt))
-to_any p (y ∷ xs) x c h = elim (in_cons y xs x c) [
-  | inl e ↦ or_left (p y) (list_any p xs) (ap p e ∙ h)
-  | inr there ↦ or_right (p y) (list_any p xs) (to_any p xs x there h)
-]
+to_any p xs x c h = list_any_at p xs c.0 x c.1 (ap p c.2 ∙ h)
 
 -- ---- members
 
@@ -80,14 +77,21 @@ joined_alone o made = same_set nat_list_cmp_total bytes_same (joined set.empty o
     ∙ sym (contains_made o r)
     ∙ ap (λ s. contains s r) made)
 
+-- and of it alone nothing is supposed of SHA-256
+pub tells_alone : (o : Operations) → DigestsTell (o ∷ [])
+tells_alone o several = absurd (omega (arith, several))
+
 -- ---- it is a content
 
 joined_contents : (z : Operations) (os : List Operations) → IsContent z → AllByRecursion IsContent os → IsContent (fold joined z os)
 joined_contents z [] is all = is
 joined_contents z (o ∷ os) is all = joined_contents (joined z o) os (joined_content z o is all.0) all.1
 
+pub empty_content : IsContent set.empty
+empty_content = record { itself = made_empty; records = λ r h. absurd (cc (contains-empty (slice_cmp nat_cmp) r, h)) }
+
 pub all_content : (os : List Operations) → AllByRecursion IsContent os → IsContent (all_joined os)
-all_content os all = joined_contents set.empty os (record { itself = made_empty; records = λ r h. absurd (cc (contains-empty (slice_cmp nat_cmp) r, h)) }) all
+all_content os all = joined_contents set.empty os empty_content all
 
 -- ---- what is live there
 

@@ -1,4 +1,3 @@
-pub mod Records
 pub mod OfContent
 pub mod Joined
 pub mod Among

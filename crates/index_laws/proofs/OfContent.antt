@@ -1,48 +1,153 @@
--- The entries of the index of a content: each is that of one of its records, and each record has one.
-use Rattle.std.proofs.Common.{◌≡◌, ◌↔◌, ℕ, zero, suc, ◌+◌, ◌<◌, ◌≤◌, ◌^◌, ◌⊎◌, true, List, [], ◌∷◌, ◌++◌, length, take, drop, get_or, sym, ap, ◌∙◌, subst, inl, inr, arith, length-append}
-use Rattle.std.specs.Int.{w64, from_be_bytes}
-use Rattle.std.specs.Cmp.{tied_itself}
-use Rattle.std.specs.Cmp.Lexicographic.{nat_list_cmp_total}
-use Rattle.std.specs.List.{AllZip, Contains, concat}
+-- An entry and its record: each entry of the index of a content is that of one of its records, and each record has one.
+use Rattle.std.proofs.Common.{◌≡◌, ℕ, ◌+◌, ◌<◌, ◌^◌, true, false, Bool, cond, eqb, List, ◌∷◌, ◌++◌, length, take, drop, get_or, refl, sym, ap, ◌∙◌, subst, inl}
+use Rattle.std.proofs.Common.{inr, arith, ◌↔◌, zero, suc, ◌≤◌, ◌⊎◌, [], length-append}
+use Rattle.std.specs.Int.{w64, to_be_bytes}
+use Rattle.std.specs.Ordering.{nat_cmp, ordering_then}
+use Rattle.std.specs.declared.cmp.Ordering.TheVariants.{Less, Equal}
+use Rattle.std.specs.Cmp.{tied_itself, nat_cmp_is}
+use Rattle.std.specs.Cmp.Lexicographic.{nat_list_cmp_total, slice_cmp}
+use Rattle.std.proofs.lemmas.Bool.{true≢false, cases_order}
+use Rattle.std.proofs.lemmas.List.{drop_at, drop-take, get_or-drop, get_or-take, take_at, take-take, get_or_default}
+use Rattle.sha2.specs.Sha256.{sha256}
+use Rattle.macho_image.specs.Contents.{is_dsym_image}
+use Rattle.macho_image.specs.Layout.{u32_le_at}
+use Rattle.macho_image.proofs.Told.{length-image, uuid_of-length}
+use Rattle.symbol_tables.specs.Steps.{AreBytes}
+use Rattle.archive_core.specs.Content.{is_admission, IsContent, Operations}
+use Rattle.archive_core.specs.Key.{IsKey, key_bytes}
+use Rattle.archive_core.specs.Record.{Admits, IsRecord, Retires, admission, admission_record, retirement_record}
+use Rattle.archive_core.specs.Summary.{entry}
+use Rattle.archive_core.specs.Valid.{IsValid, key_of}
+use Rattle.archive_core.proofs.Compare.{three_parts}
+use Rattle.archive_core.proofs.Digits.{cmp_eight}
+use Rattle.archive_core.proofs.Entries.{admission_entry, retirement_entry, slice_of}
+use Rattle.archive_core.proofs.Records.{length-admission_record, length-key_of}
+use Rattle.archive_index.specs.Entry.{kind_byte, length_in, offset_in, placed_entry}
+use Rattle.indexed_answers.specs.Contents.{IsSliceOf}
+use Rattle.indexed_answers.specs.Told.{is_companion}
+use Rattle.std.specs.List.{Contains, concat}
 use Rattle.std.specs.List.Sorted.{IsStrictlySortedBy}
 use Rattle.std.specs.FinSet as set
-use Rattle.std.specs.declared.cmp.Ordering.TheVariants.{Less}
-use Rattle.std.proofs.Math.Seq.{drop-cons}
-use Rattle.std.proofs.lemmas.Bool.{cases_order, true≢false}
-use Rattle.std.proofs.lemmas.List.{get_or_default, take-append-drop}
-use Rattle.std.proofs.lemmas.List.Elements.{AllZip-get_or, Contains-get_or}
+use Rattle.std.proofs.lemmas.List.Elements.{Contains-get_or}
 use Rattle.std.proofs.lemmas.Map.Keys.{Less-from_sorted}
-use Rattle.std.proofs.lemmas.Slice.Zip.{AllZip-long}
-use Rattle.sha2.specs.Sha256.{sha256}
 use Rattle.join_core.specs.Listing.{listing}
 use Rattle.join_core.proofs.Listing.{listed}
-use Rattle.checked_pages.specs.Pages.{AreStored, stored}
-use Rattle.symbol_tables.specs.Steps.{AreBytes}
-use Rattle.archive_core.specs.Content.{IsContent, Operations, is_admission}
-use Rattle.archive_core.specs.Key.{key_bytes}
-use Rattle.archive_core.specs.Record.{Admits, IsRecord, admission_record}
-use Rattle.archive_core.specs.Summary.{entry}
-use Rattle.archive_core.specs.Valid.{key_of}
-use Rattle.archive_core.proofs.Entries.{admission_entry}
+use Rattle.checked_pages.specs.Pages.{stored}
 use Rattle.archive_core.proofs.Members.{in_order}
-use Rattle.archive_core.proofs.Records.{length-key_of}
 use Rattle.archive_core.proofs.Made.{bytes_same}
 use Rattle.archive_records.proofs.Contents.{members_listed, order}
-use Rattle.archive_index.specs.Entry.{kind_byte, length_in, offset_in, placed_entry}
-use Rattle.archive_index.specs.Text.{index_magic}
-use Rattle.archive_index.proofs.Placed.{entry_long, kind_of, length_is}
+use Rattle.archive_index.proofs.Placed.{entry_long, kind_of}
 use Rattle.archive_index.proofs.Sums.{nonempty, text_length}
-use Rattle.table_index.specs.Entry.{claim_at}
-use Rattle.table_index.specs.Text.{IsIndexText, end_of}
-use Rattle.table_index.proofs.Entries.{byte_kept, number_kept}
+use Rattle.table_index.specs.Text.{IsIndexText}
+use Rattle.table_index.proofs.Entries.{byte_kept}
 use Rattle.table_index.proofs.Faults.{one_list}
-use Rattle.indexed_tables.specs.Content.{IsTableOf, claim_of, entries_of, table_entries, table_entry, tables_text}
+use Rattle.indexed_tables.specs.Content.{claim_of, entries_of, table_entries, table_entry, tables_text}
 use Rattle.indexed_tables.proofs.Accepted.{accepted}
-use Rattle.indexed_tables.proofs.Apart.{entry_offset, length-table_entries}
-use Rattle.indexed_tables.proofs.Contents.{entry_begins, entry_claim, stored_among, stored_long}
-use Rattle.indexed_answers.specs.Contents.{IsSliceOf}
+use Rattle.indexed_tables.proofs.Contents.{claim_stored, entry_at, entry_begins, entry_length, entry_offset, is_table, length-table_entries}
 use Rattle.index_laws.specs.Indexes.{IsIndexFile}
-use Rattle.index_laws.proofs.Records.{IsEntryOf, digest_of, record_again}
+
+-- ---- the key of a slice
+
+word : (slice : List ℕ) (at : ℕ) → AreBytes slice → u32_le_at slice at < 2 ^ 32
+unfolding u32_le_at
+word slice at bytes =
+    let one : (k : ℕ) → get_or (drop at slice) k 0 < 256 = λ k. subst (λ (n : ℕ). n < 256) (sym (get_or-drop at slice k 0)) (bytes (at + k)) in
+    omega (arith, one 0, one 1, one 2, one 3)
+
+pub is_key_of : (slice : List ℕ) → IsValid slice → AreBytes slice → IsKey (key_of slice)
+unfolding key_of
+is_key_of slice valid bytes = record {
+  uuid = uuid_of-length slice valid.image;
+  cputype = word slice 4 bytes;
+  cpusubtype = omega arith;
+}
+
+-- ---- records in their order
+
+-- of two slices under one key the record of the shorter one comes first
+pub shorter_first : (a b : List ℕ) → IsValid a → IsValid b → key_bytes (key_of a) ≡ key_bytes (key_of b) → length a < length b → slice_cmp nat_cmp (admission_record a) (admission_record b) ≡ Less
+unfolding admission
+shorter_first a b valid_a valid_b same shorter =
+    let heads : slice_cmp nat_cmp (2 ∷ key_bytes (key_of a)) (2 ∷ key_bytes (key_of b)) ≡ Equal =
+    ap (λ (k : List ℕ). slice_cmp nat_cmp (2 ∷ k) (2 ∷ key_bytes (key_of b))) same ∙ tied_itself nat_list_cmp_total (2 ∷ key_bytes (key_of b)) in
+    let short_a : length a < 2 ^ 32 = length-image a valid_a.image in
+    let short_b : length b < 2 ^ 32 = length-image b valid_b.image in
+    let lengths : slice_cmp nat_cmp (to_be_bytes w64 (length a)) (to_be_bytes w64 (length b)) ≡ Less =
+    sym (cmp_eight (length a) (length b) (omega arith) (omega arith)) ∙ sym (nat_cmp_is (length a) (length b) Less shorter) in
+    three_parts (2 ∷ key_bytes (key_of a)) (to_be_bytes w64 (length a)) a (2 ∷ key_bytes (key_of b)) (to_be_bytes w64 (length b)) b (omega (arith, length-key_of a valid_a, length-key_of b valid_b)) refl
+    ∙ (λ i. ordering_then (ordering_then (heads i) (lengths i)) (slice_cmp nat_cmp a b))
+
+-- ---- an entry
+
+-- an entry is that of a record: its first 57 bytes, its kind and its length; of an admission its table is stored where
+-- it says
+pub record IsEntryOf (text r e : List ℕ) : Type 0 where
+  pub prefix : take 57 e ≡ entry r
+  pub kind : get_or e 57 0 ≡ kind_byte r
+  pub length_is : length_in e ≡ length r
+  pub slice : is_admission r ≡ true → IsSliceOf text (drop 33 r) e
+
+-- an entry is that of a slice
+pub record IsEntryOfSlice (text slice e : List ℕ) : Type 0 where
+  pub valid : IsValid slice
+  pub is_key : IsKey (key_of slice)
+  pub prefix : take 57 e ≡ 2 ∷ (key_bytes (key_of slice) ++ sha256 slice)
+  pub kind : is_companion e ≡ is_dsym_image slice
+  pub length_is : length_in e ≡ 33 + length slice
+  pub is : IsSliceOf text slice e
+
+pub tag_of : (e prefix : List ℕ) → take 57 e ≡ prefix → get_or e 0 0 ≡ get_or prefix 0 0
+tag_of e prefix same = sym (get_or-take 57 e 0 0 (omega arith)) ∙ ap (λ (l : List ℕ). get_or l 0 0) same
+
+pub rest_of : (e prefix : List ℕ) → take 57 e ≡ prefix → take 56 (drop 1 e) ≡ drop 1 prefix
+rest_of e prefix same = sym (drop-take 1 56 e) ∙ ap (drop 1) same
+
+-- the SHA-256 in an entry
+pub digest_of : (e key digest : List ℕ) → length key ≡ 24 → take 57 e ≡ 2 ∷ (key ++ digest) → take 32 (drop 25 e) ≡ digest
+digest_of e key digest long same = sym (drop-take 25 32 e) ∙ ap (drop 25) same ∙ drop_at (2 ∷ key) digest 25 (omega (arith, long))
+
+-- the key in an entry
+pub key_in : (e key digest : List ℕ) → length key ≡ 24 → take 57 e ≡ 2 ∷ (key ++ digest) → take 24 (drop 1 e) ≡ key
+key_in e key digest long same =
+    sym (take-take 24 56 (drop 1 e) (omega arith)) ∙ ap (take 24) (rest_of e (2 ∷ (key ++ digest)) same) ∙ take_at key digest 24 long
+
+module _ (text r e : List ℕ) (of : IsEntryOf text r e) where
+  front_retired : (b : Retires r) → take 57 e ≡ retirement_record b.key b.digest
+  front_retired b = of.prefix ∙ ap entry b.is ∙ retirement_entry b.key b.digest
+
+  pub front_admitted : (a : Admits r) → take 57 e ≡ 2 ∷ (key_bytes (key_of a.slice) ++ sha256 a.slice)
+  front_admitted a = of.prefix ∙ ap entry a.is ∙ admission_entry a.slice a.valid
+
+  -- the tag of an entry tells what its record is
+  pub admits_by_tag : IsRecord r → is_admission e ≡ true → Admits r
+  admits_by_tag (inl a) h = a
+  admits_by_tag (inr b) h = absurd (true≢false (sym h ∙ ap (λ (n : ℕ). eqb n 2) (tag_of e (retirement_record b.key b.digest) (front_retired b))))
+
+  pub retires_by_tag : IsRecord r → eqb (get_or e 0 0) 1 ≡ true → Retires r
+  retires_by_tag (inl a) h = absurd (true≢false (sym h ∙ ap (λ (n : ℕ). eqb n 1) (tag_of e (2 ∷ (key_bytes (key_of a.slice) ++ sha256 a.slice)) (front_admitted a))))
+  retires_by_tag (inr b) h = b
+
+  pub front_of_retirement : (b : Retires r) → take 57 e ≡ r
+  front_of_retirement b = front_retired b ∙ sym b.is
+
+-- the entry of an admission's record is that of its slice
+kind_admitted : (b : Bool) (k : ℕ) → k ≡ cond b 1 0 → eqb k 1 ≡ b
+kind_admitted true k e = ap (λ (n : ℕ). eqb n 1) e
+kind_admitted false k e = ap (λ (n : ℕ). eqb n 1) e
+
+pub of_slice : (text slice e : List ℕ) → IsValid slice → AreBytes slice → IsEntryOf text (admission_record slice) e → IsEntryOfSlice text slice e
+of_slice text slice e valid bytes of = record {
+  valid = valid;
+  is_key = is_key_of slice valid bytes;
+  prefix = of.prefix ∙ admission_entry slice valid;
+  kind = kind_admitted (is_dsym_image slice) (get_or e 57 0) (of.kind ∙ ap (λ (s : List ℕ). cond (is_dsym_image s) 1 0) (slice_of slice valid));
+  length_is = of.length_is ∙ length-admission_record slice valid;
+  is = subst (λ (s : List ℕ). IsSliceOf text s e) (slice_of slice valid) (of.slice refl);
+}
+
+-- the slice of an admission, read back from its record
+pub record_again : (r : List ℕ) (a : Admits r) → drop 33 r ≡ a.slice
+record_again r a = ap (drop 33) a.is ∙ slice_of a.slice a.valid
 
 -- ---- where records stand
 
@@ -59,41 +164,16 @@ below_all rs zero = omega arith
 below_all [] (suc i) = omega arith
 below_all (r ∷ rs) (suc i) = omega (arith, below_all rs i, length-append r (concat (take i rs)), length-append r (concat rs))
 
--- the entry at a place
-entry_at : (offset at : ℕ) (rs ts : List (List ℕ)) (i : ℕ) → AllZip IsTableOf rs ts → i < length rs
-    → get_or (table_entries offset at rs ts) i [] ≡ table_entry (offset + length (concat (take i rs))) (at + length (tables_text (take i ts))) (get_or rs i []) (get_or ts i [])
-entry_at offset at [] ts i each lt = absurd (omega (arith, lt))
-entry_at offset at (r ∷ rs) [] i each lt = absurd each
-entry_at offset at (r ∷ rs) (t ∷ ts) zero each lt =
-    let here : offset ≡ offset + 0 = omega arith in
-    let there : at ≡ at + 0 = omega arith in
-    λ i. table_entry (here i) (there i) r t
-entry_at offset at (r ∷ rs) (t ∷ ts) (suc k) each lt =
-    let here : offset + length r + length (concat (take k rs)) ≡ offset + length (concat (r ∷ take k rs)) = omega (arith, length-append r (concat (take k rs))) in
-    let there : at + length (stored t) + length (tables_text (take k ts)) ≡ at + length (tables_text (t ∷ take k ts)) = omega (arith, length-append (stored t) (tables_text (take k ts))) in
-    entry_at (offset + length r) (at + length (stored t)) rs ts k each.1 (omega (arith, lt)) ∙ (λ i. table_entry (here i) (there i) (get_or rs k []) (get_or ts k []))
-
--- the tables before one, and it, and those after it
-split_at : (ts : List (List ℕ)) (i : ℕ) → i < length ts → ts ≡ take i ts ++ (get_or ts i [] ∷ drop (suc i) ts)
-split_at ts i lt = sym (take-append-drop i ts) ∙ ap (λ (us : List (List ℕ)). take i ts ++ us) (drop-cons ts i [] lt)
-
 -- ---- what an entry says
 
 kind_there : (place at : ℕ) (r t : List ℕ) → IsRecord r → get_or (table_entry place at r t) 57 0 ≡ kind_byte r
 unfolding table_entry
 kind_there place at r t is = byte_kept (placed_entry place r) (claim_of at r t) (entry_long place r is) 57 (omega arith) ∙ kind_of place r is
 
-length_there : (place at : ℕ) (r t : List ℕ) → IsRecord r → length_in (table_entry place at r t) ≡ length r
-unfolding table_entry
-length_there place at r t is = ap (from_be_bytes w64) (number_kept (placed_entry place r) (claim_of at r t) (entry_long place r is) 66 (omega arith)) ∙ length_is place r is
-
 -- a record that is tagged so is that of an admission
 admits_record : (r : List ℕ) → IsRecord r → is_admission r ≡ true → Admits r
 admits_record r (inl a) h = a
 admits_record r (inr b) h = absurd (true≢false (sym h ∙ ap is_admission b.is))
-
-admitted_entry : (r : List ℕ) (a : Admits r) → entry r ≡ 2 ∷ (key_bytes (key_of a.slice) ++ sha256 a.slice)
-admitted_entry r a = ap entry a.is ∙ admission_entry a.slice a.valid
 
 -- an entry at its place among those of a content
 pub record IsAt (o : Operations) (text e : List ℕ) (at : ℕ) : Type 0 where
@@ -153,9 +233,6 @@ module _ (o : Operations) (text : List ℕ) (file : IsIndexFile o text) where
   abbrev es : List (List ℕ)
   es = table_entries 8 8 rs ts
 
-  abbrev rest : List ℕ
-  rest = concat (entries_of rs ts) ++ end_of (entries_of rs ts)
-
   module _ (i : ℕ) (within : i < length rs) where
     abbrev r : List ℕ
     r = get_or rs i []
@@ -172,39 +249,29 @@ module _ (o : Operations) (text : List ℕ) (file : IsIndexFile o text) where
     is_record : IsRecord r
     is_record = record_there o file.content i within
 
-    is_table : IsTableOf r t
-    is_table = AllZip-get_or IsTableOf rs ts i [] [] file.index.each within
-
     near : before < 2 ^ 64
     near = omega (arith, below_all rs i, text_length o, file.archive_fits)
-
-    stored_at : AreStored text (claim_at at t) t
-    stored_at =
-        let split : ts ≡ take i ts ++ (t ∷ drop (suc i) ts) = split_at ts i (omega (arith, AllZip-long IsTableOf rs ts file.index.each, within)) in
-        subst (λ (x : List ℕ). AreStored x (claim_at at t) t)
-        (ap (λ (us : List (List ℕ)). index_magic ++ (tables_text us ++ rest)) (sym split) ∙ sym file.index.text_is)
-        (stored_among (take i ts) (drop (suc i) ts) t rest)
 
     slice_stored : Admits r → is_admission r ≡ true → IsSliceOf text (drop 33 r) (table_entry before at r t)
     slice_stored a admitted =
         let e : List ℕ = table_entry before at r t in
-        let fits : at < 2 ^ 64 = omega (arith, stored_at.within, file.index_fits) in
-        let small : length t < 2 ^ 64 = omega (arith, stored_at.within, file.index_fits, stored_long t) in
         let back : drop 33 r ≡ a.slice = record_again r a in
         let has : set.contains o (admission_record a.slice) ≡ true = ap (λ (x : List ℕ). set.contains o x) (sym a.is) ∙ there o file.content i within in
         record {
           bytes = subst AreBytes (sym back) (file.slices a.slice has);
-          digest_is = digest_of e (key_bytes (key_of a.slice)) (sha256 a.slice) (length-key_of a.slice a.valid) (entry_begins before at r t is_record ∙ admitted_entry r a) ∙ ap sha256 (sym back);
+          digest_is =
+              digest_of e (key_bytes (key_of a.slice)) (sha256 a.slice) (length-key_of a.slice a.valid)
+              (entry_begins before at r t is_record ∙ ap entry a.is ∙ admission_entry a.slice a.valid) ∙ ap sha256 (sym back);
           table = t;
-          is_table = is_table.admitted admitted;
-          stored = subst (λ c. AreStored text c t) (sym (entry_claim before at r t is_record admitted fits small)) stored_at;
+          is_table = (is_table o text file.index i within).admitted admitted;
+          stored = claim_stored o text file.index i within before is_record admitted file.index_fits;
         }
 
     entry_here : IsEntryOf text r (table_entry before at r t)
     entry_here = record {
       prefix = entry_begins before at r t is_record;
       kind = kind_there before at r t is_record;
-      length_is = length_there before at r t is_record;
+      length_is = entry_length before at r t is_record;
       slice = λ admitted. slice_stored (admits_record r is_record admitted) admitted;
     }
 

@@ -35,12 +35,10 @@ use Rattle.address_queries.specs.Sources.{AreFramesAt, AreShown, IsSourced}
 use Rattle.indexed_answers.specs.AmongTold.{AreFramesToldAt, AreShownAmong, IsAnswerAmong, IsToldOfAmong, IsToldRowAt}
 use Rattle.indexed_answers.specs.AmongAsked.{HasNoTable, IsDamagedAt, IsLinelessAt}
 use Rattle.indexed_answers.specs.Contents.{IsSliceOf}
-use Rattle.indexed_answers.specs.Told.{IsToldBy}
 use Rattle.index_laws.specs.Indexes.{AnswersUnder, AreIndexes, AreTiedSlices, DigestsTell, IsIndexFile, all_joined}
-use Rattle.index_laws.proofs.Among.{IsOfSlice, IsRecordOf, answers_if, answers_then, entry_if_live, find, held, slice_of_entry}
-use Rattle.index_laws.proofs.Joined.{joined_alone}
-use Rattle.index_laws.proofs.OfContent.{AreEntriesOf, IsAt, in_turn, one_place}
-use Rattle.index_laws.proofs.Records.{shorter_first}
+use Rattle.index_laws.proofs.Among.{IsOfSlice, IsRecordOf, answers_if, answers_then, entry_if_live, held, is_held, listed_at, slice_of_entry}
+use Rattle.index_laws.proofs.Joined.{joined_alone, tells_alone}
+use Rattle.index_laws.proofs.OfContent.{IsAt, in_turn, one_place, shorter_first}
 
 -- ---- lists place by place
 
@@ -60,70 +58,54 @@ zip_right R (x ∷ xs) (z ∷ ys) y all c = elim (in_cons z ys y c) [
   | inr there ↦ zip_right R xs ys y all.1 there
 ]
 
--- ---- what is told of slices
+-- what is related to lists that are related
+pub zip_through : {X Y Z : Type 0} (R : X → Y → Type 0) (S : X → Z → Type 0) (T : Y → Z → Type 0) (xs : List X) (ys : List Y) (zs : List Z)
+    → ((x : X) (y : Y) (z : Z) → R x y → S x z → T y z) → AllZip R xs ys → AllZip S xs zs → AllZip T ys zs
+zip_through R S T [] [] [] f all also = tt
+zip_through R S T [] (y ∷ ys) zs f all also = absurd all
+zip_through R S T (x ∷ xs) [] zs f all also = absurd all
+zip_through R S T (x ∷ xs) (y ∷ ys) (z ∷ zs) f all also = (f x y z all.0 also.0, zip_through R S T xs ys zs f all.1 also.1)
+zip_through R S T xs ys zs f all also = absurd also
 
-own_right : (text slice e : List ℕ) (asked : Where) (own : Option FoundRecord) → IsSliceOf text slice e → IsToldBy text (claim_in e) asked own → IsOwn slice asked own
-own_right text slice e asked own is told = told slice is.table is.bytes is.is_table (may_be text is.table (claim_in e) is.stored)
+pub zip_empty : {X Y : Type 0} (R : X → Y → Type 0) (xs : List X) (ys : List Y) → xs ≡ [] → AllZip R xs ys → ys ≡ []
+zip_empty R [] [] none all = refl
+zip_empty R [] (y ∷ ys) none all = absurd all
+zip_empty R (x ∷ xs) ys none all = cc (none)
 
 module _ (os : List Operations) (texts : List (List ℕ)) (indexes : List (List (List ℕ))) where
   -- ---- two entries of one index
 
-  -- two entries of one index, and their records
-  record AreTogether (x y : EntryAt) (r s : List ℕ) : Type 0 where
-    o : Operations
-    text : List ℕ
-    entries : List (List ℕ)
-    i : ℕ
-    j : ℕ
-    are : AreEntriesOf o text entries
-    entry_one : slice_get entries x.number ≡ Some x.entry
-    entry_two : slice_get entries y.number ≡ Some y.entry
-    one : IsAt o text x.entry i
-    two : IsAt o text y.entry j
-    record_one : get_or (listing o) i [] ≡ r
-    record_two : get_or (listing o) j [] ≡ s
-
-  together : (x y : EntryAt) (r s : List ℕ) → IsRecordOf os texts indexes x r → IsRecordOf os texts indexes y s → x.input ≡ y.input → AreTogether x y r s
+  -- the second record and its entry, in the words of the first
+  together : (x y : EntryAt) (r s : List ℕ) (a : IsRecordOf os texts indexes x r) (b : IsRecordOf os texts indexes y s) → x.input ≡ y.input
+      → (slice_get a.entries y.number ≡ Some y.entry) × IsAt a.o a.text y.entry b.place × (get_or (listing a.o) b.place [] ≡ s)
   together x y r s a b same =
       let contents : b.o ≡ a.o = cc (a.file.content_at, b.file.content_at, same) in
       let text : b.text ≡ a.text = cc (a.file.text_at, b.file.text_at, same) in
-      let entries : b.entries ≡ a.entries = cc (a.file.index_at, b.file.index_at, same) in
-      record {
-        o = a.o;
-        text = a.text;
-        entries = a.entries;
-        i = a.place;
-        j = b.place;
-        are = a.file.are;
-        entry_one = a.entry_at;
-        entry_two = subst (λ (es : List (List ℕ)). slice_get es y.number ≡ Some y.entry) entries b.entry_at;
-        one = a.is;
-        two = subst (λ o. IsAt o a.text y.entry b.place) contents (subst (λ (t : List ℕ). IsAt b.o t y.entry b.place) text b.is);
-        record_one = a.record_is;
-        record_two = ap (λ o. get_or (listing o) b.place []) (sym contents) ∙ b.record_is;
-      }
+      let entries : b.entries ≡ a.entries = cc (a.file.index_at, b.file.index_at, same) in (
+        subst (λ (es : List (List ℕ)). slice_get es y.number ≡ Some y.entry) entries b.entry_at,
+        subst (λ o. IsAt o a.text y.entry b.place) contents (subst (λ (t : List ℕ). IsAt b.o t y.entry b.place) text b.is),
+        ap (λ o. get_or (listing o) b.place []) (sym contents) ∙ b.record_is,
+      )
 
   -- an entry has one record
   one_record : (x : EntryAt) (r s : List ℕ) → IsRecordOf os texts indexes x r → IsRecordOf os texts indexes x s → r ≡ s
   one_record x r s a b =
       let t = together x x r s a b refl in
-      sym t.record_one ∙ ap (λ (k : ℕ). get_or (listing t.o) k []) (one_place t.o t.are.content t.text x.entry t.i t.j t.one t.two) ∙ t.record_two
+      sym a.record_is ∙ ap (λ (k : ℕ). get_or (listing a.o) k []) (one_place a.o a.file.are.content a.text x.entry a.place b.place a.is t.1) ∙ t.2
 
   -- entries of one index at different numbers stand in the order of their records
   in_one_index : (x y : EntryAt) (r s : List ℕ) → IsRecordOf os texts indexes x r → IsRecordOf os texts indexes y s → x.input ≡ y.input → x.number ≢ y.number → offset_in x.entry ≤ offset_in y.entry → order r s ≡ Less
   in_one_index x y r s a b same apart le =
       let t = together x y r s a b same in
-      elim (in_turn t.o t.are.content t.text x.entry y.entry t.i t.j t.one t.two le) [
+      elim (in_turn a.o a.file.are.content a.text x.entry y.entry a.place b.place a.is t.1 le) [
         | inl e ↦
-            let also : IsAt t.o t.text y.entry t.i = subst (IsAt t.o t.text y.entry) (sym e) t.two in
-            let one : (k : ℕ) (z : List ℕ) → slice_get t.entries k ≡ Some z → get_or t.entries k [] ≡ z = λ k z h. get_or_from_slice_get t.entries k z [] h in
-            let entry : x.entry ≡ y.entry = t.are.same x.entry y.entry t.i
-            (x.number, slice_get_within t.entries x.number x.entry t.entry_one, get_or_from_slice_get t.entries x.number x.entry x.entry t.entry_one)
-            (y.number, slice_get_within t.entries y.number y.entry t.entry_two, get_or_from_slice_get t.entries y.number y.entry y.entry t.entry_two)
-            t.one also in
-            absurd (apart (t.are.numbers x.number y.number (slice_get_within t.entries x.number x.entry t.entry_one) (slice_get_within t.entries y.number y.entry t.entry_two)
-            (one x.number x.entry t.entry_one ∙ entry ∙ sym (one y.number y.entry t.entry_two))))
-        | inr less ↦ (λ k. order (sym t.record_one k) (sym t.record_two k)) ∙ less
+            let also : IsAt a.o a.text y.entry a.place = subst (IsAt a.o a.text y.entry) (sym e) t.1 in
+            let entry : x.entry ≡ y.entry =
+            a.file.are.same x.entry y.entry a.place (listed_at a.entries x.number x.entry a.entry_at) (listed_at a.entries y.number y.entry t.0) a.is also in
+            let within_x : x.number < length a.entries = slice_get_within a.entries x.number x.entry a.entry_at in
+            absurd (apart (a.file.are.numbers x.number y.number within_x (slice_get_within a.entries y.number y.entry t.0)
+            (get_or_from_slice_get a.entries x.number x.entry [] a.entry_at ∙ entry ∙ sym (get_or_from_slice_get a.entries y.number y.entry [] t.0))))
+        | inr less ↦ (λ k. order (sym a.record_is k) (sym t.2 k)) ∙ less
       ]
 
   -- ---- two entries of slices under one key
@@ -162,19 +144,10 @@ module _ (os : List Operations) (texts : List (List ℕ)) (indexes : List (List 
   row_right : (key : SliceKey) (asked : Where) (x : EntryAt) (slice : List ℕ) (row : OwnRow) → IsAnsweringSlice key x slice → IsToldRowAt texts asked x row → IsOwnRow asked slice row
   row_right key asked x slice row is told = record {
     digest_is = told.digest_is ∙ is.of.is.is.digest_is;
-    own_is = own_right is.of.of.text slice x.entry asked row.own is.of.is.is (told.own_is is.of.of.text is.of.of.file.text_at);
+    own_is =
+        let its = is.of.is.is in
+        told.own_is is.of.of.text is.of.of.file.text_at slice its.table its.bytes its.is_table (may_be is.of.of.text its.table (claim_in x.entry) its.stored);
   }
-
-  rows_right : (key : SliceKey) (asked : Where) (xs : List EntryAt) (ss : List (List ℕ)) (rows : List OwnRow) → AllZip (IsAnsweringSlice key) xs ss → AllZip (IsToldRowAt texts asked) xs rows → AllZip (IsOwnRow asked) ss rows
-  rows_right key asked [] [] [] all told = tt
-  rows_right key asked [] (s ∷ ss) rows all told = absurd all
-  rows_right key asked (x ∷ xs) [] rows all told = absurd all
-  rows_right key asked (x ∷ xs) (s ∷ ss) (row ∷ rows) all told = (row_right key asked x s row all.0 told.0, rows_right key asked xs ss rows all.1 told.1)
-  rows_right key asked xs ss rows all told = absurd told
-
-  no_slice : (key : SliceKey) (ss : List (List ℕ)) → AllZip (IsAnsweringSlice key) [] ss → ss ≡ []
-  no_slice key [] all = refl
-  no_slice key (s ∷ ss) all = absurd all
 
   one_slice : (key : SliceKey) (asked : Where) (x : EntryAt) (row : OwnRow) (own : Option FoundRecord) (ss : List (List ℕ)) → AllZip (IsAnsweringSlice key) (x ∷ []) ss → row.own ≡ own → IsToldRowAt texts asked x row
       → (slice : List ℕ) × (ss ≡ slice ∷ []) × IsOwn slice asked own
@@ -183,11 +156,12 @@ module _ (os : List Operations) (texts : List (List ℕ)) (indexes : List (List 
   one_slice key asked x row own (s ∷ (r ∷ ss)) all is told = absurd all.1
 
   told_right : (key : SliceKey) (asked : Where) (xs : List EntryAt) (ss : List (List ℕ)) (answer : AnswerRecord) → AllZip (IsAnsweringSlice key) xs ss → IsToldOfAmong texts asked xs answer → IsAnswerOf asked ss answer
-  told_right key asked xs ss Unanswered all is = no_slice key ss (subst (λ (ys : List EntryAt). AllZip (IsAnsweringSlice key) ys ss) is all)
+  told_right key asked xs ss Unanswered all is = zip_empty (IsAnsweringSlice key) xs ss is all
   told_right key asked xs ss (Alone own) all is =
       one_slice key asked is.0 is.1 own ss (subst (λ (ys : List EntryAt). AllZip (IsAnsweringSlice key) ys ss) is.2 all) is.3 is.4
   told_right key asked xs ss (Disputed rows) all is =
-      (omega (arith, is.0, AllZip-long (IsAnsweringSlice key) xs ss all), rows_right key asked xs ss rows all is.1)
+      let rows_right = zip_through (IsAnsweringSlice key) (IsToldRowAt texts asked) (IsOwnRow asked) xs ss rows (row_right key asked) all is.1 in
+      (omega (arith, is.0, AllZip-long (IsAnsweringSlice key) xs ss all), rows_right)
 
   -- ---- the frames that are shown of them
 
@@ -196,15 +170,9 @@ module _ (os : List Operations) (texts : List (List ℕ)) (indexes : List (List 
       let its = is.of.is.is in
       told is.of.of.text is.of.of.file.text_at slice its.table its.bytes its.is_table (may_be is.of.of.text its.table (claim_in x.entry) its.stored)
 
-  each_right : (key : SliceKey) (asked : Where) (xs : List EntryAt) (ss : List (List ℕ)) (lists : List (List FrameRecord)) → AllZip (IsAnsweringSlice key) xs ss → AllZip (AreFramesToldAt texts asked) xs lists → AllZip (AreFramesAt asked) ss lists
-  each_right key asked [] [] [] all told = tt
-  each_right key asked [] (s ∷ ss) lists all told = absurd all
-  each_right key asked (x ∷ xs) [] lists all told = absurd all
-  each_right key asked (x ∷ xs) (s ∷ ss) (list ∷ lists) all told = (frames_right key asked x s list all.0 told.0, each_right key asked xs ss lists all.1 told.1)
-  each_right key asked xs ss lists all told = absurd told
-
   shown_right : (key : SliceKey) (lines : Bool) (asked : Where) (xs : List EntryAt) (ss : List (List ℕ)) (lists : List (List FrameRecord)) → AllZip (IsAnsweringSlice key) xs ss → AreShownAmong texts lines asked xs lists → AreShown lines asked ss lists
-  shown_right key true asked xs ss lists all shown = each_right key asked xs ss lists all shown
+  shown_right key true asked xs ss lists all shown =
+      zip_through (IsAnsweringSlice key) (AreFramesToldAt texts asked) (AreFramesAt asked) xs ss lists (frames_right key asked) all shown
   shown_right key false asked xs ss lists all shown = shown
 
   module _ (all : AreIndexes os texts indexes) where
@@ -217,8 +185,7 @@ module _ (os : List Operations) (texts : List (List ℕ)) (indexes : List (List 
 
     pub undamaged : (prefix text : List ℕ) (x : EntryAt) → IsAmong indexes x → answers_among prefix (all_of indexes) x.entry ≡ true → slice_get texts x.input ≡ Some text → HasNoTable text x.entry → ⊥
     undamaged prefix text x among h here none =
-        let r = find os texts indexes all x among in
-        let s = slice_of_entry os texts indexes x r.0 r.1 (tagged prefix x h) in
+        let s = slice_of_entry os texts indexes all x among (tagged prefix x h) in
         let same : s.1.of.text ≡ text = cc (s.1.of.file.text_at, here) in
         let is : IsSliceOf text s.0 x.entry = subst (λ (t : List ℕ). IsSliceOf t s.0 x.entry) same s.1.is.is in
         none (subst (λ (t : List ℕ). length t < 2 ^ 64) same s.1.of.file.are.short) s.0 is.table is.is_table is.stored
@@ -235,14 +202,12 @@ module _ (os : List Operations) (texts : List (List ℕ)) (indexes : List (List 
     lineless prefix answering input number are lacking =
         let x : EntryAt = record { input = input; number = number; entry = lacking.entry } in
         let answers : answers_among prefix (all_of indexes) x.entry ≡ true = All-contains (λ y. answers_among prefix (all_of indexes) y.entry ≡ true) answering x are.each lacking.answers in
-        let r = find os texts indexes all x (All-contains (IsAmong indexes) answering x are.among lacking.answers) in
-        let s = slice_of_entry os texts indexes x r.0 r.1 (tagged prefix x answers) in
+        let s = slice_of_entry os texts indexes all x (All-contains (IsAmong indexes) answering x are.among lacking.answers) (tagged prefix x answers) in
         let same : s.1.of.text ≡ lacking.text = cc (s.1.of.file.text_at, lacking.text_is) in
-        let is : IsSliceOf lacking.text s.0 x.entry = subst (λ (t : List ℕ). IsSliceOf t s.0 x.entry) same s.1.is.is in
-        let within : input < length os = slice_get_within os input s.1.of.o s.1.of.file.content_at in (
+        let is : IsSliceOf lacking.text s.0 x.entry = subst (λ (t : List ℕ). IsSliceOf t s.0 x.entry) same s.1.is.is in (
           s.0,
           record {
-            is_held = (s.1.of.o, (input, within, get_or_from_slice_get os input s.1.of.o s.1.of.o s.1.of.file.content_at), held os texts indexes x (admission_record s.0) s.1.of);
+            is_held = is_held os texts indexes x s.0 s.1;
             answers = λ key is_key is. answers_if os texts indexes all key is_key x s.0 s.1 (subst (λ (f : List ℕ). answers_among f (all_of indexes) x.entry ≡ true) (sym is) answers);
           },
           lacking.lacks s.0 is.table is.bytes is.is_table (may_be lacking.text is.table (claim_in x.entry) is.stored),
@@ -255,8 +220,7 @@ module _ (os : List Operations) (texts : List (List ℕ)) (indexes : List (List 
       -- an entry that answers is that of a slice that does
       slice_at : (x : EntryAt) → IsAmong indexes x → answers_among (key_bytes key) every x.entry ≡ true → (slice : List ℕ) × IsAnsweringSlice key x slice
       slice_at x among h =
-          let r = find os texts indexes all x among in
-          let s = slice_of_entry os texts indexes x r.0 r.1 (tagged (key_bytes key) x h) in
+          let s = slice_of_entry os texts indexes all x among (tagged (key_bytes key) x h) in
           (s.0, record { of = s.1; answers = answers_if os texts indexes all key is_key x s.0 s.1 h })
 
       slices_at : (xs : List EntryAt) → AllByRecursion (IsAmong indexes) xs → AllByRecursion (λ x. answers_among (key_bytes key) every x.entry ≡ true) xs → (ss : List (List ℕ)) × AllZip (IsAnsweringSlice key) xs ss
@@ -292,11 +256,7 @@ module _ (os : List Operations) (texts : List (List ℕ)) (indexes : List (List 
           let fronts : key_bytes (key_of a) ++ sha256 a ≡ key_bytes (key_of b) ++ sha256 b = ap (drop 1) (sym of_x.is.prefix ∙ sym repeat.slices ∙ of_y.is.prefix) in
           let digests = (same_parts (key_bytes (key_of a)) (key_bytes (key_of b)) (sha256 a) (sha256 b) (length-key_of a of_x.is.valid ∙ sym (length-key_of b of_y.is.valid)) fronts).1 in
           let lt_x : x.input < length os = slice_get_within os x.input of_x.of.o of_x.of.file.content_at in
-          let lt_y : y.input < length os = slice_get_within os y.input of_y.of.o of_y.of.file.content_at in
-          tell (omega (arith, lt_x, repeat.earlier)) a b
-          (of_x.of.o, (x.input, lt_x, get_or_from_slice_get os x.input of_x.of.o of_x.of.o of_x.of.file.content_at), held os texts indexes x (admission_record a) of_x.of)
-          (of_y.of.o, (y.input, lt_y, get_or_from_slice_get os y.input of_y.of.o of_y.of.o of_y.of.file.content_at), held os texts indexes y (admission_record b) of_y.of)
-          digests
+          tell (omega (arith, lt_x, repeat.earlier)) a b (is_held os texts indexes x a of_x) (is_held os texts indexes y b of_y) digests
 
       module _ (tell : DigestsTell os) (answering : List EntryAt) (are : AreAnsweringAmong (key_bytes key) indexes answering) (ss : List (List ℕ)) (zip : AllZip (IsAnsweringSlice key) answering ss) where
         -- each slice that answers is there
@@ -342,5 +302,5 @@ pub right_alone : (o : Operations) (text : List ℕ) (entries : List (List ℕ))
     → IsAnswerAmong (text ∷ []) (entries ∷ []) (key_bytes key) lines asked answer frames → IsSourced o key lines asked answer frames
 right_alone o text entries key lines asked answer frames file read is_key is =
     let all : AreIndexes (o ∷ []) (text ∷ []) (entries ∷ []) = record { files = (file, tt); read = (read, tt) } in
-    let tell : DigestsTell (o ∷ []) = λ several. absurd (omega (arith, several)) in
-    subst (λ made. IsSourced made key lines asked answer frames) (joined_alone o file.content.itself) (right (o ∷ []) (text ∷ []) (entries ∷ []) all key is_key lines asked answer frames tell is)
+    subst (λ made. IsSourced made key lines asked answer frames) (joined_alone o file.content.itself)
+    (right (o ∷ []) (text ∷ []) (entries ∷ []) all key is_key lines asked answer frames (tells_alone o) is)

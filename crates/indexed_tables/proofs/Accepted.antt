@@ -1,7 +1,8 @@
--- The index of a content is read as one.
-use Rattle.std.proofs.Common.{◌≡◌, ℕ, ◌+◌, ◌<◌, ◌≤◌, ◌^◌, true, cond, ◌||◌, ◌&&◌, eqb, List, [], ◌∷◌, ◌++◌, length, drop, get_or, refl, sym, ap, ◌∙◌, subst, inl, inr, arith, length-append, nat_le}
-use Rattle.std.specs.Prelude.{Ok}
-use Rattle.std.specs.Int.{w64, from_be_bytes}
+-- The index of a content is read as one, and what is read over any bytes is of the content that it was made of.
+use Rattle.std.proofs.Common.{◌≡◌, ℕ, ◌+◌, ◌<◌, ◌≤◌, ◌^◌, true, cond, ◌||◌, ◌&&◌, eqb, List, [], ◌∷◌, ◌++◌, length, drop, get_or, refl, sym, ap, ◌∙◌, subst}
+use Rattle.std.proofs.Common.{inl, inr, arith, length-append, nat_le}
+use Rattle.std.specs.Prelude.{Ok, Option}
+use Rattle.std.specs.Int.{w64, from_be_bytes, to_be_bytes}
 use Rattle.std.specs.List.{AllByRecursion, AllZip, concat, list_any}
 use Rattle.std.specs.List.Sorted.{IsPermutation, IsStrictlySortedBy}
 use Rattle.std.specs.Ordering.{is_lt, nat_cmp}
@@ -27,16 +28,23 @@ use Rattle.archive_records.specs.Text.{InOrder, written}
 use Rattle.archive_records.specs.declared.format.Format.TheVariants.{Archive}
 use Rattle.archive_records.proofs.Contents.{InOrder-listing, along, containing, order}
 use Rattle.archive_index.specs.Text.{index_magic}
-use Rattle.archive_index.specs.Entry.{has_kind, has_length, has_tag, length_in, offset_in, placed_entry}
-use Rattle.archive_index.proofs.Placed.{entry_long, is_placed, length_is, offset_is, tag_is}
+use Rattle.archive_index.specs.Entry.{has_kind, has_length, has_tag, length_in, placed_entry}
+use Rattle.archive_index.proofs.Placed.{entry_long, is_placed, tag_is}
 use Rattle.archive_index.proofs.Sums.{AreApart as AreDistinct, any_ascending_of, is_same, listing_of, nonempty, text_length}
-use Rattle.indexed_tables.specs.Content.{IsIndexOf, IsTableOf, claim_of, entries_of, table_entries, table_entry, tables_text}
+use Rattle.indexed_tables.specs.Content.{IsIndexOf, IsTableOf, claim_of, entries_of, table_entries, table_entry, tables_text, EndAlike, HasTable}
 use Rattle.table_index.specs.Text.{FollowOn, IsIndexText, PassChecks, end_of, check_entry}
 use Rattle.table_index.proofs.Entries.{byte_kept, claim_read, long_with, number_kept}
 use Rattle.table_index.proofs.Checks.{long_entries}
-use Rattle.indexed_tables.proofs.Apart.{apart, moved, near_all}
-use Rattle.indexed_tables.proofs.Contents.{claim_admitted, claim_retired, stored_long}
+use Rattle.indexed_tables.proofs.Contents.{apart, entry_length, entry_offset, moved, near_all, claim_admitted, claim_retired, stored_long}
 use Rattle.archive_index.proofs.Ascending.{along_list}
+use Rattle.sha2.specs.Sha256.{sha256}
+use Rattle.symbol_tables.specs.Found.{IsSaid}
+use Rattle.symbol_tables.specs.Steps.{AreBytes}
+use Rattle.symbol_tables.specs.declared.nearest.NearestSymbol.{NearestSymbol}
+use Rattle.slice_tables.proofs.SliceTables.{table_of_symbols}
+use Rattle.archive_core.proofs.Records.{same_parts}
+use Rattle.indexed_tables.specs.Asked.{DigestsTell, IsToldBy}
+use Rattle.table_index.proofs.Texts.{last_is}
 
 -- ---- the claim of a table
 
@@ -75,21 +83,20 @@ zero_claim : claim_bytes no_claim ≡ zeros 48
 unfolding claim_bytes zeros
 zero_claim = refl
 
+-- what an entry has that passes each test but that of the order
+pub record IsSound (end : ℕ) (e : List ℕ) : Type 0 where
+  pub long : length e ≡ 122
+  pub tag : has_tag e ≡ true
+  pub kind : has_kind e ≡ true
+  pub length_is : has_length e ≡ true
+  pub claim : has_claim end e ≡ true
+
 module _ (offset at end : ℕ) (r t : List ℕ) (is : IsRecord r) (table : IsTableOf r t) (offset_fits : offset < 2 ^ 64) (fits : at + length (stored t) < 2 ^ 64) (within : at + length (stored t) ≤ end) where
   abbrev e : List ℕ
   e = placed_entry offset r ++ claim_bytes (claim_of at r t)
 
   front : length (placed_entry offset r) ≡ 74
   front = entry_long offset r is
-
-  pub long_there : length e ≡ 122
-  long_there = long_with (placed_entry offset r) (claim_of at r t) front (root_long at r t)
-
-  pub offset_there : offset_in e ≡ offset
-  offset_there = ap (from_be_bytes w64) (number_kept (placed_entry offset r) (claim_of at r t) front 58 (omega arith)) ∙ offset_is offset r is offset_fits
-
-  pub length_there : length_in e ≡ length r
-  length_there = ap (from_be_bytes w64) (number_kept (placed_entry offset r) (claim_of at r t) front 66 (omega arith)) ∙ length_is offset r is
 
   tag_kept : get_or e 0 0 ≡ get_or (placed_entry offset r) 0 0
   tag_kept = byte_kept (placed_entry offset r) (claim_of at r t) front 0 (omega arith)
@@ -100,20 +107,7 @@ module _ (offset at end : ℕ) (r t : List ℕ) (is : IsRecord r) (table : IsTab
   pub claim_there : claim_in e ≡ claim_of at r t
   claim_there = let f = claim_fits at r t fits in claim_read (placed_entry offset r) (claim_of at r t) front f.0 f.1
 
-  pub tag_passes : has_tag e ≡ true
-  tag_passes = ap (λ (n : ℕ). eqb n 1 || eqb n 2) tag_kept ∙ (is_placed offset r is).tag
-
-  pub kind_passes : has_kind e ≡ true
-  kind_passes =
-      let kind = byte_kept (placed_entry offset r) (claim_of at r t) front 57 (omega arith) in
-      (λ i. eqb (kind i) 0 || (eqb (kind i) 1 && eqb (tag_kept i) 2)) ∙ (is_placed offset r is).kind
-
-  pub length_passes : has_length e ≡ true
-  length_passes =
-      let part = number_kept (placed_entry offset r) (claim_of at r t) front 66 (omega arith) in
-      (λ i. let n : ℕ = from_be_bytes w64 (part i) in cond (eqb (tag_kept i) 2) (nat_le 33 n && nat_le n (33 + largest_slice)) (eqb n 57)) ∙ (is_placed offset r is).length_is
-
-  pub claim_passes : has_claim end e ≡ true
+  claim_passes : has_claim end e ≡ true
   claim_passes = elim (cases_Bool (is_admission r)) [
     | inl h ↦
         let c = claim_there ∙ claim_admitted at r t h in
@@ -126,23 +120,21 @@ module _ (offset at end : ℕ) (r t : List ℕ) (is : IsRecord r) (table : IsTab
         ∙ (bytes_eq-Decides (drop 74 e) (zeros 48)).1 bytes
   ]
 
--- what an entry has that passes each test but that of the order
-pub record IsSound (end : ℕ) (e : List ℕ) : Type 0 where
-  pub long : length e ≡ 122
-  pub tag : has_tag e ≡ true
-  pub kind : has_kind e ≡ true
-  pub length_is : has_length e ≡ true
-  pub claim : has_claim end e ≡ true
-
-sound_entry : (offset at end : ℕ) (r t : List ℕ) → IsRecord r → IsTableOf r t → offset < 2 ^ 64 → at + length (stored t) < 2 ^ 64 → at + length (stored t) ≤ end → IsSound end (table_entry offset at r t)
-unfolding table_entry
-sound_entry offset at end r t is table offset_fits fits within = record {
-  long = long_there offset at end r t is table offset_fits fits within;
-  tag = tag_passes offset at end r t is table offset_fits fits within;
-  kind = kind_passes offset at end r t is table offset_fits fits within;
-  length_is = length_passes offset at end r t is table offset_fits fits within;
-  claim = claim_passes offset at end r t is table offset_fits fits within;
-}
+  sound_entry : IsSound end (table_entry offset at r t)
+  unfolding table_entry
+  sound_entry =
+      let placed = is_placed offset r is in
+      let kind_kept = byte_kept (placed_entry offset r) (claim_of at r t) front 57 (omega arith) in
+      let length_kept = number_kept (placed_entry offset r) (claim_of at r t) front 66 (omega arith) in
+      record {
+        long = long_with (placed_entry offset r) (claim_of at r t) front (root_long at r t);
+        tag = ap (λ (n : ℕ). eqb n 1 || eqb n 2) tag_kept ∙ placed.tag;
+        kind = (λ i. eqb (kind_kept i) 0 || (eqb (kind_kept i) 1 && eqb (tag_kept i) 2)) ∙ placed.kind;
+        length_is =
+            (λ i. let n : ℕ = from_be_bytes w64 (length_kept i) in cond (eqb (tag_kept i) 2) (nat_le 33 n && nat_le n (33 + largest_slice)) (eqb n 57))
+            ∙ placed.length_is;
+        claim = claim_passes;
+      }
 
 sound_passes : (end : ℕ) (last e : List ℕ) → IsSound end e → is_lt (slice_cmp nat_cmp last e) ≡ true → check_entry end last e ≡ Ok tt
 unfolding check_entry
@@ -172,11 +164,11 @@ follow_entries low offset at (r ∷ rs) (t ∷ ts) a each of fits =
     let near : offset < 2 ^ 64 = omega (arith, of, longer, nonempty r a.0) in
     let end : at + length (stored t) + length (tables_text ts) ≡ at + length (tables_text (t ∷ ts)) = omega (arith, more) in
     let e : List ℕ = placed_entry offset r ++ claim_bytes (claim_of at r t) in
-    let len : length r ≡ length_in e = sym (length_there offset at (at + length (stored t)) r t a.0 each.0 near small (omega arith)) in
+    let len : length r ≡ length_in e = sym (entry_length offset at r t a.0) in
     let claim = claim_there offset at (at + length (stored t)) r t a.0 each.0 near small (omega arith) in
     let size : length (stored t) ≡ stored_size (claim_in e) = sym (ap stored_size claim ∙ claimed at r t each.0) in
     let admission = admission_there offset at (at + length (stored t)) r t a.0 each.0 near small (omega arith) in (
-      offset_there offset at (at + length (stored t)) r t a.0 each.0 near small (omega arith),
+      entry_offset offset at r t a.0 near,
       λ h. ap (λ c. c.offset) (claim ∙ claim_admitted at r t (sym admission ∙ h)),
       subst (λ (n : ℕ). FollowOn (offset + n) (at + stored_size (claim_in e)) (at + length (tables_text (t ∷ ts))) (table_entries (offset + length r) (at + length (stored t)) rs ts)) len
           (subst (λ (n : ℕ). FollowOn (offset + length r) (at + n) (at + length (tables_text (t ∷ ts))) (table_entries (offset + length r) (at + length (stored t)) rs ts)) size
@@ -231,3 +223,36 @@ accepted o text index content short fits =
         follow = follow;
       };
     }
+
+-- ---- over any bytes
+
+-- entries of one length are those that their bytes are
+long_each : (end : ℕ) (low : List ℕ) (xs : List (List ℕ)) → PassChecks end low xs → AllByRecursion (λ e. length e ≡ 122) xs
+long_each end low [] pass = tt
+long_each end low (x ∷ xs) pass = (pass.0, long_each end x xs pass.2)
+
+same_list : (xs ys : List (List ℕ)) → AllByRecursion (λ e. length e ≡ 122) xs → AllByRecursion (λ e. length e ≡ 122) ys → concat xs ≡ concat ys → xs ≡ ys
+same_list [] [] a b e = refl
+same_list [] (y ∷ ys) a b e = absurd (omega (arith, ap length e, length-append y (concat ys), b.0))
+same_list (x ∷ xs) [] a b e = absurd (omega (arith, ap length e, length-append x (concat xs), a.0))
+same_list (x ∷ xs) (y ∷ ys) a b e =
+    let parts = same_parts x y (concat xs) (concat ys) (a.0 ∙ sym b.0) e in
+    cc (parts.0, same_list xs ys a.1 b.1 parts.1)
+
+-- the digest in an end record
+end_digest : (entries : List (List ℕ)) → drop 9 (end_of entries) ≡ sha256 (concat entries)
+unfolding end_of
+end_digest entries = drop_at (to_be_bytes w64 (length entries)) (sha256 (concat entries)) 8 refl
+
+pub of_the_content : (o : Operations) (index text : List ℕ) (entries : List (List ℕ)) (is : IsIndexOf o index) → IsContent o → length (written o) < 2 ^ 64 → length index < 2 ^ 64 → IsIndexText text entries → EndAlike text index
+    → (sha256 (concat entries) ≡ sha256 (concat (entries_of (listing o) is.tables)) → concat entries ≡ concat (entries_of (listing o) is.tables)) → entries ≡ entries_of (listing o) is.tables
+of_the_content o index text entries is content short fits read alike tell =
+    let others : List (List ℕ) = entries_of (listing o) is.tables in
+    let made : IsIndexText index others = accepted o index is content short fits in
+    let ends : end_of entries ≡ end_of others = sym (last_is text entries read) ∙ alike ∙ last_is index others made in
+    let digests : sha256 (concat entries) ≡ sha256 (concat others) = sym (end_digest entries) ∙ ap (drop 9) ends ∙ end_digest others in
+    same_list entries others (long_each (8 + length read.tables) [] entries read.pass) (long_each (8 + length made.tables) [] others made.pass) (tell digests)
+
+pub told_over : (index text r : List ℕ) (entries : List (List ℕ)) (address : ℕ) (found : Option NearestSymbol) (table : HasTable index entries r) → DigestsTell text (claim_in table.e) table.table → AreBytes (drop 33 r) → IsToldBy text table.e address found → IsSaid (drop 33 r) address found
+told_over index text r entries address found table tell bytes says =
+    says (drop 33 r) table.table bytes (table_of_symbols (drop 33 r) table.table table.is_table) (record { size = table.stored.size; root = table.stored.root; digests = tell.digests; pages = tell.pages })

@@ -1,10 +1,6 @@
 pub mod Contents
-pub mod Apart
 pub mod Accepted
-pub mod AnyBytes
-pub mod First
-pub mod Grown
 pub mod Sorted
 pub mod TableLemmas
-pub mod Stopped
+pub mod Grown
 pub mod Made

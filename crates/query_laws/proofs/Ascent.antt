@@ -5,19 +5,18 @@ use Rattle.std.specs.List.{AllByRecursion, list_any, sum_by}
 use Rattle.std.specs.Ordering.{nat_cmp, eq_by_cmp, is_eq, is_lt}
 use Rattle.std.proofs.lemmas.Cmp.{nat_cmp_total}
 use Rattle.std.proofs.lemmas.Map.Keys.{ge_from_not_lt}
-use Rattle.std.specs.declared.cmp.Ordering.TheVariants.{Less, Equal}
-use Rattle.std.specs.Cmp.{Equal-is, tied_itself, IsStrictWeakOrder}
+use Rattle.std.specs.declared.cmp.Ordering.TheVariants.{Less}
+use Rattle.std.specs.Cmp.{Equal-is, both_ways, tied_itself, IsStrictWeakOrder}
 use Rattle.std.specs.Cmp.Lexicographic.{nat_list_cmp_total}
 use Rattle.std.specs.List.Sorted.{IsSortedBy, IsStrictlySortedBy, IsPermutation}
 use Rattle.std.proofs.lemmas.Bool.{eqb-true, eqb-false}
 use Rattle.std.proofs.lemmas.List.Sums.{sum_by-cons}
 use Rattle.std.proofs.lemmas.List.Sorted.{sum_by-IsPermutation, sorted_far, ranks_by}
 use Rattle.std.proofs.lemmas.List.Elements.{recursion_from_All}
-use Rattle.std.specs.declared.cmp.Ordering.{Ordering}
 use Rattle.archive_core.proofs.Made.{bytes_same, or_left, or_right}
 use Rattle.archive_records.proofs.Contents.{order}
 
-abbrev is_same : List ℕ → List ℕ → Bool
+abbrev pub is_same : List ℕ → List ℕ → Bool
 is_same = eq_by_cmp order
 
 same_is : (r s : List ℕ) → is_same r s ≡ true → r ≡ s
@@ -97,7 +96,7 @@ module _ (n : List ℕ → ℕ) where
           | inr b ↦ absurd (omega (arith, above (n y) ys x up'.0 a, above (n x) xs y up.0 b))
         ]
       ] in
-      let rest : xs ≡ ys = one_ascent xs ys up.1 up'.1 (λ q. one_test (list_any (is_same q) xs) (list_any (is_same q) ys)
+      let rest : xs ≡ ys = one_ascent xs ys up.1 up'.1 (λ q. both_ways (list_any (is_same q) xs) (list_any (is_same q) ys)
       (λ h. elim (first_or q y ys (sym (same q) ∙ later q x xs h)) [
         | inl e ↦ absurd (omega (arith, above (n x) xs q up.0 h, ap n e, ap n first))
         | inr more ↦ more
@@ -107,11 +106,6 @@ module _ (n : List ℕ → ℕ) where
         | inr more ↦ more
       ])) in
       λ i. first i ∷ rest i
-    where
-      one_test : (a b : Bool) → (a ≡ true → b ≡ true) → (b ≡ true → a ≡ true) → a ≡ b
-      one_test true b f g = sym (f refl)
-      one_test false true f g = g refl
-      one_test false false f g = refl
 
   -- ---- how many have a number
 
@@ -136,10 +130,7 @@ module _ (n : List ℕ → ℕ) where
   count_none t (x ∷ xs) all = count_cons t x xs ∙ omega (arith, none_here t x all.0, count_none t xs all.1)
 
   less_not_equal : (x y : List ℕ) → x ≡ y → order x y ≡ Less → ⊥
-  less_not_equal x y e l = apart (order x x) (ap (order x) e ∙ l) (tied_itself nat_list_cmp_total x)
-    where
-      apart : (o : Ordering) → o ≡ Less → o ≡ Equal → ⊥
-      apart o l e = cc
+  less_not_equal x y e l = cc (ap (order x) e, l, tied_itself nat_list_cmp_total x)
 
   -- bytes that ascend strictly, of which the number tells which
   others : (x : List ℕ) (ys : List (List ℕ)) → AllByRecursion (λ y. order x y ≡ Less) ys → ((y : List ℕ) → list_any (is_same y) ys ≡ true → n x ≡ n y → x ≡ y) → AllByRecursion (λ y. n y ≡ n x → ⊥) ys
@@ -189,15 +180,13 @@ module _ (n : List ℕ → ℕ) where
   not_below : (xs : List (List ℕ)) → IsSortedBy (λ a b. is_lt (nat_cmp (n a) (n b))) xs → NotBelow xs
   not_below [] sorted = tt
   not_below (x ∷ xs) sorted = (
-    recursion_from_All (λ y. n x ≤ n y) xs (λ i d lt. no_less (n (get_or xs i d)) (n x) (sorted_far (λ a b. is_lt (nat_cmp (n a) (n b))) weak (x ∷ xs) sorted 0 (suc i) d (omega arith) (omega arith))),
+    recursion_from_All (λ y. n x ≤ n y) xs
+        (λ i d lt. ge_from_not_lt (n (get_or xs i d)) (n x) (sorted_far (λ a b. is_lt (nat_cmp (n a) (n b))) weak (x ∷ xs) sorted 0 (suc i) d (omega arith) (omega arith))),
     not_below xs (λ k d low high. let next : suc k + 1 ≡ suc (k + 1) = omega arith in subst (λ (m : ℕ). is_lt (nat_cmp (n (get_or (x ∷ xs) m d)) (n (get_or (x ∷ xs) (suc k) d))) ≡ false) next (sorted (suc k) d (omega arith) (omega arith))),
   )
     where
       weak : IsStrictWeakOrder (λ a b. is_lt (nat_cmp (n a) (n b)))
       weak = ranks_by nat_cmp_total n
-
-      no_less : (a b : ℕ) → is_lt (nat_cmp a b) ≡ false → b ≤ a
-      no_less a b h = ge_from_not_lt a b h
 
   pub ascend_sorted : (gathered xs : List (List ℕ)) → IsPermutation gathered xs → IsSortedBy (λ a b. is_lt (nat_cmp (n a) (n b))) xs → ((t : ℕ) → count t gathered ≤ 1) → Ascend xs
   ascend_sorted gathered xs moved sorted most =

@@ -1,17 +1,18 @@
 -- What is held by the indexes of contents is what the contents have.
-use Rattle.std.proofs.Common.{◌≡◌, ℕ, ◌<◌, ◌≤◌, ◌^◌, zero, suc, Bool, true, false, ◌||◌, ◌&&◌, List, [], ◌∷◌, length, Contains, refl, sym, ap, ◌∙◌, subst, inl, inr, ◌⊎◌, arith}
+use Rattle.std.proofs.Common.{◌≡◌, ℕ, ◌<◌, ◌≤◌, ◌^◌, Bool, false, ◌||◌, ◌&&◌, List, [], ◌∷◌, length, Contains, refl, sym, ap, ◌∙◌, subst, inl, inr, ◌⊎◌, arith}
 use Rattle.std.specs.Prelude.{fold}
 use Rattle.std.specs.List.{AllByRecursion, AllZip, list_any}
 use Rattle.std.specs.Cmp.Lexicographic.{nat_list_cmp_total}
+use Rattle.std.proofs.lemmas.List.Elements.{All-contains, All-from_recursion}
 use Rattle.std.specs.FinSet as set
-use Rattle.std.specs.FinSet.{contains-empty, contains-union, same_set}
+use Rattle.std.specs.FinSet.{contains-union, same_set}
 use Rattle.archive_core.specs.Content.{IsContent, Operations, content_of, joined}
 use Rattle.archive_core.specs.Key.{key_bytes}
 use Rattle.archive_core.specs.Lookup.{answer_view}
 use Rattle.archive_core.specs.Part.{AreAlikeUnder, is_under, part}
 use Rattle.archive_core.specs.Record.{admission_record}
 use Rattle.archive_core.specs.Summary.{Entries}
-use Rattle.archive_core.proofs.Made.{alike_union, bytes_same, joined_content, joined_made_right, made_alike, made_empty, made_is_alike, union_assoc}
+use Rattle.archive_core.proofs.Made.{alike_union, bytes_same, joined_content, joined_made_right, made_alike, made_is_alike, union_assoc}
 use Rattle.archive_core.proofs.Members.{in_rest}
 use Rattle.archive_core.proofs.Picked.{contains_part, part_alike, part_content}
 use Rattle.archive_records.specs.Text.{written}
@@ -29,15 +30,14 @@ use Rattle.command_core.specs.Archives.{merged}
 use Rattle.command_core.specs.Inputs.{IsGiven, Reader}
 use Rattle.command_core.specs.declared.faults.Status.{Status}
 use Rattle.index_laws.specs.Indexes.{IsIndexFile, all_joined}
+use Rattle.index_laws.proofs.Joined.{empty_content, to_any}
 use Rattle.index_laws.proofs.Right.{zip_right}
 use Rattle.index_inputs.specs.Prefixes.{AreNamedUnder, HoldsNamed}
 use Rattle.index_inputs.specs.Several.{HoldTogether}
 use Rattle.index_inputs.specs.Together.{IsLater, IsReadWith, merged_each}
 use Rattle.indexed_symbols.specs.Frames.{keys_of}
 use Rattle.query_laws.specs.Contents.{AreIndexed, DigestsTellOver, IsIndexed}
-use Rattle.query_laws.proofs.Accepted.{still_given}
-use Rattle.query_laws.proofs.OfIndex.{held_tables, of_given}
-use Rattle.query_laws.proofs.Three.{for_first, third_fourth, with_fourth}
+use Rattle.query_laws.proofs.Accepted.{still_given, held_tables, of_given, for_first, third_fourth, with_fourth}
 
 -- a record is under one of these prefixes
 abbrev is_under_any : List (List ℕ) → List ℕ → Bool
@@ -64,15 +64,6 @@ module _ (o : Operations) (content : IsContent o) where
       let one : set.union (part o p) (part o q) ≡ part o picks = same_set nat_list_cmp_total bytes_same (set.union (part o p) (part o q)) (part o picks) (λ r.
       contains-union nat_list_cmp_total (part o p) (part o q) r ∙ (λ i. contains_part o p r i || contains_part o q r i) ∙ both_and (set.contains o r) (p r) (q r) ∙ sym (contains_part o picks r)) in
       ap content_of one ∙ (part_content o picks content).itself
-
-  there : (prefixes : List (List ℕ)) (prefix r : List ℕ) → Contains prefixes prefix → is_under prefix r ≡ true → list_any (λ (f : List ℕ). is_under f r) prefixes ≡ true
-  there [] prefix r in_prefixes under = absurd (omega (arith, in_prefixes.1))
-  there (f ∷ fs) prefix r (zero, lt, is) under = ap (λ (b : Bool). b || list_any (λ (g : List ℕ). is_under g r) fs) (ap (λ (g : List ℕ). is_under g r) is ∙ under)
-  there (f ∷ fs) prefix r (suc k, lt, is) under = or_true (is_under f r) (there fs prefix r (k, omega arith, is) under)
-    where
-      or_true : (a : Bool) {b : Bool} → b ≡ true → (a || b) ≡ true
-      or_true true e = refl
-      or_true false e = e
 
 -- ---- what was named is what the content has
 
@@ -126,7 +117,8 @@ module _ (w : Operations) (content : IsContent w) where
   group_alike : (prefix : List ℕ) (prefixes : List (List ℕ)) (few o : Operations) (parts : List Operations) → length prefix ≤ 24 → Contains prefixes prefix → IsContent o → AllZip IsPart prefixes parts → AreAlikeUnder prefix few o → AreAlikeUnder prefix (merged few parts) (joined o w)
   group_alike prefix prefixes few o parts short in_prefixes is are same =
       subst (λ (m : Operations). AreAlikeUnder prefix m (joined o w)) (sym (merged_some few prefixes parts prefix in_prefixes are))
-      (joined_alike prefix short o w few (part w (is_under_any prefixes)) is content same (part_alike w (is_under_any prefixes) prefix (λ r under. there w content prefixes prefix r in_prefixes under)))
+      (joined_alike prefix short o w few (part w (is_under_any prefixes)) is content same
+      (part_alike w (is_under_any prefixes) prefix (λ r under. to_any (λ (f : List ℕ). is_under f r) prefixes prefix in_prefixes under)))
 
 -- ---- the archive of an index
 
@@ -185,22 +177,11 @@ module _ (prefix : List ℕ) (prefixes : List (List ℕ)) (le : length prefix �
       })
   groups_alike os groups few o are same = absurd are
 
-no_truth : false ≡ true → ⊥
-no_truth e = cc
-
-empty_content : IsContent set.empty
-empty_content = record { itself = made_empty; records = λ r h. absurd (no_truth (sym (contains-empty _ r) ∙ h)) }
-
-at_prefix : (prefixes : List (List ℕ)) (prefix : List ℕ) → Contains prefixes prefix → AllByRecursion (λ (f : List ℕ). length f ≤ 24) prefixes → length prefix ≤ 24
-at_prefix [] prefix in_prefixes short = absurd (omega (arith, in_prefixes.1))
-at_prefix (f ∷ fs) prefix (zero, lt, is) short = subst (λ (x : List ℕ). length x ≤ 24) is short.0
-at_prefix (f ∷ fs) prefix (suc k, lt, is) short = at_prefix fs prefix (k, omega arith, is) short.1
-
 -- what is held together has what the join of the contents has, under each of the prefixes
 pub held_alike : {I P : Type 0} (prefixes : List (List ℕ)) (inputs : List (Reader I)) (archives : List (Reader P)) (os : List Operations) (p : Operations) → AllByRecursion (λ (f : List ℕ). length f ≤ 24) prefixes
     → AreIndexed inputs archives os → HoldTogether prefixes inputs archives p → (prefix : List ℕ) → Contains prefixes prefix → AreAlikeUnder prefix p (all_joined os)
 held_alike prefixes inputs archives os p short are h prefix in_prefixes =
-    let le = at_prefix prefixes prefix in_prefixes short in
+    let le = All-contains (λ (f : List ℕ). length f ≤ 24) prefixes prefix (All-from_recursion (λ (f : List ℕ). length f ≤ 24) prefixes short) in_prefixes in
     let held = with_fourth IsIndexed IsReadWith IsHeldAs inputs archives os h.all (λ x y z w is read. held_as x y z w is read) are h.read in
     let there = for_first IsHeldAs IsLater IsHeldAs archives h.all os h.later (λ x y z w is later. held_later x w y z later is) held h.are_later in
     let groups = third_fourth IsHeldAs (λ archive entries parts. HoldsNamed prefixes archive (placed_of entries) parts) (IsGroupOf prefixes) h.later h.all os h.named.groups (λ x y z w is named. group_of prefixes short x y z w is named) there h.named.named in
@@ -224,8 +205,3 @@ frames_told lines m o frames status text alike told = record {
   status_is = told.status_is;
   text_is = told.text_is;
 }
-
--- prefixes that are short, of which each is a key of frames
-pub short_keys : (keys all : List (List ℕ)) → ((key : List ℕ) → Contains keys key → Contains all key) → ((key : List ℕ) → Contains all key → length key ≤ 24) → AllByRecursion (λ (f : List ℕ). length f ≤ 24) keys
-short_keys [] all within short = tt
-short_keys (k ∷ keys) all within short = (short k (within k (0, omega arith, refl)), short_keys keys all (λ q h. within q (in_rest k keys q h)) short)

@@ -1,7 +1,7 @@
 -- What the tables in the indexes of contents tell is what the join of these contents tells.
-use Rattle.std.proofs.Common.{◌≡◌, ◌⊎◌, ℕ, ◌≤◌, Bool, List, [], ◌∷◌, length, Contains, Option, refl, sym, subst, inl, inr, arith}
+use Rattle.std.proofs.Common.{◌≡◌, ◌⊎◌, ℕ, ◌≤◌, Bool, List, [], ◌∷◌, length, get_or, Contains, Option, refl, sym, subst, inl, inr, arith}
 use Rattle.std.specs.List.{AllZip}
-use Rattle.std.proofs.lemmas.List.Elements.{All-weaker, recursion_from_All}
+use Rattle.std.proofs.lemmas.List.Elements.{All-weaker, Contains-get_or, recursion_from_All}
 use Rattle.archive_core.specs.Content.{Operations}
 use Rattle.archive_core.specs.Key.{IsKey, key_bytes}
 use Rattle.archive_core.specs.Lookup.{answer_view}
@@ -18,7 +18,7 @@ use Rattle.command_core.specs.declared.faults.Why.{Why}
 use Rattle.crash_frames.specs.declared.frame.Frame.{Frame}
 use Rattle.table_index.specs.Text.{IsIndexText}
 use Rattle.index_laws.specs.Indexes.{AreIndexes, DigestsTell, IsIndexFile, all_joined}
-use Rattle.index_laws.proofs.Joined.{joined_alone}
+use Rattle.index_laws.proofs.Joined.{joined_alone, tells_alone}
 use Rattle.index_laws.proofs.Right as told
 use Rattle.indexed_answers.specs.Among.{EntryAt}
 use Rattle.index_inputs.specs.Together.{AreReadWith, IsReadWith}
@@ -26,10 +26,8 @@ use Rattle.indexed_symbols.specs.Asking.{AreGiven, AreRefusedAsking, AreUntold, 
 use Rattle.indexed_symbols.specs.Frames.{AreToldAt, IsFrameByTables, TellsFramesBySlices, TellsFramesByTables, keys_of}
 use Rattle.indexed_symbols.specs.Symbolicate.{TellsBySlices, TellsByTables, symbolicate_at}
 use Rattle.query_laws.specs.Contents.{AreIndexed, AreIndexesGiven, AreOwnIndexes, IsForLines, IsIndexGiven, IsIndexed, IsOwnIndex}
-use Rattle.query_laws.proofs.ByIndex.{frames_told, held_alike, short_keys}
-use Rattle.query_laws.proofs.OfIndex.{held_text}
-use Rattle.query_laws.proofs.Refused.{first_by_device, later_by_device}
-use Rattle.query_laws.proofs.Three.{first_third, third_also}
+use Rattle.query_laws.proofs.ByIndex.{frames_told, held_alike}
+use Rattle.query_laws.proofs.Accepted.{held_text, first_by_device, later_by_device, first_third, for_first}
 
 -- ---- the texts of indexes
 
@@ -47,11 +45,11 @@ texts_of (input ∷ inputs) (o ∷ os) (first, rest) =
 texts_of inputs os are = absurd are
 
 module _ {I P : Type 0} (inputs : List (Reader I)) (archives : List (Reader P)) (all : List (List (List ℕ))) (read : AreReadWith inputs archives all) where
-  texts_read : (texts : List (List ℕ)) → AreGiven inputs texts → AllZip IsIndexText texts all
-  texts_read texts given = third_also IsReadWith IsGiven IsIndexText inputs archives all texts (λ x y z w is known. held_text x w z known is.index_is) read given
-
   pub indexes_are : (os : List Operations) (texts : List (List ℕ)) → AreGiven inputs texts → AllZip IsIndexFile os texts → AreIndexes os texts all
-  indexes_are os texts given files = record { files = files; read = texts_read texts given }
+  indexes_are os texts given files =
+      let IsText : List ℕ → Reader P → List (List ℕ) → Type 0 = λ t a es. IsIndexText t es in
+      let three = for_first IsReadWith IsGiven IsText inputs archives all texts (λ x y z w is known. held_text x w z known is.index_is) read given in
+      record { files = files; read = first_third IsText IsIndexText texts archives all (λ x y z is. is) three }
 
   -- ---- answers
 
@@ -89,21 +87,18 @@ module _ {I P : Type 0} (inputs : List (Reader I)) (archives : List (Reader P)) 
 -- ---- one index
 
 module _ {I P : Type 0} (input : Reader I) (archive : Reader P) (o : Operations) (is : IsIndexGiven input o) where
-  tells_alone : DigestsTell (o ∷ [])
-  tells_alone several = absurd (omega (arith, several))
-
   joined_one : all_joined (o ∷ []) ≡ o
   joined_one = joined_alone o is.2.content.itself
 
   pub told_alone : (key : SliceKey) (load : Option ℕ) (lines : Bool) (addresses : List ℕ) (status : Status) (text : List ℕ) → IsKey key → TellsByTables (input ∷ []) (archive ∷ []) key load lines addresses status text → TellsAddresses o key load lines addresses status text
   told_alone key load lines addresses status text is_key by =
       subst (λ (made : Operations). TellsAddresses made key load lines addresses status text) joined_one
-      (told_by_tables (input ∷ []) (archive ∷ []) (o ∷ []) (is, tt) tells_alone key load lines addresses status text is_key by)
+      (told_by_tables (input ∷ []) (archive ∷ []) (o ∷ []) (is, tt) (tells_alone o) key load lines addresses status text is_key by)
 
   pub framed_alone : (lines : Bool) (listed : List Frame) (status : Status) (text : List ℕ) → ((frame : Frame) → Contains listed frame → IsKey frame.key) → TellsFramesByTables lines (input ∷ []) (archive ∷ []) listed status text → TellsFrames lines o listed status text
   framed_alone lines listed status text keys by =
       subst (λ (made : Operations). TellsFrames lines made listed status text) joined_one
-      (framed_by_tables (input ∷ []) (archive ∷ []) (o ∷ []) (is, tt) tells_alone lines listed status text keys by)
+      (framed_by_tables (input ∷ []) (archive ∷ []) (o ∷ []) (is, tt) (tells_alone o) lines listed status text keys by)
 
 -- ---- by slices
 
@@ -117,7 +112,9 @@ module _ {I P : Type 0} (inputs : List (Reader I)) (archives : List (Reader P)) 
   pub framed_by_slices : (lines : Bool) (listed : List Frame) (status : Status) (text : List ℕ) → ((key : List ℕ) → Contains (keys_of listed) key → length key ≤ 24) → TellsFramesBySlices lines inputs archives listed status text
       → TellsFrames lines (all_joined os) listed status text
   framed_by_slices lines listed status text short by =
-      let few = short_keys by.keys (keys_of listed) (λ q there. (by.are_keys q).0 there) short in
+      let few =
+      recursion_from_All (λ (f : List ℕ). length f ≤ 24) by.keys
+      (λ i d lt. short (get_or by.keys i d) ((by.are_keys (get_or by.keys i d)).0 (Contains-get_or by.keys i d lt))) in
       frames_told lines by.makes.content (all_joined os) listed status text
       (λ key there. held_alike by.keys inputs archives os by.makes.content few are by.makes.held key ((by.are_keys key).1 there)) by.makes.tells
 

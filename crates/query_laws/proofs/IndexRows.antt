@@ -1,10 +1,10 @@
 -- The rows of the index of a content are those of the content.
 use Rattle.std.proofs.Common.{◌≡◌, ℕ, ◌+◌, ◌<◌, ◌≤◌, ◌^◌, Bool, true, false, cond, ◌&&◌, List, [], ◌∷◌, ◌++◌, length, take, drop, get_or, refl, sym, ap, ◌∙◌, subst, inl, inr, arith, length-append, append_assoc}
-use Rattle.std.specs.Prelude.{filter, Contains}
+use Rattle.std.specs.Prelude.{filter}
 use Rattle.std.specs.Int.{w32, w64, to_be_bytes}
 use Rattle.std.specs.List.{AllByRecursion, AllZip, concat, list_any}
 use Rattle.std.specs.List.Sorted.{IsStrictlySortedBy}
-use Rattle.std.specs.Ordering.{eq_by_cmp, ordering_then}
+use Rattle.std.specs.Ordering.{ordering_then}
 use Rattle.std.specs.Cmp.{tied_itself}
 use Rattle.std.specs.Cmp.Lexicographic.{nat_list_cmp_total}
 use Rattle.std.specs.declared.cmp.Ordering.{Ordering}
@@ -13,7 +13,7 @@ use Rattle.std.specs.FinSet as set
 use Rattle.std.specs.FinSet.{contains-from_list, same_set}
 use Rattle.std.proofs.Math.Seq.{take-append_seam}
 use Rattle.std.proofs.lemmas.Slice.Eq.{bytes_eq-Decides}
-use Rattle.std.proofs.lemmas.List.Elements.{All-cons}
+use Rattle.std.proofs.lemmas.List.Elements.{All-cons, Contains-get_or, recursion_from_All}
 use Rattle.std.proofs.lemmas.List.Sorted.{list_any-IsPermutation}
 use Rattle.sha2.specs.Sha256.{sha256}
 use Rattle.sha2.proofs.Facts256.{length-sha256}
@@ -53,13 +53,9 @@ use Rattle.archive_index.proofs.Named.{under_same}
 use Rattle.archive_index.proofs.Placed.{kind_of, offset_is}
 use Rattle.archive_index.proofs.Sums.{nonempty, text_length}
 use Rattle.indexed_queries.specs.Rows.{AreIndexRows, IsEntryRow}
-use Rattle.archive_core.proofs.Members.{in_rest}
 use Rattle.query_laws.specs.Contents.{HaveKeys}
-use Rattle.query_laws.proofs.Ascent.{Ascend, any_passed, ascend_sorted, count, once, one_ascent, one_of_number}
+use Rattle.query_laws.proofs.Ascent.{Ascend, any_passed, ascend_sorted, count, is_same, once, one_ascent, one_of_number}
 use Rattle.indexed_queries.proofs.Entries.{digest_there, key_there}
-
-abbrev is_same : List ℕ → List ℕ → Bool
-is_same = eq_by_cmp order
 
 -- ---- the row of an entry is that of its record
 
@@ -252,8 +248,11 @@ module _ (o : Operations) (uuid : List ℕ) (long : length uuid ≡ 16) where
   uuid_found (Admit slice) valid h = uuid_there uuid _ 2 (key_of slice) long (uuid_of-length slice valid.image) (under_of (admission_record slice) h.1.admitted)
   uuid_found (Retire key digest) is h = uuid_there uuid digest.0 1 key long is.0.uuid (under_of (retirement_record key digest.0) h.1)
 
-  all_found : (rows : List FindRow) (l : IsList p rows) → (a : Operation) → Contains l.operations a → (key_in a).uuid ≡ uuid
-  all_found rows l a there = let is = (l.exactly a).0 there in uuid_found a is.0 is.1
+  all_found : (rows : List FindRow) (l : IsList p rows) → AllByRecursion (λ a. (key_in a).uuid ≡ uuid) l.operations
+  all_found rows l = recursion_from_All (λ a. (key_in a).uuid ≡ uuid) l.operations (λ i d lt.
+      let a : Operation = get_or l.operations i d in
+      let is = (l.exactly a).0 (Contains-get_or l.operations i d lt) in
+      uuid_found a is.0 is.1)
 
   then_less : (a b : Ordering) → a ≡ Equal → ordering_then a b ≡ Less → b ≡ Less
   then_less a b e h = sym (ap (λ (x : Ordering). ordering_then x b) e) ∙ h
@@ -271,15 +270,11 @@ module _ (o : Operations) (uuid : List ℕ) (long : length uuid ≡ 16) where
   still_ascending [] us less = tt
   still_ascending (x ∷ xs) us less = (each_less x xs us.0 us.1 less.0, still_ascending xs us.1 less.1)
 
-  all_along : (xs : List Operation) → ((a : Operation) → Contains xs a → (key_in a).uuid ≡ uuid) → AllByRecursion (λ y. (key_in y).uuid ≡ uuid) xs
-  all_along [] h = tt
-  all_along (x ∷ xs) h = (h x (0, omega arith, refl), all_along xs (λ a there. h a (in_rest x xs a there)))
-
   -- so its list is what is found there
   pub found_of_list : (rows : List FindRow) → IsList p rows → IsFinds o uuid rows
   found_of_list rows l = finds_alike p o uuid rows (part_alike o (is_under uuid) uuid (λ r h. h)) (record {
     operations = l.operations;
-    ascending = still_ascending l.operations (all_along l.operations (all_found rows l)) l.ascending;
+    ascending = still_ascending l.operations (all_found rows l) l.ascending;
     exactly = λ a. (
       λ h. let is = (l.exactly a).0 h in (is.0, subst (λ (u : List ℕ). IsFoundUnder p u a) (uuid_found a is.0 is.1) is.1),
       λ h. (l.exactly a).1 (h.0, subst (λ (u : List ℕ). IsFoundUnder p u a) (sym (found_under p uuid a h.1)) h.1),

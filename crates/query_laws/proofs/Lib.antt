@@ -1,11 +1,7 @@
 pub mod Ascent
 pub mod IndexRows
-pub mod OfIndex
 pub mod Accepted
-pub mod Three
-pub mod Refused
 pub mod ByIndex
 pub mod ByTables
-pub mod Extracted
 pub mod FrameKeys
-pub mod Undecided
+pub mod Extracted

@@ -1,4 +1,4 @@
-use Rattle.indexed_tables.proofs.First.{not_far}
+use Rattle.indexed_tables.proofs.Made.{not_far}
 use Rattle.indexed_tables.proofs.laws.never_too_long.Goals as goal
 
 pub returns : goal.returns

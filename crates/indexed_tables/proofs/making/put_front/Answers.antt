@@ -2,8 +2,7 @@ use Rattle.std.proofs.Common.{ℕ, List, refl, subst}
 use Rattle.byte_device.specs.Writes.{IsPut}
 use Rattle.archive_records.specs.declared.format.Format.TheVariants.{Archive}
 use Rattle.archive_records.proofs.Blamed.{failed}
-use Rattle.indexed_tables.proofs.Grown.{put_end}
-use Rattle.indexed_tables.proofs.Stopped.{magic_stopped, making_behind, none_stopped, refused_where}
+use Rattle.indexed_tables.proofs.Grown.{put_end, magic_stopped, making_behind, none_stopped, refused_where}
 use Rattle.indexed_tables.proofs.making.put_front.Goals as goal
 
 pub returns-in-Err-clause-stopped : goal.returns-in-Err-clause-stopped

@@ -3,8 +3,7 @@ use Rattle.archive_records.proofs.Blamed.{failed}
 use Rattle.table_index.specs.Entry.{entry_bytes}
 use Rattle.indexed_tables.specs.Content.{table_entry}
 use Rattle.indexed_tables.specs.InnerMaking.{HasPut, StopsRecord}
-use Rattle.indexed_tables.proofs.Grown.{put_all, put_more, put_none}
-use Rattle.indexed_tables.proofs.Stopped.{next_stopped, record_stopped, start_stopped, unkept}
+use Rattle.indexed_tables.proofs.Grown.{put_all, put_more, put_none, next_stopped, record_stopped, start_stopped, unkept}
 use Rattle.indexed_tables.proofs.records.put_tables.Goals as goal
 
 pub taking-init : goal.taking-init

@@ -1,7 +1,7 @@
 use Rattle.std.proofs.Common.{subst}
 use Rattle.archive_core.specs.Summary.{Entries}
 use Rattle.indexed_queries.specs.Rows.{AreIndexRows}
-use Rattle.query_laws.proofs.OfIndex.{entries_are, have_keys}
+use Rattle.query_laws.proofs.Accepted.{entries_are, have_keys}
 use Rattle.query_laws.proofs.IndexRows.{found_of_index}
 use Rattle.query_laws.proofs.laws.found_by_index.Goals as goal
 

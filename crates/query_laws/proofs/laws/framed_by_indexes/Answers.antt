@@ -2,17 +2,11 @@ use Rattle.query_laws.proofs.ByTables.{framed_alone, framed_by_slices, framed_by
 use Rattle.query_laws.proofs.FrameKeys.{frame_keys}
 use Rattle.query_laws.proofs.laws.framed_by_indexes.Goals as goal
 
-pub returns-clause-tables : goal.returns-clause-tables
-returns-clause-tables g c = λ inputs archives os lines listed status text are tell keys by. framed_by_tables inputs archives os are tell lines listed status text keys by
-
-pub returns-clause-alone : goal.returns-clause-alone
-returns-clause-alone g c = λ input archive o lines listed status text is keys by. framed_alone input archive o is lines listed status text keys by
-
-pub returns-clause-slices : goal.returns-clause-slices
-returns-clause-slices g c = λ inputs archives os lines listed status text short are by. framed_by_slices inputs archives os are lines listed status text short by
-
-pub returns-clause-either : goal.returns-clause-either
-returns-clause-either g c = λ inputs archives os lines listed status text are tell keys by. framed_either inputs archives os are lines listed status text tell keys by
-
-pub returns-clause-keys : goal.returns-clause-keys
-returns-clause-keys g c = λ bytes listed frame is there. frame_keys bytes listed frame is there
+pub returns : goal.returns
+returns g c = record {
+  tables = λ inputs archives os lines listed status text are tell keys by. framed_by_tables inputs archives os are tell lines listed status text keys by;
+  alone = λ input archive o lines listed status text is keys by. framed_alone input archive o is lines listed status text keys by;
+  slices = λ inputs archives os lines listed status text short are by. framed_by_slices inputs archives os are lines listed status text short by;
+  either = λ inputs archives os lines listed status text are tell keys by. framed_either inputs archives os are lines listed status text tell keys by;
+  keys = λ bytes listed frame is there. frame_keys bytes listed frame is there;
+}

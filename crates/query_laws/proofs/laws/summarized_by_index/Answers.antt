@@ -4,7 +4,7 @@ use Rattle.archive_index.proofs.Summarised.{summary_of_index}
 use Rattle.archive_records.specs.Text.{summary_text}
 use Rattle.command_core.specs.Outputs.{summary_report_of}
 use Rattle.indexed_queries.specs.Summary.{summary_in}
-use Rattle.query_laws.proofs.OfIndex.{entries_are}
+use Rattle.query_laws.proofs.Accepted.{entries_are}
 use Rattle.query_laws.proofs.laws.summarized_by_index.Goals as goal
 
 pub returns : goal.returns
