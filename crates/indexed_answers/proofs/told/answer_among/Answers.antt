@@ -4,7 +4,7 @@ use Rattle.std.proofs.lemmas.Result.{err_from_is_err_and}
 use Rattle.indexed_answers.specs.Among.{EntryAt}
 use Rattle.indexed_answers.specs.Views.{IsColumnAt}
 use Rattle.indexed_answers.proofs.Asked.{passed_on}
-use Rattle.indexed_answers.proofs.tables.answer_among.Goals as goal
+use Rattle.indexed_answers.proofs.told.answer_among.Goals as goal
 
 pub returns-in_err-columns : goal.returns-in_err-columns
 returns-in_err-columns g c =
