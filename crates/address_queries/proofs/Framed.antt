@@ -1,7 +1,7 @@
 -- What is told of frames that are asked in the order of their keys.
 use Rattle.std.proofs.Common.{◌≡◌, ℕ, zero, suc, subst, false, ◌+◌, ◌-◌, ◌<◌, ◌≤◌, Bool, ◌&&◌, if◌then◌else◌, List, [], ◌∷◌, ◌++◌, length, map, take, drop, set, get_or, Some, Result, Ok, Err, is_ok, true, refl, sym, ap, ◌∙◌, arith, inl, inr, ◌⊎◌, length-append}
 use Rattle.std.specs.Prelude.{slice_get, slice_range}
-use Rattle.std.specs.List.{AllByRecursion, AllZip, Contains, HoldsAt, flat_map, list_all, list_any, prefix_len}
+use Rattle.std.specs.List.{All, AllByRecursion, AllZip, Contains, HoldsAt, flat_map, list_all, list_any, prefix_len}
 use Rattle.std.specs.Str.{bytes_eq}
 use Rattle.std.specs.List.Sorted.{IsBinarySearchResult, IsPartitionPoint, IsPermutation, IsSearchInRange, IsSortedBy, IsSortedByKey}
 use Rattle.std.specs.Ordering.{nat_cmp, is_lt, ordering_then}
@@ -12,6 +12,7 @@ use Rattle.std.specs.Cmp.Lexicographic.{slice_cmp, nat_list_cmp_total}
 use Rattle.std.proofs.lemmas.Cmp.{nat_cmp_total, on_total, then_total}
 use Rattle.std.proofs.lemmas.Bool.{cases_eq, cases_lt, false_from_ne_true}
 use Rattle.std.proofs.Math.Seq.{drop-nil}
+use Rattle.std.proofs.lemmas.List.Elements.{All-from_recursion}
 use Rattle.std.proofs.lemmas.List.Sums.{prefix_len_passes}
 use Rattle.std.proofs.lemmas.List.Folds.{Any-from_list_any, list_any-from_Any, list_any_at}
 use Rattle.std.proofs.lemmas.Slice.Eq.{bytes_eq-Decides}
@@ -86,11 +87,9 @@ no_less_first a b h = grind arith
 pub keys_in_order : (asked : List AskedFrame) → IsSortedBy (λ (a b : AskedFrame). is_lt (asked_cmp a b)) asked → AreInOrder (map key_of_asked asked)
 keys_in_order [] sorted = λ j d _ below. absurd (omega (arith, below))
 keys_in_order (first ∷ asked) sorted = λ j d _ below.
-    let all : List AskedFrame = first ∷ asked in
-    let within : j + 1 < length all = omega (arith, below, length-map all key_of_asked) in
-    let next : get_or (map key_of_asked all) (j + 1) d ≡ (get_or all (j + 1) first).frame.key = get_or-map key_of_asked all (j + 1) first d within in
-    let one : get_or (map key_of_asked all) j d ≡ (get_or all j first).frame.key = get_or-map key_of_asked all j first d (omega (arith, within)) in
-    (λ i. is_lt (slice_cmp nat_cmp (key_bytes (next i)) (key_bytes (one i)))) ∙ no_less_first _ _ (sorted j first (omega arith) within)
+    let within : j + 1 < length (first ∷ asked) = omega (arith, below, length-map (first ∷ asked) key_of_asked) in
+    rw (get_or-map key_of_asked (first ∷ asked) (j + 1) first d within, get_or-map key_of_asked (first ∷ asked) j first d (omega (arith, within)))
+    (no_less_first _ _ (sorted j first (omega arith) within))
 
 pub by_keys : (asked : List AskedFrame) → IsSortedBy (λ (a b : AskedFrame). is_lt (asked_cmp a b)) asked → IsSortedByKey (λ (one : AskedFrame). key_bytes one.frame.key) (slice_cmp nat_cmp) asked
 by_keys asked sorted = λ j d below within. no_less_first _ _ (sorted j d below within)
@@ -135,19 +134,6 @@ asked_picked asked key there long r under =
     list_any-from_Any (has (take 24 (drop 1 r))) asked (one.1.0, one.0, one.1.1, one.1.2, same)
 
 -- ---- one question after another
-
--- none was told
-pub none_told : (wanted : Bool) (content : Operations) (frames : List Frame) (asked : List AskedFrame) (told : List ToldFrame) (text : List ℕ) → AreLines frames asked → length asked ≡ length frames → length told ≡ length asked
-    → AreTold wanted content asked asked (length told) told text
-none_told wanted content frames asked told text lines long many = record {
-  long = refl;
-  within = λ one there. omega (arith, many, long, slice_get_within frames one.line one.frame ((lines one).0 there));
-  once = λ one other there also same.
-      let frame : one.frame ≡ other.frame = cc ((lines one).0 there, (lines other).0 also) in
-      λ i. numbered (same i) (frame i);
-  of_asked = λ one there. there;
-  each = λ one there. inl there;
-}
 
 -- what was told stays where it stands while the text grows
 told_still : (wanted : Bool) (content : Operations) (text more : List ℕ) (frame : Frame) (told : ToldFrame) → IsFrameTold wanted content text frame told → IsFrameTold wanted content (text ++ more) frame told
@@ -231,14 +217,6 @@ module _ (wanted : Bool) (content : Operations) (asked : List AskedFrame) (one :
 abbrev pub of_key : SliceKey → AskedFrame → Bool
 of_key key one = is_key one.frame.key key
 
--- the first of some frames is one of those of its key
-pub first_of_run : (first : AskedFrame) (asked left : List AskedFrame) → asked ≡ first ∷ left → 0 < prefix_len (of_key first.frame.key) asked
-first_of_run first asked left is = rw (is, key_is_same first.frame.key) (omega arith)
-
--- and each of those has the key
-pub run_key : (key : SliceKey) (asked : List AskedFrame) (i : ℕ) (d : AskedFrame) → i < prefix_len (of_key key) asked → (get_or asked i d).frame.key ≡ key
-run_key key asked i d lt = one_key (get_or asked i d).frame.key key (prefix_len_passes (of_key key) asked i d lt)
-
 pub in_run : (key : SliceKey) (left run : List AskedFrame) (n i : ℕ) (one : AskedFrame) → n ≡ prefix_len (of_key key) left → run ≡ take n left → i < length run → one ≡ get_or run i one
     → (one.frame.key ≡ key) × Contains run one × (one ≡ get_or left i one) × (i < length left)
 in_run key left run n i one long prefix lt at =
@@ -246,7 +224,7 @@ in_run key left run n i one long prefix lt at =
     let few : i < n = omega (arith, within, length-take n left) in
     let also : i < length left = omega (arith, within, length-take n left) in
     let there : one ≡ get_or left i one = at ∙ ap (λ (l : List AskedFrame). get_or l i one) prefix ∙ get_or-take n left i one few in (
-      ap (λ (a : AskedFrame). a.frame.key) there ∙ run_key key left i one (omega (arith, long)),
+      ap (λ (a : AskedFrame). a.frame.key) there ∙ one_key (get_or left i one).frame.key key (prefix_len_passes (of_key key) left i one (omega (arith, long))),
       (i, lt, sym at),
       there,
       also,
@@ -259,9 +237,7 @@ first_is one (next ∷ left) is = let same : next ≡ one = cc in ap (λ (a : As
 pub run_long : (one : AskedFrame) (left : List AskedFrame) (n : ℕ) → Some one ≡ slice_get left 0 → n ≡ prefix_len (of_key one.frame.key) left → 0 < n
 run_long one [] n is long = cc
 run_long one (next ∷ left) n is long =
-    let same : next ≡ one = cc in
-    let first = first_of_run one (next ∷ left) left (ap (λ (a : AskedFrame). a ∷ left) same) in
-    omega (arith, long, first)
+    let same : next ≡ one = cc in rw (long, same, key_is_same one.frame.key) (omega arith)
 
 -- one more of them is told
 pub run_told : (content o : Operations) (wanted now : Bool) (all left : List AskedFrame) (i count : ℕ) (one : AskedFrame) (key : SliceKey) (told after : List ToldFrame) (text grown : List ℕ)
@@ -271,12 +247,7 @@ pub run_told : (content o : Operations) (wanted now : Bool) (all left : List Ask
     → AreTold wanted o all (drop i left) count told text
     → AreTold wanted o all (drop (i + 1) left) count after grown
 run_told content o wanted now all left i count one key told after text grown same lt at of first step answers before =
-    let rest : List AskedFrame = drop (i + 1) left in
-    let moved : AreTold now o all (one ∷ rest) count told text =
-    subst (λ (w : Bool). AreTold w o all (one ∷ rest) count told text) (sym same)
-    (subst (λ (l : List AskedFrame). AreTold wanted o all l count told text) (drop_more left i one lt ∙ ap (λ (a : AskedFrame). a ∷ rest) (sym at)) before) in
-    subst (λ (w : Bool). AreTold w o all rest count after grown) same
-    (step o all rest count (subst (λ (k : SliceKey). AnswersAs k content o) (sym of) (answers key first)) moved)
+    rw (← same) (step o all (drop (i + 1) left) count (rw of (answers key first)) (rw (same, at, ← drop_more left i one lt) before))
 
 -- the next question is passed, of which the frame was told
 pub one_less : (ahead : ℕ) (before now left : List AskedFrame) (one : AskedFrame) → now ≡ before → now ≡ one ∷ left → (now ≡ []) ⊎ (0 < ahead) → drop ahead before ≡ drop (ahead - 1) left
@@ -286,21 +257,7 @@ one_less (suc n) before now left one same is some =
     let less : suc n - 1 ≡ n = omega arith in
     ap (drop (suc n)) (sym same ∙ is) ∙ ap (λ (m : ℕ). drop m left) (sym less)
 
--- none was told yet
-pub begun : (wanted : Bool) (content : Operations) (frames : List Frame) (asked : List AskedFrame) (ahead : ℕ) (told : List ToldFrame) (text : List ℕ) → AreLines frames asked → length asked ≡ length frames → length told ≡ length asked → ahead ≡ 0
-    → AreTold wanted content asked (drop ahead asked) (length told) told text
-begun wanted content frames asked ahead told text lines long many none =
-    subst (λ (n : ℕ). AreTold wanted content asked (drop n asked) (length told) told text) (sym none) (none_told wanted content frames asked told text lines long many)
-
 -- ---- what was told of all, in the order of their lines
-
--- what was told of each
-pub told_each : (wanted : Bool) (content : Operations) (frames : List Frame) (asked : List AskedFrame) (count : ℕ) (told : List ToldFrame) (text : List ℕ) → AreLines frames asked → AreTold wanted content asked [] count told text
-    → (i : ℕ) (frame : Frame) → slice_get frames i ≡ Some frame → (it : ToldFrame) × (slice_get told i ≡ Some it) × IsFrameTold wanted content text frame it
-told_each wanted content frames asked count told text lines are i frame at = elim (are.each (numbered i frame) ((lines (numbered i frame)).1 at)) [
-  | inl c ↦ absurd (omega (arith, c.1))
-  | inr it ↦ it
-]
 
 along : (wanted : Bool) (content : Operations) (text : List ℕ) (frames : List Frame) (told : List ToldFrame) → length told ≡ length frames
     → ((i : ℕ) (frame : Frame) → slice_get frames i ≡ Some frame → (it : ToldFrame) × (slice_get told i ≡ Some it) × IsFrameTold wanted content text frame it)
@@ -311,22 +268,11 @@ along wanted content text (frame ∷ frames) (it ∷ told) long each =
     (rw (same_Some it first.0 first.1) first.2, along wanted content text frames told (omega (arith, long)) (λ i. each (suc i)))
 along wanted content text frames told long each = absurd (omega (arith, long))
 
-pub all_told : (wanted : Bool) (content : Operations) (frames : List Frame) (asked : List AskedFrame) (count : ℕ) (told : List ToldFrame) (text : List ℕ) → AreLines frames asked → count ≡ length frames → AreTold wanted content asked [] count told text
-    → AllZip (IsFrameTold wanted content text) frames told
-all_told wanted content frames asked count told text lines many are = along wanted content text frames told (are.long ∙ many) (told_each wanted content frames asked count told text lines are)
-
--- where no frame is left
-pub told_to_the_end : (wanted : Bool) (content : Operations) (frames : List Frame) (asked left : List AskedFrame) (ahead count : ℕ) (told : List ToldFrame) (text : List ℕ) → AreLines frames asked → count ≡ length frames → map key_of_asked left ≡ []
-    → AreTold wanted content asked (drop ahead left) count told text → AllZip (IsFrameTold wanted content text) frames told
-told_to_the_end wanted content frames asked left ahead count told text lines many none are =
-    let nothing : left ≡ [] = nil_from_length left (omega (arith, length-map left key_of_asked, ap length none)) in
-    all_told wanted content frames asked count told text lines many (subst (λ (l : List AskedFrame). AreTold wanted content asked l count told text) (ap (drop ahead) nothing ∙ drop-nil ahead) are)
-
--- so each piece of the text is there
-pub pieces : (wanted : Bool) (content : Operations) (text : List ℕ) (frames : List Frame) (told : List ToldFrame) → AllZip (IsFrameTold wanted content text) frames told → AllByRecursion (λ (it : ToldFrame). (it.from ≤ it.to) × (it.to ≤ length text)) told
-pieces wanted content text [] [] are = tt
-pieces wanted content text (frame ∷ frames) (it ∷ told) are = ((are.0.begins, are.0.ends), pieces wanted content text frames told are.1)
-pieces wanted content text frames told are = absurd are
+-- each piece of the text is there
+are_pieces : (wanted : Bool) (content : Operations) (text : List ℕ) (frames : List Frame) (told : List ToldFrame) → AllZip (IsFrameTold wanted content text) frames told → AllByRecursion (λ (it : ToldFrame). (it.from ≤ it.to) × (it.to ≤ length text)) told
+are_pieces wanted content text [] [] are = tt
+are_pieces wanted content text (frame ∷ frames) (it ∷ told) are = ((are.0.begins, are.0.ends), are_pieces wanted content text frames told are.1)
+are_pieces wanted content text frames told are = absurd are
 
 -- what was told, as the definition says it
 record AreRows (wanted : Bool) (content : Operations) (text : List ℕ) (frames : List Frame) (told : List ToldFrame) : Type 0 where
@@ -348,17 +294,43 @@ rows_of wanted content text (frame ∷ frames) (it ∷ told) are =
     }
 rows_of wanted content text frames told are = absurd are
 
-pub frames_told : (wanted : Bool) (content : Operations) (text : List ℕ) (frames : List Frame) (told : List ToldFrame) (status : Status) (lines : List ℕ) → AllZip (IsFrameTold wanted content text) frames told
-    → status ≡ (if list_all (λ (it : ToldFrame). it.is_symbol) told then Done else Partial) → lines ≡ flat_map (λ (it : ToldFrame). slice_range text it.from it.to) told
-    → TellsFrames wanted content frames status lines
-frames_told wanted content text frames told status lines are status_is lines_are =
-    let r = rows_of wanted content text frames told are in
-    record {
-      rows = r.rows;
-      answered = r.answered;
-      status_is = status_is ∙ ap (λ (all : Bool). if all then Done else Partial) r.symbols_are;
-      text_is = lines_are ∙ r.lines_are;
-    }
+module _ (frames : List Frame) (asked left : List AskedFrame) (begin : List ToldFrame) (is : left ≡ asked) (lines : AreLines frames asked) (long : length asked ≡ length frames) (many : length begin ≡ length asked) where
+  -- none was told yet
+  pub begun : (wanted : Bool) (content : Operations) (ahead : ℕ) (text : List ℕ) → ahead ≡ 0 → AreTold wanted content left (drop ahead left) (length begin) begin text
+  begun wanted content ahead text none = rw (none, is) (record {
+    long = refl;
+    within = λ one there. omega (arith, many, long, slice_get_within frames one.line one.frame ((lines one).0 there));
+    once = λ one other there also same.
+        let frame : one.frame ≡ other.frame = cc ((lines one).0 there, (lines other).0 also) in
+        λ i. numbered (same i) (frame i);
+    of_asked = λ one there. there;
+    each = λ one there. inl there;
+  })
+
+  module _ (wanted : Bool) (content : Operations) (last : List AskedFrame) (ahead : ℕ) (told : List ToldFrame) (text : List ℕ) (none : map key_of_asked last ≡ []) (are : AreTold wanted content left (drop ahead last) (length begin) told text) where
+    -- where no frame is left
+    told_to_the_end : AllZip (IsFrameTold wanted content text) frames told
+    told_to_the_end =
+        let nothing : last ≡ [] = nil_from_length last (omega (arith, length-map last key_of_asked, ap length none)) in
+        let all : AreTold wanted content asked [] (length begin) told text = subst (λ (l : List AskedFrame). AreTold wanted content l [] (length begin) told text) is (subst (λ (l : List AskedFrame). AreTold wanted content left l (length begin) told text) (ap (drop ahead) nothing ∙ drop-nil ahead) are) in
+        along wanted content text frames told (all.long ∙ many ∙ long) (λ i frame at. elim (all.each (numbered i frame) ((lines (numbered i frame)).1 at)) [
+          | inl c ↦ absurd (omega (arith, c.1))
+          | inr it ↦ it
+        ])
+
+    pub pieces : All (λ (it : ToldFrame). (it.from ≤ it.to) × (it.to ≤ length text)) told
+    pieces = All-from_recursion _ _ (are_pieces wanted content text frames told told_to_the_end)
+
+    pub frames_told : (status : Status) (printed : List ℕ) → status ≡ (if list_all (λ (it : ToldFrame). it.is_symbol) told then Done else Partial) → printed ≡ flat_map (λ (it : ToldFrame). slice_range text it.from it.to) told
+        → TellsFrames wanted content frames status printed
+    frames_told status printed status_is printed_is =
+        let r = rows_of wanted content text frames told told_to_the_end in
+        record {
+          rows = r.rows;
+          answered = r.answered;
+          status_is = status_is ∙ ap (λ (all : Bool). if all then Done else Partial) r.symbols_are;
+          text_is = printed_is ∙ r.lines_are;
+        }
 
 -- one of the inputs is refused, or memory is wanting for it
 module _ {R S T : Type 0} (Makes : Status → List ℕ → Type 0) (frames : Reader R) (archive : Reader S) (others : List (Reader T)) (report : Writer) where

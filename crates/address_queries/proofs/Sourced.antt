@@ -13,7 +13,7 @@ use Rattle.archive_core.specs.Lookup.{AnswerRecord, IsAnswer, file_address}
 use Rattle.archive_core.specs.Record.{admission_record}
 use Rattle.archive_core.specs.declared.keys.SliceKey.{SliceKey}
 use Rattle.archive_core.specs.declared.lookup.Where.{Where}
-use Rattle.archive_core.proofs.Members.{in_cons, in_front, in_rest, one_with_members, to_map}
+use Rattle.archive_core.proofs.Members.{in_cons, in_front, in_rest, one_with_members, pairs_more, to_map}
 use Rattle.archive_reading.specs.Keys.{AnswersAs}
 use Rattle.source_frames.specs.AddressFrames.{AreFramesOf}
 use Rattle.source_frames.specs.FoundFrames.{frames_under}
@@ -72,25 +72,14 @@ places_found slice image places it addresses same is_image all each place there 
 
 -- ---- the frames that were found in one slice more
 
-module _ (place : Where) where
-  pub found_more : (found : List SlicedFrames) (it : SlicedFrames) → AllZip (AreFramesAt place) (slices_of found) (map (frames_in place) found) → AreFramesAt place it.slice.now (frames_in place it)
-      → AllZip (AreFramesAt place) (slices_of (found ++ it ∷ [])) (map (frames_in place) (found ++ it ∷ []))
-  found_more [] it are is = (is, tt)
-  found_more (first ∷ found) it are is = (are.0, found_more found it are.1 is)
-
 pub slices_more : (found new : List SlicedFrames) (slices : List (Bor Slice)) (i : ℕ) (it : SlicedFrames) (slice : Bor Slice) → i < length slices → slice ≡ get_or slices i slice → new ≡ found ++ it ∷ [] → it.slice.now ≡ slice.now
     → slices_of found ≡ map (λ (s : Bor Slice). s.now) (take i slices) → slices_of new ≡ map (λ (s : Bor Slice). s.now) (take (i + 1) slices)
-slices_more found new slices i it slice lt at grown same before =
-    let bytes : Bor Slice → Slice = λ (s : Bor Slice). s.now in
-    ap slices_of grown ∙ map-append (λ (f : SlicedFrames). f.slice.now) found (it ∷ []) ∙ (λ j. before j ++ same j ∷ [])
-    ∙ sym (map-append bytes (take i slices) (slice ∷ []))
-    ∙ sym (ap (map bytes) (take_more slices i slice lt ∙ ap (λ (s : Bor Slice). take i slices ++ s ∷ []) (sym at)))
+slices_more found new slices i it slice lt at grown same before = rw (grown, take_more slices i slice lt, ← at) (simp map-append (λ j. before j ++ same j ∷ []))
 
 pub frames_more : (place : Where) (found new : List SlicedFrames) (it : SlicedFrames) (slice : List ℕ) → new ≡ found ++ it ∷ [] → it.slice.now ≡ slice → AllZip (AreFramesAt place) (slices_of found) (map (frames_in place) found)
     → AreFramesAt place slice (frames_in place it) → AllZip (AreFramesAt place) (slices_of new) (map (frames_in place) new)
 frames_more place found new it slice grown same are is =
-    subst (λ (l : List SlicedFrames). AllZip (AreFramesAt place) (slices_of l) (map (frames_in place) l)) (sym grown)
-    (found_more place found it are (subst (λ (bytes : List ℕ). AreFramesAt place bytes (frames_in place it)) (sym same) is))
+    rw grown (simp map-append (pairs_more (AreFramesAt place) (slices_of found) (map (frames_in place) found) it.slice.now (frames_in place it) are (subst (λ (bytes : List ℕ). AreFramesAt place bytes (frames_in place it)) (sym same) is)))
 
 -- ---- answers of one archive, with what was found in its slices
 

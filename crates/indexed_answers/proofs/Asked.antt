@@ -1,23 +1,26 @@
 -- What came of asking one entry after another.
-use Rattle.std.proofs.Common.{◌≡◌, ℕ, zero, suc, ◌+◌, ◌<◌, Bool, List, [], ◌∷◌, ◌++◌, length, map, take, set, get_or, slice_get, refl, sym, subst, ap, ◌∙◌, arith}
+use Rattle.std.proofs.Common.{◌≡◌, ℕ, ◌+◌, ◌<◌, Bool, List, [], ◌∷◌, ◌++◌, length, map, take, set, get_or, slice_get, refl, sym, subst, ap, ◌∙◌, arith}
 use Rattle.std.specs.Prelude.{Contains, Option, None, Some, Result, Ok, Err, MatchResult}
 use Rattle.std.specs.List.{AllZip}
 use Rattle.std.specs.Option.{option_map}
 use Rattle.std.proofs.lemmas.List.{map-set, set-get_or}
 use Rattle.std.proofs.lemmas.List.Elements.{All-weaker}
 use Rattle.std.proofs.lemmas.Option.{get_or_from_slice_get, none-some, same_Some, slice_get-get_or, slice_get-map, slice_get_within}
+use Rattle.std.proofs.lemmas.Slice.Zip.{AllZip-long}
 use Rattle.byte_device.specs.declared.disks.CannotOpen.{CannotOpen}
 use Rattle.archive_core.specs.declared.lookup.Where.{Where}
 use Rattle.table_index.specs.Entry.{claim_in}
 use Rattle.indexed_answers.specs.Among.{EntryAt}
 use Rattle.indexed_answers.specs.AmongAsked.{AreOpened, AsksAmong, BlamesAmong, HasText, HaveTexts, IsOpenedAt, IsUntoldAmong, each_known, known_of}
-use Rattle.indexed_answers.specs.InnerAnswering.{AsksOne, BlamesOne, IsColumnOf, IsUntoldOne}
+use Rattle.indexed_answers.specs.InnerAnswering.{AsksOne, BlamesOne, IsColumnOf, IsUntoldOne, entry_at}
 use Rattle.indexed_answers.specs.Told.{AreFramesToldBy, IsToldBy}
 use Rattle.indexed_answers.specs.Views.{IsColumnAt, frame_lists, told_view}
 use Rattle.indexed_answers.specs.declared.answers.EntryAnswers.{EntryAnswers}
 use Rattle.indexed_answers.specs.declared.fault.AnswerFault.{AnswerFault}
 use Rattle.indexed_answers.specs.declared.fault.AnswerFault.TheVariants.{Damaged, Device, NoLines, OutOfMemory}
-use Rattle.indexed_answers.proofs.Columns.{zip_more}
+use Rattle.indexed_answers.specs.declared.numbered.Numbered.{Numbered}
+use Rattle.indexed_answers.proofs.Columns.{zip_at, zip_more}
+use Rattle.indexed_answers.proofs.Lists.{map_has, map_within, read_map}
 
 -- ---- what is known of the devices
 
@@ -42,23 +45,11 @@ text_at whole devices texts i before is have =
     let ks = each_known whole devices in
     let here = known_at whole devices i before is in
     let lt : i < length ks = slice_get_within ks i (Ok (whole before)) here in
-    let long : length ks ≡ length texts = zip_length ks texts have in
-    (get_or texts i [], slice_get-get_or texts i [] (omega (arith, lt, long)), subst (λ k. HasText k (get_or texts i [])) (get_or_from_slice_get ks i (Ok (whole before)) (Ok (whole before)) here) (zip_here ks texts i (Ok (whole before)) [] have lt))
-  where
-    zip_length : (ks : List (Result (Option (List ℕ)) CannotOpen)) (ts : List (List ℕ)) → AllZip HasText ks ts → length ks ≡ length ts
-    zip_length [] [] h = refl
-    zip_length [] (t ∷ ts) h = absurd h
-    zip_length (k ∷ ks) [] h = absurd h
-    zip_length (k ∷ ks) (t ∷ ts) h = ap suc (zip_length ks ts h.1)
-
-    zip_here : (ks : List (Result (Option (List ℕ)) CannotOpen)) (ts : List (List ℕ)) (i : ℕ) (d : Result (Option (List ℕ)) CannotOpen) (e : List ℕ) → AllZip HasText ks ts → i < length ks → HasText (get_or ks i d) (get_or ts i e)
-    zip_here [] ts i d e h lt = absurd (omega (arith, lt))
-    zip_here (k ∷ ks) [] i d e h lt = absurd h
-    zip_here (k ∷ ks) (t ∷ ts) zero d e h lt = h.0
-    zip_here (k ∷ ks) (t ∷ ts) (suc i) d e h lt = zip_here ks ts i d e h.1 (omega (arith, lt))
+    let long : length texts ≡ length ks = AllZip-long HasText ks texts have in
+    (get_or texts i [], slice_get-get_or texts i [] (omega (arith, lt, long)), subst (λ k. HasText k (get_or texts i [])) (get_or_from_slice_get ks i (Ok (whole before)) (Ok (whole before)) here) (zip_at HasText ks texts i (Ok (whole before)) [] have lt))
 
 -- a device stays opened whose bytes are as they were
-pub still_opened : {D : Type 0} (whole : D → Option (List ℕ)) (old new : List (Result D CannotOpen)) (i : ℕ) → each_known whole new ≡ each_known whole old → IsOpenedAt old i → IsOpenedAt new i
+still_opened : {D : Type 0} (whole : D → Option (List ℕ)) (old new : List (Result D CannotOpen)) (i : ℕ) → each_known whole new ≡ each_known whole old → IsOpenedAt old i → IsOpenedAt new i
 still_opened {D} whole old new i same opened =
     of (slice_get new i) refl (sym (slice_get-map (known_of whole) new i) ∙ ap (λ ks. slice_get ks i) same ∙ known_at whole old i opened.0 opened.1)
   where
@@ -68,12 +59,8 @@ still_opened {D} whole old new i same opened =
     of (Some (Err reason)) is known =
         let other : Err reason ≡ Ok (whole opened.0) = same_Some (Err reason) (Ok (whole opened.0)) known in absurd (cc)
 
-pub all_opened : {D : Type 0} (whole : D → Option (List ℕ)) (old new : List (Result D CannotOpen)) (xs : List EntryAt) → each_known whole new ≡ each_known whole old → AreOpened old xs → AreOpened new xs
+all_opened : {D : Type 0} (whole : D → Option (List ℕ)) (old new : List (Result D CannotOpen)) (xs : List EntryAt) → each_known whole new ≡ each_known whole old → AreOpened old xs → AreOpened new xs
 all_opened whole old new xs same opened = All-weaker (λ x. IsOpenedAt old x.input) (λ x. IsOpenedAt new x.input) (λ x h. still_opened whole old new x.input same h) xs opened
-
--- that of one of the entries
-pub opened_here : {D : Type 0} (whole : D → Option (List ℕ)) (old new : List (Result D CannotOpen)) (xs : List EntryAt) (i : ℕ) (x : EntryAt) → each_known whole new ≡ each_known whole old → AreOpened old xs → i < length xs → x ≡ get_or xs i x → IsOpenedAt new x.input
-opened_here whole old new xs i x same opened lt is = subst (λ z. IsOpenedAt new z.input) (sym is) (all_opened whole old new xs same opened i x lt)
 
 -- ---- one entry, of its device
 
@@ -144,45 +131,48 @@ asked_at whole failures lines asked answering x devices old new r answers is one
 
 -- ---- one after another
 
-module _ {D : Type 0} (whole : D → Option (List ℕ)) (failures : D → ℕ) (lines : Bool) (asked : List Where) (answering : List EntryAt) where
+module _ {D : Type 0} (whole : D → Option (List ℕ)) (failures : D → ℕ) (lines : Bool) (asked : List Where) (entries : List Numbered) where
+  abbrev answering : List EntryAt
+  answering = map entry_at entries
+
   -- what the first of the entries tell
   abbrev pub HaveTold : ℕ → List (Result D CannotOpen) → List (Result D CannotOpen) → List EntryAnswers → Type 0
   HaveTold i old new columns = AsksAmong whole failures lines answering old new (Ok columns) (λ texts cs. AllZip (IsColumnAt texts lines asked) (take i answering) cs)
 
-  have_texts : (old mid : List (Result D CannotOpen)) (texts : List (List ℕ)) → each_known whole mid ≡ each_known whole old → HaveTexts whole old texts → HaveTexts whole mid texts
-  have_texts old mid texts same have = subst (λ ks. AllZip HasText ks texts) (sym same) have
+  module _ (i : ℕ) (n : Numbered) (lt : i < length entries) (is : n ≡ get_or entries i n) (old mid : List (Result D CannotOpen)) (columns : List EntryAnswers) (so_far : HaveTold i old mid columns) where
+    -- the device of the next one is opened
+    pub opened_here : AreOpened old answering → IsOpenedAt mid n.input
+    opened_here opened =
+        subst (λ z. IsOpenedAt mid z.input) (sym (read_map entry_at entries i n lt is)) (all_opened whole old mid answering so_far.keeps opened i (entry_at n) (map_within entry_at entries i n lt is))
 
-  pub one_told : (i : ℕ) (old mid new : List (Result D CannotOpen)) (columns after : List EntryAnswers) (column : EntryAnswers) (x : EntryAt) → i < length answering → x ≡ get_or answering i x → after ≡ columns ++ column ∷ []
-      → HaveTold i old mid columns → AsksAmong whole failures lines answering mid new (Ok column) (λ texts c. IsColumnAt texts lines asked x c) → HaveTold (i + 1) old new after
-  one_told i old mid new columns after column x lt is grown so_far told = record {
-    says = λ texts have. zip_more (IsColumnAt texts lines asked) answering i x columns after column lt is grown (so_far.says texts have) (told.says texts (have_texts old mid texts so_far.keeps have));
-    keeps = told.keeps ∙ so_far.keeps;
-    counts = told.counts ∙ so_far.counts;
-  }
+    have_texts : (texts : List (List ℕ)) → HaveTexts whole old texts → HaveTexts whole mid texts
+    have_texts texts have = subst (λ ks. AllZip HasText ks texts) (sym so_far.keeps) have
 
-  -- a refusal is passed on
-  pub none_more : {T U : Type 0} (i : ℕ) (old mid new : List (Result D CannotOpen)) (columns : List EntryAnswers) (f : AnswerFault) (r : Result T AnswerFault) (s : Result U AnswerFault) (A : List (List ℕ) → T → Type 0) (B : List (List ℕ) → U → Type 0)
-      → r ≡ Err f → s ≡ Err f → HaveTold i old mid columns → AsksAmong whole failures lines answering mid new r A → AsksAmong whole failures lines answering old new s B
-  none_more i old mid new columns f r s A B was is so_far told =
-      subst (λ t. AsksAmong whole failures lines answering old new t B) (sym is) (of_err (subst (λ t. AsksAmong whole failures lines answering mid new t A) was told))
-    where
-      of_err : AsksAmong whole failures lines answering mid new (Err f) A → AsksAmong whole failures lines answering old new (Err f) B
-      of_err h = record {
-        says = λ texts have. h.says texts (have_texts old mid texts so_far.keeps have);
-        keeps = h.keeps ∙ so_far.keeps;
-        counts = subst (λ ks. BlamesAmong lines answering ks (each_known failures new) f) so_far.counts h.counts;
-      }
+    -- what comes of asking it, where it is among entries
+    abbrev IsAsked : List (Result D CannotOpen) → Result EntryAnswers AnswerFault → Type 0
+    IsAsked new r = (xs : List EntryAt) → Contains xs (entry_at n) → AsksAmong whole failures lines xs mid new r (λ texts c. IsColumnAt texts lines asked (entry_at n) c)
 
-  -- no memory is left for what was told
-  pub no_memory : {T U : Type 0} (i : ℕ) (old mid new : List (Result D CannotOpen)) (columns : List EntryAnswers) (value : T) (A : List (List ℕ) → T → Type 0) (B : List (List ℕ) → U → Type 0)
-      → HaveTold i old mid columns → AsksAmong whole failures lines answering mid new (Ok value) A → AsksAmong whole failures lines answering old new (Err OutOfMemory) B
-  no_memory i old mid new columns value A B so_far told = record { says = λ texts have. tt; keeps = told.keeps ∙ so_far.keeps; counts = told.counts ∙ so_far.counts }
+    pub one_told : (new : List (Result D CannotOpen)) (after : List EntryAnswers) (column : EntryAnswers) → after ≡ columns ++ column ∷ [] → IsAsked new (Ok column) → HaveTold (i + 1) old new after
+    one_told new after column grown all =
+        let told = all answering (map_has entry_at entries i n lt is) in
+        record {
+          says = λ texts have. zip_more (IsColumnAt texts lines asked) answering i (entry_at n) columns after column (map_within entry_at entries i n lt is) (read_map entry_at entries i n lt is) grown (so_far.says texts have) (told.says texts (have_texts texts have));
+          keeps = told.keeps ∙ so_far.keeps;
+          counts = told.counts ∙ so_far.counts;
+        }
 
--- a refusal of the same entries is passed on
-pub passed_on : {D T U : Type 0} (whole : D → Option (List ℕ)) (failures : D → ℕ) (lines : Bool) (xs ys : List EntryAt) (old new : List (Result D CannotOpen)) (f : AnswerFault) (r : Result T AnswerFault) (s : Result U AnswerFault) (A : List (List ℕ) → T → Type 0) (B : List (List ℕ) → U → Type 0)
-    → xs ≡ ys → r ≡ Err f → s ≡ Err f → AsksAmong whole failures lines xs old new r A → AsksAmong whole failures lines ys old new s B
-passed_on whole failures lines xs ys old new f r s A B same was is h =
-    subst (λ t. AsksAmong whole failures lines ys old new t B) (sym is) (of_err (subst (λ zs. AsksAmong whole failures lines zs old new (Err f) A) same (subst (λ t. AsksAmong whole failures lines xs old new t A) was h)))
-  where
-    of_err : AsksAmong whole failures lines ys old new (Err f) A → AsksAmong whole failures lines ys old new (Err f) B
-    of_err k = record { says = k.says; keeps = k.keeps; counts = k.counts }
+    -- a refusal is passed on
+    pub none_more : {U : Type 0} (new : List (Result D CannotOpen)) (f : AnswerFault) (B : List (List ℕ) → U → Type 0) → IsAsked new (Err f) → AsksAmong whole failures lines answering old new (Err f) B
+    none_more new f B all =
+        let told = all answering (map_has entry_at entries i n lt is) in
+        record {
+          says = λ texts have. told.says texts (have_texts texts have);
+          keeps = told.keeps ∙ so_far.keeps;
+          counts = subst (λ ks. BlamesAmong lines answering ks (each_known failures new) f) so_far.counts told.counts;
+        }
+
+    -- no memory is left for what was told
+    pub no_memory : {U : Type 0} (new : List (Result D CannotOpen)) (column : EntryAnswers) (B : List (List ℕ) → U → Type 0) → IsAsked new (Ok column) → AsksAmong whole failures lines answering old new (Err OutOfMemory) B
+    no_memory new column B all =
+        let told = all answering (map_has entry_at entries i n lt is) in
+        record { says = λ texts have. tt; keeps = told.keeps ∙ so_far.keeps; counts = told.counts ∙ so_far.counts }

@@ -1,5 +1,5 @@
 -- Lists that are told element by element.
-use Rattle.std.proofs.Common.{◌≡◌, ℕ, zero, suc, refl, arith, ◌+◌, ◌<◌, List, [], ◌∷◌, ◌++◌, length, map, take, get_or, sym, subst, ap, ◌∙◌}
+use Rattle.std.proofs.Common.{◌≡◌, ℕ, zero, suc, arith, ◌+◌, ◌<◌, List, [], ◌∷◌, ◌++◌, length, map, take, get_or, sym, ap, ◌∙◌}
 use Rattle.std.specs.List.{AllZip}
 use Rattle.std.proofs.lemmas.List.{map-append, take_more}
 use Rattle.archive_core.proofs.Members.{pairs_more}
@@ -7,9 +7,7 @@ use Rattle.archive_core.proofs.Members.{pairs_more}
 -- one pair more
 pub zip_more : {X Y : Type 0} (R : X → Y → Type 0) (xs : List X) (i : ℕ) (x : X) (before after : List Y) (y : Y) → i < length xs → x ≡ get_or xs i x → after ≡ before ++ y ∷ []
     → AllZip R (take i xs) before → R x y → AllZip R (take (i + 1) xs) after
-zip_more R xs i x before after y lt is grown all one =
-    subst (AllZip R (take (i + 1) xs)) (sym grown)
-    (subst (λ zs. AllZip R zs (before ++ y ∷ [])) (sym (take_more xs i x lt)) (pairs_more R (take i xs) before (get_or xs i x) y all (subst (λ z. R z y) is one)))
+zip_more R xs i x before after y lt is grown all one = rw (grown, take_more xs i x lt, ← is) (pairs_more R (take i xs) before x y all one)
 
 -- the same as seen through a view
 pub zip_viewed : {X Y Z : Type 0} (R : X → Z → Type 0) (v : Y → Z) (xs : List X) (i : ℕ) (x : X) (before after : List Y) (y : Y) → i < length xs → x ≡ get_or xs i x → after ≡ before ++ y ∷ []
@@ -30,8 +28,9 @@ zip_as R S [] [] to all = tt
 zip_as R S (x ∷ xs) (y ∷ ys) to all = (to x y all.0, zip_as R S xs ys to all.1)
 zip_as R S xs ys to all = absurd all
 
--- an element, whatever stands for one past the end
-pub any_default : {X : Type 0} (xs : List X) (i : ℕ) (d e : X) → i < length xs → get_or xs i d ≡ get_or xs i e
-any_default [] i d e lt = absurd (omega (arith, lt))
-any_default (x ∷ xs) zero d e lt = refl
-any_default (x ∷ xs) (suc i) d e lt = any_default xs i d e (omega (arith, lt))
+-- what is told of the pair at a place
+pub zip_at : {X Y : Type 0} (R : X → Y → Type 0) (xs : List X) (ys : List Y) (i : ℕ) (d : X) (e : Y) → AllZip R xs ys → i < length xs → R (get_or xs i d) (get_or ys i e)
+zip_at R [] ys i d e all lt = absurd (omega (arith, lt))
+zip_at R (x ∷ xs) [] i d e all lt = absurd all
+zip_at R (x ∷ xs) (y ∷ ys) zero d e all lt = all.0
+zip_at R (x ∷ xs) (y ∷ ys) (suc i) d e all lt = zip_at R xs ys i d e all.1 (omega (arith, lt))

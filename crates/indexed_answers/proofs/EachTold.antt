@@ -1,20 +1,15 @@
 -- What is told of several places is told of each.
-use Rattle.std.proofs.Common.{ℕ, zero, suc, ◌<◌, Bool, true, false, List, [], ◌∷◌, length, map, get_or, refl, arith, None}
+use Rattle.std.proofs.Common.{ℕ, ◌<◌, Bool, true, false, List, [], ◌∷◌, length, map, get_or, refl, arith, None}
 use Rattle.std.specs.List.{AllZip}
 use Rattle.archive_core.specs.Lookup.{OwnRow}
 use Rattle.archive_core.specs.declared.lookup.Where.{Where}
 use Rattle.table_index.specs.Entry.{claim_in}
 use Rattle.indexed_answers.specs.Among.{AreAnsweringAmong, EntryAt}
-use Rattle.indexed_answers.specs.AmongTold.{AreFramesToldAt, AreShownAmong, IsAnswerAmong, IsToldOfAmong, IsToldRowAt}
+use Rattle.indexed_answers.specs.AmongTold.{AreShownAmong, IsAnswerAmong, IsToldOfAmong, IsToldRowAt}
 use Rattle.indexed_answers.specs.Told.{AreFramesToldBy, IsToldBy}
-use Rattle.indexed_answers.specs.Views.{IsColumnAt, answer_of, frame_lists, frames_at, row_at, shown_of, told_view}
+use Rattle.indexed_answers.specs.Views.{IsColumnAt, answer_of, frame_lists, row_at, shown_of, told_view}
 use Rattle.indexed_answers.specs.declared.answers.EntryAnswers.{EntryAnswers}
-
-zip_at : {A B : Type 0} (R : A → B → Type 0) (xs : List A) (ys : List B) (i : ℕ) (d : A) (e : B) → AllZip R xs ys → i < length xs → R (get_or xs i d) (get_or ys i e)
-zip_at R [] ys i d e all lt = absurd (omega (arith, lt))
-zip_at R (x ∷ xs) [] i d e all lt = absurd all
-zip_at R (x ∷ xs) (y ∷ ys) zero d e all lt = all.0
-zip_at R (x ∷ xs) (y ∷ ys) (suc i) d e all lt = zip_at R xs ys i d e all.1 (omega (arith, lt))
+use Rattle.indexed_answers.proofs.Columns.{zip_at}
 
 rows_told : (texts : List (List ℕ)) (lines : Bool) (asked : List Where) (number : ℕ) (d : Where) (xs : List EntryAt) (columns : List EntryAnswers) → number < length asked → AllZip (IsColumnAt texts lines asked) xs columns
     → AllZip (IsToldRowAt texts (get_or asked number d)) xs (map (row_at number) columns)
@@ -23,19 +18,15 @@ rows_told texts lines asked number d (x ∷ xs) (c ∷ cs) lt all =
     (record { digest_is = all.0.digest_is; own_is = λ text is. zip_at (IsToldBy text (claim_in x.entry)) asked (map told_view c.owns.items) number d None (all.0.owns text is) lt }, rows_told texts lines asked number d xs cs lt all.1)
 rows_told texts lines asked number d xs columns lt all = absurd all
 
-frames_told : (texts : List (List ℕ)) (asked : List Where) (number : ℕ) (d : Where) (xs : List EntryAt) (columns : List EntryAnswers) → number < length asked → AllZip (IsColumnAt texts true asked) xs columns
-    → AllZip (AreFramesToldAt texts (get_or asked number d)) xs (map (frames_at number) columns)
-frames_told texts asked number d [] [] lt all = tt
-frames_told texts asked number d (x ∷ xs) (c ∷ cs) lt all = (
-  λ text is. zip_at (AreFramesToldBy text (claim_in x.entry)) asked (frame_lists c) number d [] (all.0.frames refl text is) lt,
-  frames_told texts asked number d xs cs lt all.1,
-)
-frames_told texts asked number d xs columns lt all = absurd all
-
 shown_told : (texts : List (List ℕ)) (lines : Bool) (asked : List Where) (number : ℕ) (d : Where) (xs : List EntryAt) (columns : List EntryAnswers) → number < length asked → AllZip (IsColumnAt texts lines asked) xs columns
     → AreShownAmong texts lines (get_or asked number d) xs (shown_of lines number columns)
-shown_told texts true asked number d xs columns lt all = frames_told texts asked number d xs columns lt all
 shown_told texts false asked number d xs columns lt all = refl
+shown_told texts true asked number d [] [] lt all = tt
+shown_told texts true asked number d (x ∷ xs) (c ∷ cs) lt all = (
+  λ text is. zip_at (AreFramesToldBy text (claim_in x.entry)) asked (frame_lists c) number d [] (all.0.frames refl text is) lt,
+  shown_told texts true asked number d xs cs lt all.1,
+)
+shown_told texts true asked number d xs columns lt all = absurd all
 
 told_of : (texts : List (List ℕ)) (asked : Where) (xs : List EntryAt) (rows : List OwnRow) → AllZip (IsToldRowAt texts asked) xs rows → IsToldOfAmong texts asked xs (answer_of rows)
 told_of texts asked [] [] all = refl

@@ -1,19 +1,17 @@
 -- The entries of several indexes with their numbers.
-use Rattle.std.proofs.Common.{◌≡◌, ◌≢◌, ℕ, zero, suc, ◌+◌, ◌<◌, Bool, true, false, List, [], ◌∷◌, ◌++◌, length, map, take, get_or, slice_get, Some, refl, sym, subst, ap, ◌∙◌, arith}
+use Rattle.std.proofs.Common.{◌≡◌, ◌≢◌, ℕ, zero, suc, ◌+◌, ◌<◌, Bool, List, [], ◌∷◌, ◌++◌, length, map, take, get_or, slice_get, Some, refl, sym, ap, ◌∙◌, arith}
 use Rattle.std.specs.Prelude.{All, Contains, filter}
 use Rattle.std.specs.List.{AllPairs}
 use Rattle.std.proofs.lemmas.List.{append-nil, append_assoc, length-take-le, map-append, take_more}
-use Rattle.std.proofs.lemmas.List.Elements.{All-append, All-cons, All-nil, All-weaker, Contains-append_left, Contains-append_right, filter-append}
-use Rattle.std.proofs.lemmas.List.Kept.{AllPairs-cons}
-use Rattle.std.proofs.lemmas.Option.{none-some, same_Some}
+use Rattle.std.proofs.lemmas.List.Elements.{All-append, All-nil, All-weaker, Contains-append_left, Contains-append_right, filter-append}
+use Rattle.std.proofs.lemmas.Option.{get_or_from_slice_get, none-some, same_Some, slice_get-get_or, slice_get_within}
 use Rattle.indexed_answers.specs.Among.{EntryAt, IsAmong, all_of}
 use Rattle.indexed_answers.specs.InnerAnswering.{all_at, entries_at}
-use Rattle.indexed_answers.proofs.Lists.{filter_passed, filter_pushed, pairs_append}
-use Rattle.archive_core.proofs.Members.{in_rest, in_front}
+use Rattle.indexed_answers.proofs.Lists.{pairs_append}
 
 -- ---- one index
 
-abbrev at : ℕ → ℕ → List ℕ → EntryAt
+abbrev pub at : ℕ → ℕ → List ℕ → EntryAt
 at input number e = record { input = input; number = number; entry = e }
 
 pub length-entries_at : (input k : ℕ) (es : List (List ℕ)) → length (entries_at input k es) ≡ length es
@@ -32,27 +30,22 @@ pub map-entries_at : (input k : ℕ) (es : List (List ℕ)) → map (λ x. x.ent
 map-entries_at input k [] = refl
 map-entries_at input k (e ∷ es) = ap (λ (zs : List (List ℕ)). e ∷ zs) (map-entries_at input (k + 1) es)
 
-has_entry : (input k : ℕ) (es : List (List ℕ)) (i : ℕ) (e : List ℕ) → slice_get es i ≡ Some e → Contains (entries_at input k es) (at input (k + i) e)
-has_entry input k [] i e is = absurd (none-some e is)
-has_entry input k (x ∷ es) zero e is =
-    let same : k ≡ k + 0 = omega arith in
-    subst (λ z. Contains (at input k x ∷ entries_at input (k + 1) es) z) (ap (λ n. at input n x) same ∙ ap (λ b. at input (k + 0) b) (same_Some x e is)) (in_front (at input k x) (entries_at input (k + 1) es))
-has_entry input k (x ∷ es) (suc i) e is =
-    let same : k + 1 + i ≡ k + suc i = omega arith in
-    subst (λ z. Contains (at input k x ∷ entries_at input (k + 1) es) z) (ap (λ n. at input n e) same) (in_rest (at input k x) (entries_at input (k + 1) es) (at input (k + 1 + i) e) (has_entry input (k + 1) es i e is))
+has_entry : (input : ℕ) (es : List (List ℕ)) (i : ℕ) (e : List ℕ) → slice_get es i ≡ Some e → Contains (entries_at input 0 es) (at input i e)
+has_entry input es i e is =
+    let lt : i < length es = slice_get_within es i e is in
+    let same : 0 + i ≡ i = omega arith in
+    (i, omega (arith, lt, length-entries_at input 0 es), get_or-entries_at input 0 es i (at input i e) e lt ∙ (λ j. at input (same j) (get_or_from_slice_get es i e e is j)))
 
 -- where an entry stands in its index
-record StandsAt (input k : ℕ) (es : List (List ℕ)) (x : EntryAt) : Type 0 where
-  place : ℕ
+record StandsAt (input : ℕ) (es : List (List ℕ)) (x : EntryAt) : Type 0 where
   input_is : x.input ≡ input
-  number_is : x.number ≡ k + place
-  entry_is : slice_get es place ≡ Some x.entry
+  entry_is : slice_get es x.number ≡ Some x.entry
 
-stands : (input k : ℕ) (es : List (List ℕ)) → All (StandsAt input k es) (entries_at input k es)
-stands input k [] = All-nil (StandsAt input k [])
-stands input k (e ∷ es) =
-    All-cons (StandsAt input k (e ∷ es)) (at input k e) (entries_at input (k + 1) es) (record { place = 0; input_is = refl; number_is = omega arith; entry_is = refl })
-    (All-weaker (StandsAt input (k + 1) es) (StandsAt input k (e ∷ es)) (λ x s. let p = s.place in let n = s.number_is in record { place = suc p; input_is = s.input_is; number_is = omega (arith, n); entry_is = s.entry_is }) (entries_at input (k + 1) es) (stands input (k + 1) es))
+stands : (input : ℕ) (es : List (List ℕ)) → All (StandsAt input es) (entries_at input 0 es)
+stands input es i d lt =
+    let within : i < length es = omega (arith, lt, length-entries_at input 0 es) in
+    let same : 0 + i ≡ i = omega arith in
+    rw (get_or-entries_at input 0 es i d [] within) (record { input_is = refl; entry_is = ap (slice_get es) same ∙ slice_get-get_or es i [] within })
 
 -- ---- several
 
@@ -70,24 +63,18 @@ all_at_push j (first ∷ indexes) es =
     ap (λ (zs : List EntryAt). entries_at j 0 first ++ zs) (all_at_push (j + 1) indexes es ∙ ap (λ n. all_at (j + 1) indexes ++ entries_at n 0 es) same)
     ∙ sym (append_assoc (entries_at j 0 first) (all_at (j + 1) indexes) (entries_at (j + suc (length indexes)) 0 es))
 
-has_entry_of : (j : ℕ) (indexes : List (List (List ℕ))) (i number : ℕ) (es : List (List ℕ)) (e : List ℕ) → slice_get indexes i ≡ Some es → slice_get es number ≡ Some e
-    → Contains (all_at j indexes) (at (j + i) number e)
-has_entry_of j [] i number es e index is = absurd (none-some es index)
-has_entry_of j (first ∷ indexes) zero number es e index is =
-    let same : j ≡ j + 0 = omega arith in
-    let none : 0 + number ≡ number = omega arith in
-    Contains-append_left (entries_at j 0 first) (all_at (j + 1) indexes) (at (j + 0) number e)
-    (subst (λ z. Contains (entries_at j 0 first) z) (ap (λ n. at n (0 + number) e) same ∙ ap (λ n. at (j + 0) n e) none) (has_entry j 0 first number e (ap (λ (zs : List (List ℕ)). slice_get zs number) (same_Some first es index) ∙ is)))
-has_entry_of j (first ∷ indexes) (suc i) number es e index is =
-    let same : j + 1 + i ≡ j + suc i = omega arith in
-    Contains-append_right (entries_at j 0 first) (all_at (j + 1) indexes) (at (j + suc i) number e)
-    (subst (λ z. Contains (all_at (j + 1) indexes) z) (ap (λ n. at n number e) same) (has_entry_of (j + 1) indexes i number es e index is))
+has_entry_of : (j : ℕ) (indexes : List (List (List ℕ))) (i input number : ℕ) (es : List (List ℕ)) (e : List ℕ) → j + i ≡ input → slice_get indexes i ≡ Some es → slice_get es number ≡ Some e
+    → Contains (all_at j indexes) (at input number e)
+has_entry_of j [] i input number es e at_is index is = absurd (none-some es index)
+has_entry_of j (first ∷ indexes) zero input number es e at_is index is =
+    let same : input ≡ j = omega (arith, at_is) in
+    rw (same, same_Some first es index) (Contains-append_left (entries_at j 0 es) (all_at (j + 1) indexes) (at j number e) (has_entry j es number e is))
+has_entry_of j (first ∷ indexes) (suc i) input number es e at_is index is =
+    Contains-append_right (entries_at j 0 first) (all_at (j + 1) indexes) (at input number e) (has_entry_of (j + 1) indexes i input number es e (omega (arith, at_is)) index is)
 
 -- an entry that stands there is among all
 pub has_among : (indexes : List (List (List ℕ))) (x : EntryAt) → IsAmong indexes x → Contains (all_at 0 indexes) x
-has_among indexes x h =
-    let none : 0 + x.input ≡ x.input = omega arith in
-    subst (λ z. Contains (all_at 0 indexes) z) (ap (λ n. at n x.number x.entry) none) (has_entry_of 0 indexes x.input x.number h.entries x.entry h.index_is h.entry_is)
+has_among indexes x h = has_entry_of 0 indexes x.input x.input x.number h.entries x.entry (omega arith) h.index_is h.entry_is
 
 -- where an entry stands among several indexes
 record StandsIn (j : ℕ) (indexes : List (List (List ℕ))) (x : EntryAt) : Type 0 where
@@ -101,7 +88,7 @@ stand_in : (j : ℕ) (indexes : List (List (List ℕ))) → All (StandsIn j inde
 stand_in j [] = All-nil (StandsIn j [])
 stand_in j (es ∷ indexes) =
     All-append (StandsIn j (es ∷ indexes)) (entries_at j 0 es) (all_at (j + 1) indexes)
-    (All-weaker (StandsAt j 0 es) (StandsIn j (es ∷ indexes)) (λ x s. let n = s.input_is in record { place = 0; entries = es; input_is = omega (arith, n); index_is = refl; entry_is = ap (slice_get es) (let m = s.number_is in omega (arith, m)) ∙ s.entry_is }) (entries_at j 0 es) (stands j 0 es))
+    (All-weaker (StandsAt j es) (StandsIn j (es ∷ indexes)) (λ x s. let n = s.input_is in record { place = 0; entries = es; input_is = omega (arith, n); index_is = refl; entry_is = s.entry_is }) (entries_at j 0 es) (stands j es))
     (All-weaker (StandsIn (j + 1) indexes) (StandsIn j (es ∷ indexes)) (λ x s. let p = s.place in let n = s.input_is in record { place = suc p; entries = s.entries; input_is = omega (arith, n); index_is = s.index_is; entry_is = s.entry_is }) (all_at (j + 1) indexes) (stand_in (j + 1) indexes))
 
 -- each of all stands there
@@ -117,39 +104,22 @@ AreApart x y = x.input ≡ y.input → x.number ≢ y.number
 pub apart_both : (x y : EntryAt) → AreApart x y → AreApart y x
 apart_both x y h = λ e n. h (sym e) (sym n)
 
-apart_in : (input k : ℕ) (es : List (List ℕ)) → AllPairs AreApart (entries_at input k es)
-apart_in input k [] = λ i j d lt le. absurd (omega (arith, lt, le))
-apart_in input k (e ∷ es) =
-    AllPairs-cons AreApart (at input k e) (entries_at input (k + 1) es)
-    (All-weaker (StandsAt input (k + 1) es) (AreApart (at input k e)) (λ x s same number. let n = s.number_is in omega (arith, n, number)) (entries_at input (k + 1) es) (stands input (k + 1) es)) (apart_in input (k + 1) es)
+apart_in : (input : ℕ) (es : List (List ℕ)) → AllPairs AreApart (entries_at input 0 es)
+apart_in input es i j d lt le =
+    let long = length-entries_at input 0 es in
+    rw (get_or-entries_at input 0 es i d [] (omega (arith, lt, le, long)), get_or-entries_at input 0 es j d [] (omega (arith, le, long))) (λ _ same. omega (arith, lt, same))
 
 apart_from : (j : ℕ) (indexes : List (List (List ℕ))) → AllPairs AreApart (all_at j indexes)
 apart_from j [] = λ i k d lt le. absurd (omega (arith, lt, le))
 apart_from j (es ∷ indexes) =
-    pairs_append AreApart (entries_at j 0 es) (all_at (j + 1) indexes) (apart_in j 0 es) (apart_from (j + 1) indexes)
-    (All-weaker (StandsAt j 0 es) (λ x. All (AreApart x) (all_at (j + 1) indexes)) (λ x s.
-    All-weaker (StandsIn (j + 1) indexes) (AreApart x) (λ y t same number. let a = s.input_is in let b = t.input_is in omega (arith, a, b, same)) (all_at (j + 1) indexes) (stand_in (j + 1) indexes)) (entries_at j 0 es) (stands j 0 es))
+    pairs_append AreApart (entries_at j 0 es) (all_at (j + 1) indexes) (apart_in j es) (apart_from (j + 1) indexes)
+    (All-weaker (StandsAt j es) (λ x. All (AreApart x) (all_at (j + 1) indexes)) (λ x s.
+    All-weaker (StandsIn (j + 1) indexes) (AreApart x) (λ y t same number. let a = s.input_is in let b = t.input_is in omega (arith, a, b, same)) (all_at (j + 1) indexes) (stand_in (j + 1) indexes)) (entries_at j 0 es) (stands j es))
 
 pub are_apart : (indexes : List (List (List ℕ))) → AllPairs AreApart (all_at 0 indexes)
 are_apart indexes = apart_from 0 indexes
 
--- ---- those that pass, one after another
-
-module _ (p : EntryAt → Bool) (input : ℕ) (es : List (List ℕ)) (i : ℕ) (e : List ℕ) (lt : i < length es) (is : e ≡ get_or es i e) where
-  within : i < length (entries_at input 0 es)
-  within = omega (arith, lt, length-entries_at input 0 es)
-
-  this : at input i e ≡ get_or (entries_at input 0 es) i (at input i e)
-  this =
-      let same : i ≡ 0 + i = omega arith in
-      ap (λ n. at input n e) same ∙ ap (λ b. at input (0 + i) b) is ∙ sym (get_or-entries_at input 0 es i (at input i e) e lt)
-
-  pub passed_by : p (at input i e) ≡ false → filter p (take (i + 1) (entries_at input 0 es)) ≡ filter p (take i (entries_at input 0 es))
-  passed_by other = filter_passed p (entries_at input 0 es) i (at input i e) within this other
-
-  pub picked : p (at input i e) ≡ true → filter p (take (i + 1) (entries_at input 0 es)) ≡ filter p (take i (entries_at input 0 es)) ++ at input i e ∷ []
-  picked here = filter_pushed p (entries_at input 0 es) i (at input i e) within this here
-
+-- those that pass of one index more
 pub picked_more : (p : EntryAt → Bool) (indexes : List (List (List ℕ))) (i : ℕ) (es : List (List ℕ)) → i < length indexes → es ≡ get_or indexes i es
     → filter p (all_at 0 (take (i + 1) indexes)) ≡ filter p (all_at 0 (take i indexes)) ++ filter p (entries_at i 0 es)
 picked_more p indexes i es lt is =

@@ -9,4 +9,3 @@ pub mod Asked
 pub mod EachTold
 pub mod RunLemmas
 pub mod NamedSlices
-pub mod Wanted

@@ -1,5 +1,5 @@
 -- Slices that entries name.
-use Rattle.std.proofs.Common.{◌≡◌, ◌≢◌, ℕ, ◌+◌, ◌<◌, Bool, true, List, length, take, get_or, sym, subst, inl, inr}
+use Rattle.std.proofs.Common.{◌≡◌, ◌≢◌, ℕ, ◌+◌, ◌<◌, Bool, true, List, length, take, get_or, subst, inl, inr}
 use Rattle.std.specs.Prelude.{Contains, MatchOption, None, Option, Some, filter}
 use Rattle.std.proofs.lemmas.List.{take_more}
 use Rattle.std.proofs.lemmas.List.Elements.{All-contains, All-filter, Contains-push_cases, filter_passes}
@@ -26,23 +26,17 @@ module _ (prefix digest : List ℕ) (indexes : List (List (List ℕ))) (live : L
   abbrev found : List EntryAt
   found = filter lives (all_at 0 indexes)
 
-  -- what is there lives
-  pub lives_there : (x : EntryAt) → Contains live x → digest_at x ≡ digest → LivesAmong prefix digest indexes x
-  lives_there x there same =
-      let here : Contains found x = subst (λ (xs : List EntryAt). Contains xs x) is there in
-      record {
-        among = All-contains (IsAmong indexes) found x (All-filter lives (IsAmong indexes) (all_at 0 indexes) (are_among indexes)) here;
-        lives = All-contains (λ z. lives z ≡ true) found x (filter_passes lives (all_at 0 indexes)) here;
-        digest_is = same;
-      }
-
-  -- and what lives is there
-  pub none_lives : ((x : EntryAt) → Contains live x → digest_at x ≢ digest) → (x : EntryAt) → LivesAmong prefix digest indexes x → ⊥
-  none_lives none x h =
-      none x (subst (λ (xs : List EntryAt). Contains xs x) (sym is) (to_filter lives (all_at 0 indexes) x (has_among indexes x h.among) h.lives)) h.digest_is
-
   -- what was found of them
   pub with_digest : (result : Option NamedSlice) → MatchOption result ((x : EntryAt) → Contains live x → digest_at x ≢ digest) (λ named. (x : EntryAt) × Contains live x × (digest_at x ≡ digest) × Names x named)
       → MatchOption result ((x : EntryAt) → LivesAmong prefix digest indexes x → ⊥) (λ named. (x : EntryAt) × LivesAmong prefix digest indexes x × Names x named)
-  with_digest None none = none_lives none
-  with_digest (Some named) (x, there, same, names) = (x, lives_there x there same, names)
+  with_digest None none = λ x h. none x (rw is (to_filter lives (all_at 0 indexes) x (has_among indexes x h.among) h.lives)) h.digest_is
+  with_digest (Some named) (x, there, same, names) =
+      let here : Contains found x = rw is at there in (
+        x,
+        record {
+          among = All-contains (IsAmong indexes) found x (All-filter lives (IsAmong indexes) (all_at 0 indexes) (are_among indexes)) here;
+          lives = All-contains (λ z. lives z ≡ true) found x (filter_passes lives (all_at 0 indexes)) here;
+          digest_is = same;
+        },
+        names,
+      )

@@ -3,10 +3,10 @@ use Rattle.std.proofs.Common.{◌≡◌, ◌≢◌, ℕ, zero, suc, ◌<◌, ◌
 use Rattle.std.specs.Prelude.{All, Contains}
 use Rattle.std.specs.List.{AllPairs, dedup, dedup_from}
 use Rattle.std.specs.List.Sorted.{IsSortedByKey}
-use Rattle.std.specs.Ordering.{nat_cmp, is_lt, ordering_then}
-use Rattle.std.specs.declared.cmp.Ordering.TheVariants.{Less, Equal, Greater}
+use Rattle.std.specs.Ordering.{nat_cmp, is_lt}
 use Rattle.std.specs.Cmp.Lexicographic.{slice_cmp, nat_list_cmp_total}
-use Rattle.std.proofs.lemmas.Bool.{and_cases, and_parts, cases_Bool, cases_order, eq-eqb, eqb-false, eqb-true, false≢true, le-ltb, lt-ltb, not-false, not-true}
+use Rattle.std.proofs.lemmas.Bool.{and_cases, and_parts, cases_Bool, eqb-false, eqb-true, not-false, not-true}
+use Rattle.std.proofs.lemmas.Bool.Decides.{nat_tests}
 use Rattle.std.proofs.lemmas.List.Elements.{All-cons, All-weaker}
 use Rattle.std.proofs.lemmas.List.Filters.{All-dedup}
 use Rattle.std.proofs.lemmas.List.Kept.{AllPairs-cons}
@@ -26,37 +26,9 @@ abbrev pub IsNotAfter : EntryAt → EntryAt → Type 0
 IsNotAfter x y = (length_in x.entry < length_in y.entry)
     ⊎ ((length_in x.entry ≡ length_in y.entry) × ((x.input < y.input) ⊎ ((x.input ≡ y.input) × (offset_in x.entry ≤ offset_in y.entry))))
 
-lower : (a b : ℕ) → a < b → nat_cmp a b ≡ Less
-lower a b lt = ap (λ t. cond t Less (cond (eqb a b) Equal Greater)) (lt-ltb a b lt)
-
-equal : (a b : ℕ) → a ≡ b → nat_cmp a b ≡ Equal
-equal a b e = let le : b ≤ a = omega (arith, e) in ap (λ t. cond t Less (cond (eqb a b) Equal Greater)) (le-ltb a b le) ∙ ap (λ t. cond t Equal Greater) (eq-eqb a b e)
-
 -- three numbers in a row that are not below three others
 not_lower : (a b c d e f : ℕ) → is_lt (slice_cmp nat_cmp (d ∷ (e ∷ (f ∷ []))) (a ∷ (b ∷ (c ∷ [])))) ≡ false → (a < d) ⊎ ((a ≡ d) × ((b < e) ⊎ ((b ≡ e) × (c ≤ f))))
-not_lower a b c d e f h = elim (cases_order a d) [
-  | inr (inl lt) ↦ inl lt
-  | inr (inr gt) ↦ absurd (false≢true (sym h ∙ ap (λ o. is_lt (ordering_then o (slice_cmp nat_cmp (e ∷ (f ∷ [])) (b ∷ (c ∷ []))))) (lower d a gt)))
-  | inl same ↦
-      let rest : is_lt (slice_cmp nat_cmp (e ∷ (f ∷ [])) (b ∷ (c ∷ []))) ≡ false = sym (ap (λ o. is_lt (ordering_then o (slice_cmp nat_cmp (e ∷ (f ∷ [])) (b ∷ (c ∷ []))))) (equal d a (sym same))) ∙ h in
-      inr (
-        same,
-        elim (cases_order b e) [
-          | inr (inl lt) ↦ inl lt
-          | inr (inr gt) ↦ absurd (false≢true (sym rest ∙ ap (λ o. is_lt (ordering_then o (slice_cmp nat_cmp (f ∷ []) (c ∷ [])))) (lower e b gt)))
-          | inl here ↦
-              let last : is_lt (slice_cmp nat_cmp (f ∷ []) (c ∷ [])) ≡ false = sym (ap (λ o. is_lt (ordering_then o (slice_cmp nat_cmp (f ∷ []) (c ∷ [])))) (equal e b (sym here))) ∙ rest in
-              inr (
-                here,
-                elim (cases_order c f) [
-                  | inl e ↦ omega (arith, e)
-                  | inr (inl lt) ↦ omega (arith, lt)
-                  | inr (inr gt) ↦ absurd (false≢true (sym last ∙ ap (λ o. is_lt (ordering_then o Equal)) (lower f c gt)))
-                ],
-              )
-        ],
-      )
-]
+not_lower a b c d e f h = grind (arith, nat_tests)
 
 -- what a sort by places says
 pub in_places : (xs : List EntryAt) → IsSortedByKey rank_in (slice_cmp nat_cmp) xs → (i j : ℕ) (d : EntryAt) → i ≤ j → j < length xs → IsNotAfter (get_or xs i d) (get_or xs j d)
@@ -82,10 +54,7 @@ placed_skip k x xs h = record { rise = pairs_skip IsNotAfter k x xs h.rise; apar
 
 kept_head : (k : EntryAt) (xs : List EntryAt) → Contains (dedup_from is_elsewhere k xs) k
 kept_head k [] = in_front k []
-kept_head k (x ∷ xs) = elim (cases_Bool (is_elsewhere x k)) [
-  | inl t ↦ subst (λ (zs : List EntryAt). Contains zs k) (sym (ap (λ b. cond b (dedup_from is_elsewhere k xs) (k ∷ dedup_from is_elsewhere x xs)) t)) (kept_head k xs)
-  | inr f ↦ subst (λ (zs : List EntryAt). Contains zs k) (sym (ap (λ b. cond b (dedup_from is_elsewhere k xs) (k ∷ dedup_from is_elsewhere x xs)) f)) (in_front k (dedup_from is_elsewhere x xs))
-]
+kept_head k (x ∷ xs) = elim (cases_Bool (is_elsewhere x k)) [ inl t ↦ rw t (kept_head k xs) | inr f ↦ rw f (in_front k (dedup_from is_elsewhere x xs)) ]
 
 -- an entry is kept, or it is a repeat of one that is
 abbrev pub IsCovered : List EntryAt → EntryAt → Type 0
@@ -121,19 +90,17 @@ same_index x k f same = elim (and_cases (eqb (length_in x.entry) (length_in k.en
 ]
 
 -- what one that stays next to another says of the two
-near : (k x : EntryAt) → is_elsewhere x k ≡ false → IsNotAfter k x → (length_in k.entry < length_in x.entry) ⊎ ((length_in k.entry ≡ length_in x.entry) × (k.input ≡ x.input) × (offset_in k.entry ≤ offset_in x.entry))
-near k x f (inl lt) = inl lt
-near k x f (inr (same, inr (e, le))) = inr (same, e, le)
-near k x f (inr (same, inl lt)) = let e = same_index x k f (sym same) in absurd (omega (arith, e, lt))
+near : (k x : EntryAt) → is_elsewhere x k ≡ false → IsNotAfter k x → AreApart k x → StandsBefore k x
+near k x f (inl lt) apart = inl lt
+near k x f (inr (same, inr (e, le))) apart = inr (same, e, apart e, le)
+near k x f (inr (same, inl lt)) apart = let e = same_index x k f (sym same) in absurd (omega (arith, e, lt))
 
-before : (k x y : EntryAt) → (length_in k.entry < length_in x.entry) ⊎ ((length_in k.entry ≡ length_in x.entry) × (k.input ≡ x.input) × (offset_in k.entry ≤ offset_in x.entry)) → (y ≡ x) ⊎ StandsBefore x y → AreApart k y → StandsBefore k y
-before k x y (inl lt) (inl e) apart = inl (subst (λ z. length_in k.entry < length_in z.entry) (sym e) lt)
-before k x y (inr (a, b, c)) (inl e) apart =
-    subst (λ z. StandsBefore k z) (sym e) (inr (a, b, subst (λ z. AreApart k z) e apart b, c))
+before : (k x y : EntryAt) → StandsBefore k x → (y ≡ x) ⊎ StandsBefore x y → AreApart k y → StandsBefore k y
+before k x y first (inl e) apart = rw e first
 before k x y (inl lt) (inr (inl more)) apart = inl (omega (arith, lt, more))
 before k x y (inl lt) (inr (inr (same, _, _, _))) apart = inl (omega (arith, lt, same))
-before k x y (inr (a, b, c)) (inr (inl more)) apart = inl (omega (arith, a, more))
-before k x y (inr (a, b, c)) (inr (inr (same, e, other, le))) apart = inr (a ∙ same, b ∙ e, apart (b ∙ e), omega (arith, c, le))
+before k x y (inr (a, _, _, _)) (inr (inl more)) apart = inl (omega (arith, a, more))
+before k x y (inr (a, b, _, c)) (inr (inr (same, e, _, le))) apart = inr (a ∙ same, b ∙ e, apart (b ∙ e), omega (arith, c, le))
 
 -- what is kept of a list that begins with k
 record KeptFrom (k : EntryAt) (xs : List EntryAt) : Type 0 where
@@ -169,10 +136,10 @@ kept_from k (x ∷ xs) h = elim (cases_Bool (is_elsewhere x k)) [
     stays : is_elsewhere x k ≡ false → KeptFrom x xs → KeptFrom k (x ∷ xs)
     stays f rest =
         let same : k ∷ dedup_from is_elsewhere x xs ≡ dedup_from is_elsewhere k (x ∷ xs) = sym (ap (λ b. cond b (dedup_from is_elsewhere k xs) (k ∷ dedup_from is_elsewhere x xs)) f) in
-        let rise : IsNotAfter k x = h.rise zero (suc zero) k (omega arith) (omega arith) in
+        let next : StandsBefore k x = near k x f (h.rise zero (suc zero) k (omega arith) (omega arith)) (h.apart zero (suc zero) k (omega arith) (omega arith)) in
         let apart : All (AreApart k) (dedup_from is_elsewhere x xs) = All-dedup is_elsewhere (AreApart k) (x ∷ xs) (pairs_head AreApart k (x ∷ xs) h.apart) in
         let first = rest.first in
-        let after : All (StandsBefore k) (dedup_from is_elsewhere x xs) = λ i d lt. before k x (get_or (dedup_from is_elsewhere x xs) i d) (near k x f rise) (first i d lt) (apart i d lt) in
+        let after : All (StandsBefore k) (dedup_from is_elsewhere x xs) = λ i d lt. before k x (get_or (dedup_from is_elsewhere x xs) i d) next (first i d lt) (apart i d lt) in
         record {
           first = subst (All (λ y. (y ≡ k) ⊎ StandsBefore k y)) same (All-cons (λ y. (y ≡ k) ⊎ StandsBefore k y) k (dedup_from is_elsewhere x xs) (inl refl) (λ i d lt. inr (after i d lt)));
           ordered = subst (AllPairs StandsBefore) same (AllPairs-cons StandsBefore k (dedup_from is_elsewhere x xs) after rest.ordered);

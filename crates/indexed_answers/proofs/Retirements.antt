@@ -1,7 +1,7 @@
 -- What is retired under a key, and by halving.
-use Rattle.std.proofs.Common.{◌≡◌, ℕ, ◌+◌, ◌<◌, ◌≤◌, Bool, true, false, cond, ◌||◌, ◌&&◌, ◌==◌, not, List, [], ◌∷◌, ◌++◌, length, map, take, drop, get_or, Result, Ok, Err, is_ok, refl, sym, ap, ◌∙◌, subst, inl, inr, arith}
+use Rattle.std.proofs.Common.{◌≡◌, ℕ, ◌+◌, ◌<◌, ◌≤◌, Bool, true, false, ◌&&◌, ◌==◌, not, List, [], ◌∷◌, ◌++◌, length, map, take, drop, get_or, Result, Ok, Err, is_ok, sym, ap, ◌∙◌, inl, inr, arith}
 use Rattle.std.specs.Prelude.{filter, slice_index}
-use Rattle.std.specs.Ordering.{nat_cmp, is_lt, ordering_reverse}
+use Rattle.std.specs.Ordering.{nat_cmp}
 use Rattle.std.specs.declared.cmp.Ordering.{Ordering}
 use Rattle.std.specs.declared.cmp.Ordering.TheVariants.{Less, Equal, Greater}
 use Rattle.std.specs.Cmp.{tied_itself}
@@ -9,7 +9,7 @@ use Rattle.std.specs.Cmp.Lexicographic.{slice_cmp, nat_list_cmp_total}
 use Rattle.std.specs.List.{HoldsAt, list_any}
 use Rattle.std.specs.List.Sorted.{IsBinarySearchResult, IsPartitionPoint, IsPermutation, IsSearchInRange, IsSortedByKey}
 use Rattle.std.specs.Str.{bytes_eq}
-use Rattle.std.proofs.lemmas.Bool.{and_parts, cases_Bool, cases_lt, false_from_ne_true, false≢true}
+use Rattle.std.proofs.lemmas.Bool.{and_parts, cases_Bool, cases_lt, false_from_ne_true}
 use Rattle.std.proofs.lemmas.List.{append-nil, map-append, take-take, take_more}
 use Rattle.std.proofs.lemmas.List.Concat.{flat_map-append}
 use Rattle.std.proofs.lemmas.List.Elements.{filter-append}
@@ -21,7 +21,7 @@ use Rattle.archive_core.proofs.Made.{bytes_same}
 use Rattle.indexed_answers.specs.Among.{all_of, covers, lives_under, subject_of}
 use Rattle.indexed_answers.specs.Told.{admits_under}
 use Rattle.indexed_answers.specs.InnerAnswering.{is_retired, lives_by, retired_of, retires_under}
-use Rattle.indexed_answers.proofs.Lists.{filter_pushed}
+use Rattle.indexed_answers.proofs.Lists.{any_filter, any_map, filter_pushed}
 
 -- ---- in another order
 
@@ -59,27 +59,17 @@ module _ (bytes : List ℕ) where
   tied : (subject : List ℕ) → has subject ≡ true → place_of subject ≡ Equal
   tied subject is = ap (λ (b : List ℕ). slice_cmp nat_cmp b bytes) ((bytes_eq-Decides subject bytes).0 is) ∙ tied_itself nat_list_cmp_total bytes
 
-  not_less : (subject : List ℕ) → has subject ≡ true → place_of subject ≡ Less → ⊥
-  not_less subject is less = false≢true (ap is_lt (sym (tied subject is)) ∙ ap is_lt less)
-
-  not_greater : (subject : List ℕ) → has subject ≡ true → place_of subject ≡ Greater → ⊥
-  not_greater subject is greater = false≢true (ap is_lt (ap ordering_reverse (sym (tied subject is))) ∙ ap is_lt (ap ordering_reverse greater))
-
   found_at : (subjects : List (List ℕ)) (i : ℕ) → i < length subjects → HoldsAt (λ (subject : List ℕ). place_of subject ≡ Equal) subjects i → list_any has subjects ≡ true
   found_at [] i lt at = absurd (omega (arith, lt))
   found_at (subject ∷ subjects) i lt at = list_any_at has (subject ∷ subjects) i subject lt ((bytes_eq-Decides _ bytes).1 (bytes_same _ bytes (at subject)))
 
   found_nowhere : (subjects : List (List ℕ)) (i : ℕ) → IsPartitionPoint (λ (subject : List ℕ). place_of subject ≡ Less) (λ (subject : List ℕ). place_of subject ≡ Greater) subjects i → list_any has subjects ≡ false
-  found_nowhere subjects i parts = by (list_any has subjects) refl
-    where
-      by : (b : Bool) → list_any has subjects ≡ b → b ≡ false
-      by false is = refl
-      by true is =
-          let any = Any-from_list_any has subjects is in
-          absurd (elim (cases_lt any.0 i) [
-            | inl below ↦ not_less any.1 any.4 (subst (λ (subject : List ℕ). place_of subject ≡ Less) any.3 (parts.0 any.0 any.1 (omega arith) below))
-            | inr above ↦ not_greater any.1 any.4 (subst (λ (subject : List ℕ). place_of subject ≡ Greater) any.3 (parts.1 any.0 any.1 above any.2))
-          ])
+  found_nowhere subjects i parts = false_from_ne_true (list_any has subjects) (λ is.
+      let any = Any-from_list_any has subjects is in
+      elim (cases_lt any.0 i) [
+        | inl below ↦ cc (tied any.1 any.4, any.3, parts.0 any.0 any.1 (omega arith) below)
+        | inr above ↦ cc (tied any.1 any.4, any.3, parts.1 any.0 any.1 above any.2)
+      ])
 
   -- what a search among keys in their order finds
   pub found : (subjects : List (List ℕ)) (r : Result ℕ ℕ) → IsSortedByKey (λ subject. subject) (slice_cmp nat_cmp) subjects → IsSearchInRange r (length subjects) → IsBinarySearchResult place_of subjects r → is_ok r ≡ list_any has subjects
@@ -98,29 +88,19 @@ module _ (prefix e : List ℕ) (long : length prefix ≡ 24) (under : admits_und
       sym (take-take (length prefix) 56 (drop 1 r) shorter) ∙ ap (take (length prefix)) same ∙ take-take (length prefix) 56 (drop 1 e) shorter in
       ap (bytes_eq prefix) key ∙ here
 
-  covers_under : (r : List ℕ) → retires_under prefix r ≡ false → covers e r ≡ false
-  covers_under r other =
-      false_from_ne_true (covers e r)
-      (λ is.
-      let p = and_parts (slice_index r 0 == 1) (bytes_eq (subject_of r) (subject_of e)) is in
-      let key = same_key r ((bytes_eq-Decides (subject_of r) (subject_of e)).0 p.1) in
-      false≢true (sym other ∙ (λ i. p.0 i && key i)))
-
-  covers_here : (r : List ℕ) → retires_under prefix r ≡ true → bytes_eq (subject_of r) (subject_of e) ≡ covers e r
-  covers_here r is = ap (λ b. b && bytes_eq (subject_of r) (subject_of e)) (sym (and_parts (slice_index r 0 == 1) (is_under prefix r) is).0)
+  covers_is : (r : List ℕ) → (retires_under prefix r && bytes_eq (subject_of r) (subject_of e)) ≡ covers e r
+  covers_is r =
+      absorbed (slice_index r 0 == 1) (is_under prefix r) (bytes_eq (subject_of r) (subject_of e)) (λ is. same_key r ((bytes_eq-Decides (subject_of r) (subject_of e)).0 is))
+    where
+      absorbed : (a u s : Bool) → (s ≡ true → u ≡ true) → ((a && u) && s) ≡ (a && s)
+      absorbed a u s to = grind arith
 
   -- it is retired where a retirement of these covers it
   pub retired_is : (all : List (List ℕ)) → is_retired (retired_of prefix all) e ≡ list_any (covers e) all
-  retired_is [] = refl
-  retired_is (r ∷ all) = elim (cases_Bool (retires_under prefix r)) [
-    | inl t ↦
-        ap (λ b. is_retired (map subject_of (cond b (r ∷ filter (retires_under prefix) all) (filter (retires_under prefix) all))) e) t
-        ∙ (λ i. covers_here r t i || retired_is all i)
-    | inr f ↦
-        ap (λ b. is_retired (map subject_of (cond b (r ∷ filter (retires_under prefix) all) (filter (retires_under prefix) all))) e) f
-        ∙ retired_is all
-        ∙ sym (ap (λ b. b || list_any (covers e) all) (covers_under r f))
-  ]
+  retired_is all =
+      any_map (λ subject. bytes_eq subject (subject_of e)) subject_of (filter (retires_under prefix) all)
+      ∙ any_filter (retires_under prefix) (λ r. bytes_eq (subject_of r) (subject_of e)) all
+      ∙ (λ i. list_any (λ r. covers_is r i) all)
 
 -- what lives is the same by what is retired and by all entries
 pub lives_is : (prefix : List ℕ) (all retired : List (List ℕ)) → length prefix ≡ 24 → is_retired retired ≡ is_retired (retired_of prefix all) → (e : List ℕ) → lives_by prefix retired e ≡ lives_under prefix all e

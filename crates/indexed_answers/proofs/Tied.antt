@@ -7,7 +7,7 @@ use Rattle.std.specs.Ordering.{nat_cmp}
 use Rattle.std.specs.Cmp.Lexicographic.{slice_cmp}
 use Rattle.std.specs.Str.{bytes_eq}
 use Rattle.std.proofs.lemmas.Bool.{both_ways, cases_Bool, cases_order, false≢true, not-false, not-true, or_cases, or_parts}
-use Rattle.std.proofs.lemmas.List.{get_or-take, get_or_default, length-take-le, take_all, take_more}
+use Rattle.std.proofs.lemmas.List.{get_or-take, get_or_default, get_or_read, length-take-le, take_all, take_more}
 use Rattle.std.proofs.lemmas.List.Elements.{All-more, All-weaker, Contains-get_or}
 use Rattle.std.proofs.lemmas.List.Quantifiers.{all_pairs_push}
 use Rattle.std.proofs.lemmas.Slice.Eq.{bytes_eq-Decides}
@@ -51,8 +51,11 @@ none_passed xs first lt is = record {
   agree = λ i j d lt le. absurd (omega (arith, lt, le));
 }
 
-module _ (xs : List EntryAt) (i : ℕ) (first : EntryAt) (differ : Bool) (q : EntryAt) (sorted : IsSortedByKey rank_in (slice_cmp nat_cmp) xs) (lt : i < length xs) (q_is : (d : EntryAt) → q ≡ get_or xs i d)
+module _ (xs : List EntryAt) (i : ℕ) (first : EntryAt) (differ : Bool) (q : EntryAt) (sorted : IsSortedByKey rank_in (slice_cmp nat_cmp) xs) (lt : i < length xs) (is : q ≡ get_or xs i q)
     (passed : ArePassed xs i first differ) where
+  q_is : (d : EntryAt) → q ≡ get_or xs i d
+  q_is = get_or_read xs i q lt is
+
   -- the first of the length is not after this one
   reached : IsNotAfter first q
   reached = subst (λ x. IsNotAfter x q) (sym (passed.first_is q)) (subst (λ y. IsNotAfter (get_or xs passed.place q) y) (sym (q_is q)) (in_places xs sorted passed.place i q passed.not_past lt))
@@ -170,16 +173,13 @@ all_passed xs i first differ le passed = subst (AllPairs HaveOrder) (take_all i 
 -- entries of which each two have an order have no tie
 pub untied : (xs : List EntryAt) → AllPairs HaveOrder xs → HaveTie xs → ⊥
 untied xs agree tie = elim (cases_order tie.one_in.0 tie.other_in.0) [
-  | inl e ↦ tie.unordered.inputs (ap (λ x. x.input) (sym (at tie.one tie.one_in) ∙ ap (λ k. get_or xs k tie.one) e ∙ get_or_default xs tie.other_in.0 tie.one tie.other tie.other_in.1 ∙ at tie.other tie.other_in))
+  | inl e ↦ tie.unordered.inputs (ap (λ x. x.input) (sym tie.one_in.2 ∙ ap (λ k. get_or xs k tie.one) e ∙ get_or_default xs tie.other_in.0 tie.one tie.other tie.other_in.1 ∙ tie.other_in.2))
   | inr (inl lt) ↦
       tie.unordered.slices (ordered tie.one tie.other tie.one_in tie.other_in lt tie.unordered.same_length tie.unordered.inputs)
   | inr (inr gt) ↦
       tie.unordered.slices (sym (ordered tie.other tie.one tie.other_in tie.one_in gt (sym tie.unordered.same_length) (λ e. tie.unordered.inputs (sym e))))
 ]
   where
-    at : (x : EntryAt) (h : Contains xs x) → get_or xs h.0 x ≡ x
-    at x h = h.2
-
     ordered : (x y : EntryAt) (a : Contains xs x) (b : Contains xs y) → a.0 < b.0 → HaveOrder x y
     ordered x y a b lt =
         subst (λ z. HaveOrder z y) (get_or_default xs a.0 y x a.1 ∙ a.2) (subst (λ z. HaveOrder (get_or xs a.0 y) z) b.2 (agree a.0 b.0 y lt b.1))

@@ -55,6 +55,15 @@ module _ (prefix : List ℕ) (indexes : List (List (List ℕ))) where
   -- ---- in the order of their records
 
   module _ (sorted : List EntryAt) (moved : IsPermutation found sorted) (by_place : IsSortedByKey rank_in (slice_cmp nat_cmp) sorted) where
+    stand : All (IsAmong indexes) sorted
+    stand = All-permutation (IsAmong indexes) found sorted moved (All-filter answers (IsAmong indexes) (all_at 0 indexes) (are_among indexes))
+
+    each : All (λ x. answers x ≡ true) sorted
+    each = All-permutation (λ x. answers x ≡ true) found sorted moved (filter_passes answers (all_at 0 indexes))
+
+    has : (x : EntryAt) → IsAmong indexes x → answers x ≡ true → Contains sorted x
+    has x among is = Contains-permutation found sorted x moved (to_filter answers (all_at 0 indexes) x (has_among indexes x among) is)
+
     pub tied : HaveTie sorted → AreTied prefix indexes
     tied tie = record {
       one = tie.one;
@@ -65,28 +74,18 @@ module _ (prefix : List ℕ) (indexes : List (List (List ℕ))) where
       other_answers = All-contains (λ x. answers x ≡ true) sorted tie.other each tie.other_in;
       unordered = tie.unordered;
     }
-      where
-        stand : All (IsAmong indexes) sorted
-        stand = All-permutation (IsAmong indexes) found sorted moved (All-filter answers (IsAmong indexes) (all_at 0 indexes) (are_among indexes))
-
-        each : All (λ x. answers x ≡ true) sorted
-        each = All-permutation (λ x. answers x ≡ true) found sorted moved (filter_passes answers (all_at 0 indexes))
-
-    has : (x : EntryAt) → IsAmong indexes x → answers x ≡ true → Contains sorted x
-    has x among is = Contains-permutation found sorted x moved (to_filter answers (all_at 0 indexes) x (has_among indexes x among) is)
 
     pub answering : AllPairs HaveOrder sorted → AreAnsweringAmong prefix indexes (dedup is_elsewhere sorted)
-    answering agree = record {
-      among = All-dedup is_elsewhere (IsAmong indexes) sorted (All-permutation (IsAmong indexes) found sorted moved (All-filter answers (IsAmong indexes) (all_at 0 indexes) (are_among indexes)));
-      each = All-dedup is_elsewhere (λ x. answers x ≡ true) sorted (All-permutation (λ x. answers x ≡ true) found sorted moved (filter_passes answers (all_at 0 indexes)));
-      whole = λ x among is. All-contains (λ z. Contains (dedup is_elsewhere sorted) z ⊎ ((y : EntryAt) × Contains (dedup is_elsewhere sorted) y × IsRepeatOf y z)) sorted x (once_covered sorted placed) (has x among is);
-      ordered = once_ordered sorted placed;
-      untied = λ tie. untied sorted agree (record { one = tie.one; other = tie.other; one_in = has tie.one tie.one_among tie.one_answers; other_in = has tie.other tie.other_among tie.other_answers; unordered = tie.unordered });
-    }
-      where
-        placed : ArePlaced sorted
-        placed = record {
+    answering agree =
+        let placed : ArePlaced sorted = record {
           rise = λ i j d lt le. in_places sorted by_place i j d (omega (arith, lt)) le;
           apart = pairs_permutation AreApart apart_both found sorted moved (AllPairs-filter AreApart answers (all_at 0 indexes) (are_apart indexes));
           agree = agree;
+        } in
+        record {
+          among = All-dedup is_elsewhere (IsAmong indexes) sorted stand;
+          each = All-dedup is_elsewhere (λ x. answers x ≡ true) sorted each;
+          whole = λ x among is. All-contains (λ z. Contains (dedup is_elsewhere sorted) z ⊎ ((y : EntryAt) × Contains (dedup is_elsewhere sorted) y × IsRepeatOf y z)) sorted x (once_covered sorted placed) (has x among is);
+          ordered = once_ordered sorted placed;
+          untied = λ tie. untied sorted agree (record { one = tie.one; other = tie.other; one_in = has tie.one tie.one_among tie.one_answers; other_in = has tie.other tie.other_among tie.other_answers; unordered = tie.unordered });
         }

@@ -4,13 +4,13 @@
 //! that answer the pages that are needed, each compared with its digest. No slice is read.
 //!
 //! - `fault`: why nothing is told;
-//! - `numbered`: an entry of one of several indexes; `words`: what it says;
+//! - `numbered`: an entry of one of several indexes, and what it says;
 //! - `retired`: what the retirements under a key are of; `live`: the entries that none of these covers;
 //! - `order`: the order of their records; `answering`: [`answering_among`], those that answer;
 //! - `named`: [`NamedSlice`], a slice that an entry names, and which of them answer or have a digest;
-//! - `own`: what a table tells of a place; `lines`: its frames in the slice; `told`: what those of entries tell of
-//!   several;
-//! - `answers`: [`Answers`], what all of them tell; `tables`: [`answer_among`], which makes them.
+//! - `own`: what a table tells of a place; `lines`: its frames in the slice;
+//! - `answers`: [`Answers`], what the tables of entries tell of several places; `told`: [`answer_among`], which makes
+//!   them;
 //! - [`laws`]: what is told of several places is told of each.
 #![tactic(auto)]
 
@@ -25,12 +25,10 @@ mod numbered;
 mod order;
 mod own;
 mod retired;
-mod tables;
 mod told;
-mod words;
 
 pub use answering::{Answering, answering_among};
 pub use answers::{Answers, EntryAnswers};
 pub use fault::AnswerFault;
 pub use named::{NamedSlice, named_among, named_with};
-pub use tables::answer_among;
+pub use told::answer_among;

@@ -10,9 +10,8 @@ ghost use Rattle.indexed_answers.specs.Among.{all_of, answers_among, lives_under
 ghost use Rattle.indexed_answers.specs.Told.{is_companion};
 ghost use Rattle.indexed_answers.specs.InnerAnswering.{all_at, entries_at, entry_at, lives_by};
 
-use crate::numbered::Numbered;
+use crate::numbered::{ADMISSION, Numbered, is_companion};
 use crate::retired::{is_retired, retired_under};
-use crate::words::{ADMISSION, is_companion};
 use memory::{Heap, NoMemory};
 use table_index::TableIndex;
 

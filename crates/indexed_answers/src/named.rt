@@ -9,8 +9,7 @@ ghost use Rattle.indexed_answers.specs.Named.{LivesAmong, Names, NamesAmong, dig
 
 use crate::answering::answering_among;
 use crate::live::live_under;
-use crate::numbered::Numbered;
-use crate::words::is_companion;
+use crate::numbered::{Numbered, is_companion};
 use archive_core::{Digest, FindRow, FindState, SliceKey, key_prefix};
 use archive_records::{digest_in, key_in};
 use memory::{Heap, NoMemory};

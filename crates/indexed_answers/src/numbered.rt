@@ -1,8 +1,20 @@
-//! An entry of one of several indexes.
+//! An entry of one of several indexes, and what an entry says.
 
-ghost use Rattle.table_index.specs.Entry.{HasItsFields};
+ghost use Rattle.std.specs.Prelude.{◌≡◌};
+ghost use Rattle.table_index.specs.Entry.{HasItsFields, entry_bytes};
+ghost use Rattle.indexed_answers.specs.Among.{subject_of};
+ghost use Rattle.indexed_answers.specs.Told.{is_companion};
 
 use table_index::TableEntry;
+
+/// The tag of a retirement.
+pub(crate) const RETIREMENT: u8 = 1;
+
+/// The tag of an admission.
+pub(crate) const ADMISSION: u8 = 2;
+
+/// How many bytes the tag, the key and the digest of an entry are.
+pub(crate) const SLICE_LEN: usize = 57;
 
 /// An entry, the number of its index, and its own number among the entries of that, each from 0 on.
 #[derive(Clone, Copy)]
@@ -11,4 +23,20 @@ pub(crate) struct Numbered {
     pub number: u64,
     pub entry: TableEntry,
     ghost fields: { HasItsFields entry },
+}
+
+/// The key and the digest of an entry.
+pub(crate) fn subject_of(entry: &TableEntry) -> [u8; 56]
+    ensures { result ≡ subject_of (entry_bytes entry.now) }
+{
+    let mut subject = [0; 56];
+    subject.copy_from_slice(&entry.bytes()[1..SLICE_LEN]);
+    subject
+}
+
+/// Whether an entry is that of a companion.
+pub(crate) fn is_companion(entry: &TableEntry) -> bool
+    ensures { result ≡ is_companion (entry_bytes entry.now) }
+{
+    entry.bytes()[57] == 1
 }

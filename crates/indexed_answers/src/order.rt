@@ -1,18 +1,57 @@
 //! The order of the records of entries, and whether the entries tell it.
 
-ghost use Rattle.std.specs.Prelude.{◌≡◌, ◌&&◌, ◌||◌, not, map, take};
+ghost use Rattle.std.specs.Prelude.{◌≡◌, ◌==◌, ◌&&◌, ◌||◌, not, map, take};
 ghost use Rattle.std.specs.Str.{bytes_eq};
 ghost use Rattle.std.specs.Bool.{MatchBool};
 ghost use Rattle.std.specs.List.{AllPairs, dedup};
 ghost use Rattle.std.specs.List.Sorted.{IsPermutation, IsSortedByKey};
 ghost use Rattle.std.specs.Ordering.{nat_cmp};
 ghost use Rattle.std.specs.Cmp.Lexicographic.{slice_cmp};
+ghost use Rattle.archive_index.specs.Entry.{length_in};
+ghost use Rattle.table_index.specs.Entry.{entry_bytes};
 ghost use Rattle.indexed_answers.specs.InnerAnswering.{HaveOrder, HaveTie, entry_at, is_elsewhere, rank_in};
 
-use crate::numbered::Numbered;
-use crate::words::{are_of_one_slice, have_one_length, is_elsewhere, rank_of};
+use crate::numbered::{Numbered, SLICE_LEN};
 use memory::Heap;
 use std::cmp::Ordering;
+use table_index::TableEntry;
+
+/// Whether two entries begin alike: they are of one slice.
+fn begin_alike(bytes: &[u8; 122], other: &[u8; 122]) -> bool
+    ensures { result ≡ bytes_eq (take 57 bytes.now) (take 57 other.now) }
+{
+    bytes[..SLICE_LEN].cmp(&other[..SLICE_LEN]).is_eq()
+}
+
+/// Whether two entries are of one slice.
+fn are_of_one_slice(entry: &TableEntry, other: &TableEntry) -> bool
+    ensures { result ≡ bytes_eq (take 57 (entry_bytes entry.now)) (take 57 (entry_bytes other.now)) }
+{
+    begin_alike(&entry.bytes(), &other.bytes())
+}
+
+/// By what entries are sorted: the length of the record, the index, and where the record stands.
+fn rank_of(numbered: &Numbered) -> [u64; 3]
+    ensures { result ≡ rank_in (entry_at numbered.now) }
+{
+    let placed = &numbered.entry.placed;
+    [placed.length, numbered.input, placed.offset]
+}
+
+/// Whether the records of two entries have one length.
+fn have_one_length(numbered: &Numbered, other: &Numbered) -> bool
+    ensures { result ≡ (length_in (entry_at numbered.now).entry == length_in (entry_at other.now).entry) }
+{
+    numbered.entry.placed.length == other.entry.placed.length
+}
+
+/// Whether the records of two entries have one length, and stand in two archives.
+#[tactic(auto, unfolding(crate::specs::InnerAnswering::is_elsewhere))]
+fn is_elsewhere(numbered: &Numbered, other: &Numbered) -> bool
+    ensures { result ≡ is_elsewhere (entry_at numbered.now) (entry_at other.now) }
+{
+    have_one_length(numbered, other) && numbered.input != other.input
+}
 
 /// Compares two entries by their places.
 fn compare(numbered: &Numbered, other: &Numbered) -> Ordering

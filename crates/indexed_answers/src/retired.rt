@@ -8,7 +8,7 @@ ghost use Rattle.table_index.specs.Entry.{entry_bytes};
 ghost use Rattle.indexed_answers.specs.Among.{all_of};
 ghost use Rattle.indexed_answers.specs.InnerAnswering.{is_retired, retired_of};
 
-use crate::words::{RETIREMENT, subject_of};
+use crate::numbered::{RETIREMENT, subject_of};
 use memory::{Heap, NoMemory};
 use std::cmp::Ordering;
 use table_index::{TableEntry, TableIndex};

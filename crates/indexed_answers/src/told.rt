@@ -1,4 +1,4 @@
-//! What the table of an entry tells of several places.
+//! What the table of an entry tells of several places, and those of several entries.
 
 ghost use Rattle.std.specs.Prelude.{◌≡◌, ◌<◌, ◌^◌, ℕ, List, Contains, IfOk, IsOk, MatchOption, None, map, length, true};
 ghost use Rattle.std.specs.List.{AllZip};
@@ -15,7 +15,8 @@ ghost use Rattle.indexed_answers.specs.Views.{IsColumnAt, told_view};
 ghost use Rattle.indexed_answers.specs.InnerAnswering.{AsksOne, IsBaseBy, IsColumnOf, IsOwnOpened, entry_at};
 
 use crate::AnswerFault;
-use crate::answers::EntryAnswers;
+use crate::answering::Answering;
+use crate::answers::{Answers, EntryAnswers};
 use crate::lines::frames_if;
 use crate::numbered::Numbered;
 use crate::own::own_of;
@@ -153,7 +154,7 @@ fn told_at<P: Placed>(
 }
 
 /// What the tables of entries tell of several places, each in its column. One table is open at a time.
-pub(crate) fn told_by_each<P: Placed>(
+fn told_by_each<P: Placed>(
     heap: &Heap,
     devices: &mut [Result<P, CannotOpen>],
     answering: &[Numbered],
@@ -175,4 +176,27 @@ pub(crate) fn told_by_each<P: Placed>(
         }
     }
     Ok(columns)
+}
+
+/// What the tables of entries that answer tell of several places, and if lines are wanted the frames of these in each
+/// slice. The devices are those of the indexes, in their order. One may be missing if none of these entries stands in
+/// its index. One table is open at a time.
+///
+/// # Errors
+///
+/// `Damaged` at one of the entries, whose table is not what the entry vouches for; `NoLines` at one whose table has no
+/// lines, if they are wanted. The entries are asked in their order, each for its symbols before its lines.
+pub fn answer_among<P: Placed>(
+    heap: &Heap,
+    devices: &mut [Result<P, CannotOpen>],
+    answering: &Answering,
+    lines: bool,
+    asked: &[Where],
+) -> Result<Answers, AnswerFault>
+    requires { AreOpened devices.old answering.now }
+    ensures { AsksAmong P.whole P.failures lines answering.now devices.old devices.new result
+        (λ texts answers. AllZip (IsColumnAt texts lines asked.now) answering.now answers.columns.items) }
+{
+    let columns = told_by_each(heap, devices, answering.entries(), lines, asked)?;
+    Ok(Answers { columns })
 }

@@ -1,7 +1,6 @@
 use Rattle.std.proofs.Common.{Bool, length, refl, subst, sym, ap, ◌∙◌}
-use Rattle.std.proofs.lemmas.List.Elements.{All-from_recursion}
 use Rattle.address_queries.specs.Frames.{TellsFrames}
-use Rattle.address_queries.proofs.Framed.{asked_picked, begun, frames_told, pieces, told_to_the_end}
+use Rattle.address_queries.proofs.Framed.{asked_picked, begun, frames_told, pieces}
 use Rattle.command_inputs.proofs.Parts.{together_tells, wanting_first}
 use Rattle.address_queries.proofs.frames.tell_frames.Goals as goal
 
@@ -22,11 +21,9 @@ returns-in_err-clone-3 g c = wanting_first _ _ _ _ _ _ c.from_residual-in_err-cl
 
 pub answer_archives-requires-clause-start : goal.answer_archives-requires-clause-start
 answer_archives-requires-clause-start g c = λ o.
-    let questions = c.in_ok-questions.questions in
-    let left_is = c.in_ok-questions.ensures.left ∙ c.deref.ensures.value in (
+    let questions = c.in_ok-questions.questions in (
       refl,
-      begun questions.lines o c.args.frames.now questions.left.now questions.ahead questions.told.items _ (rw left_is c.in_ok-asked.ensures.lines)
-          (ap length left_is ∙ c.in_ok-asked.ensures.long) (c.in_ok-questions.ensures.told ∙ sym (ap length c.in_ok-questions.ensures.left)) c.in_ok-questions.ensures.ahead,
+      begun c.args.frames.now _ questions.left.now questions.told.items (c.in_ok-questions.ensures.left ∙ c.deref.ensures.value) c.in_ok-asked.ensures.lines c.in_ok-asked.ensures.long (c.in_ok-questions.ensures.told ∙ ap length c.deref.ensures.value) questions.lines o questions.ahead _ c.in_ok-questions.ensures.ahead,
     )
 
 pub answer_archives-requires-clause-picked : goal.answer_archives-requires-clause-picked
@@ -35,21 +32,16 @@ answer_archives-requires-clause-picked g c = λ key there long r under.
 
 pub in_line_order-requires : goal.in_line_order-requires
 in_line_order-requires g c =
-    let left_is = c.in_ok-questions.ensures.left ∙ c.deref.ensures.value in
+    let questions = c.in_ok-questions.questions in
     let told = c.in_ok-told.ensures.is.is_true in
-    All-from_recursion _ _ (pieces _ _ _ c.args.frames.now _
-    (told_to_the_end _ _ c.args.frames.now c.in_ok-questions.questions.left.now _ _ _ _ _ (rw left_is c.in_ok-asked.ensures.lines)
-    (c.in_ok-questions.ensures.told ∙ ap length c.deref.ensures.value ∙ c.in_ok-asked.ensures.long) told.0 told.1.1))
+    pieces c.args.frames.now _ questions.left.now questions.told.items (c.in_ok-questions.ensures.left ∙ c.deref.ensures.value) c.in_ok-asked.ensures.lines c.in_ok-asked.ensures.long (c.in_ok-questions.ensures.told ∙ ap length c.deref.ensures.value) _ _ _ _ _ _ told.0 told.1.1
 
 pub returns : goal.returns
 returns g c =
     let questions = c.in_ok-questions.questions in
-    let left_is = c.in_ok-questions.ensures.left ∙ c.deref.ensures.value in
     record {
       is = together_tells _ _ _ _ (λ o is. subst (λ (w : Bool). TellsFrames w o c.args.frames.now c.in_ok-text.text.0 c.in_ok-text.text.1.items) c.in_ok-questions.ensures.lines
-          (frames_told questions.lines o _ c.args.frames.now _ _ _
-          (told_to_the_end _ o c.args.frames.now questions.left.now _ _ _ _ _ (rw left_is c.in_ok-asked.ensures.lines)
-          (c.in_ok-questions.ensures.told ∙ ap length c.deref.ensures.value ∙ c.in_ok-asked.ensures.long) is.0 is.1.1)
+          (frames_told c.args.frames.now _ questions.left.now questions.told.items (c.in_ok-questions.ensures.left ∙ c.deref.ensures.value) c.in_ok-asked.ensures.lines c.in_ok-asked.ensures.long (c.in_ok-questions.ensures.told ∙ ap length c.deref.ensures.value) questions.lines o _ _ _ _ is.0 is.1.1 _ _
           c.in_ok-text.ensures.status c.in_ok-text.ensures.text)) c.in_ok-told.ensures.is;
       unfailed = c.in_ok-told.ensures.unfailed;
     }

@@ -1,7 +1,11 @@
-use Rattle.std.proofs.Common.{refl}
+use Rattle.std.proofs.Common.{◌≡◌, Bool, true, Option, Some, None, MatchOption, refl}
 use Rattle.checked_pages.proofs.ReadLemmas.{read_as}
-use Rattle.indexed_answers.proofs.Wanted.{found_if}
 use Rattle.indexed_answers.proofs.lines.frames_if.Goals as goal
+
+-- what was found, if it was wanted
+found_if : {T : Type 0} (found : Option T) (IsNone : Type 0) (IsTrue : T → Type 0) (wanted : Bool) → MatchOption found IsNone IsTrue → MatchOption found IsNone (λ value. wanted ≡ true → IsTrue value)
+found_if None IsNone IsTrue wanted told = told
+found_if (Some value) IsNone IsTrue wanted told = λ _. told
 
 pub returns-then-lines-clause-read : goal.returns-then-lines-clause-read
 returns-then-lines-clause-read g c =

@@ -1,6 +1,6 @@
 use Rattle.std.proofs.Common.{ℕ, List, map, subst, sym, get_or, ◌∙◌, arith}
 use Rattle.std.specs.List.{AllZip}
-use Rattle.std.proofs.lemmas.List.{take_all}
+use Rattle.std.proofs.lemmas.List.{get_or_default, take_all}
 use Rattle.checked_pages.specs.Pages.{AreStored}
 use Rattle.checked_pages.specs.Views.{ArePagesOf, claim_view}
 use Rattle.checked_pages.specs.declared.pages.Pages.{Pages}
@@ -11,7 +11,7 @@ use Rattle.line_tables.specs.declared.table.LineTable.{LineTable}
 use Rattle.archive_core.specs.declared.lookup.Where.TheVariants.{File}
 use Rattle.indexed_answers.specs.InnerAnswering.{AreFramesOpened}
 use Rattle.indexed_answers.specs.Views.{list_in}
-use Rattle.indexed_answers.proofs.Columns.{any_default, zip_viewed}
+use Rattle.indexed_answers.proofs.Columns.{zip_viewed}
 use Rattle.indexed_answers.proofs.lines.frames_of_each.Goals as goal
 
 -- a table that is opened stays so while its pages are kept
@@ -27,7 +27,7 @@ asked-preserved g c =
       unfailed = own.read.counts ∙ c.asked.invariant.unfailed;
       keeps = λ text all known pages. own.keeps text all (c.asked.invariant.whole ∙ known) (c.asked.invariant.keeps text all known pages);
       told = λ text known.
-          zip_viewed (AreFramesOpened c.args.table.now c.args.pages.now c.args.base text) list_in c.args.asked.now c.asked.place-index (get_or c.args.asked.now c.asked.place-index (File 0)) c.asked.lists.items c.push.new.self.items c.in_ok-frames.frames c.asked-test.true (any_default c.args.asked.now c.asked.place-index (File 0) _ c.asked-test.true) c.in_default-push.ensures.items
+          zip_viewed (AreFramesOpened c.args.table.now c.args.pages.now c.args.base text) list_in c.args.asked.now c.asked.place-index (get_or c.args.asked.now c.asked.place-index (File 0)) c.asked.lists.items c.push.new.self.items c.in_ok-frames.frames c.asked-test.true (get_or_default c.args.asked.now c.asked.place-index (File 0) _ c.asked-test.true) c.in_default-push.ensures.items
           (c.asked.invariant.told text known)
           (λ slice all steps are base opened. own.read.says text (c.asked.invariant.whole ∙ known) slice all steps are base (still c.args.table.now c.args.pages.now c.asked.pages text all steps (c.asked.invariant.keeps text all known) opened));
     }

@@ -1,4 +1,4 @@
-use Rattle.std.proofs.Common.{◌<◌, List, map, length, subst, arith}
+use Rattle.std.proofs.Common.{List, map, subst, arith}
 use Rattle.std.specs.List.{AllZip}
 use Rattle.std.proofs.Math.ListN.{length-map}
 use Rattle.std.proofs.lemmas.List.{take_all}
@@ -6,16 +6,15 @@ use Rattle.indexed_answers.specs.Among.{EntryAt}
 use Rattle.indexed_answers.specs.InnerAnswering.{entry_at}
 use Rattle.indexed_answers.specs.Named.{Names}
 use Rattle.indexed_answers.proofs.Columns.{zip_more}
-use Rattle.indexed_answers.proofs.Lists.{read_map}
+use Rattle.indexed_answers.proofs.Lists.{map_within, read_map}
 use Rattle.indexed_answers.proofs.named.named_by_each.Goals as goal
 
 pub entries-preserved : goal.entries-preserved
 entries-preserved c =
-    let xs = map entry_at c.args.entries.now in
+    let ns = c.args.entries.now in
     let i = c.entries.numbered-index in
     let n = c.numbered-item.result in
-    let lt : i < length xs = omega (arith, c.entries-test.true, length-map c.args.entries.now entry_at) in
-    zip_more Names xs i (entry_at n) c.entries.named.items c.push.new.self.items c.named_by.result lt (read_map entry_at c.args.entries.now i n c.entries-test.true c.numbered-item.is) c.in_ok-push.ensures.items c.entries.invariant c.named_by.ensures
+    zip_more Names (map entry_at ns) i (entry_at n) c.entries.named.items c.push.new.self.items c.named_by.result (map_within entry_at ns i n c.entries-test.true c.numbered-item.is) (read_map entry_at ns i n c.entries-test.true c.numbered-item.is) c.in_ok-push.ensures.items c.entries.invariant c.named_by.ensures
 
 pub returns : goal.returns
 returns c =

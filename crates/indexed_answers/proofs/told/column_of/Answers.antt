@@ -1,11 +1,11 @@
 use Rattle.std.proofs.Common.{List, ℕ, map, take, drop, ap, sym, subst, ◌∙◌}
 use Rattle.std.specs.List.{AllZip}
+use Rattle.std.proofs.lemmas.Option.{MatchOption-at_none, MatchOption-at_some}
 use Rattle.checked_pages.specs.Pages.{AreStored}
 use Rattle.checked_pages.proofs.ReadLemmas.{after_ok, passed_on}
 use Rattle.indexed_answers.specs.Told.{AreFramesToldBy, IsToldBy}
 use Rattle.indexed_answers.specs.Views.{list_in, told_view}
 use Rattle.indexed_answers.proofs.Columns.{zip_as}
-use Rattle.indexed_answers.proofs.Wanted.{found_none, found_one}
 use Rattle.indexed_answers.proofs.told.column_of.Goals as goal
 
 pub returns-in_err-base-clause-read : goal.returns-in_err-base-clause-read
@@ -26,7 +26,7 @@ returns-in_default-clause-read g c =
     let owns = c.in_ok-base.ensures in
     let frames = after_ok _ _ _ _ _ _ _ _ owns.keeps owns.counts c.in_ok-frames.ensures.read in
     record {
-      says = λ text known. found_none _ _ _ (frames.says text known) c.in_default.is;
+      says = λ text known. MatchOption-at_none _ _ c.in_default.is (frames.says text known);
       keeps = frames.keeps;
       counts = frames.counts;
     }
@@ -43,7 +43,7 @@ returns-clause-read g c =
             owns = subst (λ claim. AllZip (IsToldBy text claim) c.args.asked.now (map told_view c.in_ok-base.owns.items)) (sym c.args.numbered.now.fields.claim_is) told.1;
             frames = λ wanted.
                 subst (λ claim. AllZip (AreFramesToldBy text claim) c.args.asked.now (map list_in c.in-Some.frames.items)) (sym c.args.numbered.now.fields.claim_is)
-                (zip_as _ _ c.args.asked.now _ (λ place list has slice all bytes is may. has slice all bytes (told.0 slice all bytes is may) is may) (found_one _ _ _ (frames.says text known) c.in-Some.frames c.in-Some.is wanted));
+                (zip_as _ _ c.args.asked.now _ (λ place list has slice all bytes is may. has slice all bytes (told.0 slice all bytes is may) is may) (MatchOption-at_some _ _ _ c.in-Some.is (frames.says text known) wanted));
           };
       keeps = frames.keeps;
       counts = frames.counts;

@@ -1,6 +1,6 @@
 use Rattle.std.proofs.Common.{map, subst, sym, get_or, ◌∙◌, arith}
 use Rattle.std.specs.List.{AllZip}
-use Rattle.std.proofs.lemmas.List.{take_all}
+use Rattle.std.proofs.lemmas.List.{get_or_default, take_all}
 use Rattle.checked_pages.specs.Pages.{AreStored}
 use Rattle.checked_pages.specs.Views.{claim_view}
 use Rattle.checked_pages.proofs.ReadLemmas.{after_ok, passed_on}
@@ -8,7 +8,7 @@ use Rattle.symbol_tables.specs.Table.{table_bytes}
 use Rattle.archive_core.specs.declared.lookup.Where.TheVariants.{File}
 use Rattle.indexed_answers.specs.Views.{told_view}
 use Rattle.indexed_answers.specs.InnerAnswering.{IsOwnOpened}
-use Rattle.indexed_answers.proofs.Columns.{any_default, zip_viewed}
+use Rattle.indexed_answers.proofs.Columns.{zip_viewed}
 use Rattle.indexed_answers.proofs.told.owns_of.Goals as goal
 
 pub asked-preserved : goal.asked-preserved
@@ -20,7 +20,7 @@ asked-preserved g c =
       unfailed = own.read.counts ∙ c.asked.invariant.unfailed;
       keeps = λ text t known opened. own.keeps text t (c.asked.invariant.whole ∙ known) (c.asked.invariant.keeps text t known opened);
       told = λ text known.
-          zip_viewed (IsOwnOpened c.args.table.now text) told_view c.args.asked.now c.asked.place-index (get_or c.args.asked.now c.asked.place-index (File 0)) c.asked.owns.items c.push.new.self.items c.in_ok-found.found c.asked-test.true (any_default c.args.asked.now c.asked.place-index (File 0) _ c.asked-test.true) c.in_default-push.ensures.items
+          zip_viewed (IsOwnOpened c.args.table.now text) told_view c.args.asked.now c.asked.place-index (get_or c.args.asked.now c.asked.place-index (File 0)) c.asked.owns.items c.push.new.self.items c.in_ok-found.found c.asked-test.true (get_or_default c.args.asked.now c.asked.place-index (File 0) _ c.asked-test.true) c.in_default-push.ensures.items
           (c.asked.invariant.told text known)
           (λ slice t bytes is opened. own.read.says text (c.asked.invariant.whole ∙ known) slice t bytes is (c.asked.invariant.keeps text t known opened));
     }
