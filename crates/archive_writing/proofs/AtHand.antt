@@ -1,14 +1,14 @@
--- IN's archive, merged with one that is at hand: what came of it.
-use Rattle.std.proofs.Common.{◌≡◌, ℕ, List, [], ◌++◌, length, Option, Result, Ok, Err, refl, ap, sym, subst, arith, ◌⊎◌, inl, inr}
+-- IN's archive, merged with one or with operations that are at hand: what came of it.
+use Rattle.std.proofs.Common.{◌≡◌, ℕ, List, [], ◌++◌, length, Option, Result, Ok, Err, refl, ap, sym, subst, arith, ◌⊎◌, inl, inr, Bool, map, ◌∙◌}
 use Rattle.std.specs.FinSet as set
-use Rattle.archive_core.specs.Content.{Operations, IsContent, joined}
+use Rattle.archive_core.specs.Content.{Operations, IsContent, joined, content_of, is_covered}
 use Rattle.archive_records.specs.declared.fault.MergeCause.{MergeCause}
 use Rattle.archive_records.specs.declared.fault.MergeCause.TheVariants.{Left, Right, Write}
 use Rattle.archive_records.specs.declared.fault.MergeFault.{MergeFault}
 use Rattle.archive_records.specs.declared.fault.RecordFault.{RecordFault}
 use Rattle.archive_records.specs.declared.fault.RecordFaultKind.TheVariants.{Device, OutOfMemory as RecordOutOfMemory}
 use Rattle.archive_records.specs.declared.writing.Sizes.{Sizes}
-use Rattle.archive_records.specs.Text.{written, IsArchiveOf}
+use Rattle.archive_records.specs.Text.{written, IsArchiveOf, old_written}
 use Rattle.archive_records.specs.Writing.{IsWrittenWhole}
 use Rattle.byte_device.specs.Devices.{FailedIn, Stream, stream}
 use Rattle.byte_device.specs.Writes.{WritesFirst}
@@ -20,7 +20,7 @@ use Rattle.command_core.specs.declared.faults.InputName.{InputName}
 use Rattle.command_core.specs.declared.faults.Status.{Status}
 use Rattle.command_core.specs.declared.faults.Why.{Why}
 use Rattle.command_core.specs.Ends.{EndsStreamed, HasFirst, HasTaken, MakesArchive, StopsAmidst, writes_amidst}
-use Rattle.command_core.specs.Inputs.{IsKnown, IsRefusedArchive, Reader, Unfailed, reader}
+use Rattle.command_core.specs.Inputs.{HoldsArchive, IsKnown, IsRefusedArchive, Reader, Unfailed, reader}
 use Rattle.command_core.specs.Outputs.{Out, PublishesNothing, Publishes, Takes, Writer, sizes_of, writer}
 use Rattle.command_core.proofs.Amidst.{gives_known, stopped_amidst, stops_alike}
 use Rattle.archive_writing.specs.Begun.{EndsBegun, HasBegun, IsUnfinished}
@@ -28,8 +28,16 @@ use Rattle.archive_writing.specs.Joining.{IsAtHand, IsJoined, MakesJoin, joining
 use Rattle.archive_writing.specs.MergeStreams.{IsMergeFaultTold}
 use Rattle.archive_writing.proofs.Beginnings.{first_of_join}
 use Rattle.archive_writing.proofs.Begun.{begun, published, taken_begun}
+use Rattle.join_core.specs.Listing.{listing}
+use Rattle.std.specs.List.{list_any}
+use Rattle.archive_records.proofs.Versions.{made_content}
+use Rattle.record_merge.specs.Telling.{HasOperations, IsMergedTelling}
+use Rattle.record_merge.specs.Arrivals.{arrival_of}
+use Rattle.record_merge.specs.declared.arrivals.Arrival.{Arrival}
+use Rattle.record_merge.proofs.Tellings.{one_set}
+use Rattle.archive_writing.specs.InnerTelling.{AreAtHand, IsJoinedTelling}
 
-pub sizes_are : (sizes : Sizes) (o : Operations) → sizes.records ≡ (sizes_of o).records → sizes.bytes ≡ (sizes_of o).bytes → sizes ≡ sizes_of o
+sizes_are : (sizes : Sizes) (o : Operations) → sizes.records ≡ (sizes_of o).records → sizes.bytes ≡ (sizes_of o).bytes → sizes ≡ sizes_of o
 sizes_are sizes o r b = λ i. record { records = r i; bytes = b i }
 
 -- ---- a command whose archive was written
@@ -50,17 +58,24 @@ stopped_begun input Makes Refuses NoneFailed out report fault s u taken nothing 
     begun out report input (Unit {0}) (writes_amidst (record { Makes = Makes; Refuses = Refuses; Unfailed = NoneFailed }) (IsKnown input) out.draft) u (Err fault)
     (stopped_amidst Makes Refuses NoneFailed (IsKnown input) out report fault s taken nothing unreported)
 
-module _ {R : Type 0} (input : Reader R) (p : Operations) (Makes : List ℕ → List ℕ → Type 0) (makes : (text told : List ℕ) → Makes text told → MakesJoin input p text told) where
+module _ {R : Type 0} (input : Reader R) (p : Operations) (Makes : Operations → List ℕ → Type 0)
+    (makes : (o : Operations) (lines : List ℕ) → Makes o lines → (before : Operations) × IsContent before × HoldsArchive input before × (o ≡ joined before p)) where
   -- what stops a join stops what makes no more
   pub join_stops : (draft : Writer) (fault : CommandFault) → StopsAmidst (joining input p) (IsKnown input) draft fault
-      → StopsAmidst (record { Makes = Makes; Refuses = IsRefusedArchive 0 input; Unfailed = Unfailed input }) (IsKnown input) draft fault
+      → StopsAmidst (record { Makes = MakesArchive Makes; Refuses = IsRefusedArchive 0 input; Unfailed = Unfailed input }) (IsKnown input) draft fault
   join_stops draft =
-      stops_alike (MakesJoin input p) Makes (IsRefusedArchive 0 input) (IsRefusedArchive 0 input) (Unfailed input) (Unfailed input) (IsKnown input) (IsKnown input) draft
-      makes (λ at why r. r) (λ u. u) (λ k. k)
+      stops_alike (MakesJoin input p) (MakesArchive Makes) (IsRefusedArchive 0 input) (IsRefusedArchive 0 input) (Unfailed input) (Unfailed input) (IsKnown input) (IsKnown input) draft
+      (λ text told m. let j = makes m.content m.lines m.makes in record { content = j.0; is_content = j.1; archive = j.2; text_is = m.text_is ∙ ap written j.3 }) (λ at why r. r) (λ u. u) (λ k. k)
 
   pub join_stopped : (out : Out) (report : Writer) (fault : CommandFault) → StopsAmidst (joining input p) (IsKnown input) out.draft fault → IsUnfinished input (Unit {0}) out.draft → HasTaken out.draft fault → PublishesNothing out → Takes report []
-      → EndsBegun input (record { Makes = Makes; Refuses = IsRefusedArchive 0 input; Unfailed = Unfailed input }) out report (Err fault)
-  join_stopped out report fault s = stopped_begun input Makes (IsRefusedArchive 0 input) (Unfailed input) out report fault (join_stops out.draft fault s)
+      → EndsBegun input (record { Makes = MakesArchive Makes; Refuses = IsRefusedArchive 0 input; Unfailed = Unfailed input }) out report (Err fault)
+  join_stopped out report fault s = stopped_begun input (MakesArchive Makes) (IsRefusedArchive 0 input) (Unfailed input) out report fault (join_stops out.draft fault s)
+
+-- what a join makes is published
+pub join_published : {R W : Type 0} (input : Reader R) (p : Operations) (Makes : Operations → List ℕ → Type 0) (draft : Stream W) (sizes : Sizes) (j : IsJoined input p draft sizes) (lines : List ℕ) → Makes (joined j.content p) lines
+    → (out : Out) (report : Writer) (result : Result Status CommandFault) → Publishes out report (written (joined j.content p)) (lines ++ archive_line sizes) result
+    → EndsBegun input (record { Makes = MakesArchive Makes; Refuses = IsRefusedArchive 0 input; Unfailed = Unfailed input }) out report result
+join_published input p Makes draft sizes j lines makes out report result = archive_published Makes _ (Unfailed input) draft sizes (joined j.content p) lines out report result j.unfailed makes j.written_is
 
 -- what a draft has where a merge into it was stopped
 module _ {R S W : Type 0} (left : R → Option (List ℕ)) (failures : R → ℕ) (l l' : R) (other : Stream S) (held : W → Option (List ℕ)) (draft_failures : W → ℕ) (w w' : W) where
@@ -78,10 +93,6 @@ module _ {R S W : Type 0} (left : R → Option (List ℕ)) (failures : R → ℕ
   pub unfinished_opened : (e : MergeFault) → Merges (stream left failures l l') other (stream held draft_failures w w') (Err e) → IsUnfinished (reader left failures (Ok l) (Ok l')) (Unit {0}) (writer held draft_failures w w')
   unfinished_opened e merges = record { no_text = merges.2; begun = begun_by e.cause e.written merges.0 }
 
--- a device that has never failed did not fail
-never_failed : (old new : ℕ) → old ≡ 0 → new ≡ 0 → FailedIn old new → ⊥
-never_failed old new o n failed = omega arith
-
 module _ {S : Type 0} (left2 : S → Option (List ℕ)) (failures2 : S → ℕ) (r r' : S) (p : Operations) (at : IsAtHand (stream left2 failures2 r r') p) where
   abbrev other : Stream S
   other = stream left2 failures2 r r'
@@ -91,7 +102,7 @@ module _ {S : Type 0} (left2 : S → Option (List ℕ)) (failures2 : S → ℕ) 
   right_memory why refused =
       let alone : (m : Operations) → IsContent m → IsArchiveOf m at.text → (why.kind ≡ Device) ⊎ (why.kind ≡ RecordOutOfMemory) = rw at.bytes at refused.1 in
       elim (alone p at.is_content at.is_text) [
-        | inl device ↦ absurd (never_failed (failures2 r) (failures2 r') at.unfailed_before at.unfailed (refused.0.blames.0 device))
+        | inl device ↦ let failed : FailedIn (failures2 r) (failures2 r') = refused.0.blames.0 device in absurd (omega (arith, at.unfailed_before, at.unfailed, failed))
         | inr memory ↦ memory
       ]
 
@@ -152,3 +163,27 @@ counted e fault k n is told h = cc
 -- its draft took as much
 pub taken_of : {W : Type 0} (held : W → Option (List ℕ)) (failures : W → ℕ) (w w' : W) (e : MergeFault) (fault : CommandFault) → GainsCount (stream held failures w w') e.written → IsMergeFaultTold e fault → HasTaken (writer held failures w w') fault
 taken_of held failures w w' e fault g told = (g.0, g.1, λ n h. counted e fault (length g.0) n (sym g.2) told h)
+
+-- so the archive that they make is at hand
+pub makes_at_hand : {S : Type 0} (side : Stream S) (operations : Operations) → AreAtHand side operations → IsAtHand side (content_of operations)
+makes_at_hand side operations at = record {
+  is_content = made_content operations at.are;
+  text = old_written operations;
+  is_text = inr (record { operations = operations; are = at.are; whole = refl; makes = refl });
+  bytes = at.bytes;
+  unfailed_before = at.unfailed_before;
+  unfailed = at.unfailed;
+}
+
+module _ {S : Type 0} (left2 : S → Option (List ℕ)) (failures2 : S → ℕ) (r r' : S) (operations : Operations) (at : AreAtHand (stream left2 failures2 r r') operations)
+    {R W : Type 0} (left : R → Option (List ℕ)) (failures : R → ℕ) (l l' : R) (held : W → Option (List ℕ)) (draft_failures : W → ℕ) (w w' : W) where
+  pub told_opened : (sizes : Sizes) (arrived : List Arrival) (withdraws : Bool) → IsMergedTelling (stream left failures l l') (stream left2 failures2 r r') (stream held draft_failures w w') sizes arrived withdraws → IsJoinedTelling (reader left failures (Ok l) (Ok l')) operations (stream held draft_failures w w') sizes arrived withdraws
+  unfolding joined_opened
+  told_opened sizes arrived withdraws t =
+      let has : HasOperations t.operations (old_written operations) = rw at.bytes at t.right_is in
+      let same : t.operations ≡ operations = one_set (old_written operations) t.operations operations has (record { are = at.are; whole = inr refl }) in
+      record {
+        joined = joined_opened left2 failures2 r r' (content_of operations) (makes_at_hand (stream left2 failures2 r r') operations at) left failures l l' held draft_failures w w' sizes t.merged;
+        arrivals_are = t.arrivals_are ∙ ap (λ (q : Operations). map (arrival_of t.merged.o) (listing q)) same;
+        withdraws_is = t.withdraws_is ∙ ap (λ (q : Operations). list_any (is_covered q) (listing t.merged.o)) same;
+      }

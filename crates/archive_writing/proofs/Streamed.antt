@@ -1,5 +1,5 @@
 -- How `merge` ends, with one FILE and with others, from what its parts did.
-use Rattle.std.proofs.Common.{◌≡◌, ℕ, List, [], ◌∷◌, length, Option, Some, Result, Ok, Err, refl, ap, sym, ◌∙◌, inl, inr}
+use Rattle.std.proofs.Common.{◌≡◌, ℕ, List, [], ◌∷◌, length, Option, Some, Result, Ok, Err, refl, ◌++◌, sym, inl}
 use Rattle.archive_core.specs.Content.{Operations, IsContent, joined}
 use Rattle.archive_records.specs.declared.fault.MergeCause.{MergeCause}
 use Rattle.archive_records.specs.declared.fault.MergeCause.TheVariants.{Left, Right, Write}
@@ -15,9 +15,9 @@ use Rattle.command_core.specs.declared.faults.CommandFault.TheVariants.{Input, O
 use Rattle.command_core.specs.declared.faults.InputName.{InputName}
 use Rattle.command_core.specs.declared.faults.Status.{Status}
 use Rattle.command_core.specs.declared.faults.Why.{Why}
-use Rattle.command_core.specs.Ends.{Carries, EndsStreamed, IsStopped, MakesArchive}
+use Rattle.command_core.specs.Ends.{EndsStreamed, IsStopped}
 use Rattle.command_core.specs.Inputs.{Reader, reader, Unfailed, EachUnfailed, IsDeviceFault, IsGivenArchive}
-use Rattle.archive_writing.proofs.AtHand.{counted, sizes_are}
+use Rattle.archive_writing.proofs.AtHand.{archive_published, counted}
 use Rattle.archive_writing.specs.Merge.{MakesMerged, merge_in_turn}
 use Rattle.archive_writing.specs.MergeStreams.{IsMergeFaultTold, IsSide, StopsMerge, StopsMergeOfOne, merge_as_it_comes, merge_of_one}
 use Rattle.command_core.specs.Outputs.{Outs, Writer, PublishesNothing, Publishes, Takes, draft_of, out_of}
@@ -52,55 +52,26 @@ module _ {R S D T : Type 0} (left : R → Option (List ℕ)) (failures : R → �
 
       by_fault : (f : CommandFault) → IsMergeFaultTold e f → EndsSo (Err f)
       by_fault (Input at why) t = is (Input at why) t
-      by_fault (Output n) t = inl (is (Output n) t)
       by_fault (Report n) t = absurd t
-      by_fault OutOfMemory t = inl (is OutOfMemory t)
+      by_fault f t = inl (is f t)
 
-  -- it was done
-  module _ (draft : D) (sizes : Sizes) (merges : Merges (stream left failures l l') (stream left2 failures2 r r') (stream out.held out.draft_failures out.old.draft draft) (Ok sizes)) where
-    abbrev m : IsMerged (stream left failures l l') (stream left2 failures2 r r') (stream out.held out.draft_failures out.old.draft draft) sizes
-    m = merges
-
-    abbrev text : List ℕ
-    text = written (joined m.o m.p)
-
-    -- and is published
-    pub merged : (said : List ℕ) (result : Result Status CommandFault) → said ≡ archive_line sizes → Publishes (out_of out) report text said result → EndsSo result
-    merged said result is p = by_result result p
-      where
-        carries : (r : Result Status CommandFault) → Publishes (out_of out) report text said r
-            → (Unfailed input × EachUnfailed (file ∷ [])) × Carries (MakesArchive (MakesMerged input (file ∷ []))) (out_of out) report r
-        carries r q = (
-          (m.left_is.unfailed, (m.right_is.unfailed, tt)),
-          record {
-            text = text;
-            told = said;
-            makes = record {
-              content = joined m.o m.p;
-              lines = [];
-              makes = record {
-                before = m.o;
-                contents = m.p ∷ [];
-                is_content = m.left_is.is;
-                are_contents = (m.right_is.is, tt);
-                archive = m.left_is.text;
-                files_are = (m.right_is.text, tt);
-                content_is = refl;
-                lines_are = refl;
-              };
-              text_is = refl;
-              told_is = is ∙ ap archive_line (sizes_are sizes (joined m.o m.p) m.written_is.records_are m.written_is.bytes_are);
-            };
-            published = q;
-          },
-        )
-
-        by_result : (r : Result Status CommandFault) → Publishes (out_of out) report text said r → EndsSo r
-        by_result (Ok status) q = carries (Ok status) q
-        by_result (Err (Input at why)) q = absurd q
-        by_result (Err (Output n)) q = inr (carries (Err (Output n)) q)
-        by_result (Err (Report n)) q = carries (Err (Report n)) q
-        by_result (Err OutOfMemory) q = inr (carries (Err OutOfMemory) q)
+  -- it was done, and is published
+  pub merged : (draft : D) (sizes : Sizes) (m : IsMerged (stream left failures l l') (stream left2 failures2 r r') (stream out.held out.draft_failures out.old.draft draft) sizes) (lines : List ℕ) → lines ≡ []
+      → (result : Result Status CommandFault) → Publishes (out_of out) report (written (joined m.o m.p)) (lines ++ archive_line sizes) result → EndsSo result
+  merged draft sizes m lines none result =
+      archive_published (MakesMerged input (file ∷ [])) _ (Unfailed input × EachUnfailed (file ∷ [])) (stream out.held out.draft_failures out.old.draft draft) sizes (joined m.o m.p) lines (out_of out) report result
+      (m.left_is.unfailed, (m.right_is.unfailed, tt))
+      (record {
+        before = m.o;
+        contents = m.p ∷ [];
+        is_content = m.left_is.is;
+        are_contents = (m.right_is.is, tt);
+        archive = m.left_is.text;
+        files_are = (m.right_is.text, tt);
+        content_is = refl;
+        lines_are = none;
+      })
+      m.written_is
 
 -- ---- more than one FILE, or none
 
@@ -129,5 +100,3 @@ module _ {R S D : Type 0} (left : R → Option (List ℕ)) (failures : R → ℕ
       device_side (stream left failures l s.0) (stream left2 failures2 r s.1) draft o p at why k.stopped.cause k.stopped.written go.0 gp.0 co cp go.1 gp.1 go.2 gp.2 k.merges.0 k.told
   one_device (Ok l) (Err x) o p at why co cp go gp s = absurd gp.2
   one_device (Err x) old2 o p at why co cp go gp s = absurd go.2
-
--- ---- what is kept
