@@ -41,7 +41,7 @@ module _ {R : Type 0} (input : Reader R) (Accepted : Type 0) (draft : Writer) wh
 
   -- the same of a command that accepted more
   pub accepted : {Fewer : Type 0} → Accepted → IsUnfinished input Fewer draft → IsUnfinished input Accepted draft
-  accepted {Fewer} all u = record { no_text = u.no_text; begun = ⊎_map (λ none. none) (λ (b : Fewer × HasBegun input). (all, b.1)) u.begun }
+  accepted {Fewer} all u = record { no_text = u.no_text; begun = ⊎_map (λ (none : Takes draft []). none) (λ (b : Fewer × HasBegun input). (all, b.1)) u.begun }
 
 -- ---- a command
 

@@ -1,5 +1,5 @@
 -- What `delta` makes, by a copy of what a summary does not name.
-use Rattle.std.proofs.Common.{◌≡◌, ◌∙◌, ◌++◌, ℕ, List, [], Option, Result, Ok, Err, refl, ap, sym, subst, inl, inr}
+use Rattle.std.proofs.Common.{◌≡◌, ◌∙◌, ◌++◌, ℕ, List, [], Option, Result, Ok, Err, refl, ap, sym, subst}
 use mathlib.Core.Logic.{⊎_map}
 use Rattle.archive_core.specs.Summary.{Entries, delta}
 use Rattle.archive_records.specs.Entry.{AreEntries}
@@ -14,17 +14,17 @@ use Rattle.byte_device.specs.Devices.{Stream, stream}
 use Rattle.byte_device.specs.Writes.{WritesFirst}
 use Rattle.report_text.specs.Report.{archive_line}
 use Rattle.command_core.specs.declared.faults.CommandFault.{CommandFault}
-use Rattle.command_core.specs.declared.faults.CommandFault.TheVariants.{Input, Output, Report, OutOfMemory}
+use Rattle.command_core.specs.declared.faults.CommandFault.TheVariants.{Input, Output, OutOfMemory}
 use Rattle.command_core.specs.declared.faults.Status.{Status}
-use Rattle.command_core.specs.Ends.{EndsStreamed, HasFirst, HasTaken, MakesArchive, StopsAmidst}
+use Rattle.command_core.specs.Ends.{EndsStreamed, HasFirst, MakesArchive, StopsAmidst}
 use Rattle.command_core.specs.Inputs.{Holds, IsKnown, IsRefusedArchive, IsRefusedSummary, Reader, Unfailed, reader}
-use Rattle.command_core.specs.Outputs.{IsKept, Out, PublishesNothing, Publishes, Takes, Writer, writer}
+use Rattle.command_core.specs.Outputs.{IsKept, Out, Publishes, Takes, Writer, writer}
 use Rattle.command_core.proofs.Amidst.{gives_known, nothing_first}
 use Rattle.archive_writing.specs.Begun.{EndsBegun, HasBegun, IsUnfinished}
 use Rattle.archive_writing.specs.Copying.{CopiesUnnamed, IsUnnamed, MakesUnnamed, StopsCopy, StopsCopyBy, copying}
 use Rattle.archive_writing.specs.Delta.{GivesSummary, MakesDelta, delta_as_it_comes}
 use Rattle.archive_writing.specs.MergeStreams.{IsMergeFaultTold}
-use Rattle.archive_writing.proofs.AtHand.{archive_published, stopped_begun}
+use Rattle.archive_writing.proofs.Streamed.{archive_published, stopped_begun}
 use Rattle.archive_writing.proofs.Begun.{untouched, one_given, read_behind}
 
 -- ---- an archive that was opened
@@ -57,7 +57,7 @@ module _ {R W : Type 0} (left : R → Option (List ℕ)) (failures : R → ℕ) 
 
   -- what its draft has then
   pub unfinished_copy : (e : MergeFault) → StopsCopy (stream left failures l l') (stream held draft_failures w w') s e → IsUnfinished archive (Unit {0}) draft
-  unfinished_copy e st = record { no_text = st.no_text; begun = ⊎_map (λ none. none) (λ (begun : HasBegun archive). (tt, begun)) st.begun }
+  unfinished_copy e st = record { no_text = st.no_text; begun = ⊎_map (λ (none : Takes draft []). none) (λ (begun : HasBegun archive). (tt, begun)) st.begun }
 
   pub stopped_copy : (e : MergeFault) (fault : CommandFault) → StopsCopy (stream left failures l l') (stream held draft_failures w w') s e → IsMergeFaultTold e fault → StopsAmidst (copying archive s) (IsKnown archive) draft fault
   stopped_copy e fault st told = stops e.cause e.written fault st.by (first e st) told

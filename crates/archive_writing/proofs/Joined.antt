@@ -1,12 +1,12 @@
 -- What the commands make that merge IN with what is at hand: `migrate`, `merge` of several FILEs, `apply` and `retire`.
 use Rattle.std.proofs.Common.{◌≡◌, List, [], ◌∷◌, ◌++◌, refl, sym, ◌∙◌, ℕ, length, Result, Err, ap, arith, Option, Some}
-use Rattle.std.proofs.Common.{Ok, Bool, map, ◌≤◌, ◌-◌, subst, inr}
+use Rattle.std.proofs.Common.{Ok, Bool, map, ◌≤◌, ◌-◌, subst}
 use Rattle.std.specs.List.{AllByRecursion, concat, count_by}
 use Rattle.std.proofs.lemmas.List.Sums.{fold-append}
 use Rattle.archive_core.specs.Content.{Operations, IsContent, joined, IsMade, content_of, changes, new_among}
 use Rattle.archive_core.specs.Content.{with_records, with_record}
 use Rattle.command_core.specs.Inputs.{Reader, IsArchive, HoldsArchive, IsKnown, Unfailed, AreRead, EachKnown, EachUnfailed, IsArchiveRefused, IsFirstRefused}
-use Rattle.command_core.specs.Inputs.{IsRefusedOps, reader, IsRefusedArchive}
+use Rattle.command_core.specs.Inputs.{IsRefusedOps, reader}
 use Rattle.command_core.proofs.Archives.{each_archive, hold_more}
 use Rattle.archive_writing.specs.Merge.{HasJoined, MakesMerged, merge_in_turn}
 use Rattle.command_core.proofs.Readers.{all_more}
@@ -19,18 +19,16 @@ use Rattle.archive_core.proofs.Made.{bytes_same, made_empty, joined_made, joined
 use Rattle.archive_records.specs.declared.writing.Sizes.{Sizes}
 use Rattle.archive_records.specs.Kind.{magic}
 use Rattle.archive_records.specs.Text.{end_record, written, IsArchiveOf, old_written, text_of, IsOperationsText}
-use Rattle.archive_records.specs.Text.{InOrder}
 use Rattle.archive_records.proofs.Puts.{length_written, written_parts}
 use Rattle.byte_device.specs.Devices.{Stream}
 use Rattle.report_text.specs.Report.{archive_line, apply_line, retire_line}
 use Rattle.command_core.specs.declared.faults.CommandFault.{CommandFault}
 use Rattle.command_core.specs.declared.faults.Status.{Status}
-use Rattle.command_core.specs.Ends.{HasTaken, MakesArchive, StopsAmidst, EndsStreamed}
+use Rattle.command_core.specs.Ends.{HasTaken, StopsAmidst, EndsStreamed}
 use Rattle.command_core.specs.Outputs.{Out, PublishesNothing, Publishes, Takes, Writer}
 use Rattle.archive_writing.specs.Begun.{EndsBegun, IsUnfinished}
-use Rattle.archive_writing.specs.Joining.{IsJoined, joining, MakesJoined, joins}
-use Rattle.archive_writing.specs.Migrate.{MakesMigrated, migrate}
-use Rattle.archive_writing.proofs.AtHand.{archive_published, join_stopped, join_stops, stopped_begun}
+use Rattle.archive_writing.specs.Joining.{joining, MakesJoined, joins}
+use Rattle.archive_writing.proofs.Streamed.{archive_published, join_stopped, join_stops}
 use Rattle.std.specs.Prelude.{IfErr, IfOk, OnOk}
 use Rattle.archive_records.proofs.Versions.{one_content, old_written_text}
 use Rattle.command_core.specs.declared.faults.CommandFault.TheVariants.{OutOfMemory}
@@ -40,8 +38,8 @@ use Rattle.std.specs.List.Sorted.{IsStrictlySortedBy}
 use Rattle.join_core.specs.Listing.{listing}
 use Rattle.join_core.proofs.Listing.{listing_ascending}
 use Rattle.archive_core.specs.declared.operations.Operation.{Operation}
-use Rattle.archive_core.specs.Record.{record_bytes, IsOperation, retirement_record}
-use Rattle.archive_records.specs.declared.format.Format.TheVariants.{OldArchive, Archive}
+use Rattle.archive_core.specs.Record.{record_bytes, retirement_record}
+use Rattle.archive_records.specs.declared.format.Format.TheVariants.{OldArchive}
 use Rattle.record_merge.specs.declared.arrivals.Arrival.{Arrival}
 use Rattle.archive_writing.specs.InnerTelling.{IsJoinedTelling, MakesTold, telling, HasNewOf, counts_of, IsRetired}
 use Rattle.std.proofs.lemmas.List.{length-map}
@@ -52,10 +50,7 @@ use Rattle.sorted_archive.specs.InTurn.{AreNewInTurn}
 use Rattle.archive_writing.specs.Apply.{GivesOperations, MakesApplied, apply_as_it_comes}
 use Rattle.archive_core.specs.declared.keys.Digest.{Digest}
 use Rattle.archive_core.specs.declared.keys.SliceKey.{SliceKey}
-use Rattle.archive_core.specs.declared.operations.Operation.TheVariants.{Retire}
 use Rattle.archive_records.specs.Writing.{IsWrittenWhole}
-use Rattle.archive_records.proofs.Ascending.{below-less}
-use Rattle.archive_records.proofs.Contents.{sorted-InOrder}
 use Rattle.record_merge.specs.Arrivals.{is_new, arrival_of}
 use Rattle.record_merge.proofs.Lost.{new_changes}
 use Rattle.archive_writing.specs.Retire.{MakesRetired, retire}

@@ -1,6 +1,5 @@
-pub mod Streamed
 pub mod Beginnings
-pub mod AtHand
+pub mod Streamed
 pub mod Unnamed
 pub mod Deltas
 pub mod Begun
@@ -8,5 +7,4 @@ pub mod Joined
 pub mod FirstRows
 pub mod Files
 pub mod Taking
-pub mod Sliced
 pub mod Noted

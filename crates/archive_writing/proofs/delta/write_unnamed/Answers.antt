@@ -1,7 +1,7 @@
 use Rattle.std.proofs.Common.{refl}
 use Rattle.archive_records.proofs.Blamed.{failed}
 use Rattle.byte_device.proofs.Known.{Appends-none}
-use Rattle.archive_writing.proofs.AtHand.{stopped_begun}
+use Rattle.archive_writing.proofs.Streamed.{stopped_begun}
 use Rattle.archive_writing.proofs.Deltas.{unnamed_published, unnamed_wanting}
 use Rattle.archive_writing.proofs.delta.write_unnamed.Goals as goal
 

@@ -2,7 +2,7 @@ use Rattle.std.proofs.Common.{refl, rules}
 use Rattle.archive_writing.proofs.Begun.{untouched}
 use Rattle.byte_device.proofs.Known.{Appends-none}
 use Rattle.archive_records.proofs.Blamed.{failed}
-use Rattle.archive_writing.proofs.AtHand.{joined_opened, stopped_opened, taken_of, unfinished_opened}
+use Rattle.archive_writing.proofs.Streamed.{joined_opened, stopped_opened, taken_of, unfinished_opened}
 use Rattle.command_inputs.proofs.BorrowedSources.{borrowed_from}
 use Rattle.archive_writing.proofs.joining.join_input.Goals as goal
 

@@ -3,7 +3,7 @@ use Rattle.archive_records.proofs.Blamed.{failed}
 use Rattle.archive_records.specs.Text.{written}
 use Rattle.byte_device.proofs.Known.{Appends-none}
 use Rattle.archive_writing.specs.Joining.{MakesJoined}
-use Rattle.archive_writing.proofs.AtHand.{join_published, join_stopped}
+use Rattle.archive_writing.proofs.Streamed.{join_published, join_stopped}
 use Rattle.archive_writing.proofs.merge.merge_text.Goals as goal
 
 pub returns-in_err-sizes : goal.returns-in_err-sizes

@@ -4,7 +4,7 @@ use Rattle.std.specs.FinSet as set
 use Rattle.archive_records.specs.Text.{written}
 use Rattle.byte_device.proofs.Known.{Appends-none}
 use Rattle.archive_writing.proofs.Joined.{empty_content, join_with_nothing}
-use Rattle.archive_writing.proofs.AtHand.{join_published, join_stopped}
+use Rattle.archive_writing.proofs.Streamed.{join_published, join_stopped}
 use Rattle.archive_writing.specs.Migrate.{MakesMigrated}
 use Rattle.archive_writing.proofs.migrate.run_migrate.Goals as goal
 

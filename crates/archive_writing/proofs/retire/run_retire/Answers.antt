@@ -3,7 +3,7 @@ use Rattle.archive_records.proofs.Blamed.{failed}
 use Rattle.byte_device.proofs.Known.{Appends-none}
 use Rattle.command_core.specs.declared.faults.CommandFault.TheVariants.{OutOfMemory}
 use Rattle.archive_writing.proofs.Noted.{missing_noted}
-use Rattle.archive_writing.proofs.AtHand.{stopped_begun}
+use Rattle.archive_writing.proofs.Streamed.{stopped_begun}
 use Rattle.archive_writing.proofs.Joined.{retire_published}
 use Rattle.archive_writing.proofs.Taking.{always}
 use Rattle.archive_writing.proofs.retire.run_retire.Goals as goal
