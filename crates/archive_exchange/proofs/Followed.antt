@@ -1,5 +1,6 @@
 -- What happens at a site is what the definitions say of its event.
-use Rattle.std.proofs.Common.{◌≡◌, ◌≢◌, inl, ℕ, ◌<◌, Bool, List, [], ◌∷◌, ◌++◌, map, length, slice_get, refl, sym, ap, ◌∙◌, if◌then◌else◌, get_or, slice_set, None, Some, Ok, Err}
+use Rattle.std.proofs.Common.{◌≡◌, ◌≢◌, inl, inr, ℕ, ◌<◌, Bool, List, [], ◌∷◌, ◌++◌, map, length, slice_get, refl, sym, ap, ◌∙◌, if◌then◌else◌, get_or}
+use Rattle.std.proofs.Common.{slice_set, None, Some, Ok, Err}
 use Rattle.std.proofs.lemmas.Bool.{lt-ltb}
 use Rattle.std.proofs.lemmas.Option.{slice_get_within, slice_get_read}
 use Rattle.std.proofs.lemmas.List.{length-map}
@@ -13,12 +14,13 @@ use Rattle.archive_records.specs.Text.{written, summary_text}
 use Rattle.archive_records.proofs.Summarised.{AreEntries-summary}
 use Rattle.archive_records.proofs.Versions.{one_content}
 use Rattle.exchange_model.specs.World as model
-use Rattle.exchange_model.specs.World.{World, Event, File, Fault, Message, Content, Summary, site_of, records, fault_at_site, fault_of, effect, answer, refused_or, with_saved}
+use Rattle.exchange_model.specs.World.{World, Event, File, Fault, Content, Summary, site_of, records, fault_at_site, fault_of, effect, answer, refused_or}
+use Rattle.exchange_model.specs.World.{with_saved}
 use Rattle.admission.specs.File.{IsAcceptedFile, IsTakeFault, admissible, parts}
 use Rattle.admission.specs.Take.{admitted}
 use Rattle.archive_exchange.specs.SiteState.{SiteState, IsArchiveTextOf, HasJoined, IsDeliverFault, IsReplyFault, RepliesTo}
 use Rattle.archive_exchange.specs.ModelEvent.{IsFile, OutcomeIs, fault_told, part_record}
-use Rattle.archive_exchange.specs.WorldState.{message_text, IsSound, Represents}
+use Rattle.archive_exchange.specs.WorldState.{message_text, Represents}
 use Rattle.archive_exchange.specs.InnerEvents.{Follows}
 use Rattle.admission.specs.declared.fault.TakeFault.{TakeFault}
 use Rattle.admission.specs.declared.fault.TakeFault.TheVariants.{OutOfMemory}
@@ -28,7 +30,7 @@ use Rattle.archive_exchange.specs.declared.fault.ReplyFault.TheVariants as reply
 use Rattle.archive_exchange.specs.declared.outcome.EventFault.TheVariants as fault
 use Rattle.archive_exchange.specs.declared.outcome.Outcome.{Outcome}
 use Rattle.archive_exchange.specs.declared.outcome.Outcome.TheVariants as told
-use Rattle.archive_exchange.proofs.RunStates.{set_same, shows_held, shows_saved, shows_sent, message_at, IsMessage}
+use Rattle.archive_exchange.proofs.RunStates.{set_same, shows_held, shows_saved, shows_sent, message_at}
 use Rattle.archive_exchange.proofs.Gained.{content_gain, recorded_take, recorded_retire, records_seen}
 use Rattle.archive_exchange.proofs.Magics.{gives_no_summary, not_an_archive, not_a_summary}
 
@@ -127,78 +129,59 @@ asked i old new texts later held saved is = follow_by (model.Ask i) old new text
     })
 
 -- a reply to a message that is there
-replied_to : (i m : ℕ) (old : SiteState) (texts later : List (List ℕ)) (text reply : List ℕ) (sites : List SiteState) (w : World)
-    → slice_get sites i ≡ Some old → Represents sites texts w → RepliesTo text old.held reply → later ≡ texts ++ reply ∷ []
-    → (x : Message) → slice_get w.messages m ≡ Some x → text ≡ message_text x → IsSound x
-    → Allowed (model.Reply i m) old old texts later (told.Sent (length texts)) sites w
-replied_to i m old texts later text reply sites w at sh replies is (Content o) there same sound = absurd (gives_no_summary o (written o) replies.named (inl refl) (sym same ∙ replies.names.is))
-replied_to i m old texts later text reply sites w at sh replies is (Summary s) there same sound =
-    let named : replies.named ≡ s = replies.alone s (record { entries = sound; is = same }) in
-    record {
-      none = ap (λ x. model.reply_fault {F = TakeFault} x) there;
-      shows = rw (set_same sites i old at, is, replies.is ∙ ap (λ o. written (delta o replies.named)) (sh.each i old at).held, named, there) (shows_sent sites texts w (Content (delta (w.held i) s)) sh (delta_content (w.held i) s (sh.held i)));
-      tells = ap (λ (n : ℕ). model.Sent n) (sym (sent_number sites texts w sh));
-    }
-
 pub replied : (i m : ℕ) (old : SiteState) (texts later : List (List ℕ)) (text reply : List ℕ) → slice_get texts m ≡ Some text → RepliesTo text old.held reply → later ≡ texts ++ reply ∷ []
     → Follows (model.Reply i m) old old texts later (told.Sent (length texts))
 replied i m old texts later text reply got replies is = follow_by (model.Reply i m) old old texts later (told.Sent (length texts)) (λ sites w at sh.
-    let x : IsMessage w m text = message_at sites texts w m text sh got in
-    replied_to i m old texts later text reply sites w at sh replies is x.message x.is x.text_is x.sound)
-
-not_replied_to : (w : World) (i m : ℕ) (text : List ℕ) (f : RecordFault) → IsReplyFault text (reply.NotASummary f)
-    → (x : Message) → slice_get w.messages m ≡ Some x → text ≡ message_text x → IsSound x
-    → Barred (model.Reply i m) (told.Refused (fault.NotASummary f)) w
-not_replied_to w i m text f refused (Content o) there same sound =
-    record {
-      why = model.NotASummary;
-      told = ap (λ g. told.Refused (fault.NotASummary g)) (not_a_summary o f (rw same at refused.0));
-      is = ap (λ x. model.reply_fault {F = TakeFault} x) there;
-    }
-not_replied_to w i m text f refused (Summary s) there same sound = absurd (refused.2 (s, record { entries = sound; is = same }))
+    elim (message_at sites texts w m text sh got) [
+      | inl c ↦ absurd (gives_no_summary c.0 (written c.0) replies.named (inl refl) (sym c.2 ∙ replies.names.is))
+      | inr s ↦
+          let named : replies.named ≡ s.0 = replies.alone s.0 (record { entries = s.3; is = s.2 }) in
+          record {
+            none = ap (λ x. model.reply_fault {F = TakeFault} x) s.1;
+            shows = rw (set_same sites i old at, is, replies.is ∙ ap (λ o. written (delta o replies.named)) (sh.each i old at).held, named, s.1)
+                (shows_sent sites texts w (Content (delta (w.held i) s.0)) sh (delta_content (w.held i) s.0 (sh.held i)));
+            tells = ap (λ (n : ℕ). model.Sent n) (sym (sent_number sites texts w sh));
+          }
+    ])
 
 pub not_replied : (i m : ℕ) (old : SiteState) (texts : List (List ℕ)) (text : List ℕ) (f : RecordFault) → slice_get texts m ≡ Some text → IsReplyFault text (reply.NotASummary f)
     → Follows (model.Reply i m) old old texts texts (told.Refused (fault.NotASummary f))
 not_replied i m old texts text f got refused = refuse_by (model.Reply i m) old texts (told.Refused (fault.NotASummary f)) (λ sites w at sh.
-    let x : IsMessage w m text = message_at sites texts w m text sh got in
-    not_replied_to w i m text f refused x.message x.is x.text_is x.sound)
+    elim (message_at sites texts w m text sh got) [
+      | inl c ↦ record {
+        why = model.NotASummary;
+        told = ap (λ g. told.Refused (fault.NotASummary g)) (not_a_summary c.0 f (rw c.2 at refused.0));
+        is = ap (λ x. model.reply_fault {F = TakeFault} x) c.1;
+      }
+      | inr s ↦ absurd (refused.2 (s.0, record { entries = s.3; is = s.2 }))
+    ])
 
 -- a delivery of a message that is there
-delivered_at : (i m : ℕ) (old new : SiteState) (texts : List (List ℕ)) (text : List ℕ) (sites : List SiteState) (w : World)
-    → slice_get sites i ≡ Some old → Represents sites texts w → HasJoined text old new
-    → (x : Message) → slice_get w.messages m ≡ Some x → text ≡ message_text x → IsSound x
-    → Allowed (model.Deliver i m) old new texts texts told.Delivered sites w
-delivered_at i m old new texts text sites w at sh joins (Summary s) there same sound = absurd (gives_no_summary joins.message text s joins.gives.is same)
-delivered_at i m old new texts text sites w at sh joins (Content o) there same sound =
-    let is : joins.message ≡ o = one_content text joins.message o joins.gives.content sound joins.gives.is (inl same) in
-    record {
-      none = ap (λ x. model.deliver_fault {F = TakeFault} x) there;
-      shows = rw there (shows_held sites texts w i old new (joined (w.held i) o) at sh
-          (joins.held ∙ ap (λ p. joined old.held p) is ∙ ap (λ p. joined p o) (sh.each i old at).held) joins.saved (joined_content (w.held i) o (sh.held i) sound));
-      tells = refl;
-    }
-
 pub delivered : (i m : ℕ) (old new : SiteState) (texts : List (List ℕ)) (text : List ℕ) → slice_get texts m ≡ Some text → HasJoined text old new → Follows (model.Deliver i m) old new texts texts told.Delivered
 delivered i m old new texts text got joins = follow_by (model.Deliver i m) old new texts texts told.Delivered (λ sites w at sh.
-    let x : IsMessage w m text = message_at sites texts w m text sh got in
-    delivered_at i m old new texts text sites w at sh joins x.message x.is x.text_is x.sound)
-
-not_delivered_at : (w : World) (i m : ℕ) (text : List ℕ) (f : RecordFault) → IsDeliverFault text (deliver.Refused f)
-    → (x : Message) → slice_get w.messages m ≡ Some x → text ≡ message_text x → IsSound x
-    → Barred (model.Deliver i m) (told.Refused (fault.Refused f)) w
-not_delivered_at w i m text f refused (Summary s) there same sound =
-    record {
-      why = model.NotAContent;
-      told = ap (λ g. told.Refused (fault.Refused g)) (not_an_archive s f (rw same at refused.0));
-      is = ap (λ x. model.deliver_fault {F = TakeFault} x) there;
-    }
-not_delivered_at w i m text f refused (Content o) there same sound = absurd (refused.2 (o, record { content = sound; is = inl same }))
+    elim (message_at sites texts w m text sh got) [
+      | inl c ↦
+          let is : joins.message ≡ c.0 = one_content text joins.message c.0 joins.gives.content c.3 joins.gives.is (inl c.2) in
+          record {
+            none = ap (λ x. model.deliver_fault {F = TakeFault} x) c.1;
+            shows = rw c.1 (shows_held sites texts w i old new (joined (w.held i) c.0) at sh
+                (joins.held ∙ ap (λ p. joined old.held p) is ∙ ap (λ p. joined p c.0) (sh.each i old at).held) joins.saved (joined_content (w.held i) c.0 (sh.held i) c.3));
+            tells = refl;
+          }
+      | inr s ↦ absurd (gives_no_summary joins.message text s.0 joins.gives.is s.2)
+    ])
 
 pub not_delivered : (i m : ℕ) (old : SiteState) (texts : List (List ℕ)) (text : List ℕ) (f : RecordFault) → slice_get texts m ≡ Some text → IsDeliverFault text (deliver.Refused f)
     → Follows (model.Deliver i m) old old texts texts (told.Refused (fault.Refused f))
 not_delivered i m old texts text f got refused = refuse_by (model.Deliver i m) old texts (told.Refused (fault.Refused f)) (λ sites w at sh.
-    let x : IsMessage w m text = message_at sites texts w m text sh got in
-    not_delivered_at w i m text f refused x.message x.is x.text_is x.sound)
+    elim (message_at sites texts w m text sh got) [
+      | inl c ↦ absurd (refused.2 (c.0, record { content = c.3; is = inl c.2 }))
+      | inr s ↦ record {
+        why = model.NotAContent;
+        told = ap (λ g. told.Refused (fault.Refused g)) (not_an_archive s.0 f (rw s.2 at refused.0));
+        is = ap (λ x. model.deliver_fault {F = TakeFault} x) s.1;
+      }
+    ])
 
 pub saves : (i : ℕ) (old new : SiteState) (texts : List (List ℕ)) → new.held ≡ old.held → new.saved ≡ written old.held → Follows (model.Save i) old new texts texts told.Saved
 saves i old new texts held saved = follow_by (model.Save i) old new texts texts told.Saved (λ sites w at sh.

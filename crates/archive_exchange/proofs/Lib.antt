@@ -1,11 +1,6 @@
-pub mod Redelivered
 pub mod Texts
-pub mod RunStates
-pub mod Gained
-pub mod Whole
 pub mod Magics
 pub mod Followed
 pub mod Runs
-pub mod Meanings
-pub mod Empty
-pub mod Recorded
+pub mod RunStates
+pub mod Gained

@@ -1,14 +1,23 @@
--- What a change at one site is to a world that sites show.
-use Rattle.std.proofs.Common.{inl, inr, ◌≡◌, ◌≢◌, ℕ, zero, suc, true, false, List, [], ◌∷◌, ◌++◌, slice_get, refl, sym, ap, ◌∙◌, if◌then◌else◌, ◌==◌, eq-eqb, slice_set, Option, None, Some}
+-- What a change at one site is to a world that sites show, and sites that are empty.
+use Rattle.std.proofs.Common.{inl, inr, ◌⊎◌, ◌≡◌, ◌≢◌, ℕ, zero, suc, true, false, List, [], ◌∷◌, ◌++◌, slice_get, refl, sym, ap, ◌∙◌, if◌then◌else◌, ◌==◌}
+use Rattle.std.proofs.Common.{eq-eqb, slice_set, Option, None, Some, ◌+◌, length, length-append}
 use Rattle.std.specs.Option.{option_map}
 use Rattle.std.proofs.lemmas.Bool.{cases_eq, ne_eqb}
 use Rattle.std.proofs.lemmas.Option.{slice_get-map}
 use Rattle.std.proofs.lemmas.List.{map-append}
 use Rattle.archive_core.specs.Content.{Operations, IsContent}
-use Rattle.archive_records.specs.Text.{written}
-use Rattle.exchange_model.specs.World.{World, Message, updated, with_held, with_saved, with_sent}
+use Rattle.archive_core.specs.Summary.{Entries}
+use Rattle.archive_records.specs.Entry.{AreEntries}
+use Rattle.archive_records.specs.Text.{summary_text, written}
+use Rattle.exchange_model.specs.World.{World, Message, Content, Summary, updated, with_held, with_saved, with_sent}
+use Rattle.exchange_model.specs.World.{start}
 use Rattle.archive_exchange.specs.SiteState.{SiteState}
 use Rattle.archive_exchange.specs.WorldState.{message_text, IsSound, IsSite, Represents}
+use Rattle.std.specs.FinSet as set
+use Rattle.std.specs.FinSet.{contains-empty}
+use Rattle.std.specs.Ordering.{nat_cmp}
+use Rattle.std.specs.Cmp.Lexicographic.{slice_cmp}
+use Rattle.archive_core.proofs.Made.{made_empty}
 
 -- a list with one element set
 other : {X : Type 0} (xs : List X) (i j : ℕ) (x y : X) → j ≢ i → slice_get (slice_set xs i x) j ≡ Some y → slice_get xs j ≡ Some y
@@ -95,16 +104,53 @@ shows_sent sites texts w m sh is = record {
   sound = sound_more w.messages m sh.sound is;
 }
 
--- the message of a text that was sent
-pub record IsMessage (w : World) (m : ℕ) (text : List ℕ) : Type 0 where
-  pub message : Message
-  pub is : slice_get w.messages m ≡ Some message
-  pub text_is : text ≡ message_text message
-  pub sound : IsSound message
+-- the message of a text that was sent: a content, or a summary
+abbrev pub IsMessage : World → ℕ → List ℕ → Type 0
+IsMessage w m text =
+    ((o : Operations) × (slice_get w.messages m ≡ Some (Content o)) × (text ≡ written o) × IsContent o)
+    ⊎ ((s : Entries) × (slice_get w.messages m ≡ Some (Summary s)) × (text ≡ summary_text s) × AreEntries s)
 
 pub message_at : (sites : List SiteState) (texts : List (List ℕ)) (w : World) (m : ℕ) (text : List ℕ) → Represents sites texts w → slice_get texts m ≡ Some text → IsMessage w m text
 message_at sites texts w m text sh h = by (slice_get w.messages m) refl (sym h ∙ ap (λ l. slice_get l m) sh.sent ∙ slice_get-map message_text w.messages m)
   where
     by : (o : Option Message) → slice_get w.messages m ≡ o → Some text ≡ option_map message_text o → IsMessage w m text
     by None e t = cc
-    by (Some x) e t = record { message = x; is = e; text_is = cc; sound = sh.sound m x e }
+    by (Some (Content o)) e t = inl (o, e, cc, sh.sound m (Content o) e)
+    by (Some (Summary s)) e t = inr (s, e, cc, sh.sound m (Summary s) e)
+
+empty_content : IsContent set.empty
+empty_content = record { itself = made_empty; records = λ r h. cc (contains-empty (slice_cmp nat_cmp) r) }
+
+pub none_shown : Represents [] [] start
+none_shown = record {
+  each = λ i site h. cc;
+  sent = refl;
+  held = λ i. empty_content;
+  saved = λ i. empty_content;
+  sound = λ m x h. cc;
+}
+
+-- one empty site more
+pub shown_more : (sites : List SiteState) (site : SiteState) → Represents sites [] start → site ≡ record { held = set.empty; saved = written set.empty } → Represents (sites ++ site ∷ []) [] start
+shown_more sites site sh is = record {
+  each = λ i s h. each sites i s sh.each h;
+  sent = refl;
+  held = sh.held;
+  saved = sh.saved;
+  sound = sh.sound;
+}
+  where
+    fresh : (i : ℕ) → IsSite start i site
+    fresh i = record { held = ap (λ (k : SiteState). k.held) is; saved = ap (λ (k : SiteState). k.saved) is }
+
+    -- at the start all sites are alike, so that the number does not matter
+    each : (row : List SiteState) (i : ℕ) (s : SiteState) → ((j : ℕ) (t : SiteState) → slice_get row j ≡ Some t → IsSite start j t) → slice_get (row ++ site ∷ []) i ≡ Some s → IsSite start i s
+    each [] zero s all h = let e : site ≡ s = cc in rw (← e) (fresh zero)
+    each [] (suc i) s all h = cc
+    each (y ∷ row) zero s all h = all zero s h
+    each (y ∷ row) (suc i) s all h =
+        let r : IsSite start i s = each row i s (λ j t k. record { held = (all (suc j) t k).held; saved = (all (suc j) t k).saved }) h in
+        record { held = r.held; saved = r.saved }
+
+pub one_longer : (xs ys : List SiteState) (x : SiteState) (n : ℕ) → ys ≡ xs ++ x ∷ [] → length xs ≡ n → length ys ≡ n + 1
+one_longer xs ys x n e h = ap length e ∙ length-append xs (x ∷ []) ∙ ap (λ k. k + 1) h

@@ -3,3 +3,4 @@ pub mod Publishings
 pub mod Asked
 mod PlacesHeld
 pub mod Described
+mod ByHand

@@ -1,5 +1,6 @@
 -- What `delta` makes, by a copy of what a summary does not name.
-use Rattle.std.proofs.Common.{◌≡◌, ◌∙◌, ◌++◌, ℕ, List, [], Option, Result, Ok, Err, refl, ap, sym, subst, inl, inr}
+use Rattle.std.proofs.Common.{◌≡◌, ◌∙◌, ◌++◌, ℕ, List, [], Option, Result, Ok, Err, refl, ap, sym, subst}
+use mathlib.Core.Logic.{⊎_map}
 use Rattle.archive_core.specs.Summary.{Entries, delta}
 use Rattle.archive_records.specs.Entry.{AreEntries}
 use Rattle.archive_records.specs.declared.fault.MergeCause.{MergeCause}
@@ -13,19 +14,18 @@ use Rattle.byte_device.specs.Devices.{Stream, stream}
 use Rattle.byte_device.specs.Writes.{WritesFirst}
 use Rattle.report_text.specs.Report.{archive_line}
 use Rattle.command_core.specs.declared.faults.CommandFault.{CommandFault}
-use Rattle.command_core.specs.declared.faults.CommandFault.TheVariants.{Input, Output, Report, OutOfMemory}
+use Rattle.command_core.specs.declared.faults.CommandFault.TheVariants.{Input, Output, OutOfMemory}
 use Rattle.command_core.specs.declared.faults.Status.{Status}
-use Rattle.command_core.specs.Ends.{EndsStreamed, HasFirst, HasTaken, MakesArchive, StopsAmidst}
+use Rattle.command_core.specs.Ends.{EndsStreamed, HasFirst, MakesArchive, StopsAmidst}
 use Rattle.command_core.specs.Inputs.{Holds, IsKnown, IsRefusedArchive, IsRefusedSummary, Reader, Unfailed, reader}
-use Rattle.command_core.specs.Outputs.{IsKept, Out, PublishesNothing, Publishes, Takes, Writer, writer}
+use Rattle.command_core.specs.Outputs.{IsKept, Out, Publishes, Takes, Writer, writer}
 use Rattle.command_core.proofs.Amidst.{gives_known, nothing_first}
-use Rattle.archive_writing.specs.Begun.{EndsBegun, IsUnfinished}
+use Rattle.archive_writing.specs.Begun.{EndsBegun, HasBegun, IsUnfinished}
 use Rattle.archive_writing.specs.Copying.{CopiesUnnamed, IsUnnamed, MakesUnnamed, StopsCopy, StopsCopyBy, copying}
 use Rattle.archive_writing.specs.Delta.{GivesSummary, MakesDelta, delta_as_it_comes}
 use Rattle.archive_writing.specs.MergeStreams.{IsMergeFaultTold}
-use Rattle.archive_writing.proofs.AtHand.{archive_published, stopped_begun}
-use Rattle.archive_writing.proofs.Begun.{untouched}
-use Rattle.archive_writing.proofs.Behind.{one_given, read_behind}
+use Rattle.archive_writing.proofs.Streamed.{archive_published, stopped_begun}
+use Rattle.archive_writing.proofs.Begun.{untouched, one_given, read_behind}
 
 -- ---- an archive that was opened
 
@@ -57,13 +57,7 @@ module _ {R W : Type 0} (left : R → Option (List ℕ)) (failures : R → ℕ) 
 
   -- what its draft has then
   pub unfinished_copy : (e : MergeFault) → StopsCopy (stream left failures l l') (stream held draft_failures w w') s e → IsUnfinished archive (Unit {0}) draft
-  unfinished_copy e st = record {
-    no_text = st.no_text;
-    begun = elim st.begun [
-      | inl none ↦ inl none
-      | inr begun ↦ inr (tt, begun)
-    ];
-  }
+  unfinished_copy e st = record { no_text = st.no_text; begun = ⊎_map (λ (none : Takes draft []). none) (λ (begun : HasBegun archive). (tt, begun)) st.begun }
 
   pub stopped_copy : (e : MergeFault) (fault : CommandFault) → StopsCopy (stream left failures l l') (stream held draft_failures w w') s e → IsMergeFaultTold e fault → StopsAmidst (copying archive s) (IsKnown archive) draft fault
   stopped_copy e fault st told = stops e.cause e.written fault st.by (first e st) told
@@ -71,14 +65,11 @@ module _ {R W : Type 0} (left : R → Option (List ℕ)) (failures : R → ℕ) 
 -- ---- OUT, and the report
 
 module _ {R : Type 0} (archive : Reader R) (s : Entries) where
-  pub unnamed_stopped : (out : Out) (report : Writer) (fault : CommandFault) → StopsAmidst (copying archive s) (IsKnown archive) out.draft fault → IsUnfinished archive (Unit {0}) out.draft → HasTaken out.draft fault → PublishesNothing out → Takes report []
-      → EndsBegun archive (copying archive s) out report (Err fault)
-  unnamed_stopped = stopped_begun archive (MakesArchive (MakesUnnamed archive s)) (IsRefusedArchive 0 archive) (Unfailed archive)
-
   -- memory was wanted before anything was written
   pub unnamed_wanting : (out : Out) (report : Writer) → Unfailed archive → IsKept out → Takes report [] → EndsBegun archive (copying archive s) out report (Err OutOfMemory)
   unnamed_wanting out report unfailed kept unreported =
-      unnamed_stopped out report OutOfMemory (unfailed, kept.0.1, (0, λ known text told m. nothing_first (MakesUnnamed archive s) out.draft.old out.draft.new text told kept.0.0 m)) (untouched archive (Unit {0}) out.draft kept.0) ([], kept.0.0, λ n h. cc) kept.1 unreported
+      stopped_begun archive (MakesArchive (MakesUnnamed archive s)) (IsRefusedArchive 0 archive) (Unfailed archive) out report OutOfMemory
+      (unfailed, kept.0.1, (0, λ known text told m. nothing_first (MakesUnnamed archive s) out.draft.old out.draft.new text told kept.0.0 m)) (untouched archive (Unit {0}) out.draft kept.0) ([], kept.0.0, λ n h. cc) kept.1 unreported
 
   pub unnamed_published : {W : Type 0} (draft : Stream W) (sizes : Sizes) (u : IsUnnamed archive s draft sizes) (lines : List ℕ) → lines ≡ [] → (out : Out) (report : Writer) (result : Result Status CommandFault)
       → Publishes out report (written (delta u.before s)) (lines ++ archive_line sizes) result → EndsBegun archive (copying archive s) out report result

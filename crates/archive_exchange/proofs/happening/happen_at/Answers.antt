@@ -1,4 +1,4 @@
-use Rattle.archive_exchange.proofs.Recorded.{recorded_by, retire_ok, on_ok}
+use Rattle.archive_exchange.proofs.Gained.{recorded_by, retire_ok, on_ok}
 use Rattle.archive_exchange.proofs.happening.happen_at.Goals as goal
 
 pub returns-in-Take-clause-recorded : goal.returns-in-Take-clause-recorded

@@ -1,4 +1,4 @@
-use Rattle.archive_exchange.proofs.Redelivered.{below_asked, asked_again}
+use Rattle.archive_exchange.proofs.Texts.{below_asked, asked_again}
 use Rattle.archive_exchange.proofs.laws.delivery_resumed.Goals as goal
 
 pub returns : goal.returns

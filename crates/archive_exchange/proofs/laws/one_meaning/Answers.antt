@@ -1,4 +1,4 @@
-use Rattle.archive_exchange.proofs.Meanings.{events_are, one_list}
+use Rattle.archive_exchange.proofs.Gained.{events_are, one_list}
 use Rattle.archive_exchange.proofs.laws.one_meaning.Goals as goal
 
 pub returns-clause-some : goal.returns-clause-some

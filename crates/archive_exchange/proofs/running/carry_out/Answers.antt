@@ -3,7 +3,7 @@ use Rattle.std.proofs.lemmas.Slice.Zip.{AllZip-long}
 use Rattle.archive_exchange.specs.ModelEvent.{IsSeen}
 use Rattle.std.proofs.lemmas.Option.{slice_get_read}
 use Rattle.archive_exchange.proofs.Runs.{none_run, run_next, run_end}
-use Rattle.archive_exchange.proofs.Whole.{shown_whole}
+use Rattle.archive_exchange.proofs.Gained.{shown_whole}
 use Rattle.archive_exchange.proofs.running.carry_out.Goals as goal
 
 pub events-init : goal.events-init

@@ -1,5 +1,5 @@
 use Rattle.std.proofs.Common.{length, ap}
-use Rattle.archive_exchange.proofs.Empty.{none_shown, shown_more, one_longer}
+use Rattle.archive_exchange.proofs.RunStates.{none_shown, shown_more, one_longer}
 use Rattle.archive_exchange.proofs.running.empty_sites.Goals as goal
 
 pub sites-init : goal.sites-init

@@ -1,6 +1,6 @@
 use Rattle.std.proofs.Common.{refl, ◌∙◌}
 use Rattle.admission.specs.File.{parts}
-use Rattle.archive_writing.proofs.Again.{images_sliced, rows_sliced}
+use Rattle.archive_writing.proofs.Files.{images_sliced, rows_sliced}
 use Rattle.archive_writing.proofs.admit.admit_file.Goals as goal
 
 pub returns : goal.returns

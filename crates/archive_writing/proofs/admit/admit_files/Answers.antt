@@ -1,19 +1,17 @@
 use Rattle.std.proofs.Common.{◌≡◌, ◌<◌, length, arith, refl, ap, ◌∙◌}
-use Rattle.std.proofs.lemmas.Result.{err_from_is_err_and}
+use Rattle.archive_records.proofs.Blamed.{failed}
 use Rattle.command_core.specs.declared.faults.InputName.TheVariants.{File}
 use Rattle.join_core.specs.Listing.{listing}
 use Rattle.archive_core.specs.Content.{Operations}
 use Rattle.command_core.specs.Inputs.{IsAccepted, IsFileRefused}
-use Rattle.archive_writing.proofs.Come.{come_more, come_none}
-use Rattle.archive_writing.proofs.Files.{taken_accepted}
+use Rattle.archive_writing.proofs.Files.{come_more, come_none, taken_accepted}
 use Rattle.archive_writing.proofs.FirstRows.{no_listing, first_none}
 use Rattle.command_core.proofs.Readers.{all_read, none_failed, one_more, read_to, refused_at, rest_kept, same_at, unfailed_more}
 use Rattle.archive_writing.proofs.admit.admit_files.Goals as goal
 
 pub returns-in_err-arrivals : goal.returns-in_err-arrivals
 returns-in_err-arrivals g c =
-    let p = err_from_is_err_and c.from_residual.result c.from_residual.ensures.1 in
-    rw (p.1, p.2) (none_failed g.S.Source.left g.S.Source.failures c.args.files.now)
+    rw (failed c.from_residual.result _ c.from_residual.ensures.1) (none_failed g.S.Source.left g.S.Source.failures c.args.files.now)
 
 pub files-init : goal.files-init
 files-init g c =
@@ -38,10 +36,9 @@ files-preserved g c =
 
 pub returns-in_err-admit_file : goal.returns-in_err-admit_file
 returns-in_err-admit_file g c =
-    let p = err_from_is_err_and c.from_residual-in_err-admit_file.result c.from_residual-in_err-admit_file.ensures.1 in
     let lt : c.files.index < length c.args.files.now = omega arith in
     let is = same_at c.files.files c.args.files.now c.files.index c.index-files-index.result c.files.invariant.rest c.index-files-index.is in
-    rw (p.1, p.2) (refused_at _ _ (λ n. File n) IsAccepted IsFileRefused _ _ _ _ _ _ lt c.files.auto.files is (taken_accepted _ _ _ _ c.files.invariant.taken.taken) c.files.invariant.rest c.files.invariant.unfailed
+    rw (failed c.from_residual-in_err-admit_file.result _ c.from_residual-in_err-admit_file.ensures.1) (refused_at _ _ (λ n. File n) IsAccepted IsFileRefused _ _ _ _ _ _ lt c.files.auto.files is (taken_accepted _ _ _ _ c.files.invariant.taken.taken) c.files.invariant.rest c.files.invariant.unfailed
     (rw (← c.index-files-index.is) at c.in_err-admit_file.ensures))
 
 pub returns : goal.returns

@@ -4,8 +4,8 @@ use Rattle.byte_device.proofs.Known.{Appends-none}
 use Rattle.command_core.specs.Inputs.{reader}
 use Rattle.command_core.specs.Outputs.{out_of, outs, writer}
 use Rattle.archive_writing.specs.InnerArriving.{records_of}
-use Rattle.archive_writing.proofs.Behind.{told_behind}
-use Rattle.archive_writing.proofs.Come.{admitted_in_turn}
+use Rattle.archive_writing.proofs.Begun.{told_behind}
+use Rattle.archive_writing.proofs.Files.{admitted_in_turn}
 use Rattle.archive_writing.proofs.Noted.{retired_noted}
 use Rattle.archive_writing.proofs.admit.run_admit.Goals as goal
 

@@ -1,19 +1,18 @@
 use Rattle.std.proofs.Common.{Err, ◌-◌, ℕ, ap, inr, arith, map, refl, ◌∙◌}
 use Rattle.std.specs.List.{count_by}
-use Rattle.std.proofs.lemmas.Result.{err_from_is_err_and}
+use Rattle.archive_records.proofs.Blamed.{failed}
 use Rattle.archive_core.specs.Record.{record_bytes}
 use Rattle.byte_device.proofs.Known.{Appends-none}
 use Rattle.record_merge.specs.Arrivals.{is_new, arrival_of}
 use Rattle.record_merge.proofs.Lost.{count_new}
 use Rattle.report_text.specs.Report.{apply_line}
 use Rattle.command_core.specs.declared.faults.CommandFault.TheVariants.{OutOfMemory}
-use Rattle.archive_writing.proofs.Told.{listed_in_order, told_published, told_stopped}
+use Rattle.archive_writing.proofs.Joined.{listed_in_order, told_published, told_stopped}
 use Rattle.archive_writing.proofs.apply.write_applied.Goals as goal
 
 pub returns-in_err-sizes : goal.returns-in_err-sizes
 returns-in_err-sizes g c =
-    let p = err_from_is_err_and c.from_residual.result c.from_residual.ensures.1 in
-    rw (p.1, p.2) (told_stopped _ _ _ _ _ _ c.in_err-sizes.ensures.1 c.in_err-sizes.ensures.2 c.in_err-sizes.ensures.0 (refl, refl) (Appends-none _, refl))
+    rw (failed c.from_residual.result _ c.from_residual.ensures.1) (told_stopped _ _ _ _ _ _ c.in_err-sizes.ensures.1 c.in_err-sizes.ensures.2 c.in_err-sizes.ensures.0 (refl, refl) (Appends-none _, refl))
 
 pub overflow_sub-number : goal.overflow_sub-number
 overflow_sub-number g c =
@@ -26,10 +25,9 @@ overflow_sub-number g c =
 
 pub returns-in_err-lines : goal.returns-in_err-lines
 returns-in_err-lines g c =
-    let p = err_from_is_err_and c.from_residual-in_err-lines.result c.from_residual-in_err-lines.ensures.1 in
     let j = c.in_ok-sizes.ensures in
     let whole = j.joined.written_is in
-    rw (p.1, p.2) (told_published _ _ _ _ _ _ _ j _ refl _ _ (Err OutOfMemory) (inr (whole.written, whole.unfailed), (refl, refl), (Appends-none _, refl)))
+    rw (failed c.from_residual-in_err-lines.result _ c.from_residual-in_err-lines.ensures.1) (told_published _ _ _ _ _ _ _ j _ refl _ _ (Err OutOfMemory) (inr (whole.written, whole.unfailed), (refl, refl), (Appends-none _, refl)))
 
 pub returns : goal.returns
 returns g c =

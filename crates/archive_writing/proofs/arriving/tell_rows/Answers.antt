@@ -4,7 +4,8 @@ use Rattle.std.proofs.lemmas.Option.{slice_get-get_or}
 use Rattle.record_merge.specs.declared.arrivals.Arrival.{Arrival}
 use Rattle.record_merge.specs.declared.arrivals.Arrival.TheVariants.{New}
 use Rattle.record_merge.specs.Arrivals.{is_new}
-use Rattle.archive_writing.proofs.Marked.{all_marked, as_many, marked_more, marked_none, no_row, record_at, row_inside}
+use Rattle.archive_writing.proofs.FirstRows.{all_marked, as_many, marked_more, marked_none, no_row, record_at}
+use Rattle.archive_writing.proofs.FirstRows.{row_inside}
 use Rattle.archive_writing.proofs.arriving.tell_rows.Goals as goal
 
 pub told-init : goal.told-init

@@ -2,7 +2,7 @@ use Rattle.std.proofs.Common.{◌≡◌, ℕ, List, length, map}
 use Rattle.record_merge.specs.declared.arrivals.Arrival.{Arrival}
 use Rattle.record_merge.specs.Arrivals.{is_new}
 use Rattle.archive_writing.specs.InnerArriving.{AreFirstRows}
-use Rattle.archive_writing.proofs.Marked.{AreMarked}
+use Rattle.archive_writing.proofs.FirstRows.{AreMarked}
 use Rattle.archive_writing.proofs.arriving.tell_rows.Given as goal
 
 abbrev pub invariant-told : goal.invariant-told

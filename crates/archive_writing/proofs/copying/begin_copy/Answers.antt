@@ -1,5 +1,5 @@
 use Rattle.std.proofs.Common.{inl, inr}
-use Rattle.archive_writing.proofs.Copied.{begun_within, read_behind_magic}
+use Rattle.archive_writing.proofs.Unnamed.{begun_within, read_behind_magic}
 use Rattle.archive_writing.proofs.copying.begin_copy.Goals as goal
 
 pub returns-in-Err-put-clause-stopped : goal.returns-in-Err-put-clause-stopped

@@ -3,7 +3,7 @@ use Rattle.archive_records.specs.Kind.{IsItemOf, kind_of}
 use Rattle.archive_records.proofs.Puts.{few_missing}
 use Rattle.archive_records.proofs.Taken.{taken_none, taken_push, taken_pass}
 use Rattle.archive_records.proofs.Steps.{HasRead-grows, HasReadAll-grows, Stopped-fails}
-use Rattle.archive_writing.proofs.Copied.{copied_in, copied_more, copied_to, copied_within}
+use Rattle.archive_writing.proofs.Unnamed.{copied_in, copied_more, copied_to, copied_within}
 use Rattle.archive_writing.proofs.copying.copy_records.Goals as goal
 
 pub copying-init : goal.copying-init

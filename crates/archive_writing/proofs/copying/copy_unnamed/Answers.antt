@@ -1,7 +1,6 @@
 use Rattle.std.proofs.Common.{Err, inl, inr, ◌∙◌}
 use Rattle.archive_records.proofs.Blamed.{failed}
-use Rattle.archive_writing.proofs.Copied.{begun_copied, blamed, cause_of, devices_behind, ended, ended_early}
-use Rattle.archive_writing.proofs.Unnamed.{unnamed}
+use Rattle.archive_writing.proofs.Unnamed.{begun_copied, blamed, cause_of, devices_behind, ended, ended_early, unnamed}
 use Rattle.archive_writing.proofs.copying.copy_unnamed.Goals as goal
 
 pub returns-in_err-reader : goal.returns-in_err-reader

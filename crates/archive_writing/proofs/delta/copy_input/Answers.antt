@@ -1,8 +1,8 @@
 use Rattle.std.proofs.Common.{refl, rules}
 use Rattle.archive_writing.proofs.Begun.{untouched}
 use Rattle.byte_device.proofs.Known.{Appends-none}
-use Rattle.std.proofs.lemmas.Result.{err_from_is_err_and}
-use Rattle.archive_writing.proofs.AtHand.{taken_of}
+use Rattle.archive_records.proofs.Blamed.{failed}
+use Rattle.archive_writing.proofs.Streamed.{taken_of}
 use Rattle.command_inputs.proofs.BorrowedSources.{borrowed_from}
 use Rattle.archive_writing.proofs.Deltas.{copied_opened, stopped_copy, unfinished_copy}
 use Rattle.archive_writing.proofs.delta.copy_input.Goals as goal
@@ -21,5 +21,4 @@ returns-in-Err g c =
 
 pub returns-in_err-source : goal.returns-in_err-source
 returns-in_err-source g c =
-    let p = err_from_is_err_and c.from_residual.result c.from_residual.ensures.1 in
-    rw (p.1, p.2) (search rules, search rules, untouched _ (Unit {0}) _ (Appends-none _, refl))
+    rw (failed c.from_residual.result _ c.from_residual.ensures.1) (search rules, search rules, untouched _ (Unit {0}) _ (Appends-none _, refl))

@@ -1,8 +1,8 @@
 use Rattle.std.proofs.Common.{refl, rules}
 use Rattle.archive_writing.proofs.Begun.{untouched}
 use Rattle.byte_device.proofs.Known.{Appends-none}
-use Rattle.std.proofs.lemmas.Result.{err_from_is_err_and}
-use Rattle.archive_writing.proofs.AtHand.{joined_opened, stopped_opened, taken_of, unfinished_opened}
+use Rattle.archive_records.proofs.Blamed.{failed}
+use Rattle.archive_writing.proofs.Streamed.{joined_opened, stopped_opened, taken_of, unfinished_opened}
 use Rattle.command_inputs.proofs.BorrowedSources.{borrowed_from}
 use Rattle.archive_writing.proofs.joining.join_input.Goals as goal
 
@@ -23,5 +23,4 @@ returns-in-Err g c =
 
 pub returns-in_err-left : goal.returns-in_err-left
 returns-in_err-left g c =
-    let p = err_from_is_err_and c.from_residual.result c.from_residual.ensures.1 in
-    rw (p.1, p.2) (search rules, λ p at. search rules, untouched _ (Unit {0}) _ (Appends-none _, refl))
+    rw (failed c.from_residual.result _ c.from_residual.ensures.1) (search rules, λ p at. search rules, untouched _ (Unit {0}) _ (Appends-none _, refl))

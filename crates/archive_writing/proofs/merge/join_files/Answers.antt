@@ -1,8 +1,8 @@
 use Rattle.std.proofs.Common.{◌≡◌, ◌<◌, length, arith, refl}
-use Rattle.std.proofs.lemmas.Result.{err_from_is_err_and}
+use Rattle.archive_records.proofs.Blamed.{failed}
 use Rattle.command_core.specs.Inputs.{IsArchive, IsArchiveRefused}
 use Rattle.command_core.specs.Archives.{further_name}
-use Rattle.archive_writing.proofs.Joins.{joined_none, joined_more, joined_archives}
+use Rattle.archive_writing.proofs.Joined.{joined_none, joined_more, joined_archives}
 use Rattle.command_core.proofs.Readers.{all_read, none_failed, one_more, refused_at, rest_kept, same_at, unfailed_more}
 use Rattle.archive_writing.proofs.merge.join_files.Goals as goal
 
@@ -22,10 +22,9 @@ files-preserved g c =
 
 pub returns-in_err-join_file : goal.returns-in_err-join_file
 returns-in_err-join_file g c =
-    let p = err_from_is_err_and c.from_residual-in_err-join_file.result c.from_residual-in_err-join_file.ensures.1 in
     let lt : c.files.index < length c.args.files.now = omega arith in
     let is = same_at c.files.files c.args.files.now c.files.index c.index-files-index.result c.files.invariant.rest c.index-files-index.is in
-    rw (p.1, p.2) (refused_at _ _ further_name IsArchive IsArchiveRefused _ _ _ _ _ _ lt c.files.auto.files is (joined_archives _ _ _ c.files.invariant.joined) c.files.invariant.rest c.files.invariant.unfailed
+    rw (failed c.from_residual-in_err-join_file.result _ c.from_residual-in_err-join_file.ensures.1) (refused_at _ _ further_name IsArchive IsArchiveRefused _ _ _ _ _ _ lt c.files.auto.files is (joined_archives _ _ _ c.files.invariant.joined) c.files.invariant.rest c.files.invariant.unfailed
     (rw (← c.index-files-index.is) at c.in_err-join_file.ensures))
 
 pub returns : goal.returns

@@ -1,13 +1,12 @@
-use Rattle.std.proofs.lemmas.Result.{err_from_is_err_and}
+use Rattle.archive_records.proofs.Blamed.{failed}
 use Rattle.command_core.specs.Inputs.{readers}
 use Rattle.command_core.proofs.Readers.{none_failed}
-use Rattle.archive_writing.proofs.Merged.{text_of_join}
+use Rattle.archive_writing.proofs.Joined.{text_of_join}
 use Rattle.archive_writing.proofs.merge.joined_text.Goals as goal
 
 pub returns-in_err-clone : goal.returns-in_err-clone
 returns-in_err-clone g c =
-    let p = err_from_is_err_and c.from_residual.result c.from_residual.ensures.1 in
-    rw (p.1, p.2) (none_failed g.S.Source.left g.S.Source.failures c.args.files.now)
+    rw (failed c.from_residual.result _ c.from_residual.ensures.1) (none_failed g.S.Source.left g.S.Source.failures c.args.files.now)
 
 pub returns : goal.returns
 returns g c =

@@ -3,8 +3,8 @@ use Rattle.std.proofs.lemmas.Option.{same_Some}
 use Rattle.byte_device.proofs.Known.{Appends-none}
 use Rattle.command_core.specs.Inputs.{reader}
 use Rattle.command_core.specs.Outputs.{out_of, outs, writer}
-use Rattle.archive_writing.proofs.Behind.{told_behind}
-use Rattle.archive_writing.proofs.Merged.{merged_in_turn}
+use Rattle.archive_writing.proofs.Begun.{told_behind}
+use Rattle.archive_writing.proofs.Joined.{merged_in_turn}
 use Rattle.archive_writing.proofs.merge.merge_in_turn.Goals as goal
 
 pub returns-in-Ok : goal.returns-in-Ok

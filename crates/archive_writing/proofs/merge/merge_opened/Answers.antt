@@ -1,7 +1,6 @@
-use Rattle.std.proofs.Common.{◌++◌, ap, refl}
+use Rattle.std.proofs.Common.{refl}
 use Rattle.byte_device.proofs.Known.{Appends-none}
 use Rattle.command_core.specs.Outputs.{outs, writer}
-use Rattle.report_text.specs.Report.{archive_line}
 use Rattle.archive_writing.proofs.Streamed.{merged, stopped}
 use Rattle.archive_writing.proofs.merge.merge_opened.Goals as goal
 
@@ -16,5 +15,5 @@ returns-in-Ok g c =
     let m = c.in-Ok.ensures.merges in
     merged _ _ _ _ _ _ _ _
     (outs g.T.Draft.Sink.held g.T.Draft.Sink.failures g.T.Target.published g.T.Target.failures c.args.out.now c.publish_draft.new.out) _
-    c.merge_streams.new.w c.in-Ok.sizes m _ c.publish_draft.result (ap (λ lines. lines ++ archive_line c.in-Ok.sizes) c.new.ensures.bytes)
+    c.merge_streams.new.w c.in-Ok.sizes m _ c.new.ensures.bytes c.publish_draft.result
     (c.publish_draft.ensures c.args.out.now.draft _ (m.written_is.written, m.written_is.unfailed) m.written_is.bytes_are)

@@ -1,28 +1,26 @@
 use Rattle.std.proofs.Common.{Err, refl, ◌∙◌, inr}
-use Rattle.std.proofs.lemmas.Result.{err_from_is_err_and}
+use Rattle.archive_records.proofs.Blamed.{failed}
 use Rattle.byte_device.proofs.Known.{Appends-none}
 use Rattle.command_core.specs.declared.faults.CommandFault.TheVariants.{OutOfMemory}
 use Rattle.archive_writing.proofs.Noted.{missing_noted}
-use Rattle.archive_writing.proofs.Retired.{retire_published, retire_stopped}
+use Rattle.archive_writing.proofs.Streamed.{stopped_begun}
+use Rattle.archive_writing.proofs.Joined.{retire_published}
 use Rattle.archive_writing.proofs.Taking.{always}
 use Rattle.archive_writing.proofs.retire.run_retire.Goals as goal
 
 pub returns-in_err-written-clause-ends : goal.returns-in_err-written-clause-ends
 returns-in_err-written-clause-ends g c =
-    let p = err_from_is_err_and c.from_residual.result c.from_residual.ensures.1 in
-    rw (p.1, p.2) (retire_stopped _ _ _ _ _ _ c.in_err-written.ensures.1 c.in_err-written.ensures.2 c.in_err-written.ensures.0 (refl, refl) (Appends-none _, refl))
+    rw (failed c.from_residual.result _ c.from_residual.ensures.1) (stopped_begun _ _ _ _ _ _ _ c.in_err-written.ensures.1 c.in_err-written.ensures.2 c.in_err-written.ensures.0 (refl, refl) (Appends-none _, refl))
 
 pub returns-in_err-note_missing-clause-ends : goal.returns-in_err-note_missing-clause-ends
 returns-in_err-note_missing-clause-ends g c =
-    let p = err_from_is_err_and c.from_residual-in_err-note_missing.result c.from_residual-in_err-note_missing.ensures.1 in
     let i = c.in_ok-written.ensures in
-    rw (p.1, p.2) (retire_published _ _ _ _ _ _ _ i _ _ (Err OutOfMemory) (inr (i.written_is.written, i.written_is.unfailed), (refl, refl), (Appends-none _, refl)))
+    rw (failed c.from_residual-in_err-note_missing.result _ c.from_residual-in_err-note_missing.ensures.1) (retire_published _ _ _ _ _ _ _ i _ _ (Err OutOfMemory) (inr (i.written_is.written, i.written_is.unfailed), (refl, refl), (Appends-none _, refl)))
 
 pub returns-in_err-lines-clause-ends : goal.returns-in_err-lines-clause-ends
 returns-in_err-lines-clause-ends g c =
-    let p = err_from_is_err_and c.from_residual-in_err-lines.result c.from_residual-in_err-lines.ensures.1 in
     let i = c.in_ok-written.ensures in
-    rw (p.1, p.2) (retire_published _ _ _ _ _ _ _ i _ _ (Err OutOfMemory) (inr (i.written_is.written, i.written_is.unfailed), (refl, refl), (Appends-none _, refl)))
+    rw (failed c.from_residual-in_err-lines.result _ c.from_residual-in_err-lines.ensures.1) (retire_published _ _ _ _ _ _ _ i _ _ (Err OutOfMemory) (inr (i.written_is.written, i.written_is.unfailed), (refl, refl), (Appends-none _, refl)))
 
 pub returns-clause-ends : goal.returns-clause-ends
 returns-clause-ends g c =

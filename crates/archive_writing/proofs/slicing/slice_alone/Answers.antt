@@ -1,4 +1,4 @@
-use Rattle.archive_writing.proofs.Sliced.{one_alone}
+use Rattle.archive_writing.proofs.Taking.{one_alone}
 use Rattle.archive_writing.proofs.slicing.slice_alone.Goals as goal
 
 pub returns : goal.returns

@@ -1,6 +1,6 @@
 use Rattle.std.proofs.Common.{Some, ap, subst, ◌∙◌}
 use Rattle.admission.specs.Accepted.{IsFoundOf}
-use Rattle.archive_writing.proofs.Sliced.{is_slice, no_slice}
+use Rattle.archive_writing.proofs.Taking.{is_slice, no_slice}
 use Rattle.archive_writing.proofs.slicing.slice_in.Goals as goal
 
 pub returns-in_ok-bytes-in-Some : goal.returns-in_ok-bytes-in-Some

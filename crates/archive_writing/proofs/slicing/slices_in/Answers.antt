@@ -1,7 +1,7 @@
 use Rattle.std.proofs.Common.{◌≡◌, ◌<◌, ◌∙◌, arith}
 use Rattle.fat_slices.specs.Slices.{slices}
 use Rattle.admission.proofs.Found.{found_at}
-use Rattle.archive_writing.proofs.Sliced.{all_sliced, one_more}
+use Rattle.archive_writing.proofs.Taking.{all_sliced, one_more}
 use Rattle.archive_writing.proofs.slicing.slices_in.Goals as goal
 
 pub parts-init : goal.parts-init

@@ -1,11 +1,10 @@
 use Rattle.std.proofs.Common.{Some, ap, refl, ◌∙◌, rules}
 use Rattle.archive_writing.proofs.Begun.{untouched}
 use Rattle.byte_device.proofs.Known.{Appends-none}
-use Rattle.std.proofs.lemmas.Result.{err_from_is_err_and}
-use Rattle.archive_writing.proofs.AtHand.{stopped_opened, taken_of, unfinished_opened}
+use Rattle.archive_records.proofs.Blamed.{failed}
+use Rattle.archive_writing.proofs.Streamed.{stopped_opened, taken_of, unfinished_opened, makes_at_hand, told_opened}
 use Rattle.command_inputs.proofs.BorrowedSources.{borrowed_from}
-use Rattle.archive_writing.proofs.Tellings.{makes_at_hand, told_opened}
-use Rattle.archive_writing.proofs.Told.{text_in_order}
+use Rattle.archive_writing.proofs.Joined.{text_in_order}
 use Rattle.sorted_archive.proofs.Held.{are_records}
 use Rattle.archive_writing.proofs.telling.tell_operations.Goals as goal
 
@@ -39,5 +38,4 @@ returns-in-Err g c =
 
 pub returns-in_err-left : goal.returns-in_err-left
 returns-in_err-left g c =
-    let p = err_from_is_err_and c.from_residual.result c.from_residual.ensures.1 in
-    rw (p.1, p.2) (search rules, search rules, untouched _ (Unit {0}) _ (Appends-none _, refl))
+    rw (failed c.from_residual.result _ c.from_residual.ensures.1) (search rules, search rules, untouched _ (Unit {0}) _ (Appends-none _, refl))

@@ -1,6 +1,6 @@
 use Rattle.std.proofs.Common.{refl, inr}
 use Rattle.archive_core.specs.Record.{IsRecord, retirement_record}
-use Rattle.archive_exchange.proofs.Whole.{content_taken}
+use Rattle.archive_exchange.proofs.Gained.{content_taken}
 use Rattle.archive_exchange.proofs.site.Site.retire.Goals as goal
 
 pub invariant_of-self : goal.invariant_of-self

@@ -1,4 +1,4 @@
-use Rattle.archive_exchange.proofs.Redelivered.{begun_again}
+use Rattle.archive_exchange.proofs.Texts.{begun_again}
 use Rattle.archive_exchange.proofs.site.Site.stop.Goals as goal
 
 pub returns-clause-held : goal.returns-clause-held

@@ -2,7 +2,7 @@ use Rattle.admission.specs.File.{admissible}
 use Rattle.archive_exchange.specs.SiteState.{SiteState, IsBetween}
 use Rattle.admission.specs.Take.{admitted}
 use Rattle.std.proofs.Common.{subst}
-use Rattle.archive_exchange.proofs.Whole.{content_of_file, between_parts, between_none, if_err}
+use Rattle.archive_exchange.proofs.Gained.{content_of_file, between_parts, between_none, if_err}
 use Rattle.archive_exchange.proofs.site.Site.take_file.Goals as goal
 
 pub returns-in_err-clone-clause-between : goal.returns-in_err-clone-clause-between

@@ -1,4 +1,4 @@
-use Rattle.archive_exchange.proofs.Whole.{read_whole}
+use Rattle.archive_exchange.proofs.Gained.{read_whole}
 use Rattle.archive_exchange.proofs.world.World.site.Goals as goal
 
 pub returns-clause-whole : goal.returns-clause-whole

@@ -1,26 +1,11 @@
 -- `new` makes a value of no bytes, at the empty list.
-use mathlib.Core.Path.{refl}
-use mathlib.Core.List.{[], ◌∷◌}
-use seplogic.Ra.Ura.{Ura}
-use mir.Val.{Val, vstruct, vcons, vnil}
-use base.Logic.{SProp}
-use prog.Memory.{Memory}
-use prog.Routine.{Routine}
-use prog.Wp.{WpFn, Tables}
-use types.Logic.{Logic}
-use contract.Monad.{Fun}
+use Rattle.std.proofs.Common.{[], ◌∷◌, refl}
+use Rattle.archive_files.proofs.ByHand.{Ura, Val, vstruct, vcons, vnil, SProp, Memory, Routine, WpFn, Tables, Logic}
+use Rattle.archive_files.proofs.ByHand.{Fun, WpFn-mono, no_more, and_then, returns, enter, agg, alloc_all, pass_all}
+use Rattle.archive_files.proofs.ByHand.{free_all, look_at, get, sets, pure_i, nothing, on_entry, Meets, triple_of}
+use Rattle.archive_files.proofs.ByHand.{entered, says, ends_at, walked, walk_Meets}
 use contract.Running.{tables, tables_of}
-use sound.WpLaws.{WpFn-mono}
 use types.Kit.{raw, ◌$◌, ◌∵◌, !, qed, keep, join, suffices, done}
-use types.Run.{no_more, and_then, returns, enter}
-use types.Part.{agg}
-use types.ByLocal.{alloc_all, pass_all, free_all, look_at, get, sets}
-use denote.Shadow.{pure_i}
-use denote.Steps.{nothing}
-use denote.Triple.Entry.{on_entry}
-use denote.Triple.Spec.{Meets, triple_of}
-use denote.Triple.Table.{entered}
-use denote.Triple.Walked.{says, ends_at, walked, walk_Meets}
 use Rattle.archive_files.specs.declared.call_log.CallLog.{CallLog}
 use Rattle.archive_files.specs.contracts.call_log.CallLog as T
 use Rattle.archive_files.specs.contracts.call_log.CallLog.new.Key.{name as #it}

@@ -1,30 +1,15 @@
 -- An empty body. The borrow is opened and closed at another ghost value.
 use Rattle.std.proofs.Common.{ℕ, List, [], ◌∷◌, ◌++◌, refl, MutBor, ◌<◌, ◌^◌, length}
-use seplogic.Ra.Ura.{Ura}
-use mir.Syntax.{named}
-use mir.Val.{Val, vunit, vptr}
-use base.Logic.{SProp, ent, sep, emp, via, fst∗, id⊢}
-use base.Fml.{GName, Lft, Share, ftrue, flft, fobs, fbor}
-use prog.Memory.{Memory}
-use prog.Routine.{Routine}
-use prog.Wp.{Calls, Loops, WpFn, Tables}
-use types.Logic.{Logic}
-use contract.Monad.{Fun}
+use Rattle.archive_files.proofs.ByHand.{Ura, named, Val, vunit, vptr, SProp, ent, sep, emp, via, fst∗, id⊢, GName, Lft}
+use Rattle.archive_files.proofs.ByHand.{Share, ftrue, flft, fobs, fbor, Memory, Routine, Calls, Loops, WpFn, Tables}
+use Rattle.archive_files.proofs.ByHand.{Logic, Fun, unit_lit, of_opd, returns, enter, Body, alloc_all, pass_all}
+use Rattle.archive_files.proofs.ByHand.{free_all, look_at, sets, WpFn-mono, owns, mem, MutRef, mut_vals, mut_Tells, Bor}
+use Rattle.archive_files.proofs.ByHand.{plain, opens, closes, on_entry, Meets, triple_of, entered, says, Stays}
+use Rattle.archive_files.proofs.ByHand.{stay_ref, walk_of, AllGo, Goes-ref, Walks, ends_at, walked, walk_Meets}
+use Rattle.archive_files.proofs.ByHand.{stay_none_slice, Goes-none_slice, u8, yes, ShrSlice, slice_val, shr_slice_vals}
+use Rattle.archive_files.proofs.ByHand.{shr_slice_Tells}
 use contract.Running.{tables, tables_of}
 use types.Kit.{‵, ◌⊛◌, ◌$◌, ◌∵◌, !, qed, by, move, keep, drop, use1, split, join, fsplit, fsplit3, fjoin, fjoin3, feq_i, suffices, frame, done}
-use types.Run.{unit_lit, of_opd, returns, enter}
-use types.SemTy.{Body}
-use types.ByLocal.{alloc_all, pass_all, free_all, look_at, sets}
-use sound.WpLaws.{WpFn-mono}
-use denote.RattleType.{owns}
-use denote.Memory.{mem}
-use denote.Ref.{MutRef, mut_vals, mut_Tells, Bor}
-use denote.Signature.{plain}
-use denote.Steps.{opens, closes}
-use denote.Triple.Entry.{on_entry}
-use denote.Triple.Spec.{Meets, triple_of}
-use denote.Triple.Table.{entered}
-use denote.Triple.Walked.{says, Stays, stay_ref, walk_of, AllGo, Goes-ref, Walks, ends_at, walked, walk_Meets, stay_none_slice, Goes-none_slice}
 use Rattle.archive_files.specs.declared.file_calls.FileCalls.{FileCalls}
 use Rattle.archive_files.specs.FileCalls.{call_of}
 use Rattle.archive_files.specs.contracts.file_calls.FileCalls as T
@@ -32,9 +17,6 @@ use Rattle.archive_files.specs.contracts.file_calls.FileCalls.note.Key.{name as 
 use Rattle.archive_files.specs.contracts.file_calls.FileCalls.note as it
 use Rattle.archive_files.proofs.file_calls.FileCalls.note.Statement as stated
 use Rattle.archive_files.proofs.file_calls.FileCalls.note.Code as code
-use denote.Builtin.{u8}
-use denote.Exit.{yes}
-use denote.Slice.{ShrSlice, slice_val, shr_slice_vals, shr_slice_Tells}
 
 abbrev Arg : Type 0
 Arg = MutBor FileCalls × (Bor (List ℕ) × (Bor (List ℕ) × (Bor (List ℕ) × Unit {0})))

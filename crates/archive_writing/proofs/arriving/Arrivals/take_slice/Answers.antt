@@ -2,8 +2,7 @@ use Rattle.std.proofs.Common.{◌≡◌, ◌∙◌, ap, arith, length}
 use Rattle.sha2.specs.Sha256.{sha256}
 use Rattle.join_core.specs.Listing.{listing}
 use Rattle.archive_core.specs.Record.{admission_record}
-use Rattle.archive_writing.proofs.Marked.{as_many}
-use Rattle.archive_writing.proofs.FirstRows.{first_added, first_known}
+use Rattle.archive_writing.proofs.FirstRows.{as_many, first_added, first_known}
 use Rattle.archive_writing.proofs.Taking.{known_row, taken_added, taken_known}
 use Rattle.archive_writing.proofs.arriving.Arrivals.take_slice.Goals as goal
 
