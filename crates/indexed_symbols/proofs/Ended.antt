@@ -257,14 +257,14 @@ module _ {I P : Type 0} (left : I → Option (List ℕ)) (failures : I → ℕ) 
           };
         })
         | inr (tied, held) ↦
-          let own : AreHeldUnder (λ others. others ≡ keys) all later (λ content. TellsAddresses content key load lines addresses status text) = record {
-            keys = keys;
-            sought = refl;
-            content = held.content;
-            held = subst (λ (ks : List (List ℕ)). HoldNamed ks later all held.content) held.sought held.held;
-            is_true = held.is_true;
-          } in
-          inr (record { makes = made (λ others. others ≡ keys) (λ o s t. TellsAddresses o key load lines addresses s t) status text own; tied = tied })
+            let own : AreHeldUnder (λ others. others ≡ keys) all later (λ content. TellsAddresses content key load lines addresses status text) = record {
+              keys = keys;
+              sought = refl;
+              content = held.content;
+              held = subst (λ (ks : List (List ℕ)). HoldNamed ks later all held.content) held.sought held.held;
+              is_true = held.is_true;
+            } in
+            inr (record { makes = made (λ others. others ≡ keys) (λ o s t. TellsAddresses o key load lines addresses s t) status text own; tied = tied })
       ];
       unfailed = unfailed_all told.unfailed;
     }

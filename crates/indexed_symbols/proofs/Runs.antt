@@ -202,9 +202,9 @@ module _ (first : AskedPlace) (left : List AskedPlace) (is_first : Some first �
   one_at_least = elim (cases_lt 0 run_long) [
     | inl more ↦ more
     | inr none ↦
-      let zero_long : run_long ≡ 0 = omega (arith, none) in
-      let stops = prefix_len_stops (has_key first.key) left first (omega (arith, none, some)) in
-      absurd (cc (with_key first.key first refl, ap (has_key first.key) (ap (λ (n : ℕ). get_or left n first) zero_long ∙ head), stops))
+        let zero_long : run_long ≡ 0 = omega (arith, none) in
+        let stops = prefix_len_stops (has_key first.key) left first (omega (arith, none, some)) in
+        absurd (cc (with_key first.key first refl, ap (has_key first.key) (ap (λ (n : ℕ). get_or left n first) zero_long ∙ head), stops))
   ]
 
   -- those after the run have a higher key
@@ -222,18 +222,18 @@ module _ (first : AskedPlace) (left : List AskedPlace) (is_first : Some first �
       let here : get_or left (run_long + j) one ≡ one = sym (get_or-drop run_long left j one) ∙ at in
       elim (cases_lt 0 j) [
         | inl behind ↦
-          let after : asked_cmp next one ≡ Less =
-          subst (λ (a : AskedPlace). asked_cmp a one ≡ Less) (get_or_default left run_long one first (omega (arith, within)))
-          (subst (λ (a : AskedPlace). asked_cmp (get_or left run_long one) a ≡ Less) here
-          (Less-from_sorted asked_cmp left run_long (run_long + j) one up (omega (arith, behind)) within)) in
-          elim (first_less _ _ after) [
-            | inl l ↦ nat_list_cmp_total.trans (key_bytes first.key) (key_bytes next.key) (key_bytes one.key) above l
-            | inr b ↦ subst (λ (k : List ℕ). slice_cmp nat_cmp (key_bytes first.key) k ≡ Less) (bytes_same (key_bytes next.key) (key_bytes one.key) b.0) above
-          ]
+            let after : asked_cmp next one ≡ Less =
+            subst (λ (a : AskedPlace). asked_cmp a one ≡ Less) (get_or_default left run_long one first (omega (arith, within)))
+            (subst (λ (a : AskedPlace). asked_cmp (get_or left run_long one) a ≡ Less) here
+            (Less-from_sorted asked_cmp left run_long (run_long + j) one up (omega (arith, behind)) within)) in
+            elim (first_less _ _ after) [
+              | inl l ↦ nat_list_cmp_total.trans (key_bytes first.key) (key_bytes next.key) (key_bytes one.key) above l
+              | inr b ↦ subst (λ (k : List ℕ). slice_cmp nat_cmp (key_bytes first.key) k ≡ Less) (bytes_same (key_bytes next.key) (key_bytes one.key) b.0) above
+            ]
         | inr none ↦
-          let at_once : run_long + j ≡ run_long = omega (arith, none) in
-          subst (λ (a : AskedPlace). key_cmp first.key a.key ≡ Less)
-          (get_or_default left run_long first one (omega (arith, within)) ∙ ap (λ (n : ℕ). get_or left n one) (sym at_once) ∙ here) above
+            let at_once : run_long + j ≡ run_long = omega (arith, none) in
+            subst (λ (a : AskedPlace). key_cmp first.key a.key ≡ Less)
+            (get_or_default left run_long first one (omega (arith, within)) ∙ ap (λ (n : ℕ). get_or left n one) (sym at_once) ∙ here) above
       ]
 
   -- fewer are left

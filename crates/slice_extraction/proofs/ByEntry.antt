@@ -140,7 +140,7 @@ module _ {I P D T : Type 0} (indexes : List (Reader I)) (whole : P → Option (L
     unfailed_sent one = unfailed_all (
       read.unfailed.0,
       subst (λ (l : List (Result P CannotOpen)). EachUnfailed (readers whole failures seen l)) (sym after_is)
-      (unfailed_more whole failures seen seen x.input old new within refl old_is (none_failed whole failures seen) one),
+          (unfailed_more whole failures seen seen x.input old new within refl old_is (none_failed whole failures seen) one),
     )
 
     -- it was not sent

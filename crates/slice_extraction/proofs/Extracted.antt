@@ -90,8 +90,12 @@ module _ {D T : Type 0} (command : Extraction) (out : Outs D T) (report : Writer
   wanted_so Holds key digest result kept unfailed makes lacks stops held (inr (inl none)) = inr (record {
     unfailed = unfailed;
     text = slices_text none.0;
-    lacks = lacks (slices_text none.0) (none.0, held (λ o. AreUndecided o key digest none.0)
-        (λ o alike. undecided_alike kept o key alike digest none.0 none.1), refl);
+    lacks = lacks (slices_text none.0) (
+      none.0,
+      held (λ o. AreUndecided o key digest none.0)
+          (λ o alike. undecided_alike kept o key alike digest none.0 none.1),
+      refl,
+    );
     kept = none.2;
     reported = none.3;
   })

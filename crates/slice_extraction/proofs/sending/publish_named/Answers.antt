@@ -10,20 +10,35 @@ use Rattle.slice_extraction.proofs.sending.publish_named.Goals as goal
 pub returns-in_err-clone : goal.returns-in_err-clone
 returns-in_err-clone g c =
     let p = err_from_is_err_and c.from_residual.result c.from_residual.ensures.1 in
-    rw (p.1, p.2) (λ x names. inr (OutOfMemory, refl, unbegun _ x _ OutOfMemory (Appends-none _, refl) (refl, (Appends-none _, refl)), (refl, refl),
-    (Appends-none _, refl)))
+    rw (p.1, p.2) (λ x names. inr (
+      OutOfMemory,
+      refl,
+      unbegun _ x _ OutOfMemory (Appends-none _, refl) (refl, (Appends-none _, refl)),
+      (refl, refl),
+      (Appends-none _, refl),
+    ))
 
 pub returns-in_err-text : goal.returns-in_err-text
 returns-in_err-text g c =
     let p = err_from_is_err_and c.from_residual-in_err-text.result c.from_residual-in_err-text.ensures.1 in
-    rw (p.1, p.2) (λ x names. inr (OutOfMemory, refl, unbegun _ x _ OutOfMemory (Appends-none _, refl) (refl, (Appends-none _, refl)), (refl, refl),
-    (Appends-none _, refl)))
+    rw (p.1, p.2) (λ x names. inr (
+      OutOfMemory,
+      refl,
+      unbegun _ x _ OutOfMemory (Appends-none _, refl) (refl, (Appends-none _, refl)),
+      (refl, refl),
+      (Appends-none _, refl),
+    ))
 
 pub returns-in_err-clone-2 : goal.returns-in_err-clone-2
 returns-in_err-clone-2 g c =
     let p = err_from_is_err_and c.from_residual-in_err-clone-2.result c.from_residual-in_err-clone-2.ensures.1 in
-    rw (p.1, p.2) (λ x names. inr (OutOfMemory, refl, unbegun _ x _ OutOfMemory (Appends-none _, refl) (refl, (Appends-none _, refl)), (refl, refl),
-    (Appends-none _, refl)))
+    rw (p.1, p.2) (λ x names. inr (
+      OutOfMemory,
+      refl,
+      unbegun _ x _ OutOfMemory (Appends-none _, refl) (refl, (Appends-none _, refl)),
+      (refl, refl),
+      (Appends-none _, refl),
+    ))
 
 pub returns-in_err-send_named : goal.returns-in_err-send_named
 returns-in_err-send_named g c =
@@ -58,5 +73,10 @@ returns g c = λ x names.
       draft_unfailed = put.draft ∙ sent.2.1;
       unfailed = put.unfailed;
     } in
-    inl (sent.0, sent.1, sent.3, told_so (out_of out) _ sent.0 (written_line c.args.key.now sent.0) c.publish_report.result placed
-    (rw line at c.publish_report.ensures))
+    inl (
+      sent.0,
+      sent.1,
+      sent.3,
+      told_so (out_of out) _ sent.0 (written_line c.args.key.now sent.0) c.publish_report.result placed
+          (rw line at c.publish_report.ensures),
+    )
