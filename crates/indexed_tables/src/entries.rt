@@ -38,28 +38,26 @@ fn end_record(count: u64, digest: &[u8; 32]) -> [u8; 41]
     bytes
 }
 
-/// The SHA-256 of the bytes of entries.
-fn digest_of(entries: &[TableEntry]) -> [u8; 32]
-    ensures { result ≡ sha256 (concat (map entry_bytes entries.now)) }
+/// Writes the entries in their order after the first `done` bytes of an index, and returns their SHA-256 and how many
+/// bytes there are then.
+fn put_hashed<W: Sink>(
+    entries: &[TableEntry],
+    w: &mut W,
+    done: u128,
+) -> Result<([u8; 32], u128), WriteFault>
+    requires { done < 2 ^ 80 }
+    ensures puts { Puts W.held W.failures (λ put. put.1) w.old w.new done (concat (map entry_bytes entries.now)) result }
+    ensures digest { IfOk result (λ put. put.0 ≡ sha256 (concat (map entry_bytes entries.now))) }
+    ensures short { IfOk result (λ put. put.1 ≤ 2 ^ 98) }
 {
     let mut hasher = Sha256::new();
-    'hashing: for entry in entries {
-        hasher.update(&entry.bytes());
-    }
-    hasher.finalize()
-}
-
-/// Writes the entries in their order after the first `done` bytes of an index.
-fn put_each<W: Sink>(entries: &[TableEntry], w: &mut W, done: u128) -> Result<u128, WriteFault>
-    requires { done < 2 ^ 80 }
-    ensures puts { Puts W.held W.failures (λ n. n) w.old w.new done (concat (map entry_bytes entries.now)) result }
-    ensures short { IfOk result (λ n. n ≤ 2 ^ 98) }
-{
     let mut done = done;
     'putting: for entry in entries {
-        done = put(w, done, &entry.bytes())?;
+        let bytes = entry.bytes();
+        hasher.update(&bytes);
+        done = put(w, done, &bytes)?;
     }
-    Ok(done)
+    Ok((hasher.finalize(), done))
 }
 
 /// Writes the entries in their order and the end record after the first `done` bytes of an index, and says how many
@@ -74,8 +72,8 @@ pub(crate) fn put_entries<W: Sink>(
         (concat (map entry_bytes entries.now) ++ end_of (map entry_bytes entries.now)) result }
     ensures records { IfOk result (λ sizes. sizes.records ≡ length entries.now) }
 {
-    let between = put_each(entries, w, done)?;
+    let (digest, between) = put_hashed(entries, w, done)?;
     let records = entries.len() as u64;
-    let bytes = put(w, between, &end_record(records, &digest_of(entries)))?;
+    let bytes = put(w, between, &end_record(records, &digest))?;
     Ok(Sizes { records, bytes })
 }

@@ -7,20 +7,20 @@ use Rattle.table_index.specs.Text.{end_of}
 use Rattle.indexed_tables.proofs.Sorted.{end_is}
 use Rattle.indexed_tables.proofs.entries.put_entries.Goals as goal
 
-pub returns-in_err-between-clause-puts : goal.returns-in_err-between-clause-puts
-returns-in_err-between-clause-puts g c =
+pub returns-in_err-digest-clause-puts : goal.returns-in_err-digest-clause-puts
+returns-in_err-digest-clause-puts g c =
     let xs = map entry_bytes c.args.entries.now in
-    rw (failed c.from_residual.result c.in_err-between.field-0.0 c.from_residual.ensures.1) (stops_before _ _ _ _ _ _ (concat xs) (end_of xs) c.in_err-between.ensures.puts)
+    rw (failed c.from_residual.result c.in_err-digest.field-0.0 c.from_residual.ensures.1) (stops_before _ _ _ _ _ _ (concat xs) (end_of xs) c.in_err-digest.ensures.puts)
 
 pub returns-in_err-bytes-clause-puts : goal.returns-in_err-bytes-clause-puts
 returns-in_err-bytes-clause-puts g c =
     let xs = map entry_bytes c.args.entries.now in
-    let end = end_is c.args.entries.now (length c.args.entries.now) c.digest_of.result c.end_record.result refl c.digest_of.ensures c.end_record.ensures in
+    let end = end_is c.args.entries.now (length c.args.entries.now) _ c.end_record.result refl c.in_ok-digest.ensures.digest c.end_record.ensures in
     rw (failed c.from_residual-in_err-bytes.result c.in_err-bytes.field-0.0 c.from_residual-in_err-bytes.ensures.1)
-    (puts_then _ _ (λ n. n) _ _ _ _ _ (concat xs) (end_of xs) (Err c.in_err-bytes.field-0.0) c.in_ok-between.ensures.puts (rw end at c.in_err-bytes.ensures))
+    (puts_then _ _ (λ n. n) _ _ _ _ _ (concat xs) (end_of xs) (Err c.in_err-bytes.field-0.0) c.in_ok-digest.ensures.puts (rw end at c.in_err-bytes.ensures))
 
 pub returns-clause-puts : goal.returns-clause-puts
 returns-clause-puts g c =
     let xs = map entry_bytes c.args.entries.now in
-    let end = end_is c.args.entries.now (length c.args.entries.now) c.digest_of.result c.end_record.result refl c.digest_of.ensures c.end_record.ensures in
-    puts_then _ _ (λ n. n) _ _ _ _ _ (concat xs) (end_of xs) (Ok c.in_ok-bytes.bytes) c.in_ok-between.ensures.puts (rw end at c.in_ok-bytes.ensures)
+    let end = end_is c.args.entries.now (length c.args.entries.now) _ c.end_record.result refl c.in_ok-digest.ensures.digest c.end_record.ensures in
+    puts_then _ _ (λ n. n) _ _ _ _ _ (concat xs) (end_of xs) (Ok c.in_ok-bytes.bytes) c.in_ok-digest.ensures.puts (rw end at c.in_ok-bytes.ensures)
