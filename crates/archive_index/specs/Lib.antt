@@ -5,3 +5,4 @@ pub mod Reading
 pub mod Places
 pub mod InnerMaking
 pub mod Runs
+pub mod IndexFaultText

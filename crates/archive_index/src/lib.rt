@@ -7,6 +7,8 @@
 //! - `entry`: [`PlacedEntry`], what a record is and where it stands;
 //! - `index`: [`Index`], the entries of a content;
 //! - `fault`: why no index is made, and why no record is read by one;
+//! - `index_fault`: why bytes are no index of an archive, which `table_index` tests, and `index_fault_text`, how that is
+//!   printed;
 //! - `beginning`: [`begin_archive`], of the first bytes of an archive of which an index is made;
 //! - [`laws`]: what the entries tell of the content that they were made of.
 //!
@@ -20,9 +22,12 @@ mod beginning;
 mod entry;
 mod fault;
 mod index;
+mod index_fault;
+mod index_fault_text;
 pub mod laws;
 
 pub use beginning::begin_archive;
 pub use entry::PlacedEntry;
 pub use fault::{IndexingFault, PlaceFault};
 pub use index::Index;
+pub use index_fault::{IndexFault, IndexFaultKind};

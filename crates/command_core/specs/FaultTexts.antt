@@ -2,7 +2,7 @@
 use Rattle.std.specs.Prelude.{List, ℕ, ◌++◌, codes, Some, None}
 use Rattle.std.specs.Fmt.{decimal}
 use Rattle.byte_device.specs.Disks.{cannot_create_text}
-use Rattle.index_faults.specs.Text.{fault_text}
+use Rattle.archive_index.specs.IndexFaultText.{fault_text}
 use Rattle.report_text.specs.Texts.{script_fault_text}
 use Rattle.report_text.specs.Texts.{record_fault_text, take_fault_text}
 use Rattle.command_core.specs.declared.faults.InputName.{InputName}

@@ -13,7 +13,7 @@ use Rattle.archive_records.specs.declared.kind.TextKind.{TextKind}
 use Rattle.archive_records.specs.declared.kind.TextKind.TheVariants.{Archive as ArchiveFile}
 use Rattle.archive_records.specs.declared.kind.TextKind.TheVariants.{Operations as OperationsFile}
 use Rattle.archive_records.specs.declared.kind.TextKind.TheVariants.{Summary as SummaryFile}
-use Rattle.index_faults.specs.declared.fault.IndexFaultKind.TheVariants.{Device as IndexDevice}
+use Rattle.archive_index.specs.declared.index_fault.IndexFaultKind.TheVariants.{Device as IndexDevice}
 use Rattle.admission.specs.File.{IsAcceptedFile, IsTakeFault}
 use Rattle.admission.specs.declared.fault.TakeFault.{TakeFault}
 use Rattle.admission.specs.declared.fault.TakeFault.TheVariants.{OutOfMemory as TakeOutOfMemory}

@@ -1,10 +1,10 @@
 //! How a command ends, and why one is refused, with the text of each fault.
 
 use admission::TakeFault;
+use archive_index::IndexFault;
 use archive_records::RecordFault;
 use crash_frames::FrameFlaw;
 use exchange_script::{ScriptFault, ScriptFlaw};
-use index_faults::IndexFault;
 use report_text::Text;
 use std::alloc::{AllocError, AllocFailed};
 use std::error::Error;

@@ -1,3 +1,4 @@
+mod AttributeLemmas
 mod SpecificationLemmas
 mod DeclarationLemmas
 mod KeyLemmas

@@ -22,7 +22,7 @@ mod unit_header;
 mod unread_entry;
 
 pub use abbreviations::Abbreviations;
-pub use attributes::Attributes;
+pub use attributes::{Attribute, Attributes};
 pub use declaration::Declaration;
 pub use entries::{Entries, PlacedEntry};
 pub use entry::Entry;

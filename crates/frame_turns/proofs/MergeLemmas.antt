@@ -7,7 +7,7 @@ use Rattle.std.proofs.lemmas.List.{map-append, take_all, take_more}
 use Rattle.std.proofs.lemmas.List.Elements.{All-append, All-contains, All-map, All-nil, All-push, All-weaker, Contains-append_cases, Contains-append_left, Contains-append_right, Contains-get_or}
 use Rattle.std.proofs.lemmas.Option.{same_Some}
 use Rattle.source_frames.specs.Frames.{FrameRecord}
-use Rattle.waiting_indexes.specs.Rising.{AreRising, IsCountBelow}
+use Rattle.pending_addresses.specs.Rising.{AreRising, IsCountBelow}
 use Rattle.frame_turns.specs.Between.{AreFramesAt, AreTurnsBetween, AreTurnsFrom, IsBelow, IsFrom, IsMerged, IsNextAbove, IsNextStart, IsStart, IsTurnOfParts, PartsRecord}
 use Rattle.frame_turns.specs.Given.{TurnRecord, addresses}
 use Rattle.frame_turns.proofs.ByUnitLemmas.{in_one, of_one}

@@ -15,7 +15,7 @@ use Rattle.source_frames.specs.AddressFrames.{rows_of}
 use Rattle.source_frames.specs.DebugSections.{DebugSectionsRecord}
 use Rattle.source_frames.specs.DebugUnits.{UnitRecord}
 use Rattle.source_frames.specs.UnitLines.{LinesRecord, line_unit, lines_of, program_offset}
-use Rattle.waiting_indexes.specs.Rising.{AreRising}
+use Rattle.pending_addresses.specs.Rising.{AreRising}
 use Rattle.frame_turns.specs.ByProgram.{AreBoundariesBy, places, rows_at}
 use Rattle.frame_turns.specs.ByUnit.{addresses_or_none, addresses_under}
 use Rattle.frame_turns.specs.Given.{AreDistinct}

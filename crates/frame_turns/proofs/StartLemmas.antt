@@ -6,8 +6,8 @@ use Rattle.std.proofs.lemmas.Bool.{cases_Bool, cases_eq, cases_lt, leb-true, leb
 use Rattle.std.proofs.lemmas.Bool.Decides.{nat_tests}
 use Rattle.std.proofs.lemmas.List.{get_or_default}
 use Rattle.std.proofs.lemmas.Option.{none-some, same_Some, slice_get-get_or, slice_get_past}
-use Rattle.row_steps.specs.AddressSteps.{at_step}
-use Rattle.waiting_indexes.specs.Rising.{AreRising, IsCountBelow}
+use Rattle.function_links.specs.AddressSteps.{at_step}
+use Rattle.pending_addresses.specs.Rising.{AreRising, IsCountBelow}
 use Rattle.frame_turns.specs.Between.{IsCountTo, IsNextAbove, IsNextStart, IsStart, least}
 
 -- ---- the value at an address

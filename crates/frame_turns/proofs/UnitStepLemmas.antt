@@ -6,7 +6,7 @@ use Rattle.std.proofs.lemmas.Bool.{cases_lt, cases_order}
 use Rattle.source_frames.specs.DebugSections.{DebugSectionsRecord}
 use Rattle.source_frames.specs.UnitAddresses.{IsUnitOf}
 use Rattle.source_frames.proofs.UnitAddressLemmas.{one_place}
-use Rattle.waiting_indexes.specs.Rising.{AreRising}
+use Rattle.pending_addresses.specs.Rising.{AreRising}
 use Rattle.frame_turns.specs.Turns.{boundaries}
 use Rattle.frame_turns.specs.UnitSteps.{AreUnitSteps, IsStep}
 use Rattle.frame_turns.proofs.StayLemmas.{IsFree, unit_none_before, unit_stays}

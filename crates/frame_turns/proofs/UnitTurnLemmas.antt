@@ -10,8 +10,8 @@ use Rattle.function_links.specs.Links.{AreEntriesOfLink, AreFramesOfRowAndLink, 
 use Rattle.function_links.proofs.LinkFrameLemmas.{frames_from}
 use Rattle.line_programs.specs.Covering.{IsCovering}
 use Rattle.line_programs.specs.declared.registers.Row.{Row}
-use Rattle.row_steps.specs.AddressSteps.{at_step}
-use Rattle.row_steps.specs.RowSteps.{AreRowSteps}
+use Rattle.function_links.specs.AddressSteps.{at_step}
+use Rattle.function_links.specs.RowSteps.{AreRowSteps}
 use Rattle.source_frames.specs.AddressFrames.{AreFramesBy, AreFramesIn, AreFramesInUnit, rows_of}
 use Rattle.source_frames.specs.DebugSections.{DebugSectionsRecord}
 use Rattle.source_frames.specs.DebugUnits.{UnitRecord}

@@ -6,11 +6,11 @@ use Rattle.function_links.specs.Links.{AreFramesOfRowAndLink, LinkRecord}
 use Rattle.function_links.specs.LinkViews.{links_view}
 use Rattle.function_links.specs.declared.links.Links.{Links}
 use Rattle.line_programs.specs.declared.registers.Row.{Row}
-use Rattle.row_steps.specs.AddressSteps.{at_step}
-use Rattle.row_steps.specs.declared.row_steps.RowSteps.{RowSteps}
+use Rattle.function_links.specs.AddressSteps.{at_step}
+use Rattle.function_links.specs.declared.row_steps.RowSteps.{RowSteps}
 use Rattle.source_frames.specs.Frames.{FrameRecord}
 use Rattle.source_frames.specs.UnitLines.{LinesRecord}
-use Rattle.waiting_indexes.specs.Rising.{AreRising, IsCountBelow}
+use Rattle.pending_addresses.specs.Rising.{AreRising, IsCountBelow}
 use Rattle.frame_turns.specs.Given.{TurnRecord, addresses}
 
 -- the rows and the links of addresses, step by step, and what their frames are made with

@@ -7,9 +7,9 @@ use Rattle.line_programs.specs.Machine.{initial, rows_from}
 use Rattle.line_programs.specs.declared.registers.Row.{Row}
 use Rattle.dwarf_numbers.specs.Units.{unit_of}
 use Rattle.std.specs.Option.{option_and_then, option_map_or}
-use Rattle.row_steps.specs.RowSteps.{AreRowSteps}
+use Rattle.function_links.specs.RowSteps.{AreRowSteps}
 use Rattle.source_frames.specs.DebugSections.{DebugSectionsRecord}
-use Rattle.waiting_indexes.specs.Rising.{AreRising}
+use Rattle.pending_addresses.specs.Rising.{AreRising}
 use Rattle.frame_turns.specs.ByUnit.{addresses_under}
 use Rattle.frame_turns.specs.Given.{AreDistinct}
 use Rattle.frame_turns.specs.declared.by_unit.AddressList.{AddressList}

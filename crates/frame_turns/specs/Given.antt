@@ -4,7 +4,7 @@ use Rattle.source_frames.specs.AddressFrames.{AreFramesBy}
 use Rattle.source_frames.specs.DebugSections.{DebugSectionsRecord, debug_sections}
 use Rattle.source_frames.specs.Frames.{FrameRecord}
 use Rattle.source_frames.specs.UnitAddresses.{IsUnitOf}
-use Rattle.waiting_indexes.specs.Rising.{AreRising}
+use Rattle.pending_addresses.specs.Rising.{AreRising}
 use Rattle.frame_turns.specs.Turns.{IsTurnBy}
 
 -- an address and its frames

@@ -2,7 +2,7 @@
 use Rattle.std.specs.Prelude.{ℕ, List, ◌≡◌, ◌<◌, ◌↔◌, length, slice_index, slice_index_or, Option, None, Contains}
 use Rattle.source_frames.specs.DebugSections.{DebugSectionsRecord}
 use Rattle.source_frames.specs.UnitAddresses.{AreUnitsOf}
-use Rattle.waiting_indexes.specs.Rising.{AreRising}
+use Rattle.pending_addresses.specs.Rising.{AreRising}
 use Rattle.frame_turns.specs.Turns.{boundaries}
 
 -- all boundaries, ascending, each with the offset of its unit, or none

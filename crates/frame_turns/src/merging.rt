@@ -11,18 +11,17 @@ ghost use Rattle.source_frames.specs.Frames.{FrameRecord};
 ghost use Rattle.source_frames.specs.FrameViews.{lines_view};
 ghost use Rattle.source_frames.specs.SectionsViews.{sections_view};
 ghost use Rattle.source_frames.specs.UnitViews.{unit_view};
-ghost use Rattle.waiting_indexes.specs.Rising.{AreRising};
+ghost use Rattle.pending_addresses.specs.Rising.{AreRising};
 
 use crate::next_start::{below, count_to, next_start, number_of, row_of};
 use crate::numbers::{Linked, Paths, all_linked, frames_of_row};
 use crate::taker::FrameTaker;
 use crate::unit_steps::UnitSteps;
-use function_links::Links;
+use function_links::{Links, RowSteps};
 use line_programs::Row;
 use memory::{Heap, NoMemory};
-use row_steps::RowSteps;
+use pending_addresses::count_below;
 use source_frames::{DebugInfo, DebugUnit, SourceLocation, UnitLines};
-use waiting_indexes::count_below;
 
 /// What the frames of a unit are made of.
 #[derive(Drop)]

@@ -2,12 +2,11 @@
 
 ghost use Rattle.std.specs.Prelude.{◌≡◌, ◌≤◌, ◌<◌, ℕ, IfNone, IfSome, None, Some, length, slice_get, slice_index};
 ghost use Rattle.frame_turns.specs.Between.{IsBelow, IsCountTo, IsNextStart, least};
-ghost use Rattle.row_steps.specs.AddressSteps.{at_step};
-ghost use Rattle.waiting_indexes.specs.Rising.{AreRising, IsCountBelow};
+ghost use Rattle.function_links.specs.AddressSteps.{at_step};
+ghost use Rattle.pending_addresses.specs.Rising.{AreRising, IsCountBelow};
 
-use function_links::Links;
+use function_links::{Links, RowSteps};
 use line_programs::Row;
-use row_steps::RowSteps;
 
 /// How many starts are not above an address, of which so many are below it.
 pub(crate) fn count_to(starts: &[u64], below: usize, address: u64) -> usize

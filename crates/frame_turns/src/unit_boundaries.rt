@@ -8,16 +8,16 @@ ghost use Rattle.code_ranges.specs.Aranges.{is_named};
 ghost use Rattle.dwarf_numbers.specs.Sequences.{placed};
 ghost use Rattle.dwarf_numbers.specs.Units.{unit_at};
 ghost use Rattle.frame_turns.specs.Turns.{boundaries, ends_of, ends_of_tuple};
-ghost use Rattle.waiting_indexes.specs.Rising.{AreRising};
+ghost use Rattle.pending_addresses.specs.Rising.{AreRising};
 ghost use Rattle.source_frames.specs.SectionsViews.{sections_view};
 ghost use Rattle.source_frames.specs.UnitAddresses.{own_ranges};
 
 use code_ranges::{Arange, Aranges, Ranges, named_units};
 use dwarf_numbers::split_unit;
 use memory::{Heap, NoMemory};
+use pending_addresses::sorted_once;
 use source_frames::{DebugInfo, DebugUnit};
 use std::collections::BTreeSet;
-use waiting_indexes::sorted_once;
 
 /// Adds where ranges begin and end.
 fn push_ranges(starts: &mut Vec<u64, Heap>, ranges: Ranges<'_>) -> Result<(), NoMemory>

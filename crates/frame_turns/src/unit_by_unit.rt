@@ -10,7 +10,7 @@ ghost use Rattle.frame_turns.specs.UnitSteps.{AreUnitSteps, IsStep};
 ghost use Rattle.source_frames.specs.FrameViews.{lines_view};
 ghost use Rattle.source_frames.specs.AddressFrames.{rows_of};
 ghost use Rattle.source_frames.specs.DebugSections.{DebugSectionsRecord};
-ghost use Rattle.waiting_indexes.specs.Rising.{AreRising};
+ghost use Rattle.pending_addresses.specs.Rising.{AreRising};
 ghost use Rattle.source_frames.specs.SectionsViews.{sections_view};
 
 use crate::by_unit::{ByUnit, by_unit, take_unit};
@@ -18,11 +18,11 @@ use crate::merging::UnitParts;
 use crate::taker::FrameTaker;
 use crate::unit_steps::UnitSteps;
 use dwarf_numbers::Units;
+use function_links::RowSteps;
 use macho_image::Image;
 use memory::{Heap, NoMemory};
-use row_steps::RowSteps;
+use pending_addresses::sorted_once;
 use source_frames::{DebugInfo, UnitLines};
-use waiting_indexes::sorted_once;
 
 /// A unit: where its program stands, its offset, and its boundaries.
 #[derive(Drop)]

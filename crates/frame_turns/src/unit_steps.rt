@@ -2,7 +2,7 @@
 
 ghost use Rattle.std.specs.Prelude.{IfOk};
 ghost use Rattle.frame_turns.specs.Between.{IsCountTo, IsNextAbove};
-ghost use Rattle.waiting_indexes.specs.Rising.{AreRising};
+ghost use Rattle.pending_addresses.specs.Rising.{AreRising};
 ghost use Rattle.frame_turns.specs.UnitSteps.{AreUnitSteps};
 ghost use Rattle.source_frames.specs.SectionsViews.{sections_view};
 

@@ -2,7 +2,7 @@
 use Rattle.std.proofs.Common.{◌≡◌, ℕ, zero, suc, ◌+◌, true, false, nat_le, List, [], ◌∷◌, length, Option, Some, refl}
 use Rattle.code_ranges.specs.Lists.{in_ranges}
 use Rattle.source_frames.specs.Scopes.{ScopeRecord}
-use Rattle.unit_functions.specs.UnitFunctions.{FunctionRecord, count_within, functions_after, functions_from, is_past}
+use Rattle.function_links.specs.UnitFunctions.{FunctionRecord, count_within, functions_after, functions_from, is_past}
 
 -- the function of a scope
 abbrev pub function_at : ℕ → ScopeRecord → List ScopeRecord → FunctionRecord

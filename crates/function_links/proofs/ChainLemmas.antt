@@ -6,7 +6,7 @@ use Rattle.code_ranges.specs.Lists.{in_ranges}
 use Rattle.code_ranges.specs.declared.range.CodeRange.{CodeRange}
 use Rattle.debug_entries.specs.Entries.{EntryRecord}
 use Rattle.source_frames.specs.Scopes.{IsChain, IsChainWithin, IsIn, IsWithin, ScopeRecord, contains_at, depth_at}
-use Rattle.unit_functions.specs.UnitFunctions.{FunctionRecord, count_within, functions_after, functions_from, is_past}
+use Rattle.function_links.specs.UnitFunctions.{FunctionRecord, count_within, functions_after, functions_from, is_past}
 use Rattle.function_links.proofs.AfterLemmas.{after_here, after_past, after_skip, after_zero, from_bare, from_with, function_at}
 
 -- the entries of functions

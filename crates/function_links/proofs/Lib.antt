@@ -9,3 +9,10 @@ pub mod ApartLemmas
 pub mod PartLemmas
 pub mod NameLemmas
 pub mod StepLemmas
+pub mod ClosingLemmas
+pub mod AddingLemmas
+pub mod OpenLemmas
+pub mod FunctionNameLemmas
+pub mod ReadToLemmas
+pub mod CoverLemmas
+pub mod RowStepLemmas

@@ -6,8 +6,8 @@ use Rattle.std.proofs.lemmas.List.{length-set, length_push}
 use Rattle.std.proofs.lemmas.Option.{none-some, same_Some, slice_get-get_or, slice_get_within}
 use Rattle.function_links.specs.Making.{AreKept, AreMade, IsChild, IsLinkIn, IsMade, child_at, count_at, made_at}
 use Rattle.function_links.specs.declared.links.Link.{Link}
-use Rattle.unit_functions.specs.declared.functions.Function.{Function}
-use Rattle.unit_functions.proofs.OpenLemmas.{at_push as get_last}
+use Rattle.function_links.specs.declared.functions.Function.{Function}
+use Rattle.function_links.proofs.OpenLemmas.{at_push as get_last}
 
 -- ---- elements of lists
 

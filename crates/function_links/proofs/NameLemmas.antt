@@ -3,8 +3,8 @@ use Rattle.std.proofs.Common.{◌≡◌, ◌∙◌, ℕ, List, length, map, slic
 use Rattle.std.specs.Option.{option_map}
 use Rattle.std.proofs.lemmas.List.{length-map}
 use Rattle.std.proofs.lemmas.Option.{slice_get-map}
-use Rattle.unit_functions.specs.NameNumbers.{AreNumbered, name_of}
-use Rattle.unit_functions.specs.declared.functions.Function.{Function}
+use Rattle.function_links.specs.FunctionNames.{AreNumbered, name_of}
+use Rattle.function_links.specs.declared.functions.Function.{Function}
 use Rattle.function_links.specs.Making.{AreMade}
 use Rattle.function_links.specs.NameNumbers.{AreNamesNumbered}
 use Rattle.function_links.specs.declared.links.Link.{Link}

@@ -6,8 +6,8 @@ use Rattle.std.proofs.lemmas.List.Concat.{flat_map-append}
 use Rattle.std.proofs.lemmas.Option.{get_or_from_slice_get, slice_get_within}
 use Rattle.code_ranges.specs.declared.range.CodeRange.{CodeRange}
 use Rattle.function_links.specs.Taking.{AreOf, AreParts}
-use Rattle.unit_functions.specs.UnitFunctions.{FunctionRecord}
-use Rattle.unit_functions.specs.declared.functions.Function.{Function}
+use Rattle.function_links.specs.UnitFunctions.{FunctionRecord}
+use Rattle.function_links.specs.declared.functions.Function.{Function}
 use Rattle.function_links.proofs.MakingLemmas.{get_there}
 use Rattle.function_links.proofs.TakingLemmas.{drop_function}
 

@@ -7,11 +7,11 @@ use Rattle.code_ranges.specs.Lists.{in_ranges}
 use Rattle.code_ranges.specs.declared.range.CodeRange.{CodeRange}
 use Rattle.function_links.specs.Taking.{AreOf, HasBefore, HasSame, IsTaking, Takes}
 use Rattle.function_links.specs.declared.taking.Taking.{Taking}
-use Rattle.unit_functions.specs.UnitFunctions.{FunctionRecord}
-use Rattle.unit_functions.specs.declared.functions.Function.{Function}
-use Rattle.waiting_indexes.specs.declared.waiting.Waiting.{Waiting}
-use Rattle.waiting_indexes.specs.Rising.{IsCountBelow}
-use Rattle.waiting_indexes.specs.Waiting.{IsFirstWaiting, Waits, WaitTheSame}
+use Rattle.function_links.specs.UnitFunctions.{FunctionRecord}
+use Rattle.function_links.specs.declared.functions.Function.{Function}
+use Rattle.pending_addresses.specs.declared.waiting.Waiting.{Waiting}
+use Rattle.pending_addresses.specs.Rising.{IsCountBelow}
+use Rattle.pending_addresses.specs.Waiting.{IsFirstWaiting, Waits, WaitTheSame}
 use Rattle.function_links.proofs.MakingLemmas.{kept_refl}
 use Rattle.function_links.proofs.StartLemmas.{either_stays, it_stays}
 use Rattle.function_links.proofs.TakingLemmas.{skipped, waits_not}

@@ -8,9 +8,9 @@ use Rattle.function_links.specs.Making.{AreKept, made_at}
 use Rattle.function_links.specs.Taking.{Extends, HasBefore, HasEither, HasIt, HasSame, HasTaken, IsTaking, IsUpTo, Takes, end_of}
 use Rattle.function_links.specs.declared.links.Link.{Link}
 use Rattle.function_links.specs.declared.taking.Taking.{Taking}
-use Rattle.unit_functions.specs.UnitFunctions.{FunctionRecord, is_past}
-use Rattle.unit_functions.specs.declared.functions.Function.{Function}
-use Rattle.waiting_indexes.specs.Waiting.{Waits}
+use Rattle.function_links.specs.UnitFunctions.{FunctionRecord, is_past}
+use Rattle.function_links.specs.declared.functions.Function.{Function}
+use Rattle.pending_addresses.specs.Waiting.{Waits}
 use Rattle.function_links.proofs.MakingLemmas.{get_there, kept_refl}
 use Rattle.function_links.proofs.TakingLemmas.{extended, inside_link, inside_none, past_taken, taken_still, up_to_still}
 

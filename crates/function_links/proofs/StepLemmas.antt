@@ -13,15 +13,15 @@ use Rattle.std.proofs.lemmas.Option.{none-some, same_Some, slice_get-map, slice_
 use Rattle.code_ranges.specs.Lists.{in_ranges}
 use Rattle.code_ranges.specs.declared.range.CodeRange.{CodeRange}
 use Rattle.debug_entries.specs.Entries.{EntryRecord}
-use Rattle.row_steps.specs.AddressSteps.{at_step}
+use Rattle.function_links.specs.AddressSteps.{at_step}
 use Rattle.source_frames.specs.DebugSections.{DebugSectionsRecord}
 use Rattle.source_frames.specs.DebugUnits.{UnitRecord}
 use Rattle.source_frames.specs.Names.{IsName}
 use Rattle.source_frames.specs.Scopes.{IsChain, ScopeRecord, scopes_of}
-use Rattle.unit_functions.specs.UnitFunctions.{AreFunctions, FunctionRecord, functions_after, functions_from, functions_of, is_past}
-use Rattle.unit_functions.specs.declared.functions.Function.{Function}
-use Rattle.waiting_indexes.specs.Rising.{AreRising}
-use Rattle.waiting_indexes.specs.Waiting.{Waits}
+use Rattle.function_links.specs.UnitFunctions.{AreFunctions, FunctionRecord, functions_after, functions_from, functions_of, is_past}
+use Rattle.function_links.specs.declared.functions.Function.{Function}
+use Rattle.pending_addresses.specs.Rising.{AreRising}
+use Rattle.pending_addresses.specs.Waiting.{Waits}
 use Rattle.function_links.specs.Links.{AreEntriesOfLink, AreLinkSteps, IsLinkOf, LinkRecord, ends_of_ranges, link_at}
 use Rattle.function_links.specs.LinkViews.{link_view, links_view}
 use Rattle.function_links.specs.Making.{AreMade, made_at}
@@ -32,8 +32,8 @@ use Rattle.function_links.proofs.ChainLemmas.{entries_of, is_chain}
 use Rattle.function_links.proofs.MakingLemmas.{get_there}
 use Rattle.function_links.proofs.PartLemmas.{all_ranges}
 use Rattle.function_links.proofs.TakingLemmas.{after_not}
-use Rattle.waiting_indexes.proofs.RisingLists.{rising_rest}
-use Rattle.row_steps.proofs.RowStepLemmas.{above_first}
+use Rattle.pending_addresses.proofs.RisingLists.{rising_rest}
+use Rattle.function_links.proofs.RowStepLemmas.{above_first}
 
 -- ---- where ranges begin and end
 

@@ -7,8 +7,8 @@ use Rattle.code_ranges.specs.Lists.{in_ranges}
 use Rattle.function_links.specs.Making.{AreKept, AreMade, IsLinkIn, count_at, made_at}
 use Rattle.function_links.specs.Taking.{AreFunctionsOfLink, HasTaken, IsUpTo, chain_in, end_of}
 use Rattle.function_links.specs.declared.links.Link.{Link}
-use Rattle.unit_functions.specs.UnitFunctions.{FunctionRecord, functions_after, is_past}
-use Rattle.unit_functions.specs.declared.functions.Function.{Function}
+use Rattle.function_links.specs.UnitFunctions.{FunctionRecord, functions_after, is_past}
+use Rattle.function_links.specs.declared.functions.Function.{Function}
 use Rattle.function_links.proofs.AfterLemmas.{after_here, after_past, after_skip, after_zero}
 use Rattle.function_links.proofs.MakingLemmas.{count_kept, count_of_made, made_kept, within_made}
 

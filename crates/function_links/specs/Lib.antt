@@ -4,3 +4,10 @@ pub mod LinkViews
 pub mod Making
 pub mod NameNumbers
 pub mod Taking
+pub mod FunctionNames
+pub mod OpenFunctions
+pub mod Origins
+pub mod UnitFunctions
+pub mod AddressSteps
+pub mod RowSteps
+pub mod RowCover

@@ -4,12 +4,12 @@ use Rattle.std.specs.Prelude.{reverse, Option, Some, None}
 use Rattle.std.specs.List.{Contains}
 use Rattle.code_ranges.specs.declared.range.CodeRange.{CodeRange}
 use Rattle.debug_entries.specs.Entries.{EntryRecord}
-use Rattle.row_steps.specs.AddressSteps.{at_step}
+use Rattle.function_links.specs.AddressSteps.{at_step}
 use Rattle.source_frames.specs.DebugSections.{DebugSectionsRecord}
 use Rattle.source_frames.specs.DebugUnits.{UnitRecord}
 use Rattle.source_frames.specs.Frames.{FrameRecord, path_in, location_of_call, location_of_row}
 use Rattle.source_frames.specs.Names.{IsName}
-use Rattle.waiting_indexes.specs.Rising.{AreRising}
+use Rattle.pending_addresses.specs.Rising.{AreRising}
 use Rattle.source_frames.specs.Scopes.{IsChain, scopes_of}
 use Rattle.source_frames.specs.UnitLines.{LinesRecord}
 use Rattle.source_frames.specs.declared.frame.SourceLocation.{SourceLocation}

@@ -2,7 +2,7 @@
 use Rattle.std.specs.Prelude.{ℕ, zero, suc, List, ◌≡◌, ◌≤◌, length, slice_get, Option, Some, None}
 use Rattle.std.specs.Option.{option_map_or}
 use Rattle.function_links.specs.declared.links.Link.{Link}
-use Rattle.unit_functions.specs.declared.functions.Function.{Function}
+use Rattle.function_links.specs.declared.functions.Function.{Function}
 
 -- the link of a number, from 1 on
 abbrev pub made_at : List Link → ℕ → Option Link

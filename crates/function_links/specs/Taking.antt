@@ -6,10 +6,10 @@ use Rattle.code_ranges.specs.declared.range.CodeRange.{CodeRange}
 use Rattle.function_links.specs.Making.{AreKept, AreMade, IsLinkIn, count_at, made_at}
 use Rattle.function_links.specs.declared.links.Link.{Link}
 use Rattle.function_links.specs.declared.taking.Taking.{Taking}
-use Rattle.unit_functions.specs.UnitFunctions.{FunctionRecord, functions_after}
-use Rattle.unit_functions.specs.declared.functions.Function.{Function}
-use Rattle.waiting_indexes.specs.Rising.{AreRising}
-use Rattle.waiting_indexes.specs.Waiting.{Waits}
+use Rattle.function_links.specs.UnitFunctions.{FunctionRecord, functions_after}
+use Rattle.function_links.specs.declared.functions.Function.{Function}
+use Rattle.pending_addresses.specs.Rising.{AreRising}
+use Rattle.pending_addresses.specs.Waiting.{Waits}
 
 -- ranges of functions, one after another, the last of each before those of the next one
 pub record AreParts (functions : List Function) (ranges : List CodeRange) : Type 0 where

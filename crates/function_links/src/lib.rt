@@ -1,6 +1,11 @@
-//! The functions that contain each address of a unit, as links that addresses share: [`Links`], for all addresses of a
-//! unit at once. A [`Link`] is a function in the link of the one that it stands in.
+//! What each address of a unit is in, for all of its addresses at once: the functions that contain it, as links that
+//! addresses share, [`Links`], and the row of the line program that covers it, [`RowSteps`].
 //!
+//! A [`Link`] is a function in the link of the one that it stands in.
+//!
+//! - `row_steps`: the rows of a line program that cover addresses (DWARF 5, section 6.2), step by step;
+//! - `functions`: [`Functions`], those of a unit that have ranges of code, in the order of their entries; `origins`: their
+//!   names;
 //! - `making`: links that are being made;
 //! - `apart`: the ranges of a function, apart;
 //! - `taking`: starts that get the links of the functions that contain them, one function after another;
@@ -8,8 +13,13 @@
 #![tactic(auto)]
 
 mod apart;
+mod functions;
 mod links;
 mod making;
+mod origins;
+mod row_steps;
 mod taking;
 
+use functions::{Function, Functions};
 pub use links::{Link, Links};
+pub use row_steps::RowSteps;

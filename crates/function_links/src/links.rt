@@ -10,17 +10,17 @@ ghost use Rattle.source_frames.specs.DebugSections.{DebugSectionsRecord};
 ghost use Rattle.source_frames.specs.DebugUnits.{UnitRecord};
 ghost use Rattle.source_frames.specs.SectionsViews.{sections_view};
 ghost use Rattle.source_frames.specs.UnitViews.{unit_view};
-ghost use Rattle.unit_functions.specs.NameNumbers.{AreNumbered};
-ghost use Rattle.unit_functions.specs.UnitFunctions.{AreFunctions};
-ghost use Rattle.waiting_indexes.specs.Rising.{AreRising};
+ghost use Rattle.function_links.specs.FunctionNames.{AreNumbered};
+ghost use Rattle.function_links.specs.UnitFunctions.{AreFunctions};
+ghost use Rattle.pending_addresses.specs.Rising.{AreRising};
 
+use crate::Functions;
 use crate::making::Making;
 use crate::taking::Taking;
 use code_ranges::CodeRange;
 use memory::{Heap, NoMemory};
+use pending_addresses::{Waiting, sorted_once};
 use source_frames::{DebugInfo, DebugUnit, SourceLocation};
-use unit_functions::Functions;
-use waiting_indexes::{Waiting, sorted_once};
 
 /// A function in the link of the one that it stands in.
 #[derive(Clone, Copy)]

@@ -4,8 +4,8 @@ ghost use Rattle.std.specs.Prelude.{◌≡◌, ◌≤◌, ◌<◌, ◌+◌, IfOk
 ghost use Rattle.function_links.specs.Making.{AreKept, AreMade, IsLinkIn, child_at, count_at};
 
 use crate::links::Link;
+use crate::{Function, Functions};
 use memory::{Heap, NoMemory};
-use unit_functions::{Function, Functions};
 
 /// Links that are being made: `last` is the number of the last one that stands in none, or 0.
 #[derive(Drop)]

@@ -3,14 +3,14 @@
 ghost use Rattle.std.specs.Prelude.{◌≡◌, ◌<◌, ◌∷◌, [], ℕ, List, OnOk, Some, length, slice_get, slice_index, true};
 ghost use Rattle.code_ranges.specs.Lists.{in_ranges};
 ghost use Rattle.function_links.specs.Taking.{AreOf, AreParts, Extends, HasBefore, HasSame, IsTaking, Takes};
-ghost use Rattle.unit_functions.specs.UnitFunctions.{FunctionRecord};
-ghost use Rattle.waiting_indexes.specs.Waiting.{Waits};
+ghost use Rattle.function_links.specs.UnitFunctions.{FunctionRecord};
+ghost use Rattle.pending_addresses.specs.Waiting.{Waits};
 
 use crate::apart::apart_of;
 use crate::making::Making;
 use code_ranges::CodeRange;
 use memory::{Heap, NoMemory};
-use waiting_indexes::{Waiting, count_below};
+use pending_addresses::{Waiting, count_below};
 
 /// How many frames an address has at most.
 const FRAMES_MAX: usize = 256;

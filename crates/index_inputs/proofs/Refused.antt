@@ -12,9 +12,9 @@ use Rattle.command_core.specs.declared.faults.InputName.TheVariants.{Index}
 use Rattle.command_core.specs.declared.faults.Status.{Status}
 use Rattle.command_core.specs.declared.faults.Why.{Why}
 use Rattle.command_core.specs.declared.faults.Why.TheVariants.{Index as IndexFaulty}
-use Rattle.index_faults.specs.declared.fault.IndexFault.{IndexFault}
-use Rattle.index_faults.specs.declared.fault.IndexFaultKind.{IndexFaultKind}
-use Rattle.index_faults.specs.declared.fault.IndexFaultKind.TheVariants.{OutOfMemory as IndexOutOfMemory}
+use Rattle.archive_index.specs.declared.index_fault.IndexFault.{IndexFault}
+use Rattle.archive_index.specs.declared.index_fault.IndexFaultKind.{IndexFaultKind}
+use Rattle.archive_index.specs.declared.index_fault.IndexFaultKind.TheVariants.{OutOfMemory as IndexOutOfMemory}
 use Rattle.table_index.specs.Reading.{Blames, ReadsIndex}
 use Rattle.table_index.specs.Text.{IsIndexText}
 use Rattle.index_inputs.specs.Indexes.{HoldsIndex, HoldsTables, IsOfOtherLength, IsRefusedByIndex, IsUnreadIndex}

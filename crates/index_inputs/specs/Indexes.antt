@@ -3,8 +3,8 @@ use Rattle.std.specs.Prelude.{◌≡◌, ◌≢◌, ℕ, List, None, Ok, Err, Ma
 use Rattle.archive_core.specs.Summary.{Entries}
 use Rattle.archive_index.specs.Index.{AreIndexEntries}
 use Rattle.archive_index.specs.Places.{HasIndexedLength}
-use Rattle.index_faults.specs.declared.fault.IndexFault.{IndexFault}
-use Rattle.index_faults.specs.declared.fault.IndexFaultKind.TheVariants.{OutOfMemory as IndexOutOfMemory}
+use Rattle.archive_index.specs.declared.index_fault.IndexFault.{IndexFault}
+use Rattle.archive_index.specs.declared.index_fault.IndexFaultKind.TheVariants.{OutOfMemory as IndexOutOfMemory}
 use Rattle.table_index.specs.Reading.{ReadsIndex}
 use Rattle.table_index.specs.Text.{IsIndexText, placed_of}
 use Rattle.command_core.specs.Inputs.{Reader, Gives, IsUnread, IsUntouched, Unfailed}

@@ -3,7 +3,7 @@
 ghost use Rattle.std.specs.Prelude.{◌≡◌, ◌≢◌, OnOk};
 ghost use Rattle.archive_index.specs.Index.{AreIndexEntries};
 ghost use Rattle.archive_index.specs.Places.{HasIndexedLength};
-ghost use Rattle.index_faults.specs.declared.fault.IndexFaultKind.TheVariants.{OutOfMemory as IndexOutOfMemory};
+ghost use Rattle.archive_index.specs.declared.index_fault.IndexFaultKind.TheVariants.{OutOfMemory as IndexOutOfMemory};
 ghost use Rattle.table_index.specs.Text.{placed_of};
 ghost use Rattle.command_core.specs.Inputs.{Gives, IsRefusal, ReadsInput, ReadsInputs, Unfailed, reader};
 ghost use Rattle.archive_records.specs.declared.fault.RecordFaultKind.TheVariants.{Device as DeviceFailed};
@@ -14,12 +14,11 @@ ghost use Rattle.index_inputs.specs.Indexes.{HoldsTables, IsIndexOf, IsOfOtherLe
 ghost use Rattle.index_inputs.specs.Indexes.{IsUnreadIndex};
 ghost use Rattle.index_inputs.specs.Together.{IsKept, IsReadWith};
 
-use archive_index::Index;
+use archive_index::{Index, IndexFault, IndexFaultKind};
 use archive_records::{RecordFault, RecordFaultKind};
 use byte_device::{CannotOpen, Failed, Placed};
 use command_core::{CommandFault, InputName, Why};
 use command_inputs::opened;
-use index_faults::{IndexFault, IndexFaultKind};
 use indexed_parts::has_size;
 use memory::Heap;
 use table_index::{TableIndex, read_index};

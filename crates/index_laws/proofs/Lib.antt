@@ -2,3 +2,10 @@ pub mod OfContent
 pub mod Joined
 pub mod Among
 pub mod Right
+pub mod Ascent
+pub mod IndexRows
+pub mod Accepted
+pub mod ByIndex
+pub mod ByTables
+pub mod FrameKeys
+pub mod Extracted

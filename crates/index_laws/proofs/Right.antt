@@ -12,7 +12,7 @@ use Rattle.std.proofs.lemmas.Slice.Zip.{AllZip-long}
 use Rattle.sha2.specs.Sha256.{sha256}
 use Rattle.macho_symbols.specs.Found.{FoundRecord}
 use Rattle.source_frames.specs.Frames.{FrameRecord}
-use Rattle.slice_tables.specs.SliceTable.{HasNoLines}
+use Rattle.line_tables.specs.SliceTable.{HasNoLines}
 use Rattle.checked_pages.proofs.PageLemmas.{may_be}
 use Rattle.join_core.specs.Listing.{listing}
 use Rattle.archive_core.specs.Content.{IsAnswering, Operations, is_admission}

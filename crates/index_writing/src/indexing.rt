@@ -10,8 +10,8 @@ use byte_device::{CannotOpen, Sink, Source};
 use command_core::{CommandFault, InputName, Why};
 use command_inputs::{opened, refusal};
 use indexed_tables::{MakingFault, index_into};
+use line_tables::laws::one_slice_table;
 use memory::Heap;
-use slice_tables::laws::one_slice_table;
 
 /// What is told of an archive that is refused so.
 fn refusal_of(fault: IndexingFault) -> CommandFault

@@ -3,7 +3,7 @@ use Rattle.std.specs.Prelude.{◌≡◌, ℕ, List, take, drop}
 use Rattle.sha2.specs.Sha256.{sha256}
 use Rattle.checked_pages.specs.Pages.{AreStored}
 use Rattle.symbol_tables.specs.Steps.{AreBytes}
-use Rattle.slice_tables.specs.SliceTable.{IsSliceTable}
+use Rattle.line_tables.specs.SliceTable.{IsSliceTable}
 use Rattle.table_index.specs.Entry.{claim_in}
 
 -- the slice of an entry: the entry has its SHA-256, and its table is stored in the text where the entry says

@@ -18,7 +18,7 @@ use Rattle.symbol_tables.specs.declared.table.Table.{Table}
 use Rattle.line_tables.specs.Opened.{IsOpened as AreLinesOpened}
 use Rattle.line_tables.specs.Steps.{AreFrameSteps, StepRecord}
 use Rattle.line_tables.specs.declared.table.LineTable.{LineTable}
-use Rattle.slice_tables.specs.SliceTable.{IsSliceTable}
+use Rattle.line_tables.specs.SliceTable.{IsSliceTable}
 use Rattle.archive_core.specs.Lookup.{IsOwn}
 use Rattle.archive_core.specs.Part.{is_under}
 use Rattle.archive_core.specs.declared.lookup.Where.{Where}

@@ -5,7 +5,7 @@ use Rattle.checked_pages.specs.Pages.{Claim, MayBeStored}
 use Rattle.symbol_tables.specs.Steps.{AreBytes}
 use Rattle.source_frames.specs.AddressFrames.{AreFramesOf}
 use Rattle.source_frames.specs.Frames.{FrameRecord}
-use Rattle.slice_tables.specs.SliceTable.{HasNoLines, IsSliceTable}
+use Rattle.line_tables.specs.SliceTable.{HasNoLines, IsSliceTable}
 use Rattle.archive_core.specs.Content.{is_admission}
 use Rattle.archive_core.specs.Lookup.{IsOwn, file_address}
 use Rattle.archive_core.specs.Part.{is_under}

@@ -8,7 +8,7 @@ ghost use Rattle.checked_pages.specs.Reading.{ReadsStored};
 ghost use Rattle.line_tables.specs.FrameViews.{owned_frames};
 ghost use Rattle.line_tables.specs.Opened.{IsOpened};
 ghost use Rattle.line_tables.specs.Steps.{AreFrameSteps, StepRecord};
-ghost use Rattle.slice_tables.specs.SliceTable.{IsSliceTable};
+ghost use Rattle.line_tables.specs.SliceTable.{IsSliceTable};
 ghost use Rattle.indexed_answers.specs.InnerAnswering.{AreFramesBased, AreFramesOpened};
 ghost use Rattle.indexed_answers.specs.Told.{HasNoLinesBy};
 ghost use Rattle.indexed_answers.specs.Views.{list_in};

@@ -7,7 +7,7 @@ ghost use Rattle.checked_pages.specs.Views.{claim_view};
 ghost use Rattle.checked_pages.specs.Reading.{ReadsStored};
 ghost use Rattle.symbol_tables.specs.Opened.{IsOpened};
 ghost use Rattle.symbol_tables.specs.Table.{TableParts, table_bytes};
-ghost use Rattle.slice_tables.specs.SliceTable.{IsSliceTable};
+ghost use Rattle.line_tables.specs.SliceTable.{IsSliceTable};
 ghost use Rattle.indexed_answers.specs.Among.{EntryAt};
 ghost use Rattle.indexed_answers.specs.AmongAsked.{AreOpened, AsksAmong, HasNoTable, IsOpenedAt};
 ghost use Rattle.indexed_answers.specs.Told.{HasNoLinesBy, IsToldBy};

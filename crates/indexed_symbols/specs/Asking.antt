@@ -7,7 +7,7 @@ use Rattle.archive_core.specs.Key.{key_bytes}
 use Rattle.archive_core.specs.Lookup.{answer_view}
 use Rattle.archive_core.specs.declared.keys.SliceKey.{SliceKey}
 use Rattle.address_queries.specs.Symbolicate.{Answered, answers_status, answers_text, asked_of}
-use Rattle.index_faults.specs.declared.fault.IndexFaultKind.TheVariants.{Device}
+use Rattle.archive_index.specs.declared.index_fault.IndexFaultKind.TheVariants.{Device}
 use Rattle.indexed_answers.specs.Among.{AreAnsweringAmong, AreTied, EntryAt}
 use Rattle.indexed_answers.specs.AmongAsked.{IsAskedAt, IsDamagedAt, IsLinelessAt}
 use Rattle.indexed_answers.specs.AmongTold.{IsAnswerAmong}

@@ -4,7 +4,7 @@ use Rattle.std.specs.Prelude.{◌≡◌, ◌⊎◌, ℕ, List, Bool, Option, Res
 use Rattle.std.specs.List.{AllByRecursion}
 use Rattle.byte_device.specs.declared.disks.CannotOpen.{CannotOpen}
 use Rattle.archive_core.specs.Content.{Operations}
-use Rattle.index_faults.specs.declared.fault.IndexFaultKind.TheVariants.{Device as DeviceKind}
+use Rattle.archive_index.specs.declared.index_fault.IndexFaultKind.TheVariants.{Device as DeviceKind}
 use Rattle.indexed_answers.specs.Among.{AreAnsweringAmong, EntryAt}
 use Rattle.indexed_answers.specs.AmongAsked.{BlamesAmong, HaveTexts, IsUntoldAmong, each_known}
 use Rattle.indexed_answers.specs.declared.fault.AnswerFault.{AnswerFault}

@@ -11,9 +11,9 @@ ghost use Rattle.indexed_symbols.specs.InnerAsking.{AreAllOpened, AsksTables, co
 ghost use Rattle.indexed_symbols.specs.InnerTold.{AreToldOf, shown_at};
 
 use archive_core::{Answer, SliceKey, Where};
+use archive_index::{IndexFault, IndexFaultKind};
 use byte_device::{CannotOpen, Placed};
 use command_core::{CommandFault, InputName, Why};
-use index_faults::{IndexFault, IndexFaultKind};
 use indexed_answers::laws::each_told;
 use indexed_answers::{AnswerFault, Answers, answer_among, answering_among};
 use memory::{Heap, NoMemory};

@@ -41,7 +41,7 @@ use Rattle.sha2.specs.Sha256.{sha256}
 use Rattle.symbol_tables.specs.Found.{IsSaid}
 use Rattle.symbol_tables.specs.Steps.{AreBytes}
 use Rattle.symbol_tables.specs.declared.nearest.NearestSymbol.{NearestSymbol}
-use Rattle.slice_tables.proofs.SliceTables.{table_of_symbols}
+use Rattle.line_tables.proofs.SliceTables.{table_of_symbols}
 use Rattle.archive_core.proofs.Records.{same_parts}
 use Rattle.indexed_tables.specs.Asked.{DigestsTell, IsToldBy}
 use Rattle.table_index.proofs.Texts.{last_is}

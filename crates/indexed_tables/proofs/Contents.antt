@@ -32,7 +32,7 @@ use Rattle.symbol_tables.specs.Found.{IsSaid}
 use Rattle.symbol_tables.specs.Steps.{AreBytes}
 use Rattle.symbol_tables.specs.Table.{IsTableText}
 use Rattle.symbol_tables.specs.declared.nearest.NearestSymbol.{NearestSymbol}
-use Rattle.slice_tables.specs.SliceTable.{IsSliceTable}
+use Rattle.line_tables.specs.SliceTable.{IsSliceTable}
 use Rattle.std.specs.FinSet as set
 use Rattle.archive_core.specs.Content.{IsContent, Operations, is_admission}
 use Rattle.archive_index.proofs.Kept.{in_made}

@@ -7,7 +7,7 @@ use Rattle.byte_device.proofs.Known.{Appends-none}
 use Rattle.checked_pages.specs.Pages.{digests_from, stored}
 use Rattle.checked_pages.specs.Views.{claim_view}
 use Rattle.checked_pages.specs.declared.claim.Claim.{Claim as ClaimFields}
-use Rattle.slice_tables.specs.SliceTable.{IsSliceTable}
+use Rattle.line_tables.specs.SliceTable.{IsSliceTable}
 use Rattle.archive_core.specs.Content.{is_admission}
 use Rattle.archive_core.specs.Record.{admission_record, retirement_record}
 use Rattle.archive_core.specs.Valid.{IsValid}

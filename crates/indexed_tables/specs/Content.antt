@@ -5,7 +5,7 @@ use Rattle.std.specs.List.{AllZip}
 use Rattle.std.specs.FinSet as set
 use Rattle.join_core.specs.Listing.{listing}
 use Rattle.checked_pages.specs.Pages.{AreStored, Claim, stored}
-use Rattle.slice_tables.specs.SliceTable.{IsSliceTable}
+use Rattle.line_tables.specs.SliceTable.{IsSliceTable}
 use Rattle.archive_core.specs.Content.{Operations, is_admission}
 use Rattle.archive_core.specs.Summary.{Entries, entry}
 use Rattle.archive_index.specs.Entry.{placed_entry}

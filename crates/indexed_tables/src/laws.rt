@@ -18,7 +18,7 @@ ghost use Rattle.indexed_tables.specs.Making.{IsTooFar};
 ghost use Rattle.table_index.specs.Entry.{claim_in};
 ghost use Rattle.table_index.specs.Text.{IsIndexText};
 
-use slice_tables::laws::one_slice_table;
+use line_tables::laws::one_slice_table;
 
 /// A content has one index.
 pub fn one_index()

@@ -13,8 +13,8 @@ use crate::records::put_tables;
 use archive_index::{IndexingFault, begin_archive};
 use archive_records::{RecordFault, Sizes};
 use byte_device::{Sink, Source, put};
+use line_tables::laws::one_slice_table;
 use memory::Heap;
-use slice_tables::laws::one_slice_table;
 use table_index::{TableEntry, magic};
 
 /// Reads an archive of version 2 to its end, and writes the magic of its index and the tables of its records. It gives
@@ -53,7 +53,7 @@ fn put_front<R: Source, W: Sink>(
 
 /// Makes the index of an archive of version 2 as it comes: each table is written once its record was read and tested,
 /// and the entries last. It takes the memory of a record, of its table and of what makes the lines of that
-/// (`line_making::line_table`), of 57 bytes for each retirement, and of the entries.
+/// (`line_writing::line_table`), of 57 bytes for each retirement, and of the entries.
 ///
 /// # Errors
 ///

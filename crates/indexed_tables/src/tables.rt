@@ -4,7 +4,7 @@ ghost use Rattle.std.specs.Prelude.{◌≡◌, ◌<◌, ◌^◌, ℕ, List, IfOk
 ghost use Rattle.byte_device.specs.Writes.{IsPut};
 ghost use Rattle.checked_pages.specs.Pages.{page_digests, stored};
 ghost use Rattle.checked_pages.specs.Views.{claim_view};
-ghost use Rattle.slice_tables.specs.SliceTable.{IsSliceTable};
+ghost use Rattle.line_tables.specs.SliceTable.{IsSliceTable};
 ghost use Rattle.archive_core.specs.Record.{IsOperation, borrowed_bytes, operation_borrowed};
 ghost use Rattle.archive_core.specs.Valid.{IsValid};
 ghost use Rattle.table_index.specs.Entry.{claim_at};
@@ -15,7 +15,7 @@ use crate::fault::TableFault;
 use archive_core::{CheckedSlice, Record};
 use byte_device::Sink;
 use checked_pages::Claim;
-use line_making::line_table;
+use line_writing::line_table;
 use memory::{Heap, NoMemory};
 use symbol_tables::TableText;
 use table_index::no_claim;

@@ -8,3 +8,4 @@ pub mod OpenedLemmas
 pub mod OpeningLemmas
 pub mod SearchLemmas
 mod CountLemmas
+pub mod SliceTables

@@ -8,8 +8,8 @@ use Rattle.std.proofs.lemmas.Option.{slice_get-get_or}
 use Rattle.std.proofs.Math.ListN.{length-map}
 use Rattle.source_frames.specs.AddressFrames.{AreFramesOf}
 use Rattle.source_frames.specs.Frames.{FrameRecord}
-use Rattle.waiting_indexes.specs.Rising.{AreRising}
-use Rattle.waiting_indexes.proofs.RisingLists.{first_or_rest, one_rising, rest_is}
+use Rattle.pending_addresses.specs.Rising.{AreRising}
+use Rattle.pending_addresses.proofs.RisingLists.{first_or_rest, one_rising, rest_is}
 use Rattle.line_tables.specs.Steps.{StepRecord, starts_of, AreAscending, AreFramesBefore, Changes, Stays, AreFrameSteps, IsLastNotAbove, IsStepFor, frames_at}
 
 -- ---- numbers that ascend

@@ -6,3 +6,4 @@ pub mod LineTable
 pub mod Opened
 pub mod FrameViews
 pub mod Inner
+pub mod SliceTable

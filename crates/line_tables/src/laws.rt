@@ -3,7 +3,9 @@
 ghost use Rattle.std.specs.Prelude.{◌≡◌, ◌<◌, ◌^◌, ℕ, List, Option};
 ghost use Rattle.source_frames.specs.AddressFrames.{AreFramesOf};
 ghost use Rattle.line_tables.specs.LineTable.{IsLineTable, IsLineTextWithin};
+ghost use Rattle.line_tables.specs.SliceTable.{IsSliceTable};
 ghost use Rattle.line_tables.specs.Steps.{AreFrameSteps, IsStepFor, StepRecord, frames_at, starts_of};
+ghost use Rattle.symbol_tables.specs.Table.{IsTableText};
 
 use source_frames::laws::one_list_of_frames;
 
@@ -44,3 +46,16 @@ pub fn one_line_table()
     one_list_of_steps();
     one_text();
 }
+
+/// A slice has one table.
+pub fn one_slice_table()
+    ensures { (image bytes others : List ℕ) → IsSliceTable image bytes → IsSliceTable image others → bytes ≡ others }
+{
+    one_line_table();
+    symbol_tables::laws::one_text();
+}
+
+/// The table of a slice is a table of its symbols: what is asked of these by such a one is asked of it too.
+pub fn has_symbols()
+    ensures { (image bytes : List ℕ) → IsSliceTable image bytes → IsTableText image bytes }
+{}

@@ -10,7 +10,8 @@
 //!   whose upper half is below a limit; `search`: the step that an address belongs to;
 //! - `frame`: [`OwnedFrame`]; `texts`, `files`: the texts and paths of a table by their numbers;
 //! - `address_frames`: [`LineTable::frames_at`], the frames of an address;
-//! - `laws`: what the definitions say of each other.
+//! - `laws`: what the definitions say of each other, and of the table of a slice, as an index stores it: its symbols
+//!   (`symbol_tables`), and its lines after them (`SliceTable`).
 //!
 //! Decided:
 //!

@@ -5,3 +5,5 @@ mod LoopLemmas
 mod PartLemmas
 mod StoreLemmas
 mod LeastLemmas
+mod TakerLemmas
+mod TurnLemmas

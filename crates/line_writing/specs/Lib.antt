@@ -11,3 +11,4 @@ pub mod Located
 pub mod PartNumbers
 pub mod PartBytes
 pub mod WholeText
+pub mod TurnSteps

@@ -1,10 +1,14 @@
-//! The line table of an image, written from the frames of its addresses, which come in any order.
+//! The line table of an image, made from the image.
+//!
+//! The frames of an image change at its turns alone (`frame_turns`), a store takes them as they come, in any order, and
+//! what it writes is the one table of the image (`line_tables`).
 //!
 //! The modules in reading order: `numbers`, the numbers of things as they first come; `keys` and `kept`, what frames
 //! have, each thing once and told by number, and `lookups`, what a number tells of; `locate`, the location of the
-//! frames of an address; `step` and `store`, [`LineStore`], which takes them; `changes`, the steps at which frames
+//! frames of an address; `step` and `store`, `LineStore`, which takes them; `changes`, the steps at which frames
 //! change; `first_uses`, numbers anew by first use, and `parts`, those of a table; `runs`, `rows` and `texts`, its bytes
-//! part by part; `finish`, [`LineStore::finish`]; `laws`, what the definitions say of each other.
+//! part by part; `finish`, `LineStore::finish`; `taker`, a store as a taker of turns; `making`, [`line_table`]; `laws`, what the
+//! definitions say of each other, and why it is enough to take the turns.
 //!
 //! Decided:
 //!
@@ -24,12 +28,15 @@ mod keys;
 pub mod laws;
 mod locate;
 mod lookups;
+mod making;
 mod numbers;
 mod parts;
 mod rows;
 mod runs;
 mod step;
 mod store;
+mod taker;
 mod texts;
 
-pub use store::LineStore;
+pub use making::line_table;
+use store::LineStore;

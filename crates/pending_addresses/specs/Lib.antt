@@ -1,1 +1,3 @@
 pub mod Assigned
+pub mod Rising
+pub mod Waiting

@@ -3,3 +3,4 @@ pub mod Extracted
 pub mod Sent
 pub mod ByEntry
 pub mod Chosen
+mod Passes

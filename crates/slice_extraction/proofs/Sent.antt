@@ -5,10 +5,10 @@ use Rattle.sha2.specs.Sha256.{sha256}
 use Rattle.byte_device.specs.Devices.{stream}
 use Rattle.byte_device.specs.declared.disks.CannotOpen.{CannotOpen}
 use Rattle.byte_device.specs.Places.{Stands}
-use Rattle.placed_passes.specs.Copies.{IsCopied}
-use Rattle.placed_passes.specs.Sending.{HaveOther, HaveSome, StopsSending, Hinders as HindersSending}
-use Rattle.placed_passes.specs.declared.sending.SendFault.{SendFault}
-use Rattle.placed_passes.specs.declared.sending.SendFault.TheVariants.{Other, Device, Sink}
+use Rattle.slice_extraction.specs.Copies.{IsCopied}
+use Rattle.slice_extraction.specs.Sending.{HaveOther, HaveSome, StopsSending, Hinders as HindersSending}
+use Rattle.slice_extraction.specs.declared.tested_copy.SendFault.{SendFault}
+use Rattle.slice_extraction.specs.declared.tested_copy.SendFault.TheVariants.{Other, Device, Sink}
 use Rattle.command_core.specs.Inputs.{Gives, Reader, Unfailed, reader}
 use Rattle.command_core.specs.Outputs.{IsPublished, Out, Publishes, Reports, Takes, Writer, writer}
 use Rattle.command_core.specs.declared.faults.CommandFault.{CommandFault}

@@ -16,8 +16,8 @@ use Rattle.command_core.specs.declared.faults.InputName.TheVariants as inputs
 use Rattle.command_core.specs.declared.faults.Status.{Status}
 use Rattle.command_core.specs.declared.faults.Why.{Why}
 use Rattle.command_core.specs.declared.faults.Why.TheVariants as why
-use Rattle.placed_passes.specs.declared.sending.SendFault.{SendFault}
-use Rattle.placed_passes.specs.declared.sending.SendFault.TheVariants.{Other, Device, Sink}
+use Rattle.slice_extraction.specs.declared.tested_copy.SendFault.{SendFault}
+use Rattle.slice_extraction.specs.declared.tested_copy.SendFault.TheVariants.{Other, Device, Sink}
 use Rattle.indexed_answers.specs.Among.{AreTied, EntryAt}
 use Rattle.indexed_answers.specs.Named.{IsRowAt, Names}
 use Rattle.index_inputs.specs.Together.{HoldNamed, IsFirstRefusedAtPlaces}

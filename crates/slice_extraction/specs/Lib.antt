@@ -4,3 +4,5 @@ pub mod Entries
 pub mod Indexed
 pub mod InnerChoice
 pub mod InnerEntries
+pub mod Copies
+pub mod Sending

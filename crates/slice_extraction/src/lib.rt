@@ -3,6 +3,8 @@
 //! - `choosing`: which slice is wanted under a key, among those that an archive holds;
 //! - `publishing`: the end of the command, OUT and the report;
 //! - `entries`: which slice is wanted by the entries of indexes; `sending`: how it goes from its archive to OUT;
+//! - `copying`, `hashing`: bytes at a place of a device, gone through piece by piece; `tested_copy`: what has a known
+//!   SHA-256, sent once it was found to have it;
 //! - `extract`: the command; `indexed`: the same over archives that are asked by their indexes.
 //!
 //! # What is proved
@@ -21,15 +23,20 @@
 //! - The line of the slice is made before OUT is begun, so that nothing was written if memory is wanting for it.
 //! - The slice is whole and tested before OUT is begun, so that a pipe gets no byte of one that is refused. By an entry it
 //!   is gone through twice, in the memory of one piece.
+//! - A pass over bytes at a place holds one piece, that of the caller, so that several passes have one. A copy is hashed
+//!   as it goes out, so that who compared a hash before knows whether the same went out.
 //! - Of two slices of one length in two archives no entry says which comes first: these are read, to be told in order.
 #![tactic(auto)]
 
 mod choosing;
+mod copying;
 mod entries;
 mod extract;
+mod hashing;
 mod indexed;
 mod publishing;
 mod sending;
+mod tested_copy;
 
 pub use extract::run_extract;
 pub use indexed::run_extract_at;

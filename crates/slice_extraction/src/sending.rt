@@ -2,7 +2,7 @@
 
 ghost use Rattle.std.specs.Prelude.{◌≡◌, ◌+◌, ◌<◌, IfOk, length, string_bytes};
 ghost use Rattle.byte_device.specs.Devices.{stream};
-ghost use Rattle.placed_passes.specs.Sending.{SendsAt};
+ghost use Rattle.slice_extraction.specs.Sending.{SendsAt};
 ghost use Rattle.command_core.specs.Inputs.{reader};
 ghost use Rattle.command_core.specs.Outputs.{outs, writer};
 ghost use Rattle.indexed_answers.specs.Among.{EntryAt};
@@ -10,6 +10,7 @@ ghost use Rattle.indexed_answers.specs.Named.{Names};
 ghost use Rattle.slice_extraction.specs.InnerEntries.{PublishesSlice, SendsSlice, told_fault, unread_record};
 ghost use Rattle.slice_extraction.specs.Wanted.{line_of};
 
+use crate::tested_copy::{SendFault, send_at};
 use archive_core::{Digest, SliceKey};
 use archive_records::{RecordFault, RecordFaultKind};
 use archive_words::Spelled;
@@ -20,7 +21,6 @@ use command_core::{
 use command_inputs::opened;
 use indexed_answers::NamedSlice;
 use memory::{Heap, NoMemory};
-use placed_passes::{SendFault, send_at};
 use report_text::Text;
 
 /// How many bytes of a record stand before its slice.

@@ -35,9 +35,10 @@ completes_all s lines unit location innermost all found before =
     subst (λ (fs : List FrameRecord). AreFramesFrom s lines unit innermost all fs) (append-nil found) (before.with [] refl)
 
 -- the entries that are left, one after another
-pub entries_left : (chain : List Entry) (index : ℕ) (d : Entry) → index < length chain
-    → map (λ e. entry_view e) (drop index chain) ≡ entry_view (get_or chain index d) ∷ map (λ e. entry_view e) (drop (index + 1) chain)
-entries_left chain index d less = ap (map (λ e. entry_view e)) (drop_more chain index d less)
+pub entries_left : (chain : List Entry) (index : ℕ) (item : Entry) → index < length chain → item ≡ get_or chain index item
+    → map (λ e. entry_view e) (drop index chain) ≡ entry_view item ∷ map (λ e. entry_view e) (drop (index + 1) chain)
+entries_left chain index item less is =
+    ap (map (λ e. entry_view e)) (drop_more chain index item less) ∙ ap (λ e. entry_view e ∷ map (λ e. entry_view e) (drop (index + 1) chain)) (sym is)
 
 pub entries_none : (chain : List Entry) (index : ℕ) → length chain ≤ index → map (λ e. entry_view e) (drop index chain) ≡ []
 entries_none chain index all = ap (map (λ e. entry_view e)) (drop_all index chain all)

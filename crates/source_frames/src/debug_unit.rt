@@ -9,7 +9,7 @@ ghost use Rattle.source_frames.specs.SectionsViews.{sections_view};
 ghost use Rattle.source_frames.specs.UnitViews.{unit_view};
 
 use crate::debug_sections::DebugSections;
-use debug_entries::{Abbreviations, Entry, UnitHeader, entry_of};
+use debug_entries::{Abbreviations, Attribute, Entry, UnitHeader, entry_of};
 use dwarf_numbers::{TextSections, Value};
 
 /// A unit whose header and first entry can be read.
@@ -70,7 +70,7 @@ impl<'a> DebugUnit<'a> {
             debug_str: sections.debug_str,
             debug_line_str: sections.debug_line_str,
             debug_str_offs: sections.debug_str_offs,
-            str_offsets_base: offset_or(self.first.attributes.str_offsets_base, 8),
+            str_offsets_base: offset_or(self.first.attributes.get(Attribute::StrOffsetsBase), 8),
         }
     }
 }

@@ -14,7 +14,7 @@ ghost use Rattle.source_frames.specs.UnitViews.{unit_entry_view};
 use crate::debug_info::DebugInfo;
 use crate::debug_unit::UnitEntry;
 use crate::unit_lines::UnitLines;
-use debug_entries::Entry;
+use debug_entries::{Attribute, Entry};
 use dwarf_numbers::Value;
 use line_programs::{PathParts, Row};
 
@@ -84,9 +84,9 @@ impl SourceLocation {
         ensures { result ≡ location_of_call (entry_view entry.now) }
     {
         SourceLocation {
-            file: constant_of(entry.attributes.call_file),
-            line: constant_or_zero(entry.attributes.call_line),
-            column: constant_or_zero(entry.attributes.call_column),
+            file: constant_of(entry.attributes.get(Attribute::CallFile)),
+            line: constant_or_zero(entry.attributes.get(Attribute::CallLine)),
+            column: constant_or_zero(entry.attributes.get(Attribute::CallColumn)),
         }
     }
 }

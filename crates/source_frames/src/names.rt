@@ -11,6 +11,7 @@ ghost use Rattle.source_frames.specs.UnitViews.{unit_entry_view};
 use crate::debug_info::DebugInfo;
 use crate::debug_sections::DebugSections;
 use crate::debug_unit::UnitEntry;
+use debug_entries::Attribute;
 use dwarf_numbers::Value;
 
 /// How many entries are looked at for a name.
@@ -44,9 +45,9 @@ fn linkage_name<'a>(sections: &DebugSections<'a>, of: &UnitEntry<'a>) -> Option<
     ensures { option_map (λ t. t.now) result ≡ linkage_name (sections_view sections.now) (unit_entry_view of.now) }
 {
     let attributes = &of.entry.attributes;
-    match text_in(sections, of, attributes.linkage_name) {
+    match text_in(sections, of, attributes.get(Attribute::LinkageName)) {
         Some(name) => Some(name),
-        None => text_in(sections, of, attributes.mips_linkage_name),
+        None => text_in(sections, of, attributes.get(Attribute::MipsLinkageName)),
     }
 }
 
@@ -56,7 +57,9 @@ fn origin_place(of: &UnitEntry<'_>) -> Option<u64>
     ensures { result ≡ origin_place (unit_entry_view of.now) }
 {
     let attributes = &of.entry.attributes;
-    let value = attributes.abstract_origin.or(attributes.specification)?;
+    let value = attributes
+        .get(Attribute::AbstractOrigin)
+        .or(attributes.get(Attribute::Specification))?;
     of.unit.place_of(&value)
 }
 
@@ -88,7 +91,7 @@ impl<'a> DebugInfo<'a> {
         if let Some(linkage) = linkage_name(&self.sections, of) {
             return Some(linkage);
         }
-        let own = text_in(&self.sections, of, of.entry.attributes.name);
+        let own = text_in(&self.sections, of, of.entry.attributes.get(Attribute::Name));
         let name = before.or(own);
         match self.origin(of) {
             Some(origin) => self.name_within(count - 1, &origin, name),

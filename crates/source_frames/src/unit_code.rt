@@ -12,16 +12,16 @@ ghost use Rattle.source_frames.specs.UnitViews.{unit_view};
 use crate::debug_sections::DebugSections;
 use crate::debug_unit::{DebugUnit, offset_or};
 use code_ranges::{AddressTable, RangeAttributes, Ranges, UnitRanges};
-use debug_entries::Entry;
+use debug_entries::{Attribute, Entry};
 
 /// What an entry has of the attributes that say its ranges.
 pub fn range_attributes<'a>(entry: &Entry<'a>) -> RangeAttributes<'a>
     ensures { attributes_view result ≡ range_attributes (entry_view entry.now) }
 {
     RangeAttributes {
-        low_pc: entry.attributes.low_pc,
-        high_pc: entry.attributes.high_pc,
-        ranges: entry.attributes.ranges,
+        low_pc: entry.attributes.get(Attribute::LowPc),
+        high_pc: entry.attributes.get(Attribute::HighPc),
+        ranges: entry.attributes.get(Attribute::Ranges),
     }
 }
 
@@ -32,7 +32,7 @@ impl<'a> DebugUnit<'a> {
     {
         AddressTable {
             debug_addr: sections.debug_addr,
-            addr_base: offset_or(self.first.attributes.addr_base, 8),
+            addr_base: offset_or(self.first.attributes.get(Attribute::AddrBase), 8),
         }
     }
 
@@ -40,7 +40,7 @@ impl<'a> DebugUnit<'a> {
     fn base_address(&self, addresses: &AddressTable<'a>) -> u64
         ensures { result ≡ base_address (addresses_view addresses.now) (unit_view self.now) }
     {
-        match self.first.attributes.low_pc {
+        match self.first.attributes.get(Attribute::LowPc) {
             Some(value) => addresses.address_of(&value).unwrap_or(0),
             None => 0,
         }
@@ -55,7 +55,7 @@ impl<'a> DebugUnit<'a> {
             version: self.header.version,
             debug_ranges: sections.debug_ranges,
             debug_rnglists: sections.debug_rnglists,
-            rnglists_base: offset_or(self.first.attributes.rnglists_base, 12),
+            rnglists_base: offset_or(self.first.attributes.get(Attribute::RnglistsBase), 12),
             addresses,
             base: self.base_address(&addresses),
         }

@@ -14,6 +14,7 @@ ghost use Rattle.source_frames.specs.UnitViews.{unit_view};
 
 use crate::debug_sections::DebugSections;
 use crate::debug_unit::DebugUnit;
+use debug_entries::Attribute;
 use dwarf_numbers::{TextSections, Units, Value};
 use line_programs::{Names, Program};
 use memory::{Heap, NoMemory};
@@ -49,7 +50,7 @@ fn line_unit<'a>(
     requires { lines.now ≡ sections.now.debug_line.now }
     ensures { option_map (λ u. u.now) result ≡ line_unit (sections_view sections.now) (unit_view unit.now) }
 {
-    let offset = program_offset(unit, unit.first.attributes.stmt_list)?;
+    let offset = program_offset(unit, unit.first.attributes.get(Attribute::StmtList))?;
     lines.at(offset)
 }
 
@@ -58,7 +59,7 @@ fn line_unit<'a>(
 fn comp_dir_of<'a>(sections: &DebugSections<'a>, unit: &DebugUnit<'a>) -> &'a [u8]
     ensures { result.now ≡ comp_dir_of (sections_view sections.now) (unit_view unit.now) }
 {
-    match unit.first.attributes.comp_dir {
+    match unit.first.attributes.get(Attribute::CompDir) {
         Some(value) => unit.texts(sections).text_of(&value).unwrap_or(&[]),
         None => &[],
     }
@@ -92,7 +93,7 @@ impl<'a> DebugUnit<'a> {
     pub fn program_offset(&self) -> Option<u64>
         ensures { result ≡ program_offset (unit_view self.now) (unit_view self.now).first.attributes.stmt_list }
     {
-        program_offset(self, self.first.attributes.stmt_list)
+        program_offset(self, self.first.attributes.get(Attribute::StmtList))
     }
 }
 

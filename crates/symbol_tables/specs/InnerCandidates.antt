@@ -10,7 +10,7 @@ use Rattle.macho_image.specs.declared.section.Section.{Section}
 use Rattle.macho_symbols.specs.Nlist.{n_strx, n_type, n_sect, n_value}
 use Rattle.macho_symbols.specs.Symbols.{Tuple, table_of, entry_of, is_candidate, name_of, strings_of}
 use Rattle.macho_symbols.specs.Nearest.{can_stand_for, tuple_cmp}
-use Rattle.waiting_indexes.specs.Rising.{AreRising}
+use Rattle.pending_addresses.specs.Rising.{AreRising}
 use Rattle.symbol_tables.specs.Steps.{turns}
 use Rattle.symbol_tables.specs.declared.row.Row.{Row}
 use Rattle.symbol_tables.specs.declared.candidate.Candidate.{Candidate}

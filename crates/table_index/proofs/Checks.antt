@@ -14,8 +14,8 @@ use Rattle.archive_records.proofs.Puts.{concat-push}
 use Rattle.archive_index.specs.Entry.{has_kind, has_length, has_tag}
 use Rattle.table_index.specs.Entry.{has_claim}
 use Rattle.table_index.specs.Text.{PassChecks, check_entry}
-use Rattle.index_faults.specs.declared.fault.IndexFaultKind.{IndexFaultKind}
-use Rattle.index_faults.specs.declared.fault.IndexFaultKind.TheVariants.{BadTag, BadKind, BadLength, NotAscending, BadTable}
+use Rattle.archive_index.specs.declared.index_fault.IndexFaultKind.{IndexFaultKind}
+use Rattle.archive_index.specs.declared.index_fault.IndexFaultKind.TheVariants.{BadTag, BadKind, BadLength, NotAscending, BadTable}
 use Rattle.archive_index.proofs.Ascending.{less_is}
 
 abbrev pub fine : Result (Unit {0}) IndexFaultKind

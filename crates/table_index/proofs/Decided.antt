@@ -20,9 +20,9 @@ use Rattle.table_index.specs.Fault.{HasDigest, HasEnds, IsIndexFault, beginning_
 use Rattle.table_index.specs.InnerReading.{AreEndsOf}
 use Rattle.table_index.specs.Text.{AreLaid, FollowOn, IsIndexText, PassChecks, count_in, digest_in, entries_in, start_in, check_entry}
 use Rattle.table_index.specs.declared.ends.Ends.{Ends}
-use Rattle.index_faults.specs.declared.fault.IndexFault.{IndexFault}
-use Rattle.index_faults.specs.declared.fault.IndexFaultKind.{IndexFaultKind}
-use Rattle.index_faults.specs.declared.fault.IndexFaultKind.TheVariants.{BadDigest, BadPlace}
+use Rattle.archive_index.specs.declared.index_fault.IndexFault.{IndexFault}
+use Rattle.archive_index.specs.declared.index_fault.IndexFaultKind.{IndexFaultKind}
+use Rattle.archive_index.specs.declared.index_fault.IndexFaultKind.TheVariants.{BadDigest, BadPlace}
 use Rattle.table_index.proofs.PlaceLemmas.{follow_sorted}
 use Rattle.table_index.proofs.Checks.{long_entries}
 use Rattle.table_index.proofs.Texts.{front_passed, length_entries, tables_long, whole_text}

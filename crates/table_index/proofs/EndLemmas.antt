@@ -11,8 +11,8 @@ use Rattle.table_index.specs.InnerReading.{AreEndsOf, IsUnread}
 use Rattle.table_index.specs.Reading.{IsRefused}
 use Rattle.table_index.specs.Text.{count_in, digest_in}
 use Rattle.table_index.specs.declared.ends.Ends.{Ends}
-use Rattle.index_faults.specs.declared.fault.IndexFault.{IndexFault}
-use Rattle.index_faults.specs.declared.fault.IndexFaultKind.TheVariants.{BadMagic, Truncated, BadCount}
+use Rattle.archive_index.specs.declared.index_fault.IndexFault.{IndexFault}
+use Rattle.archive_index.specs.declared.index_fault.IndexFaultKind.TheVariants.{BadMagic, Truncated, BadCount}
 
 -- what is known of the text that a device is known to have
 pub some_is : (known : Option (List ℕ)) (text : List ℕ) (P : List ℕ → Type 0) → known ≡ Some text → IfSome known P → P text

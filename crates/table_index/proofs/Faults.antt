@@ -6,7 +6,7 @@ use Rattle.std.proofs.lemmas.List.{append-nil}
 use Rattle.archive_records.specs.Text.{last_of}
 use Rattle.table_index.specs.Fault.{FailsAfter, FailsAtEnd, FailsDigest, FailsInEntries, FailsInBeginning, FailsInPlaces, HasDigest, IsIndexFault, beginning_offset, check_end, check_beginning}
 use Rattle.table_index.specs.Text.{AreLaid, IsIndexText, PassChecks, entries_in, start_in, check_entry}
-use Rattle.index_faults.specs.declared.fault.IndexFault.{IndexFault}
+use Rattle.archive_index.specs.declared.index_fault.IndexFault.{IndexFault}
 use Rattle.table_index.proofs.Checks.{IsStop, long_entries, one_front}
 use Rattle.table_index.proofs.Texts.{entries_are, has_digest, start_is}
 

@@ -3,9 +3,9 @@ use Rattle.std.proofs.Common.{◌≡◌, ◌≢◌, ◌∙◌, ℕ, List, refl, 
 use Rattle.std.specs.Prelude.{Option, Some, Result, Ok, Err, IfErr, MatchResult, ◌⊎◌}
 use Rattle.table_index.specs.Fault.{IsOfMachine, IsPartOffset}
 use Rattle.table_index.specs.Reading.{Blames, IsRefused, ReadsText}
-use Rattle.index_faults.specs.declared.fault.IndexFault.{IndexFault}
-use Rattle.index_faults.specs.declared.fault.IndexFaultKind.{IndexFaultKind}
-use Rattle.index_faults.specs.declared.fault.IndexFaultKind.TheVariants.{Device, OutOfMemory}
+use Rattle.archive_index.specs.declared.index_fault.IndexFault.{IndexFault}
+use Rattle.archive_index.specs.declared.index_fault.IndexFaultKind.{IndexFaultKind}
+use Rattle.archive_index.specs.declared.index_fault.IndexFaultKind.TheVariants.{Device, OutOfMemory}
 
 -- a fault of the text is one of another kind too
 pub refused_as : (A B : List ℕ → IndexFault → Type 0) (text : List ℕ) (f : IndexFault) → (A text f → B text f) → IsRefused A text f → IsRefused B text f

@@ -17,8 +17,8 @@ use Rattle.table_index.specs.InnerReading.{AreEndsOf}
 use Rattle.table_index.specs.Text.{IsIndexText, count_in, digest_in, end_of, entries_in, index_text, start_in}
 use Rattle.table_index.specs.declared.ends.Ends.{Ends}
 use Rattle.table_index.proofs.Checks.{fine, failed}
-use Rattle.index_faults.specs.declared.fault.IndexFaultKind.{IndexFaultKind}
-use Rattle.index_faults.specs.declared.fault.IndexFaultKind.TheVariants.{BadMagic, Truncated, BadCount}
+use Rattle.archive_index.specs.declared.index_fault.IndexFaultKind.{IndexFaultKind}
+use Rattle.archive_index.specs.declared.index_fault.IndexFaultKind.TheVariants.{BadMagic, Truncated, BadCount}
 
 -- ---- what the text of tables and entries has
 

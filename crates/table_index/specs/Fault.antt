@@ -7,10 +7,10 @@ use Rattle.sha2.specs.Sha256.{sha256}
 use Rattle.archive_records.specs.Text.{last_of}
 use Rattle.archive_index.specs.Text.{index_magic}
 use Rattle.table_index.specs.Text.{AreLaid, PassChecks, count_in, digest_in, entries_in, start_in, check_entry}
-use Rattle.index_faults.specs.declared.fault.IndexFault.{IndexFault}
-use Rattle.index_faults.specs.declared.fault.IndexFaultKind.{IndexFaultKind}
-use Rattle.index_faults.specs.declared.fault.IndexFaultKind.TheVariants.{BadMagic, Truncated, BadCount, BadDigest}
-use Rattle.index_faults.specs.declared.fault.IndexFaultKind.TheVariants.{BadPlace, Device, OutOfMemory}
+use Rattle.archive_index.specs.declared.index_fault.IndexFault.{IndexFault}
+use Rattle.archive_index.specs.declared.index_fault.IndexFaultKind.{IndexFaultKind}
+use Rattle.archive_index.specs.declared.index_fault.IndexFaultKind.TheVariants.{BadMagic, Truncated, BadCount, BadDigest}
+use Rattle.archive_index.specs.declared.index_fault.IndexFaultKind.TheVariants.{BadPlace, Device, OutOfMemory}
 
 -- What the beginning of a text must be: the magic, and 41 bytes more for an end record.
 unfoldable pub check_beginning : List ℕ → Result (Unit {0}) IndexFaultKind

@@ -8,7 +8,7 @@ use Rattle.table_index.specs.Fault.{HasEnds, IsOfMachine, check_beginning}
 use Rattle.table_index.specs.Text.{AreLaid, PassChecks, count_in, digest_in, entries_in, start_in}
 use Rattle.table_index.specs.declared.ends.Ends.{Ends}
 use Rattle.table_index.specs.declared.entry.TableEntry.{TableEntry}
-use Rattle.index_faults.specs.declared.fault.IndexFault.{IndexFault}
+use Rattle.archive_index.specs.declared.index_fault.IndexFault.{IndexFault}
 
 -- why so many bytes from an offset on were not read: the machine's fault, or there are fewer
 abbrev pub IsUnread : ℕ → ℕ → List ℕ → IndexFault → Type 0

@@ -3,9 +3,9 @@ use Rattle.std.specs.Prelude.{◌≡◌, ℕ, List, ◌⊎◌, Option, Some, Res
 use Rattle.byte_device.specs.Devices.{FailedIn}
 use Rattle.table_index.specs.Fault.{IsIndexFault, IsOfMachine, IsPartOffset}
 use Rattle.table_index.specs.Text.{IsIndexText}
-use Rattle.index_faults.specs.declared.fault.IndexFault.{IndexFault}
-use Rattle.index_faults.specs.declared.fault.IndexFaultKind.{IndexFaultKind}
-use Rattle.index_faults.specs.declared.fault.IndexFaultKind.TheVariants.{Device}
+use Rattle.archive_index.specs.declared.index_fault.IndexFault.{IndexFault}
+use Rattle.archive_index.specs.declared.index_fault.IndexFaultKind.{IndexFaultKind}
+use Rattle.archive_index.specs.declared.index_fault.IndexFaultKind.TheVariants.{Device}
 
 -- how often the device failed, after a call that was refused
 abbrev pub Blames : ℕ → ℕ → IndexFaultKind → Type 0

@@ -13,9 +13,9 @@ use Rattle.archive_core.specs.Summary.{Entries}
 use Rattle.archive_index.specs.Entry.{has_kind, has_length, has_tag, length_in, offset_in}
 use Rattle.archive_index.specs.Text.{index_magic}
 use Rattle.table_index.specs.Entry.{claim_in, has_claim, stored_size}
-use Rattle.index_faults.specs.declared.fault.IndexFaultKind.{IndexFaultKind}
-use Rattle.index_faults.specs.declared.fault.IndexFaultKind.TheVariants.{BadTag, BadKind, BadLength, NotAscending}
-use Rattle.index_faults.specs.declared.fault.IndexFaultKind.TheVariants.{BadTable}
+use Rattle.archive_index.specs.declared.index_fault.IndexFaultKind.{IndexFaultKind}
+use Rattle.archive_index.specs.declared.index_fault.IndexFaultKind.TheVariants.{BadTag, BadKind, BadLength, NotAscending}
+use Rattle.archive_index.specs.declared.index_fault.IndexFaultKind.TheVariants.{BadTable}
 
 -- what an entry must be after this last one, where the tables end at this offset
 unfoldable pub check_entry : ℕ → List ℕ → List ℕ → Result (Unit {0}) IndexFaultKind

@@ -7,13 +7,13 @@ ghost use Rattle.table_index.specs.Entry.{has_claim, stored_size};
 ghost use Rattle.table_index.specs.Fault.{FailsAfter};
 ghost use Rattle.table_index.specs.InnerReading.{AreChecked};
 ghost use Rattle.table_index.specs.Text.{check_entry};
-ghost use Rattle.index_faults.specs.declared.fault.IndexFaultKind.TheVariants.{Device, OutOfMemory};
+ghost use Rattle.archive_index.specs.declared.index_fault.IndexFaultKind.TheVariants.{Device, OutOfMemory};
 
 use crate::TableEntry;
 use crate::entry::{ENTRY_LEN, claim_in};
+use archive_index::{IndexFault, IndexFaultKind};
 use archive_records::{ADMISSION, RETIREMENT, number_at};
 use checked_pages::{Claim, pages_in};
-use index_faults::{IndexFault, IndexFaultKind};
 use memory::Heap;
 
 /// How many bytes stand before the slice of an admission.

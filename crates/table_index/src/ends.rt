@@ -7,12 +7,12 @@ ghost use Rattle.archive_index.specs.Text.{index_magic};
 ghost use Rattle.table_index.specs.Fault.{FailsInBeginning, FailsAtEnd, check_beginning};
 ghost use Rattle.table_index.specs.InnerReading.{AreEndsOf, FailsInEnds, HasBeginning, IsUnread};
 ghost use Rattle.table_index.specs.Reading.{IsRefused, ReadsText};
-ghost use Rattle.index_faults.specs.declared.fault.IndexFaultKind.TheVariants.{Device};
+ghost use Rattle.archive_index.specs.declared.index_fault.IndexFaultKind.TheVariants.{Device};
 
 use crate::entry::ENTRY_LEN;
+use archive_index::{IndexFault, IndexFaultKind};
 use archive_records::number_at;
 use byte_device::{Failed, Placed, ReadFault, read_at};
-use index_faults::{IndexFault, IndexFaultKind};
 use memory::Heap;
 
 /// How many bytes the magic has.

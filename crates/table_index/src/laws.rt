@@ -3,7 +3,7 @@
 ghost use Rattle.std.specs.Prelude.{◌≡◌, ◌⊎◌, ◌<◌, ℕ, List, slice_index};
 ghost use Rattle.table_index.specs.Fault.{IsIndexFault};
 ghost use Rattle.table_index.specs.Text.{IsIndexText};
-ghost use Rattle.index_faults.specs.declared.fault.IndexFault.{IndexFault};
+ghost use Rattle.archive_index.specs.declared.index_fault.IndexFault.{IndexFault};
 
 /// Bytes are the index with one list of entries or have one fault, and never both.
 pub fn one_index_fault()

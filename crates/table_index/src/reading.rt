@@ -6,15 +6,15 @@ ghost use Rattle.table_index.specs.Entry.{AreTableEntries};
 ghost use Rattle.table_index.specs.InnerReading.{AreEndsOf, AreEntriesOf, AreReadOf, FailsBehindEnds};
 ghost use Rattle.table_index.specs.Fault.{FailsDigest, FailsInEntries, FailsInPlaces};
 ghost use Rattle.table_index.specs.Reading.{IsRefused, ReadsIndex, ReadsText};
-ghost use Rattle.index_faults.specs.declared.fault.IndexFaultKind.TheVariants.{Device, OutOfMemory};
+ghost use Rattle.archive_index.specs.declared.index_fault.IndexFaultKind.TheVariants.{Device, OutOfMemory};
 
 use crate::checking::entries_in;
 use crate::ends::{Ends, read_ends, read_part};
 use crate::entry::ENTRY_LEN;
 use crate::places::are_laid;
 use crate::{TableEntry, TableIndex};
+use archive_index::{IndexFault, IndexFaultKind};
 use byte_device::Placed;
-use index_faults::{IndexFault, IndexFaultKind};
 use memory::{Heap, NoMemory};
 use sha2::{Digest, Sha256};
 

@@ -1,12 +1,12 @@
 use Rattle.std.proofs.Common.{◌≡◌, ◌∙◌, [], ℕ, List, Some, ap, map, refl, subst, sym, Contains}
 use Rattle.line_programs.specs.declared.registers.Row.{Row}
-use Rattle.row_steps.specs.RowSteps.{AreRowSteps}
+use Rattle.function_links.specs.RowSteps.{AreRowSteps}
 use Rattle.source_frames.specs.AddressFrames.{rows_of}
 use Rattle.source_frames.specs.FrameViews.{lines_view}
 use Rattle.source_frames.specs.Frames.{FrameRecord}
 use Rattle.source_frames.specs.SectionsViews.{sections_view}
 use Rattle.source_frames.specs.UnitViews.{unit_view}
-use Rattle.waiting_indexes.specs.Rising.{AreRising}
+use Rattle.pending_addresses.specs.Rising.{AreRising}
 use Rattle.frame_turns.specs.Between.{AreTurnsFrom, parts_of}
 use Rattle.frame_turns.specs.ByProgram.{rows_at}
 use Rattle.frame_turns.specs.Given.{Takes}

@@ -1,7 +1,7 @@
 use Rattle.std.proofs.Common.{◌≡◌, ◌<◌, ◌++◌, [], List, arith, length, refl, subst, sym}
 use Rattle.std.proofs.lemmas.List.{length-map}
 use Rattle.line_programs.specs.declared.registers.Row.{Row}
-use Rattle.row_steps.specs.RowSteps.{AreRowSteps}
+use Rattle.function_links.specs.RowSteps.{AreRowSteps}
 use Rattle.source_frames.specs.SectionsViews.{sections_view}
 use Rattle.frame_turns.specs.ByProgram.{AreBoundariesBy, places}
 use Rattle.frame_turns.specs.declared.unit_by_unit.UnitBoundaries.{UnitBoundaries}

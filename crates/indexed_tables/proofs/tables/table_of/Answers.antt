@@ -1,4 +1,4 @@
-use Rattle.slice_tables.proofs.SliceTables.{table_of_lines}
+use Rattle.line_tables.proofs.SliceTables.{table_of_lines}
 use Rattle.indexed_tables.proofs.tables.table_of.Goals as goal
 
 pub returns-clause-table : goal.returns-clause-table

@@ -1,6 +1,6 @@
 use Rattle.std.proofs.Common.{ℕ, ◌+◌, subst}
 use Rattle.byte_device.specs.Devices.{stream}
-use Rattle.placed_passes.specs.Sending.{SendsAt}
+use Rattle.slice_extraction.specs.Sending.{SendsAt}
 use Rattle.slice_extraction.proofs.sending.send_slice_at.Goals as goal
 
 pub returns : goal.returns

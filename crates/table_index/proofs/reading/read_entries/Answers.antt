@@ -6,8 +6,8 @@ use Rattle.table_index.specs.InnerReading.{AreEndsOf, AreEntriesOf, AreReadOf, F
 use Rattle.table_index.specs.Reading.{IsRefused}
 use Rattle.table_index.specs.declared.ends.Ends.{Ends}
 use Rattle.table_index.specs.declared.entry.TableEntry.{TableEntry}
-use Rattle.index_faults.specs.declared.fault.IndexFault.{IndexFault}
-use Rattle.index_faults.specs.declared.fault.IndexFaultKind.TheVariants.{OutOfMemory}
+use Rattle.archive_index.specs.declared.index_fault.IndexFault.{IndexFault}
+use Rattle.archive_index.specs.declared.index_fault.IndexFaultKind.TheVariants.{OutOfMemory}
 use Rattle.table_index.proofs.ReadLemmas.{memory_refused, passed_on, refused_as, checked, flat}
 use Rattle.table_index.proofs.reading.read_entries.Goals as goal
 

@@ -3,7 +3,7 @@ use Rattle.std.proofs.lemmas.Result.{err_from_is_err_and}
 use Rattle.table_index.specs.Entry.{entry_bytes}
 use Rattle.table_index.specs.Fault.{IsIndexFault}
 use Rattle.table_index.specs.InnerReading.{FailsBehindEnds, FailsInEnds}
-use Rattle.index_faults.specs.declared.fault.IndexFault.{IndexFault}
+use Rattle.archive_index.specs.declared.index_fault.IndexFault.{IndexFault}
 use Rattle.table_index.proofs.Decided.{index_of}
 use Rattle.table_index.proofs.ReadLemmas.{after_ok, flat, memory_refused, passed_on, refused_as}
 use Rattle.table_index.proofs.reading.read_index.Goals as goal

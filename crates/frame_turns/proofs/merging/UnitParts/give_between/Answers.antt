@@ -5,9 +5,9 @@ use Rattle.std.proofs.lemmas.List.{length-map}
 use Rattle.function_links.specs.LinkViews.{link_view, links_view}
 use Rattle.function_links.specs.declared.links.Links.{Links}
 use Rattle.line_programs.specs.declared.registers.Row.{Row}
-use Rattle.row_steps.specs.AddressSteps.{at_step}
+use Rattle.function_links.specs.AddressSteps.{at_step}
 use Rattle.source_frames.specs.FrameViews.{lines_view}
-use Rattle.waiting_indexes.specs.Rising.{AreRising, IsCountBelow}
+use Rattle.pending_addresses.specs.Rising.{AreRising, IsCountBelow}
 use Rattle.frame_turns.specs.Between.{AreFramesAt, IsCountTo, IsMerged, IsNextStart, parts_of}
 use Rattle.frame_turns.proofs.GivenLemmas.{takes_more, takes_none}
 use Rattle.frame_turns.proofs.MergeLemmas.{AreTurnsBelow, IsUpto, above_upto, all_below, falls, links_next, merged_first, merged_next, none_below, rows_next, turns_more}

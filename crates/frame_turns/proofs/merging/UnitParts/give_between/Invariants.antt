@@ -1,7 +1,7 @@
 use Rattle.std.proofs.Common.{◌≡◌, ◌-◌, ◌^◌, List, IfSome}
 use Rattle.std.specs.Option.{option_map_or}
 use Rattle.source_frames.specs.FrameViews.{lines_view}
-use Rattle.waiting_indexes.specs.Rising.{IsCountBelow}
+use Rattle.pending_addresses.specs.Rising.{IsCountBelow}
 use Rattle.frame_turns.specs.Between.{IsMerged, parts_of}
 use Rattle.frame_turns.specs.Given.{Takes, TurnRecord}
 use Rattle.frame_turns.specs.UnitNumbers.{ArePartsTold}

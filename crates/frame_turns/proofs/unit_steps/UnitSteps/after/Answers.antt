@@ -1,5 +1,5 @@
 use Rattle.std.proofs.Common.{ℕ, ◌∙◌, List, slice_get, ap, subst, sym}
-use Rattle.waiting_indexes.specs.Rising.{AreRising}
+use Rattle.pending_addresses.specs.Rising.{AreRising}
 use Rattle.frame_turns.specs.Between.{IsCountTo}
 use Rattle.frame_turns.proofs.StartLemmas.{next_above}
 use Rattle.frame_turns.proofs.unit_steps.UnitSteps.after.Goals as goal

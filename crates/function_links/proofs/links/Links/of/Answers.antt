@@ -5,8 +5,8 @@ use Rattle.std.proofs.lemmas.List.{get_or-replicate}
 use Rattle.code_ranges.specs.declared.range.CodeRange.{CodeRange}
 use Rattle.function_links.specs.Links.{ends_of_ranges}
 use Rattle.function_links.specs.Making.{AreMade}
-use Rattle.unit_functions.specs.UnitFunctions.{functions_of}
-use Rattle.unit_functions.specs.declared.functions.Function.{Function}
+use Rattle.function_links.specs.UnitFunctions.{functions_of}
+use Rattle.function_links.specs.declared.functions.Function.{Function}
 use Rattle.function_links.proofs.NameLemmas.{names_numbered}
 use Rattle.function_links.proofs.StepLemmas.{are_of, link_steps}
 use Rattle.function_links.proofs.TakingLemmas.{up_to_first}

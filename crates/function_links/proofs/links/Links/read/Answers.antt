@@ -3,7 +3,7 @@ use Rattle.source_frames.specs.DebugSections.{DebugSectionsRecord}
 use Rattle.source_frames.specs.DebugUnits.{UnitRecord}
 use Rattle.source_frames.specs.SectionsViews.{sections_view}
 use Rattle.source_frames.specs.UnitViews.{unit_view}
-use Rattle.unit_functions.specs.UnitFunctions.{AreFunctions, functions_of}
+use Rattle.function_links.specs.UnitFunctions.{AreFunctions, functions_of}
 use Rattle.function_links.specs.LinkViews.{links_view}
 use Rattle.function_links.specs.Links.{AreLinkSteps}
 use Rattle.function_links.specs.declared.links.Links.{Links}

@@ -3,7 +3,7 @@ use Rattle.std.proofs.lemmas.Option.{slice_get-get_or}
 use Rattle.code_ranges.specs.Lists.{in_ranges}
 use Rattle.code_ranges.specs.declared.range.CodeRange.{CodeRange}
 use Rattle.function_links.specs.Taking.{Takes}
-use Rattle.unit_functions.specs.declared.functions.Function.{Function}
+use Rattle.function_links.specs.declared.functions.Function.{Function}
 use Rattle.function_links.proofs.PartLemmas.{part_of}
 use Rattle.function_links.proofs.RangeLemmas.{all_taken, are_same, same_count, same_trans}
 use Rattle.function_links.proofs.StartLemmas.{record_of}

@@ -1,8 +1,8 @@
 use Rattle.std.proofs.Common.{ℕ, ◌≡◌, ◌<◌, ◌≤◌, List, Some, length, slice_get, take}
 use Rattle.std.specs.List.{flat_map}
 use Rattle.function_links.specs.Taking.{AreOf, HasBefore, HasSame, IsTaking}
-use Rattle.unit_functions.specs.UnitFunctions.{FunctionRecord}
-use Rattle.unit_functions.specs.declared.functions.Function.{Function}
+use Rattle.function_links.specs.UnitFunctions.{FunctionRecord}
+use Rattle.function_links.specs.declared.functions.Function.{Function}
 use Rattle.function_links.proofs.taking.Taking.take_all.Given as goal
 
 abbrev pub invariant-loop-index : goal.invariant-loop-index

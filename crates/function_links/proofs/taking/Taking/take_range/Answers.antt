@@ -1,7 +1,7 @@
 use Rattle.std.proofs.Common.{◌≡◌, ℕ, ◌<◌, ◌≤◌, ◌∷◌, [], List, length, slice_index, sym, subst, refl, true, arith}
 use Rattle.code_ranges.specs.Lists.{in_ranges}
 use Rattle.function_links.specs.Taking.{HasSame}
-use Rattle.waiting_indexes.specs.Rising.{AreRising, IsCountBelow}
+use Rattle.pending_addresses.specs.Rising.{AreRising, IsCountBelow}
 use Rattle.function_links.proofs.RangeLemmas.{are_same, same_count, same_trans, start_between, start_in, taking_waits, takes_next, takes_waiting, takes_weaker}
 use Rattle.function_links.proofs.taking.Taking.take_range.Goals as goal
 

@@ -1,8 +1,8 @@
 use Rattle.std.proofs.Common.{ℕ, ◌≡◌, ◌<◌, ◌≤◌, ◌+◌, ◌-◌, ◌∷◌, [], List, Some, length, slice_get, true}
 use Rattle.code_ranges.specs.Lists.{in_ranges}
 use Rattle.function_links.specs.Taking.{AreOf, HasSame, IsTaking, Takes}
-use Rattle.unit_functions.specs.UnitFunctions.{FunctionRecord}
-use Rattle.waiting_indexes.specs.Waiting.{Waits}
+use Rattle.function_links.specs.UnitFunctions.{FunctionRecord}
+use Rattle.pending_addresses.specs.Waiting.{Waits}
 use Rattle.function_links.proofs.taking.Taking.take_range.Given as goal
 
 abbrev pub invariant-starts : goal.invariant-starts

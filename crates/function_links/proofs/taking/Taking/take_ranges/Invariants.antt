@@ -1,7 +1,7 @@
 use Rattle.std.proofs.Common.{◌≡◌, ℕ, List, Some, slice_get, slice_index, take, true}
 use Rattle.code_ranges.specs.Lists.{in_ranges}
 use Rattle.function_links.specs.Taking.{AreOf, HasSame, IsTaking, Takes}
-use Rattle.unit_functions.specs.UnitFunctions.{FunctionRecord}
+use Rattle.function_links.specs.UnitFunctions.{FunctionRecord}
 use Rattle.function_links.proofs.taking.Taking.take_ranges.Given as goal
 
 abbrev pub invariant-loop-range : goal.invariant-loop-range

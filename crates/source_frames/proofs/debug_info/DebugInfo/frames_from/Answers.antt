@@ -1,5 +1,4 @@
 use Rattle.std.proofs.Common.{◌+◌, arith, ap, subst, ◌∙◌, drop, map, List}
-use Rattle.debug_entries.specs.declared.entry.Entry.{Entry}
 use Rattle.std.proofs.lemmas.List.{map-append}
 use Rattle.debug_entries.specs.Entries.{EntryRecord}
 use Rattle.debug_entries.specs.EntryViews.{entry_view}
@@ -16,11 +15,12 @@ loop-entry-init c =
 
 pub loop-entry-preserved : goal.loop-entry-preserved
 loop-entry-preserved c =
-    let before = λ (d : Entry). subst (λ (rest : List EntryRecord). Completes (sections_view c.args.self.now.sections) (lines_view c.args.lines.now) (unit_view c.args.unit.now) c.loop-entry.location c.args.innermost rest (map (λ e. entry_view e) c.args.chain.now) (map (λ f. frame_view f) c.loop-entry.frames.items))
-    (entries_left c.args.chain.now c.loop-entry.entry-index d (omega arith)) c.loop-entry.invariant in
+    let entry = c.entry-item.result in
+    let before = subst (λ (rest : List EntryRecord). Completes (sections_view c.args.self.now.sections) (lines_view c.args.lines.now) (unit_view c.args.unit.now) c.loop-entry.location c.args.innermost rest (map (λ e. entry_view e) c.args.chain.now) (map (λ f. frame_view f) c.loop-entry.frames.items))
+    (entries_left c.args.chain.now c.loop-entry.entry-index entry (omega arith) c.entry-item.is) c.loop-entry.invariant in
     let added = ap (map (λ f. frame_view f)) c.in_ok-push.ensures.items ∙ map-append (λ f. frame_view f) c.loop-entry.frames.items _ in
-    completes_more (sections_view c.args.self.now.sections) (lines_view c.args.lines.now) (unit_view c.args.unit.now) c.loop-entry.location c.args.innermost c.of_call-location.result _ (map (λ y. entry_view y) (drop (c.loop-entry.entry-index + 1) c.args.chain.now))
-    (map (λ y. entry_view y) c.args.chain.now) (map (λ f. frame_view f) c.loop-entry.frames.items) _ (frame_view c.frame-frame.result) c.of_call-location.ensures (before _) c.frame-frame.ensures added
+    completes_more (sections_view c.args.self.now.sections) (lines_view c.args.lines.now) (unit_view c.args.unit.now) c.loop-entry.location c.args.innermost c.of_call-location.result (entry_view entry) (map (λ y. entry_view y) (drop (c.loop-entry.entry-index + 1) c.args.chain.now))
+    (map (λ y. entry_view y) c.args.chain.now) (map (λ f. frame_view f) c.loop-entry.frames.items) _ (frame_view c.frame-frame.result) c.of_call-location.ensures before c.frame-frame.ensures added
 
 pub returns : goal.returns
 returns c =

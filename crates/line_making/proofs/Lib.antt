@@ -1,2 +1,0 @@
-mod TakerLemmas
-mod TurnLemmas

@@ -1,2 +1,0 @@
-pub mod CoverLemmas
-pub mod RowStepLemmas

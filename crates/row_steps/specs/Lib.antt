@@ -1,3 +1,0 @@
-pub mod AddressSteps
-pub mod RowSteps
-pub mod RowCover

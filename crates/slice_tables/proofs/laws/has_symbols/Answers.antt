@@ -1,5 +1,0 @@
-use Rattle.slice_tables.proofs.SliceTables.{table_of_symbols}
-use Rattle.slice_tables.proofs.laws.has_symbols.Goals as goal
-
-pub returns : goal.returns
-returns c = table_of_symbols

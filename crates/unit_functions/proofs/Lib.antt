@@ -1,5 +1,0 @@
-pub mod ClosingLemmas
-pub mod AddingLemmas
-pub mod OpenLemmas
-pub mod NameLemmas
-pub mod ReadToLemmas

@@ -1,4 +1,0 @@
-pub mod NameNumbers
-pub mod OpenFunctions
-pub mod Origins
-pub mod UnitFunctions
