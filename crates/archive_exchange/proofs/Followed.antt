@@ -13,9 +13,9 @@ use Rattle.archive_records.specs.declared.fault.RecordFault.{RecordFault}
 use Rattle.archive_records.specs.Text.{written, summary_text}
 use Rattle.archive_records.proofs.Summarised.{AreEntries-summary}
 use Rattle.archive_records.proofs.Versions.{one_content}
-use Rattle.exchange_model.specs.World as model
-use Rattle.exchange_model.specs.World.{World, Event, File, Fault, Content, Summary, site_of, records, fault_at_site, fault_of, effect, answer, refused_or}
-use Rattle.exchange_model.specs.World.{with_saved}
+use Rattle.archive_exchange.specs.World as model
+use Rattle.archive_exchange.specs.World.{World, Event, File, Fault, Content, Summary, site_of, records, fault_at_site, fault_of, effect, answer, refused_or}
+use Rattle.archive_exchange.specs.World.{with_saved}
 use Rattle.admission.specs.File.{IsAcceptedFile, IsTakeFault, admissible, parts}
 use Rattle.admission.specs.Take.{admitted}
 use Rattle.archive_exchange.specs.SiteState.{SiteState, IsArchiveTextOf, HasJoined, IsDeliverFault, IsReplyFault, RepliesTo}

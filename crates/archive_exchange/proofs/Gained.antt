@@ -16,10 +16,10 @@ use Rattle.archive_core.proofs.Taken.{made_taken}
 use Rattle.archive_core.proofs.Entries.{slice_of}
 use Rattle.archive_records.specs.Reader.{set_of}
 use Rattle.archive_records.proofs.Contents.{same_bytes}
-use Rattle.exchange_model.specs.World as model
-use Rattle.exchange_model.specs.World.{records, rows, World}
-use Rattle.exchange_model.proofs.Content.{taken_gain, below_reflexive}
-use Rattle.exchange_model.proofs.Kept.{either}
+use Rattle.archive_exchange.specs.World as model
+use Rattle.archive_exchange.specs.World.{records, rows, World}
+use Rattle.archive_exchange.proofs.Content.{taken_gain, below_reflexive}
+use Rattle.archive_exchange.proofs.Kept.{either}
 use Rattle.admission.specs.File.{IsAcceptedFile, is_admissible, admissible, parts, IsTakeFault}
 use Rattle.admission.specs.Take.{admitted, taken_of, taken_rows, HoldsFirstParts}
 use Rattle.archive_exchange.specs.ModelEvent.{part_record, row_told, ModelEvent, IsFile, IsSeen, AreSeen}

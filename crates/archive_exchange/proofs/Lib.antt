@@ -4,3 +4,17 @@ pub mod Followed
 pub mod Runs
 pub mod RunStates
 pub mod Gained
+pub mod Content
+pub mod Between
+pub mod Steps
+pub mod Reach
+pub mod Had
+pub mod Kept
+pub mod Deltas
+pub mod Agreed
+pub mod Meant
+pub mod Telling
+pub mod Rows
+pub mod Rehearsal
+pub mod Events
+pub mod Rehearsed

@@ -9,8 +9,8 @@ use Rattle.archive_core.specs.Content.{Operations, IsContent}
 use Rattle.archive_core.specs.Summary.{Entries}
 use Rattle.archive_records.specs.Entry.{AreEntries}
 use Rattle.archive_records.specs.Text.{summary_text, written}
-use Rattle.exchange_model.specs.World.{World, Message, Content, Summary, updated, with_held, with_saved, with_sent}
-use Rattle.exchange_model.specs.World.{start}
+use Rattle.archive_exchange.specs.World.{World, Message, Content, Summary, updated, with_held, with_saved, with_sent}
+use Rattle.archive_exchange.specs.World.{start}
 use Rattle.archive_exchange.specs.SiteState.{SiteState}
 use Rattle.archive_exchange.specs.WorldState.{message_text, IsSound, IsSite, Represents}
 use Rattle.std.specs.FinSet as set

@@ -8,10 +8,10 @@ use Rattle.std.specs.Option.{IsSomeAnd}
 use Rattle.archive_core.specs.Content.{Operations, IsContent}
 use Rattle.archive_core.specs.Record.{IsRecord}
 use Rattle.archive_records.specs.Text.{written}
-use Rattle.exchange_model.specs.World.{Event, Take, Retire, Full, Ask, Reply, Deliver, Save, Stop, site_of, outcome, start, state, outcomes}
-use Rattle.exchange_model.specs.Reached.{is_accepted, senders}
-use Rattle.exchange_model.specs.Issued.{issues, AreRecords}
-use Rattle.exchange_model.proofs.Between.{and_left}
+use Rattle.archive_exchange.specs.World.{Event, Take, Retire, Full, Ask, Reply, Deliver, Save, Stop, site_of, outcome, start, state, outcomes}
+use Rattle.archive_exchange.specs.Reached.{is_accepted, senders}
+use Rattle.archive_exchange.specs.Issued.{issues, AreRecords}
+use Rattle.archive_exchange.proofs.Between.{and_left}
 use Rattle.archive_exchange.specs.SiteState.{SiteState}
 use Rattle.archive_exchange.specs.ModelEvent.{IsSeen, AreSeen, OutcomeIs}
 use Rattle.archive_exchange.specs.InnerEvents.{IsRecorded, Happens, HasRun}

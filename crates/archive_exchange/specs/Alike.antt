@@ -7,8 +7,8 @@ use Rattle.archive_core.specs.Names.{NameRecord, IsNames}
 use Rattle.archive_core.specs.declared.find.FindRow.{FindRow}
 use Rattle.archive_core.specs.declared.keys.SliceKey.{SliceKey}
 use Rattle.archive_core.specs.declared.lookup.Where.{Where}
-use Rattle.exchange_model.specs.World.{Event}
-use Rattle.exchange_model.specs.Reached.{reached}
+use Rattle.archive_exchange.specs.World.{Event}
+use Rattle.archive_exchange.specs.Reached.{reached}
 use Rattle.archive_exchange.specs.SiteState.{IsArchiveTextOf}
 
 -- two contents are alike: one text is that of both, and each lookup, each search for a UUID and each search for a name

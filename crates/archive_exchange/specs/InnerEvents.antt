@@ -4,10 +4,10 @@ use Rattle.std.specs.Prelude.{◌≡◌, ℕ, true, suc, ◌≤◌, List, Some, 
 use Rattle.std.specs.List.{AllZip}
 use Rattle.std.specs.FinSet as set
 use Rattle.archive_core.specs.Record.{IsRecord}
-use Rattle.exchange_model.specs.World as model
-use Rattle.exchange_model.specs.World.{World, Event, site_of, happens, outcome, state, outcomes}
-use Rattle.exchange_model.specs.Reached.{is_accepted, senders}
-use Rattle.exchange_model.specs.Issued.{issues}
+use Rattle.archive_exchange.specs.World as model
+use Rattle.archive_exchange.specs.World.{World, Event, site_of, happens, outcome, state, outcomes}
+use Rattle.archive_exchange.specs.Reached.{is_accepted, senders}
+use Rattle.archive_exchange.specs.Issued.{issues}
 use Rattle.archive_exchange.specs.SiteState.{SiteState}
 use Rattle.archive_exchange.specs.ModelEvent.{OutcomeIs}
 use Rattle.archive_exchange.specs.WorldState.{Represents}

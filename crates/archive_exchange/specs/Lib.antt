@@ -3,3 +3,8 @@ pub mod SiteState
 pub mod WorldState
 pub mod ModelEvent
 pub mod InnerEvents
+pub mod World
+pub mod Reached
+pub mod Issued
+pub mod EventLines
+pub mod Rehearse

@@ -1,4 +1,4 @@
--- What the events of a rehearsal and their outcomes are to the definitions of sites (exchange_model).
+-- What the events of a rehearsal and their outcomes are to the definitions of sites (`World`).
 use Rattle.std.specs.Prelude.{◌≡◌, ◌≢◌, ℕ, List, drop, map, if◌then◌else◌}
 use Rattle.std.specs.declared.option.Option.{Option}
 use Rattle.std.specs.declared.option.Option.TheVariants.{None, Some}
@@ -9,7 +9,7 @@ use Rattle.archive_core.specs.Valid.{key_of}
 use Rattle.archive_core.specs.Record.{admission_record, retirement_record}
 use Rattle.archive_records.specs.declared.fault.RecordFault.{RecordFault}
 use Rattle.archive_records.specs.declared.fault.RecordFaultKind.TheVariants.{BadMagic}
-use Rattle.exchange_model.specs.World as model
+use Rattle.archive_exchange.specs.World as model
 use Rattle.admission.specs.File.{IsAcceptedFile, IsTakeFault, is_admissible, parts}
 use Rattle.admission.specs.declared.fault.TakeFault.{TakeFault}
 use Rattle.admission.specs.declared.fault.TakeFault.TheVariants.{OutOfMemory}

@@ -1,10 +1,10 @@
--- The sites and the messages of a rehearsal beside a world of exchange_model, and what an event makes of them.
+-- The sites and the messages of a rehearsal beside a `World`, and what an event makes of them.
 use Rattle.std.specs.Prelude.{◌≡◌, ◌<◌, ◌^◌, ℕ, List, Some, length, map, slice_get, refl}
 use Rattle.std.specs.Coded.{Coded, code_by, coded×, coded_list, coded_ℕ}
 use Rattle.archive_core.specs.Content.{IsContent}
 use Rattle.archive_records.specs.Entry.{AreEntries}
 use Rattle.archive_records.specs.Text.{written, summary_text}
-use Rattle.exchange_model.specs.World.{World, Message, Content, Summary}
+use Rattle.archive_exchange.specs.World.{World, Message, Content, Summary}
 use Rattle.archive_exchange.specs.SiteState.{SiteState, site_state_code, IsWhole}
 
 -- what the sites keep, in the order of their numbers, and the texts that were sent, in their order

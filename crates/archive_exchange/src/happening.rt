@@ -1,7 +1,7 @@
 //! What an event does at a site, and among sites.
 ghost use Rattle.std.specs.Prelude.{◌≡◌, ◌<◌, ◌++◌, ◌∷◌, [], ℕ, List, length, IfOk, OnOk};
 ghost use Rattle.archive_core.specs.Record.{retirement_record};
-ghost use Rattle.exchange_model.specs.World as model;
+ghost use Rattle.archive_exchange.specs.World as model;
 ghost use Rattle.archive_exchange.specs.ModelEvent.{ModelEvent, IsFile, IsSeen};
 ghost use Rattle.archive_exchange.specs.InnerEvents.{SeenFile, IsRecorded, Follows, Happens};
 

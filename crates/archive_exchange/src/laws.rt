@@ -25,7 +25,7 @@ pub fn delivery_resumed()
         → HasJoined text old new }
 {}
 
-/// Each list of events is one list to the definitions of `exchange_model`.
+/// Each list of events is one list to the definitions of `specs/World`.
 pub fn one_meaning()
     ensures some { (events : List Event) → (seen : List ModelEvent) × AreSeen events seen }
     ensures one { (events : List Event) (seen other : List ModelEvent)

@@ -2,9 +2,9 @@
 ghost use Rattle.std.specs.Prelude.{◌≡◌, ◌≤◌, ℕ, [], List, Some, suc, min, max, length, slice_get, IfOk};
 ghost use Rattle.std.specs.List.{AllZip};
 ghost use Rattle.archive_core.specs.Content.{IsBelow, content_of};
-ghost use Rattle.exchange_model.specs.World.{start, state, outcomes};
-ghost use Rattle.exchange_model.specs.Reached.{reached};
-ghost use Rattle.exchange_model.specs.Issued.{AreIssued, AreRecords, IsDigestTelling, IsExchange, IsQuiet};
+ghost use Rattle.archive_exchange.specs.World.{start, state, outcomes};
+ghost use Rattle.archive_exchange.specs.Reached.{reached};
+ghost use Rattle.archive_exchange.specs.Issued.{AreIssued, AreRecords, IsDigestTelling, IsExchange, IsQuiet};
 ghost use Rattle.archive_exchange.specs.SiteState.{SiteState};
 ghost use Rattle.archive_exchange.specs.ModelEvent.{ModelEvent, OfEvents, OutcomeIs};
 ghost use Rattle.archive_exchange.specs.WorldState.{Represents};
@@ -13,12 +13,12 @@ ghost use Rattle.archive_exchange.specs.InnerEvents.{HasRun};
 
 use crate::happening::happen;
 use crate::laws::one_meaning;
+use crate::model_laws::{
+    answered_agree, delta_lifts, issued_and_kept, reached_is_held, same_reached,
+};
 use crate::{Outcome, Site, World};
 use admission::TakeFault;
 use archive_core::Archive;
-use exchange_model::laws::{
-    answered_agree, delta_lifts, issued_and_kept, reached_is_held, same_reached,
-};
 use exchange_script::Event;
 use memory::{Heap, NoMemory};
 
@@ -56,7 +56,7 @@ fn carry_out<A: Archive + Drop>(
 /// Carries out a list of events on so many sites, which begin empty, and gives the world that they leave and an outcome
 /// an event. Any events, in any order: a refused one changes nothing.
 ///
-/// Each clause speaks of what the events are to the definitions of `exchange_model`, as `laws::one_meaning` says of
+/// Each clause speaks of what the events are to the definitions of `specs/World`, as `laws::one_meaning` says of
 /// each list. Want of memory at any event refuses the run.
 pub fn run<A: Archive + Drop>(
     heap: Heap,

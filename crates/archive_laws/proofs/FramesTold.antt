@@ -13,9 +13,9 @@ use Rattle.source_frames.specs.AddressFrames.{AreFramesOf}
 use Rattle.source_frames.specs.Frames.{FrameRecord}
 use Rattle.command_core.specs.declared.faults.Status.{Status}
 use Rattle.command_core.specs.declared.faults.Status.TheVariants.{Done, Partial}
-use Rattle.address_queries.specs.Frames.{IsFrameAnswered, TellsFrames, MakesFramed, Told, IsToldAlone, SymbolicatesEach, is_done}
+use Rattle.archive_queries.specs.Frames.{IsFrameAnswered, TellsFrames, MakesFramed, Told, IsToldAlone, SymbolicatesEach, is_done}
 use Rattle.command_core.specs.Inputs.{Reader, IsGiven}
-use Rattle.address_queries.specs.Symbolicate.{Answered, IsAnswered, TellsAddresses, is_symbol, answers_status, answers_text}
+use Rattle.archive_queries.specs.Symbolicate.{Answered, IsAnswered, TellsAddresses, is_symbol, answers_status, answers_text}
 use Rattle.archive_laws.specs.Joins.{IsGivenJoin}
 use Rattle.archive_laws.proofs.Joins.{holds_join, told_of_join}
 use Rattle.archive_laws.proofs.Given.{gives, is_given, one_value}

@@ -7,7 +7,7 @@ use Rattle.std.proofs.lemmas.List.Sums.{fold-append}
 use Rattle.archive_core.specs.Content.{Operations, IsBelow, IsMade, IsContent, content_of, joined}
 use Rattle.archive_core.specs.Order.{below_antisymmetric, below_left, below_reflexive, below_right, below_transitive, joined_below}
 use Rattle.archive_core.proofs.Made.{joined_made_right, union_assoc}
-use Rattle.exchange_model.proofs.Content.{joined_made, union_nothing}
+use Rattle.archive_exchange.proofs.Content.{joined_made, union_nothing}
 use Rattle.command_core.specs.Archives.{merged}
 use Rattle.archive_writing.specs.Merge.{operations_of}
 use Rattle.archive_laws.proofs.Joins.{merged_is}

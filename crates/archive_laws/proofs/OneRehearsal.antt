@@ -2,8 +2,8 @@
 use Rattle.std.proofs.Common.{◌≡◌, ℕ, ◌+◌, List, [], ◌∷◌, ◌++◌, length, map, codes, refl, sym, ap, ap₂, ◌∙◌, subst, Ok, true, if◌then◌else◌, slice_index_or, decimal}
 use Rattle.std.specs.List.{AllZip}
 use Rattle.archive_core.specs.Record.{retirement_record}
-use Rattle.exchange_model.specs.World as model
-use Rattle.exchange_model.specs.World.{state, outcomes}
+use Rattle.archive_exchange.specs.World as model
+use Rattle.archive_exchange.specs.World.{state, outcomes}
 use Rattle.archive_exchange.specs.InnerEvents.{SeenFile}
 use Rattle.archive_exchange.specs.ModelEvent.{ModelEvent, IsFile, IsSeen, AreSeen, OutcomeIs, row_told, fault_told}
 use Rattle.admission.specs.declared.fault.TakeFault.{TakeFault}
@@ -13,11 +13,11 @@ use Rattle.archive_exchange.specs.declared.outcome.Outcome.{Outcome}
 use Rattle.archive_exchange.specs.declared.outcome.Outcome.TheVariants.{Took, Retired, Refused}
 use Rattle.exchange_script.specs.Events.{Act, Take, Retire, Full, Ask, Reply, Deliver, Save, Stop, act_of}
 use Rattle.exchange_script.specs.Script.{acts, script_of}
-use Rattle.rehearse.specs.EventLines.{event_fault_text, event_lines, outcome_text, sent_text, took_text}
+use Rattle.archive_exchange.specs.EventLines.{event_fault_text, event_lines, outcome_text, sent_text, took_text}
 use Rattle.report_text.specs.Report.{line}
 use Rattle.command_core.specs.declared.faults.Status.{Status}
 use Rattle.command_core.specs.Inputs.{Reader, IsGiven}
-use Rattle.rehearse.specs.Rehearse.{MakesRehearsed, TellsEvents, rehearsal_lines, site_lines}
+use Rattle.archive_exchange.specs.Rehearse.{MakesRehearsed, TellsEvents, rehearsal_lines, site_lines}
 use Rattle.archive_laws.proofs.Given.{is_given, one_value}
 
 -- ---- one report

@@ -23,9 +23,9 @@ use Rattle.command_core.specs.declared.faults.Status.{Status}
 use Rattle.command_core.specs.declared.faults.Status.TheVariants.{Done, Partial}
 use Rattle.source_frames.specs.AddressFrames.{AreFramesOf}
 use Rattle.source_frames.specs.Frames.{FrameRecord}
-use Rattle.address_queries.proofs.Sourced.{answer_of, one_answering}
-use Rattle.address_queries.specs.Sources.{AreFramesAt, AreShown, IsSourced}
-use Rattle.address_queries.specs.Symbolicate.{asked_of, is_symbol, Answered, IsAnswered, answers_status, answers_text, TellsAddresses}
+use Rattle.archive_queries.proofs.Sourced.{answer_of, one_answering}
+use Rattle.archive_queries.specs.Sources.{AreFramesAt, AreShown, IsSourced}
+use Rattle.archive_queries.specs.Symbolicate.{asked_of, is_symbol, Answered, IsAnswered, answers_status, answers_text, TellsAddresses}
 use Rattle.archive_laws.proofs.Given.{one_zipped}
 
 abbrev seen_found : FoundRecord → List ℕ

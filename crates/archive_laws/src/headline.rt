@@ -11,14 +11,14 @@ ghost use Rattle.archive_core.specs.Lookup.{AnswerRecord, Unanswered, Alone, Dis
 ghost use Rattle.archive_core.specs.Lookup.{OwnRow, IsAnswer, IsOwn, IsOwnRow};
 ghost use Rattle.archive_core.specs.declared.keys.SliceKey.{SliceKey};
 ghost use Rattle.archive_core.specs.declared.lookup.Where.{Where};
-ghost use Rattle.exchange_model.specs.World.{Event, state};
-ghost use Rattle.exchange_model.specs.Reached.{had, reached, Reaches};
-ghost use Rattle.exchange_model.specs.Issued.{AreRecords};
+ghost use Rattle.archive_exchange.specs.World.{Event, state};
+ghost use Rattle.archive_exchange.specs.Reached.{had, reached, Reaches};
+ghost use Rattle.archive_exchange.specs.Issued.{AreRecords};
 ghost use Rattle.archive_exchange.specs.SiteState.{IsArchiveTextOf};
 ghost use Rattle.archive_exchange.specs.Alike.{TookTheSame};
 
 use crate::content_laws::{contents_join, one_answer};
-use exchange_model::laws::{reaching_in_words, records_make_contents, same_reached};
+use archive_exchange::model_laws::{reaching_in_words, records_make_contents, same_reached};
 
 /// After any list of events, sites that took the same operations, in any orders, with any repeats and through any
 /// merges, write out the same bytes and answer every lookup alike: the nearest symbol as defined, a conflict or none;

@@ -18,21 +18,21 @@ ghost use Rattle.command_core.specs.Found.{TellsFound};
 ghost use Rattle.command_core.specs.Inputs.{Gives, HoldsContent, IsGiven, IsGivenArchive, IsRefusedArchive, Reader};
 ghost use Rattle.command_core.specs.Inputs.{RefusesDevicesAlone, Unfailed};
 ghost use Rattle.archive_queries.specs.Find.{MakesFound, find};
-ghost use Rattle.address_queries.specs.Frames.{MakesFramed, SymbolicatesEach, TellsFrames, frames};
+ghost use Rattle.archive_queries.specs.Frames.{MakesFramed, SymbolicatesEach, TellsFrames, frames};
 ghost use Rattle.archive_queries.specs.List.{MakesListed, list};
 ghost use Rattle.archive_queries.specs.Name.{MakesNamed, TellsNamed, name};
-ghost use Rattle.address_queries.specs.Symbolicate.{MakesAnswered, TellsAddresses, symbolicate};
-ghost use Rattle.rehearse.specs.Rehearse.{MakesRehearsed, rehearse, held_line};
+ghost use Rattle.archive_queries.specs.Symbolicate.{MakesAnswered, TellsAddresses, symbolicate};
+ghost use Rattle.archive_exchange.specs.Rehearse.{MakesRehearsed, rehearse, held_line};
 ghost use Rattle.archive_laws.specs.Joins.{AreDevicesAlone, IsGivenJoin, IsMergedFile, TellAlike, TellOne};
-ghost use Rattle.exchange_model.specs.Reached.{reached};
-ghost use Rattle.exchange_model.specs.World.{state};
+ghost use Rattle.archive_exchange.specs.Reached.{reached};
+ghost use Rattle.archive_exchange.specs.World.{state};
 ghost use Rattle.archive_exchange.specs.ModelEvent.{ModelEvent};
 
 use crate::content_laws::{one_answer, one_find, one_find_name, one_list};
 use admission::TakeFault;
 use archive_exchange::laws::one_meaning;
+use archive_exchange::model_laws::same_reached;
 use byte_device::Source;
-use exchange_model::laws::same_reached;
 use source_frames::laws::one_list_of_frames;
 
 /// Where the archives are the texts of contents, FRAMES says frames and SCRIPT a script, whatever its events are, no

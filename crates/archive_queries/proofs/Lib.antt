@@ -1,2 +1,5 @@
 mod Found
 pub mod NamesTogether
+pub mod Sourced
+pub mod Answered
+pub mod Framed

@@ -2,3 +2,8 @@ pub mod Find
 pub mod List
 pub mod Name
 pub mod InnerNames
+pub mod Sources
+pub mod Symbolicate
+pub mod Frames
+pub mod InnerSources
+pub mod InnerFrames

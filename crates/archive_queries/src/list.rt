@@ -5,8 +5,7 @@ ghost use Rattle.archive_queries.specs.List.{list};
 ghost use Rattle.command_core.specs.Outputs.{writer};
 
 use byte_device::{CannotOpen, Sink, Source};
-use command_core::{CommandFault, Status, found_status, publish_report};
-use command_inputs::read_rows;
+use command_core::{CommandFault, Status, found_status, publish_report, read_rows};
 use memory::Heap;
 use report_text::list_lines;
 

@@ -10,8 +10,7 @@ ghost use Rattle.archive_queries.specs.Name.{Answers, underscored};
 
 use archive_reading::{NamesFound, NamesTold, SoughtNames, gather_names, live_names, read_names};
 use byte_device::{CannotOpen, Source};
-use command_core::{CommandFault, InputName, Status, found_status};
-use command_inputs::{opened, refusal};
+use command_core::{CommandFault, InputName, Status, found_status, opened, refusal};
 use memory::{Heap, NoMemory};
 use report_text::name_lines;
 

@@ -26,8 +26,9 @@ use crate::telling::tell_operations;
 use admission::TakeFault;
 use archive_core::Slice;
 use byte_device::{CannotOpen, Sink, Source};
-use command_core::{CommandFault, InputName, Output, Status, Target, Why, publish_draft};
-use command_inputs::{read_file, refused_behind};
+use command_core::{
+    CommandFault, InputName, Output, Status, Target, Why, publish_draft, read_file, refused_behind,
+};
 use memory::{Heap, NoMemory};
 use record_merge::Arrival;
 use report_text::admit_lines;

@@ -17,8 +17,9 @@ ghost use Rattle.command_core.specs.Outputs.{out_of, outs, writer};
 use crate::telling::tell_operations;
 use archive_core::Operation;
 use byte_device::{CannotOpen, Sink, Source};
-use command_core::{CommandFault, Output, Status, Target, publish_draft};
-use command_inputs::{read_operations, refused_behind};
+use command_core::{
+    CommandFault, Output, Status, Target, publish_draft, read_operations, refused_behind,
+};
 use memory::Heap;
 use record_merge::number_of_new;
 use report_text::apply_line;

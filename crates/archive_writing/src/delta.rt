@@ -12,8 +12,10 @@ use crate::copying::copy_unnamed;
 use crate::joining::command_fault_of;
 use archive_records::{Sizes, Summary};
 use byte_device::{CannotOpen, Sink, Source};
-use command_core::{CommandFault, InputName, Output, Status, Target, publish_draft};
-use command_inputs::{opened, read_summary_input, refused_behind};
+use command_core::{
+    CommandFault, InputName, Output, Status, Target, opened, publish_draft, read_summary_input,
+    refused_behind,
+};
 use memory::Heap;
 
 /// Copies what the summary does not name of ARCHIVE into the draft.

@@ -6,8 +6,7 @@ ghost use Rattle.archive_writing.specs.MergeStreams.{IsMergeFaultTold};
 
 use archive_records::{MergeCause, MergeFault, Sizes};
 use byte_device::{CannotOpen, Sink, Source};
-use command_core::{CommandFault, InputName};
-use command_inputs::{opened, refusal};
+use command_core::{CommandFault, InputName, opened, refusal};
 use memory::Heap;
 use record_merge::merge_streams;
 

@@ -17,8 +17,10 @@ use crate::joining::{command_fault_of, join_input};
 use archive_core::{Archive, take_all};
 use archive_records::write_archive;
 use byte_device::{Bytes, CannotOpen, Grown, Sink, Source};
-use command_core::{CommandFault, InputName, Output, Status, Target, publish_draft};
-use command_inputs::{opened, read_input, refused_behind};
+use command_core::{
+    CommandFault, InputName, Output, Status, Target, opened, publish_draft, read_input,
+    refused_behind,
+};
 use memory::Heap;
 use record_merge::merge_streams;
 

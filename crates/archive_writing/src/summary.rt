@@ -5,8 +5,7 @@ ghost use Rattle.command_core.specs.Outputs.{out_of, outs, writer};
 ghost use Rattle.archive_writing.specs.Summary.{summary};
 
 use byte_device::{CannotOpen, Sink, Source};
-use command_core::{CommandFault, Output, Status, Target, publish_summary};
-use command_inputs::read_entries;
+use command_core::{CommandFault, Output, Status, Target, publish_summary, read_entries};
 use memory::Heap;
 
 /// Writes the summary of ARCHIVE's content to OUT, and to the report how many entries and bytes it has.

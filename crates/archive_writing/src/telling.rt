@@ -16,8 +16,7 @@ use crate::joining::command_fault_of;
 use archive_core::Operation;
 use archive_records::Sizes;
 use byte_device::{CannotOpen, Sink, Source};
-use command_core::{CommandFault, InputName};
-use command_inputs::opened;
+use command_core::{CommandFault, InputName, opened};
 use memory::Heap;
 use record_merge::{BorrowedSide, BorrowedText, Told, merge_telling};
 

@@ -1,4 +1,4 @@
-//! What all commands have: the words for what they read, and how one ends.
+//! What all commands have: their inputs, the words for what they read, and how one ends.
 //!
 //! A command reads its inputs, each opened beforehand and refused in the order of the words, and writes OUT, as its
 //! first input comes or after all were read. OUT is published when it is whole, and after that comes the report.
@@ -7,7 +7,9 @@
 //! - `failures`: the line that the program says where it fails;
 //! - `statuses`: how a search ends, and the exit status of what was carried out;
 //! - `outputs`: OUT, which takes bytes and is then published;
-//! - `publishing`: the end of each command.
+//! - `publishing`: the end of each command;
+//! - `sources`: what one input holds, or its refusal;
+//! - `together`: archives of which parts are kept and joined, and questions that their join answers.
 //!
 //! # Why it is so
 //!
@@ -20,10 +22,18 @@ mod failures;
 mod faults;
 mod outputs;
 mod publishing;
+mod sources;
 mod statuses;
+mod together;
 
 pub use failures::Failure;
 pub use faults::{CommandFault, InputName, Status, Why};
 pub use outputs::{Output, Target, publish_output};
 pub use publishing::{publish, publish_bytes, publish_draft, publish_report, publish_summary};
+pub use sources::{
+    answer_input, opened, read_crash, read_entries, read_events, read_file, read_input,
+    read_input_part, read_operations, read_rows, read_summary_input, refusal, refused_behind,
+    test_input,
+};
 pub use statuses::{found_status, status_of};
+pub use together::{answer_all, answer_archives, bytes_of, join_part, read_parts};

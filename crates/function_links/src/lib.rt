@@ -20,6 +20,5 @@ mod origins;
 mod row_steps;
 mod taking;
 
-use functions::{Function, Functions};
 pub use links::{Link, Links};
 pub use row_steps::RowSteps;

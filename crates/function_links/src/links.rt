@@ -2,19 +2,19 @@
 
 ghost use Rattle.std.specs.Prelude.{◌≤◌, ◌<◌, ◌↔◌, ℕ, IfOk, length};
 ghost use Rattle.std.specs.List.{Contains};
+ghost use Rattle.function_links.specs.FunctionNames.{AreNumbered};
 ghost use Rattle.function_links.specs.Links.{AreLinkSteps, ends_of_ranges};
 ghost use Rattle.function_links.specs.LinkViews.{links_view};
 ghost use Rattle.function_links.specs.NameNumbers.{AreNamesNumbered};
 ghost use Rattle.function_links.specs.Taking.{AreParts};
+ghost use Rattle.function_links.specs.UnitFunctions.{AreFunctions};
 ghost use Rattle.source_frames.specs.DebugSections.{DebugSectionsRecord};
 ghost use Rattle.source_frames.specs.DebugUnits.{UnitRecord};
 ghost use Rattle.source_frames.specs.SectionsViews.{sections_view};
 ghost use Rattle.source_frames.specs.UnitViews.{unit_view};
-ghost use Rattle.function_links.specs.FunctionNames.{AreNumbered};
-ghost use Rattle.function_links.specs.UnitFunctions.{AreFunctions};
 ghost use Rattle.pending_addresses.specs.Rising.{AreRising};
 
-use crate::Functions;
+use crate::functions::Functions;
 use crate::making::Making;
 use crate::taking::Taking;
 use code_ranges::CodeRange;

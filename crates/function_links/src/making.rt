@@ -3,8 +3,8 @@
 ghost use Rattle.std.specs.Prelude.{◌≡◌, ◌≤◌, ◌<◌, ◌+◌, IfOk, OnOk, length};
 ghost use Rattle.function_links.specs.Making.{AreKept, AreMade, IsLinkIn, child_at, count_at};
 
+use crate::functions::{Function, Functions};
 use crate::links::Link;
-use crate::{Function, Functions};
 use memory::{Heap, NoMemory};
 
 /// Links that are being made: `last` is the number of the last one that stands in none, or 0.

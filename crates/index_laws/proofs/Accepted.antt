@@ -4,7 +4,7 @@ use Rattle.std.proofs.Common.{true, get_or, None, Ok, Err, inl, inr}
 use Rattle.std.specs.Prelude.{slice_get, Contains}
 use Rattle.std.specs.List.{AllZip, AllByRecursion, list_any}
 use Rattle.std.proofs.lemmas.Option.{same_Some}
-use Rattle.index_inputs.specs.Together.{AllThree, IsKept, IsLater, IsRefusedAtPlaces, IsFirstRefusedByIndex, IsReadWith}
+use Rattle.indexed_queries.specs.Together.{AllThree, IsKept, IsLater, IsRefusedAtPlaces, IsFirstRefusedByIndex, IsReadWith}
 use Rattle.std.specs.Cmp.{both_ways, tied_itself}
 use Rattle.std.specs.Cmp.Lexicographic.{nat_list_cmp_total}
 use Rattle.std.specs.FinSet as set
@@ -32,7 +32,7 @@ use Rattle.byte_device.specs.declared.disks.CannotOpen.{CannotOpen}
 use Rattle.command_core.specs.Inputs.{Gives, IsGiven, Reader, reader, IsDeviceFault, IsUnread}
 use Rattle.index_laws.specs.Indexes.{IsIndexFile}
 use Rattle.index_laws.proofs.OfContent.{is_key_of}
-use Rattle.index_inputs.specs.Indexes.{HoldsIndex, HoldsTables, HasOtherLength, IsOfOtherLength, IsRefusedByIndex, IsUnreadAt, IsUnreadIndex}
+use Rattle.indexed_queries.specs.Indexes.{HoldsIndex, HoldsTables, HasOtherLength, IsOfOtherLength, IsRefusedByIndex, IsUnreadAt, IsUnreadIndex}
 use Rattle.index_laws.specs.Contents.{HaveKeys, IsIndexGiven, AreOwnIndexes, IsOwnIndex}
 use Rattle.std.specs.Ordering.{eq_by_cmp, is_eq}
 use Rattle.std.proofs.lemmas.List.Folds.{list_any_at}
@@ -48,8 +48,8 @@ use Rattle.table_index.specs.Reading.{IsRefused}
 use Rattle.command_core.specs.declared.faults.InputName.{InputName}
 use Rattle.command_core.specs.declared.faults.Why.{Why}
 use Rattle.command_core.specs.declared.faults.Why.TheVariants.{CannotOpen as NotOpened, Record, Index as IndexFaulty}
-use Rattle.index_inputs.specs.Prefixes.{IsReadFor, IsStaleFor, IsStaleUnder, IsUnnamedUnder}
-use Rattle.index_inputs.specs.Several.{AreRefusedLater, AreRefusedTogether}
+use Rattle.indexed_queries.specs.Prefixes.{IsReadFor, IsStaleFor, IsStaleUnder, IsUnnamedUnder}
+use Rattle.indexed_queries.specs.Several.{AreRefusedLater, AreRefusedTogether}
 
 -- ---- lists of one length, whose elements at each place are related
 

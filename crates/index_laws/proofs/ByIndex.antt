@@ -20,11 +20,11 @@ use Rattle.archive_index.specs.Index.{index}
 use Rattle.archive_index.specs.Places.{AreNamed, HasIndexedLength, IsNamedBy, TellsFound}
 use Rattle.archive_index.proofs.Named.{of_the_index, right}
 use Rattle.table_index.specs.Text.{placed_of}
-use Rattle.address_queries.specs.Frames.{IsFrameAnswered, TellsFrames}
-use Rattle.address_queries.specs.Symbolicate.{Answered, asked_of}
-use Rattle.command_inputs.proofs.Parts.{joined_alike}
-use Rattle.address_queries.proofs.Sourced.{sourced_as}
-use Rattle.command_inputs.proofs.Alike.{answers_alike}
+use Rattle.archive_queries.specs.Frames.{IsFrameAnswered, TellsFrames}
+use Rattle.archive_queries.specs.Symbolicate.{Answered, asked_of}
+use Rattle.command_core.proofs.Parts.{joined_alike}
+use Rattle.archive_queries.proofs.Sourced.{sourced_as}
+use Rattle.command_core.proofs.Alike.{answers_alike}
 use Rattle.crash_frames.specs.declared.frame.Frame.{Frame}
 use Rattle.command_core.specs.Archives.{merged}
 use Rattle.command_core.specs.Inputs.{IsGiven, Reader}
@@ -32,9 +32,9 @@ use Rattle.command_core.specs.declared.faults.Status.{Status}
 use Rattle.index_laws.specs.Indexes.{IsIndexFile, all_joined}
 use Rattle.index_laws.proofs.Joined.{empty_content, to_any}
 use Rattle.index_laws.proofs.Right.{zip_right}
-use Rattle.index_inputs.specs.Prefixes.{AreNamedUnder, HoldsNamed}
-use Rattle.index_inputs.specs.Several.{HoldTogether}
-use Rattle.index_inputs.specs.Together.{IsLater, IsReadWith, merged_each}
+use Rattle.indexed_queries.specs.Prefixes.{AreNamedUnder, HoldsNamed}
+use Rattle.indexed_queries.specs.Several.{HoldTogether}
+use Rattle.indexed_queries.specs.Together.{IsLater, IsReadWith, merged_each}
 use Rattle.indexed_symbols.specs.Frames.{keys_of}
 use Rattle.index_laws.specs.Contents.{AreIndexed, DigestsTellOver, IsIndexed}
 use Rattle.index_laws.proofs.Accepted.{still_given, held_tables, of_given, for_first, third_fourth, with_fourth}

@@ -8,9 +8,9 @@ use Rattle.archive_core.specs.Lookup.{answer_view}
 use Rattle.archive_core.specs.declared.keys.SliceKey.{SliceKey}
 use Rattle.archive_core.proofs.Compare.{length_key_bytes}
 use Rattle.archive_core.proofs.Members.{in_front, in_map, in_rest}
-use Rattle.address_queries.specs.Frames.{IsFrameAnswered, TellsFrames}
-use Rattle.address_queries.specs.Symbolicate.{Answered, IsAnswered, TellsAddresses, asked_of}
-use Rattle.address_queries.proofs.Answered.{told_alike}
+use Rattle.archive_queries.specs.Frames.{IsFrameAnswered, TellsFrames}
+use Rattle.archive_queries.specs.Symbolicate.{Answered, IsAnswered, TellsAddresses, asked_of}
+use Rattle.archive_queries.proofs.Answered.{told_alike}
 use Rattle.command_core.specs.Inputs.{IsDeviceFault, IsGiven, Reader}
 use Rattle.command_core.specs.declared.faults.InputName.{InputName}
 use Rattle.command_core.specs.declared.faults.Status.{Status}
@@ -21,7 +21,7 @@ use Rattle.index_laws.specs.Indexes.{AreIndexes, DigestsTell, IsIndexFile, all_j
 use Rattle.index_laws.proofs.Joined.{joined_alone, tells_alone}
 use Rattle.index_laws.proofs.Right as told
 use Rattle.indexed_answers.specs.Among.{EntryAt}
-use Rattle.index_inputs.specs.Together.{AreReadWith, IsReadWith}
+use Rattle.indexed_queries.specs.Together.{AreReadWith, IsReadWith}
 use Rattle.indexed_symbols.specs.Asking.{AreGiven, AreRefusedAsking, AreUntold, IsAnsweredByTables, IsUnreadTable}
 use Rattle.indexed_symbols.specs.Frames.{AreToldAt, IsFrameByTables, TellsFramesBySlices, TellsFramesByTables, keys_of}
 use Rattle.indexed_symbols.specs.Symbolicate.{TellsBySlices, TellsByTables, symbolicate_at}

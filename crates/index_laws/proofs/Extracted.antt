@@ -28,7 +28,7 @@ use Rattle.index_laws.proofs.Among.{IsOfSlice, admission_if, lives_if, slice_of_
 use Rattle.index_laws.proofs.Joined.{joined_alone, tells_alone}
 use Rattle.index_laws.proofs.Right.{IsAnsweringSlice, slices_right, zip_empty, zip_through}
 use Rattle.indexed_answers.specs.Among.{EntryAt}
-use Rattle.index_inputs.specs.Together.{AreLater, IsOneOf}
+use Rattle.indexed_queries.specs.Together.{AreLater, IsOneOf}
 use Rattle.slice_extraction.specs.Entries.{HoldsSlice, IsChosen, StandFor, AreUnchosen}
 use Rattle.slice_extraction.specs.Indexed.{MakesEntry, extract_at, LacksEntry}
 use Rattle.slice_extraction.specs.Wanted.{IsWanted, slice_line, written_line, AreUndecided, slice_row, slices_text}

@@ -31,7 +31,7 @@ use Rattle.archive_index.specs.Entry.{offset_in}
 use Rattle.table_index.specs.Entry.{claim_in}
 use Rattle.table_index.specs.Text.{IsIndexText}
 use Rattle.indexed_answers.specs.Among.{AreAnsweringAmong, AreTied, EntryAt, IsAmong, IsRepeatOf, StandsBefore, all_of, answers_among, lives_under}
-use Rattle.address_queries.specs.Sources.{AreFramesAt, AreShown, IsSourced}
+use Rattle.archive_queries.specs.Sources.{AreFramesAt, AreShown, IsSourced}
 use Rattle.indexed_answers.specs.AmongTold.{AreFramesToldAt, AreShownAmong, IsAnswerAmong, IsToldOfAmong, IsToldRowAt}
 use Rattle.indexed_answers.specs.AmongAsked.{HasNoTable, IsDamagedAt, IsLinelessAt}
 use Rattle.indexed_answers.specs.Contents.{IsSliceOf}

@@ -13,7 +13,7 @@ use Rattle.command_core.specs.declared.faults.Why.{Why}
 use Rattle.command_core.specs.declared.faults.Why.TheVariants.{NoLines}
 use Rattle.line_tables.specs.SliceTable.{HasNoLines}
 use Rattle.index_laws.specs.Indexes.{AnswersUnder, IsIndexFile}
-use Rattle.index_inputs.specs.Together.{AllThree}
+use Rattle.indexed_queries.specs.Together.{AllThree}
 
 -- each slice of a content is under a key whose parts have their widths, as each slice of bytes is
 abbrev pub HaveKeys : Operations → Type 0

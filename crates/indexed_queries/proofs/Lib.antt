@@ -1,1 +1,4 @@
 pub mod Entries
+pub mod Refused
+pub mod Joined
+pub mod Groups

@@ -5,11 +5,11 @@ use Rattle.archive_core.specs.declared.find.FindRow.{FindRow}
 use Rattle.report_text.specs.Finds.{find_lines}
 use Rattle.command_core.specs.declared.faults.Status.{Status}
 use Rattle.command_core.specs.Ends.{Query}
-use Rattle.index_inputs.specs.Indexes.{IsIndexOf, IsRefusedByIndex}
+use Rattle.indexed_queries.specs.Indexes.{IsIndexOf, IsRefusedByIndex}
 use Rattle.command_core.specs.Inputs.{Reader, Unfailed}
 use Rattle.command_core.specs.Found.{TellsFound, found_status}
 use Rattle.indexed_queries.specs.Rows.{AreIndexRows}
-use Rattle.index_inputs.specs.Several.{asks_together}
+use Rattle.indexed_queries.specs.Several.{asks_together}
 
 -- what an index tells of a UUID: the status of the rows of its entries there, and their lines
 pub record TellsFoundAt (entries : Entries) (uuid : List ℕ) (status : Status) (text : List ℕ) : Type 0 where

@@ -2,3 +2,8 @@ pub mod Rows
 pub mod Find
 pub mod List
 pub mod Summary
+pub mod Indexes
+pub mod Prefixes
+pub mod InnerParts
+pub mod Together
+pub mod Several

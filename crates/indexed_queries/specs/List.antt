@@ -5,7 +5,7 @@ use Rattle.archive_core.specs.declared.find.FindRow.{FindRow}
 use Rattle.report_text.specs.Finds.{list_lines}
 use Rattle.command_core.specs.declared.faults.Status.{Status}
 use Rattle.command_core.specs.Ends.{Query}
-use Rattle.index_inputs.specs.Indexes.{IsIndexOf, IsRefusedByIndex}
+use Rattle.indexed_queries.specs.Indexes.{IsIndexOf, IsRefusedByIndex}
 use Rattle.command_core.specs.Inputs.{Reader, Unfailed}
 use Rattle.command_core.specs.Found.{found_status}
 use Rattle.indexed_queries.specs.Rows.{AreIndexRows}

@@ -5,7 +5,7 @@ use Rattle.join_core.specs.Listing.{listing}
 use Rattle.archive_core.specs.Summary.{Entries}
 use Rattle.archive_records.specs.Text.{summary_text}
 use Rattle.command_core.specs.Ends.{Command}
-use Rattle.index_inputs.specs.Indexes.{IsIndexOf, IsRefusedByIndex}
+use Rattle.indexed_queries.specs.Indexes.{IsIndexOf, IsRefusedByIndex}
 use Rattle.command_core.specs.Inputs.{Reader, Unfailed}
 use Rattle.command_core.specs.Outputs.{summary_report_of}
 

@@ -5,11 +5,13 @@ ghost use Rattle.command_core.specs.Inputs.{reader, readers};
 ghost use Rattle.command_core.specs.Outputs.{writer};
 ghost use Rattle.indexed_queries.specs.Find.{find_at, find_together};
 
+use crate::inputs::read_index_of;
+use crate::prefixes::{KeyPrefix, uuid_bytes};
 use crate::rows::rows_under;
+use crate::together::read_together;
 use archive_core::Archive;
 use byte_device::{CannotOpen, Placed, Sink};
 use command_core::{CommandFault, Status, found_status, publish_report};
-use index_inputs::{KeyPrefix, read_index_of, read_together, uuid_bytes};
 use memory::Heap;
 use report_text::find_lines;
 use uuid::Uuid;

@@ -1,16 +1,33 @@
-//! The commands that ask an archive by its index, and print an answer, over any devices and sinks.
+//! Indexes of archives as inputs of a command, each read, and compared with the length of its archive; and the commands
+//! that ask an archive by its index and print an answer, over any devices and sinks.
 //!
+//! - `inputs`: an index that is read, and the archive that it is of ([`read_index_of`]);
+//! - `prefixes`: [`KeyPrefix`], what a key begins with; `parts`: what an index names there, read and joined;
+//! - `together`: indexes of several archives, read ([`read_indexes`]), and the slices that they name
+//!   ([`read_prefixes`]);
 //! - `rows`: the rows that an index tells; `summaries`: the summary that it tells;
 //! - `find`, `list`, `summary`: commands that read entries alone, and the archive's length; `find` over several archives
 //!   reads the slices of the UUID.
+//!
+//! # Why it is so
+//!
+//! - All indexes are read, and compared with the lengths of their archives, before a slice is.
+//! - `Stale` is said of INDEX, and not of the archive.
 #![tactic(auto)]
 
 mod find;
+mod inputs;
 mod list;
+mod parts;
+mod prefixes;
 mod rows;
 mod summaries;
 mod summary;
+mod together;
 
 pub use find::{run_find_at, run_find_together};
+pub use inputs::read_index_of;
 pub use list::run_list_at;
+pub use prefixes::{KeyPrefix, uuid_bytes};
 pub use summary::run_summary_at;
+pub use together::{read_indexes, read_prefixes, read_together};

@@ -4,10 +4,10 @@ ghost use Rattle.command_core.specs.Inputs.{reader};
 ghost use Rattle.command_core.specs.Outputs.{writer};
 ghost use Rattle.indexed_queries.specs.List.{list_at};
 
+use crate::inputs::read_index_of;
 use crate::rows::rows_under;
 use byte_device::{CannotOpen, Placed, Sink};
 use command_core::{CommandFault, Status, found_status, publish_report};
-use index_inputs::read_index_of;
 use memory::Heap;
 use report_text::list_lines;
 

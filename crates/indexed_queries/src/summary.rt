@@ -4,10 +4,10 @@ ghost use Rattle.command_core.specs.Inputs.{reader};
 ghost use Rattle.command_core.specs.Outputs.{out_of, outs, writer};
 ghost use Rattle.indexed_queries.specs.Summary.{summary_at};
 
+use crate::inputs::read_index_of;
 use crate::summaries::summary_of;
 use byte_device::{CannotOpen, Placed, Sink};
 use command_core::{CommandFault, Output, Status, Target, publish_summary};
-use index_inputs::read_index_of;
 use memory::Heap;
 
 /// Writes the summary that INDEX tells to OUT, and to the report how many entries and bytes it has, as `summary` does

@@ -8,8 +8,8 @@ use Rattle.byte_device.specs.declared.disks.CannotOpen.{CannotOpen}
 use Rattle.archive_core.specs.Content.{HaveSameMembers, Operations}
 use Rattle.archive_core.specs.Key.{key_bytes}
 use Rattle.archive_core.specs.declared.keys.SliceKey.{SliceKey}
-use Rattle.address_queries.specs.Frames.{TellsFrames}
-use Rattle.address_queries.specs.Symbolicate.{Answered, TellsAddresses}
+use Rattle.archive_queries.specs.Frames.{TellsFrames}
+use Rattle.archive_queries.specs.Symbolicate.{Answered, TellsAddresses}
 use Rattle.crash_frames.specs.declared.frame.Frame.{Frame}
 use Rattle.command_core.specs.Inputs.{AreRead, Reader, readers, EachUnfailed, IsRefusal}
 use Rattle.command_core.specs.declared.faults.CommandFault.{CommandFault}
@@ -18,15 +18,15 @@ use Rattle.command_core.specs.declared.faults.InputName.{InputName}
 use Rattle.command_core.specs.declared.faults.Status.{Status}
 use Rattle.command_core.specs.declared.faults.Why.{Why}
 use Rattle.command_core.proofs.Readers.{readers_long}
-use Rattle.command_inputs.proofs.Parts.{refusal_of}
+use Rattle.command_core.proofs.Parts.{refusal_of}
 use Rattle.indexed_answers.specs.Among.{EntryAt}
 use Rattle.indexed_answers.specs.AmongAsked.{BlamesAmong, HasText, HaveTexts, IsUntoldAmong, each_known}
 use Rattle.indexed_answers.specs.declared.fault.AnswerFault.{AnswerFault}
 use Rattle.indexed_answers.specs.declared.fault.AnswerFault.TheVariants as answer
 use Rattle.indexed_answers.proofs.Columns.{zip_as}
-use Rattle.index_inputs.specs.Several.{AreRefusedLater, AreUnfailedTogether, MakesTogether}
-use Rattle.index_inputs.specs.Together.{AreAllKept, AreReadWith, HoldNamed, IsKept, IsReadWith}
-use Rattle.index_inputs.proofs.Groups.{later_readers, read_earlier, three_long, unfailed_through}
+use Rattle.indexed_queries.specs.Several.{AreRefusedLater, AreUnfailedTogether, MakesTogether}
+use Rattle.indexed_queries.specs.Together.{AreAllKept, AreReadWith, HoldNamed, IsKept, IsReadWith}
+use Rattle.indexed_queries.proofs.Groups.{later_readers, read_earlier, three_long, unfailed_through}
 use Rattle.indexed_symbols.specs.Asking.{AreGiven, AreRefusedAsking, AreTiedUnder, AreUntold, IsAnsweredByTables, IsChanged, IsLineless, IsUntoldUnder, IsUnreadTable, TellTables}
 use Rattle.indexed_symbols.specs.Frames.{AreToldAt, IsFrameByTables, TellTablesOfFrames, keys_of}
 use Rattle.indexed_symbols.specs.InnerAsking.{AreHeldUnder, AreRefusedUnder, IsUntoldBy, NoneFailed, command_fault}

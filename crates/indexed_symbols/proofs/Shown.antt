@@ -22,8 +22,8 @@ use Rattle.command_core.proofs.Readers.{pairs_more}
 use Rattle.command_core.specs.Inputs.{IsRefusal}
 use Rattle.command_core.specs.declared.faults.CommandFault.{CommandFault}
 use Rattle.command_core.specs.declared.faults.CommandFault.TheVariants.{Input, OutOfMemory}
-use Rattle.address_queries.proofs.Answered.{status_more}
-use Rattle.address_queries.specs.Symbolicate.{Answered, asked_of, is_symbol}
+use Rattle.archive_queries.proofs.Answered.{status_more}
+use Rattle.archive_queries.specs.Symbolicate.{Answered, asked_of, is_symbol}
 use Rattle.indexed_answers.specs.declared.answers.Answers.{Answers}
 use Rattle.indexed_answers.proofs.Columns.{zip_as}
 use Rattle.indexed_answers.specs.Among.{AreAnsweringAmong, EntryAt}

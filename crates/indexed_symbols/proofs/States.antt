@@ -7,7 +7,7 @@ use Rattle.byte_device.specs.declared.disks.CannotOpen.{CannotOpen}
 use Rattle.command_core.specs.Inputs.{Reader, reader, readers, EachUnfailed, Gives, IsGiven, failures_of}
 use Rattle.indexed_answers.specs.Among.{AreAnsweringAmong, EntryAt}
 use Rattle.indexed_answers.specs.AmongAsked.{AreOpened, HasText, HaveTexts, IsOpenedAt, each_known, known_of}
-use Rattle.index_inputs.specs.Together.{AreAllKept, AreReadWith, IsKept}
+use Rattle.indexed_queries.specs.Together.{AreAllKept, AreReadWith, IsKept}
 use Rattle.indexed_symbols.specs.Asking.{AreGiven, FailsAlone}
 use Rattle.indexed_symbols.specs.InnerAsking.{AreAllOpened}
 

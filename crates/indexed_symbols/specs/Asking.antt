@@ -6,7 +6,7 @@ use Rattle.byte_device.specs.Devices.{FailedIn}
 use Rattle.archive_core.specs.Key.{key_bytes}
 use Rattle.archive_core.specs.Lookup.{answer_view}
 use Rattle.archive_core.specs.declared.keys.SliceKey.{SliceKey}
-use Rattle.address_queries.specs.Symbolicate.{Answered, answers_status, answers_text, asked_of}
+use Rattle.archive_queries.specs.Symbolicate.{Answered, answers_status, answers_text, asked_of}
 use Rattle.archive_index.specs.declared.index_fault.IndexFaultKind.TheVariants.{Device}
 use Rattle.indexed_answers.specs.Among.{AreAnsweringAmong, AreTied, EntryAt}
 use Rattle.indexed_answers.specs.AmongAsked.{IsAskedAt, IsDamagedAt, IsLinelessAt}
@@ -17,8 +17,8 @@ use Rattle.command_core.specs.declared.faults.InputName.TheVariants.{Index}
 use Rattle.command_core.specs.declared.faults.Status.{Status}
 use Rattle.command_core.specs.declared.faults.Why.{Why}
 use Rattle.command_core.specs.declared.faults.Why.TheVariants.{Damaged, Index as IndexFaulty, NoLines}
-use Rattle.index_inputs.specs.Several.{AreRefusedLater}
-use Rattle.index_inputs.specs.Together.{AreReadWith, IsFirstRefusedByIndex}
+use Rattle.indexed_queries.specs.Several.{AreRefusedLater}
+use Rattle.indexed_queries.specs.Together.{AreReadWith, IsFirstRefusedByIndex}
 
 -- ---- by tables
 

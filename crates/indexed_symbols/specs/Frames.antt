@@ -3,8 +3,8 @@ use Rattle.std.specs.Prelude.{◌≡◌, ◌⊎◌, ℕ, List, Bool, Ok, map}
 use Rattle.std.specs.List.{AllZip}
 use Rattle.archive_core.specs.Content.{HaveSameMembers}
 use Rattle.archive_core.specs.Key.{key_bytes}
-use Rattle.address_queries.specs.Frames.{TellsFrames}
-use Rattle.address_queries.specs.Symbolicate.{Answered, answers_status, answers_text}
+use Rattle.archive_queries.specs.Frames.{TellsFrames}
+use Rattle.archive_queries.specs.Symbolicate.{Answered, answers_status, answers_text}
 use Rattle.crash_frames.specs.Frames.{frames_of}
 use Rattle.crash_frames.specs.declared.frame.Frame.{Frame}
 use Rattle.command_core.specs.Ends.{Query}
@@ -12,8 +12,8 @@ use Rattle.command_core.specs.Inputs.{Reader, EachUntouched, Gives, IsRefusedFra
 use Rattle.command_core.specs.declared.faults.InputName.{InputName}
 use Rattle.command_core.specs.declared.faults.Status.{Status}
 use Rattle.command_core.specs.declared.faults.Why.{Why}
-use Rattle.index_inputs.specs.Several.{AreUnfailedTogether, MakesTogether}
-use Rattle.index_inputs.specs.Together.{AreReadWith}
+use Rattle.indexed_queries.specs.Several.{AreUnfailedTogether, MakesTogether}
+use Rattle.indexed_queries.specs.Together.{AreReadWith}
 use Rattle.indexed_symbols.specs.Asking.{AreGiven, AreRefusedAsking, AreTiedUnder, IsAnsweredByTables}
 
 -- the keys of frames

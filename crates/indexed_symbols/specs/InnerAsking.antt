@@ -16,7 +16,7 @@ use Rattle.command_core.specs.declared.faults.InputName.{InputName}
 use Rattle.command_core.specs.declared.faults.InputName.TheVariants.{Index}
 use Rattle.command_core.specs.declared.faults.Why.{Why}
 use Rattle.command_core.specs.declared.faults.Why.TheVariants as why
-use Rattle.index_inputs.specs.Together.{HoldNamed, IsFirstRefusedAtPlaces}
+use Rattle.indexed_queries.specs.Together.{HoldNamed, IsFirstRefusedAtPlaces}
 use Rattle.indexed_symbols.specs.Asking.{AreTiedUnder}
 
 -- each device was opened

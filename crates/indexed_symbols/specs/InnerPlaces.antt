@@ -5,7 +5,7 @@ use Rattle.std.specs.Ordering.{eq_by_cmp, nat_cmp, ordering_then}
 use Rattle.std.specs.Cmp.Lexicographic.{slice_cmp}
 use Rattle.std.specs.declared.cmp.Ordering.{Ordering}
 use Rattle.archive_core.specs.Key.{key_bytes}
-use Rattle.address_queries.specs.Symbolicate.{asked_of}
+use Rattle.archive_queries.specs.Symbolicate.{asked_of}
 use Rattle.archive_core.specs.declared.keys.SliceKey.{SliceKey}
 use Rattle.crash_frames.specs.declared.frame.Frame.{Frame}
 use Rattle.archive_core.specs.declared.lookup.Where.{Where}

@@ -9,7 +9,7 @@ use Rattle.archive_core.specs.Key.{key_bytes}
 use Rattle.archive_core.specs.Lookup.{AnswerRecord, answer_view}
 use Rattle.archive_core.specs.declared.keys.SliceKey.{SliceKey}
 use Rattle.archive_core.specs.declared.lookup.Where.{Where}
-use Rattle.address_queries.specs.Symbolicate.{Answered, answers_status, answers_text, asked_of}
+use Rattle.archive_queries.specs.Symbolicate.{Answered, answers_status, answers_text, asked_of}
 use Rattle.crash_frames.specs.declared.frame.Frame.{Frame}
 use Rattle.command_core.specs.declared.faults.Status.{Status}
 use Rattle.indexed_answers.specs.AmongTold.{IsAnswerAmong}

@@ -2,12 +2,12 @@
 use Rattle.std.specs.Prelude.{◌⊎◌, ℕ, List, [], ◌∷◌, Bool, Option}
 use Rattle.archive_core.specs.Key.{key_bytes}
 use Rattle.archive_core.specs.declared.keys.SliceKey.{SliceKey}
-use Rattle.address_queries.specs.Symbolicate.{TellsAddresses}
+use Rattle.archive_queries.specs.Symbolicate.{TellsAddresses}
 use Rattle.command_core.specs.Ends.{Query}
 use Rattle.command_core.specs.Inputs.{Reader}
 use Rattle.command_core.specs.declared.faults.Status.{Status}
-use Rattle.index_inputs.specs.Several.{AreUnfailedTogether, MakesTogether}
-use Rattle.index_inputs.specs.Together.{AreReadWith}
+use Rattle.indexed_queries.specs.Several.{AreUnfailedTogether, MakesTogether}
+use Rattle.indexed_queries.specs.Together.{AreReadWith}
 use Rattle.indexed_symbols.specs.Asking.{AreGiven, AreRefusedAsking, AreTiedUnder, TellTables}
 
 -- The indexes were read, and their tables tell this of the addresses.

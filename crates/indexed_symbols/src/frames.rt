@@ -2,25 +2,24 @@
 ghost use Rattle.std.specs.Prelude.{◌≡◌, IfOk, MatchOption, length, map};
 ghost use Rattle.archive_core.specs.Content.{HaveSameMembers};
 ghost use Rattle.archive_core.specs.Key.{key_bytes};
-ghost use Rattle.address_queries.specs.Frames.{TellsFrames};
+ghost use Rattle.archive_queries.specs.Frames.{TellsFrames};
 ghost use Rattle.command_core.specs.Ends.{EndsReport};
 ghost use Rattle.command_core.specs.Inputs.{reader, readers};
 ghost use Rattle.command_core.specs.Outputs.{writer};
 ghost use Rattle.indexed_answers.specs.AmongAsked.{HaveTexts};
-ghost use Rattle.index_inputs.specs.Prefixes.{prefix_bytes};
+ghost use Rattle.indexed_queries.specs.Prefixes.{prefix_bytes};
 ghost use Rattle.indexed_symbols.specs.Asking.{AreTiedUnder};
 ghost use Rattle.indexed_symbols.specs.Frames.{TellTablesOfFrames, frames_at, keys_of};
 ghost use Rattle.indexed_symbols.specs.InnerAsking.{AreAllOpened, AsksEither, AsksSlices, AsksTables};
 
 use crate::places::asked_places;
 use crate::told::{answer_frames_by_tables, tell_keys};
-use address_queries::answer_frames;
 use archive_core::{Archive, SliceKey, compare_keys};
+use archive_queries::answer_frames;
 use byte_device::{CannotOpen, Placed, Sink, Source};
-use command_core::{CommandFault, Status, publish_bytes};
-use command_inputs::read_crash;
+use command_core::{CommandFault, Status, publish_bytes, read_crash};
 use crash_frames::Frame;
-use index_inputs::{KeyPrefix, read_indexes, read_prefixes};
+use indexed_queries::{KeyPrefix, read_indexes, read_prefixes};
 use memory::{Heap, NoMemory};
 use table_index::TableIndex;
 

@@ -3,8 +3,8 @@ ghost use Rattle.std.specs.Prelude.{◌≡◌, IfOk, map};
 ghost use Rattle.std.specs.List.Sorted.{IsStrictlySortedBy};
 ghost use Rattle.indexed_symbols.specs.InnerPlaces.{AreAskedOf, asked_cmp, numbers_of, place_cmp, place_of};
 
-use address_queries::asked_of;
 use archive_core::{SliceKey, Where, compare_keys};
+use archive_queries::asked_of;
 use crash_frames::Frame;
 use memory::{Heap, NoMemory};
 use std::cmp::Ordering;

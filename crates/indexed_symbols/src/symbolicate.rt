@@ -1,7 +1,7 @@
 //! `symbolicate ARCHIVE UUID ARCH [--load HEX] [--lines] ADDRESS... --index INDEX`, over one archive or several.
 ghost use Rattle.std.specs.Prelude.{◌≡◌, ◌∷◌, [], IfOk, MatchOption, length, string_bytes};
 ghost use Rattle.archive_core.specs.Key.{key_bytes};
-ghost use Rattle.address_queries.specs.Symbolicate.{TellsAddresses};
+ghost use Rattle.archive_queries.specs.Symbolicate.{TellsAddresses};
 ghost use Rattle.command_core.specs.Ends.{EndsReport};
 ghost use Rattle.command_core.specs.Inputs.{readers};
 ghost use Rattle.command_core.specs.Outputs.{writer};
@@ -12,12 +12,12 @@ ghost use Rattle.indexed_symbols.specs.InnerTold.{ShowsAddresses};
 ghost use Rattle.indexed_symbols.specs.Symbolicate.{symbolicate_at};
 
 use crate::tables::{push_told, tell_key};
-use address_queries::{answer_each, places_of, status_behind};
 use archive_core::{Archive, SliceKey};
+use archive_queries::{answer_each, places_of, status_behind};
 use byte_device::{CannotOpen, Placed, Sink};
 use command_core::{CommandFault, Status, publish_report};
-use index_inputs::{KeyPrefix, read_indexes, read_prefixes};
 use indexed_answers::Answers;
+use indexed_queries::{KeyPrefix, read_indexes, read_prefixes};
 use memory::{Heap, NoMemory};
 use table_index::TableIndex;
 

@@ -4,7 +4,7 @@ ghost use Rattle.std.specs.Prelude.{◌≡◌, ◌∷◌, [], ◌≤◌, IfOk, M
 ghost use Rattle.std.specs.List.{prefix_len};
 ghost use Rattle.std.specs.List.Sorted.{IsStrictlySortedBy};
 ghost use Rattle.archive_core.specs.Key.{key_bytes};
-ghost use Rattle.address_queries.specs.Symbolicate.{asked_of};
+ghost use Rattle.archive_queries.specs.Symbolicate.{asked_of};
 ghost use Rattle.indexed_answers.specs.Among.{AreTied};
 ghost use Rattle.indexed_answers.specs.AmongAsked.{HaveTexts};
 ghost use Rattle.indexed_symbols.specs.Asking.{AreTiedUnder};
@@ -15,8 +15,8 @@ ghost use Rattle.indexed_symbols.specs.InnerTold.{ShowsFrames, StandsAt};
 
 use crate::places::{AskedPlace, compare_places};
 use crate::tables::{push_told, tell_key};
-use address_queries::status_behind;
 use archive_core::{SliceKey, Where, compare_keys};
+use archive_queries::status_behind;
 use byte_device::{CannotOpen, Placed};
 use command_core::{CommandFault, Status};
 use crash_frames::Frame;

@@ -39,4 +39,3 @@ mod taker;
 mod texts;
 
 pub use making::line_table;
-use store::LineStore;

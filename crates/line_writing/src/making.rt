@@ -3,8 +3,8 @@
 ghost use Rattle.std.specs.Prelude.{◌≡◌, IfOk};
 ghost use Rattle.line_tables.specs.LineTable.{IsLineTable, room_of};
 
-use crate::LineStore;
 use crate::laws::table_by_turns;
+use crate::store::LineStore;
 use crate::taker::StoreTaker;
 use frame_turns::give_turns;
 use macho_image::Image;

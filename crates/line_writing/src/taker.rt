@@ -1,6 +1,6 @@
 //! A store of lines as a taker of turns.
 
-use crate::LineStore;
+use crate::store::LineStore;
 use frame_turns::FrameTaker;
 use line_programs::PathParts;
 use memory::NoMemory;

@@ -23,7 +23,7 @@ use Rattle.indexed_queries.specs.Summary.{summary_at}
 use Rattle.plan_commands.specs.QueryDispatch.{NotesUnderscored, extract_of, find_of, frames_of, list_of, symbolicate_of}
 use Rattle.plan_commands.specs.declared.plans.Plan.{Plan}
 use Rattle.archive_queries.specs.Name.{name}
-use Rattle.rehearse.specs.Rehearse.{rehearse}
+use Rattle.archive_exchange.specs.Rehearse.{rehearse}
 use Rattle.index_writing.specs.Index.{index}
 use Rattle.slice_extraction.specs.Extract.{Extraction, Extracts}
 use Rattle.plan_commands.specs.declared.plans.Plan.TheVariants as plan

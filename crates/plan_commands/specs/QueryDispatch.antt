@@ -7,7 +7,7 @@ use Rattle.command_core.specs.declared.faults.InputName.TheVariants.{Archive, In
 use Rattle.command_core.specs.declared.faults.Why.TheVariants.{NoArchive, NoIndex}
 use Rattle.command_core.specs.{Archives.HoldTogether, Ends.Query, Inputs.Reader, Outputs.Takes, Outputs.Writer}
 use Rattle.archive_queries.specs.{Find.find, List.list, Name.SaysUnderscored}
-use Rattle.address_queries.specs.{Frames.frames, Symbolicate.symbolicate}
+use Rattle.archive_queries.specs.{Frames.frames, Symbolicate.symbolicate}
 use Rattle.archive_writing.specs.declared.notes.Note.{Note}
 use Rattle.archive_writing.specs.declared.notes.Note.TheVariants.{Retired, Missing, Underscored}
 use Rattle.indexed_queries.specs.{Find.find_at, Find.find_together, List.list_at}

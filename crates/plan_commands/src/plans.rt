@@ -14,6 +14,7 @@ ghost use Rattle.plan_commands.specs.Plans.{Executes, IsPlanOf, Notes, key_of, l
 use crate::query_dispatch::{self, Input, first_and_rest};
 use crate::{queries, updates};
 use archive_core::{ArchKey, Archive, Digest, SliceKey};
+use archive_exchange::run_rehearse;
 use archive_files::Replaces;
 use archive_writing::{Note, run_migrate, run_new};
 use byte_device::{Placed, Sink, Source};
@@ -23,7 +24,6 @@ use command_line::Values::{Archs, Digests, Numbers, Texts, Uuids};
 use command_line::{Line, Values};
 use index_writing::run_index;
 use memory::Heap;
-use rehearse::run_rehearse;
 use uuid::Uuid;
 
 /// What a line asks for: its command, with the values that it is carried out with. The paths of its inputs stay in the

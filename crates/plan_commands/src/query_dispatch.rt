@@ -10,9 +10,8 @@ ghost use Rattle.plan_commands.specs.QueryDispatch.{AddsUnderscored, NotesUnders
 ghost use Rattle.plan_commands.specs.QueryDispatch.{IsAlone, extract_of, find_of, frames_of, list_of, symbolicate_of};
 ghost use Rattle.slice_extraction.specs.Extract.{Extracts};
 
-use address_queries::{run_frames, run_symbolicate};
 use archive_core::{Archive, Digest, SliceKey};
-use archive_queries::{answer_name, run_find, run_list};
+use archive_queries::{answer_name, run_find, run_frames, run_list, run_symbolicate};
 use archive_writing::Note;
 use byte_device::{CannotOpen, Placed, Sink, Source};
 use command_core::{CommandFault, InputName, Output, Status, Target, Why, publish_report};

@@ -15,12 +15,12 @@ use Rattle.command_core.specs.declared.faults.CommandFault.{CommandFault}
 use Rattle.command_core.specs.declared.faults.CommandFault.TheVariants.{Input, Output, Report, OutOfMemory}
 use Rattle.command_core.specs.declared.faults.Status.{Status}
 use Rattle.command_core.proofs.Readers.{none_failed, readers_long, unfailed_more}
-use Rattle.command_inputs.proofs.Parts.{refusal_of}
+use Rattle.command_core.proofs.Parts.{refusal_of}
 use Rattle.indexed_answers.specs.Among.{AreTied, EntryAt, IsAmong}
 use Rattle.indexed_answers.specs.Named.{IsRowAt}
-use Rattle.index_inputs.specs.Several.{AreRefusedLater, AreUnfailedTogether, HoldTogether}
-use Rattle.index_inputs.specs.Together.{AreAllKept, AreLater, AreReadWith, IsFirstRefusedAtPlaces, IsFirstRefusedByIndex, IsKept, IsOneOf, IsReadWith}
-use Rattle.index_inputs.proofs.Groups.{later_readers, one_of, read_earlier, three_long, unfailed_through}
+use Rattle.indexed_queries.specs.Several.{AreRefusedLater, AreUnfailedTogether, HoldTogether}
+use Rattle.indexed_queries.specs.Together.{AreAllKept, AreLater, AreReadWith, IsFirstRefusedAtPlaces, IsFirstRefusedByIndex, IsKept, IsOneOf, IsReadWith}
+use Rattle.indexed_queries.proofs.Groups.{later_readers, one_of, read_earlier, three_long, unfailed_through}
 use Rattle.slice_extraction.specs.Entries.{AreUnchosen, IsChosen, StopsSlice}
 use Rattle.slice_extraction.specs.Extract.{Extraction, Extracts}
 use Rattle.slice_extraction.specs.Indexed.{AreRefusedBefore, HoldTied, IsChosenFrom, LacksEntry, MakesEntry, StopsEntry, extract_at}

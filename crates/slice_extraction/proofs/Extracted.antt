@@ -8,7 +8,7 @@ use Rattle.archive_core.specs.Part.{AreAlikeUnder}
 use Rattle.archive_core.specs.declared.keys.Digest.{Digest}
 use Rattle.archive_core.specs.declared.keys.SliceKey.{SliceKey}
 use Rattle.archive_core.proofs.Picked.{alike_back}
-use Rattle.command_inputs.proofs.Alike.{answers_alike}
+use Rattle.command_core.proofs.Alike.{answers_alike}
 use Rattle.command_core.specs.Ends.{IsStopped}
 use Rattle.command_core.specs.Inputs.{IsRefusal}
 use Rattle.command_core.specs.Outputs.{Outs, Publishes, PublishesNothing, Takes, Writer, out_of}

@@ -17,7 +17,7 @@ use Rattle.command_core.specs.declared.faults.Why.{Why}
 use Rattle.command_core.specs.declared.faults.Why.TheVariants.{Stale}
 use Rattle.indexed_answers.specs.Among.{AreAnsweringAmong, EntryAt}
 use Rattle.indexed_answers.specs.Named.{LivesAmong, digest_at, size_at}
-use Rattle.index_inputs.specs.Indexes.{IsUnreadAt}
+use Rattle.indexed_queries.specs.Indexes.{IsUnreadAt}
 
 -- the entry is that of the wanted slice: the only one that answers; or one that lives under the key and has the digest
 abbrev pub IsChosen : SliceKey → Option Digest → List (List (List ℕ)) → EntryAt → Type 0

@@ -14,8 +14,8 @@ use Rattle.command_core.specs.declared.faults.InputName.{InputName}
 use Rattle.command_core.specs.declared.faults.Why.{Why}
 use Rattle.indexed_answers.specs.Among.{AreTied, EntryAt}
 use Rattle.indexed_answers.specs.Named.{IsRowAt}
-use Rattle.index_inputs.specs.Several.{AreRefusedLater, AreUnfailedTogether, HoldTogether}
-use Rattle.index_inputs.specs.Together.{AreLater, AreReadWith, IsFirstRefusedByIndex, IsOneOf}
+use Rattle.indexed_queries.specs.Several.{AreRefusedLater, AreUnfailedTogether, HoldTogether}
+use Rattle.indexed_queries.specs.Together.{AreLater, AreReadWith, IsFirstRefusedByIndex, IsOneOf}
 use Rattle.slice_extraction.specs.Entries.{AreUnchosen, HoldsSlice, IsChosen, StopsSlice}
 use Rattle.slice_extraction.specs.Extract.{Extraction, Held, MakesNone, MakesSlice}
 use Rattle.slice_extraction.specs.Wanted.{written_line}

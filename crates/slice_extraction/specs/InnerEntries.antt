@@ -20,7 +20,7 @@ use Rattle.slice_extraction.specs.declared.tested_copy.SendFault.{SendFault}
 use Rattle.slice_extraction.specs.declared.tested_copy.SendFault.TheVariants.{Other, Device, Sink}
 use Rattle.indexed_answers.specs.Among.{AreTied, EntryAt}
 use Rattle.indexed_answers.specs.Named.{IsRowAt, Names}
-use Rattle.index_inputs.specs.Together.{HoldNamed, IsFirstRefusedAtPlaces}
+use Rattle.indexed_queries.specs.Together.{HoldNamed, IsFirstRefusedAtPlaces}
 use Rattle.slice_extraction.specs.Entries.{AreUnchosen, HoldsSlice, IsChosen, StopsSlice}
 use Rattle.slice_extraction.specs.InnerChoice.{PublishesWanted}
 use Rattle.slice_extraction.specs.Wanted.{written_line}

@@ -8,8 +8,7 @@ use crate::publishing::publish_wanted;
 use archive_core::{Archive, Digest, SliceKey};
 use archive_reading::Under;
 use byte_device::{CannotOpen, Sink, Source};
-use command_core::{CommandFault, Output, Status, Target};
-use command_inputs::{bytes_of, read_parts};
+use command_core::{CommandFault, Output, Status, Target, bytes_of, read_parts};
 use memory::Heap;
 
 /// Writes the bytes of the one slice that answers under the key in the join of the archives to OUT, or of a held one

@@ -14,10 +14,9 @@ use crate::publishing::{publish_rows, publish_wanted};
 use crate::sending::publish_named;
 use archive_core::{Archive, Digest, SliceKey};
 use byte_device::{CannotOpen, Placed, Sink};
-use command_core::{CommandFault, Output, Status, Target};
-use command_inputs::bytes_of;
-use index_inputs::{KeyPrefix, read_indexes, read_prefixes};
+use command_core::{CommandFault, Output, Status, Target, bytes_of};
 use indexed_answers::NamedSlice;
+use indexed_queries::{KeyPrefix, read_indexes, read_prefixes};
 use memory::Heap;
 use table_index::TableIndex;
 

@@ -16,9 +16,8 @@ use archive_records::{RecordFault, RecordFaultKind};
 use archive_words::Spelled;
 use byte_device::{CannotOpen, Placed, Sink};
 use command_core::{
-    CommandFault, InputName, Output, Status, Target, Why, publish_output, publish_report,
+    CommandFault, InputName, Output, Status, Target, Why, opened, publish_output, publish_report,
 };
-use command_inputs::opened;
 use indexed_answers::NamedSlice;
 use memory::{Heap, NoMemory};
 use report_text::Text;

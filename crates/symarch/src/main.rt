@@ -1,7 +1,7 @@
 //! `symarch`: an archive of Mach-O images and their dSYM companions, kept on several sites.
 //!
 //! `command_line` reads the words. `plan_commands` carries the line out over files of the system, by the commands of
-//! `archive_queries`, `archive_writing` and `rehearse`, and says how it ended.
+//! `archive_queries`, `archive_writing` and `archive_exchange`, and says how it ended.
 #![tactic(auto)]
 
 use archive_files::SystemFiles;

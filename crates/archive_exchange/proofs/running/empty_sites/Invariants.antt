@@ -1,5 +1,5 @@
 use Rattle.std.proofs.Common.{◌≡◌, [], length}
-use Rattle.exchange_model.specs.World.{start}
+use Rattle.archive_exchange.specs.World.{start}
 use Rattle.archive_exchange.specs.WorldState.{Represents}
 use Rattle.archive_exchange.proofs.running.empty_sites.Given as goal
 

@@ -1,6 +1,6 @@
 use Rattle.std.proofs.Common.{suc, max, sym, ◌∙◌, subst}
 use Rattle.archive_core.specs.Content.{IsContent}
-use Rattle.exchange_model.proofs.Kept.{held_content}
+use Rattle.archive_exchange.proofs.Kept.{held_content}
 use Rattle.archive_exchange.proofs.Runs.{records_of, alike}
 use Rattle.archive_exchange.proofs.running.run.Goals as goal
 

@@ -10,7 +10,7 @@ use Rattle.archive_core.specs.declared.keys.SliceKey.{SliceKey}
 use Rattle.archive_core.specs.declared.lookup.Where.{Where}
 use Rattle.archive_laws.proofs.Answerers.{some_answering}
 use Rattle.archive_laws.proofs.Given.{one_zipped}
-use Rattle.address_queries.proofs.Sourced.{one_answering}
+use Rattle.archive_queries.proofs.Sourced.{one_answering}
 use Rattle.archive_laws.proofs.content_laws.one_answer.Goals as goal
 
 module _ (one : (image : List ℕ) (address : ℕ) (found other : Option Tuple) → IsNearest image address found → IsNearest image address other → found ≡ other) where

@@ -1,5 +1,5 @@
 use Rattle.archive_laws.proofs.Answerers.{some_answering}
-use Rattle.address_queries.proofs.Sourced.{one_answering}
+use Rattle.archive_queries.proofs.Sourced.{one_answering}
 use Rattle.archive_laws.proofs.content_laws.one_answering.Goals as goal
 
 pub returns : goal.returns

@@ -7,8 +7,8 @@ use Rattle.archive_core.specs.Content.{Operations, content_of}
 use Rattle.archive_core.specs.Lookup.{IsAnswer}
 use Rattle.archive_core.proofs.Made.{bytes_same}
 use Rattle.archive_records.specs.Text.{written}
-use Rattle.exchange_model.specs.World.{state}
-use Rattle.exchange_model.specs.Reached.{reached}
+use Rattle.archive_exchange.specs.World.{state}
+use Rattle.archive_exchange.specs.Reached.{reached}
 use Rattle.archive_exchange.specs.SiteState.{IsArchiveTextOf}
 use Rattle.archive_laws.proofs.headline.headline.Goals as goal
 

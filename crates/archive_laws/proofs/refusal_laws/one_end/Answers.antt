@@ -12,7 +12,7 @@ use Rattle.command_core.specs.Archives.{AreRefused, AreUnfailed, HoldTogether, f
 use Rattle.command_core.specs.Ends.{Query}
 use Rattle.command_core.specs.Inputs.{Reader, EachUntouched, HoldsArchive, IsArchive, IsArchiveRefused, IsDeviceFault, IsFirstRefused, IsGivenArchive, IsRefusedInOrder, IsRefusedInTurn}
 use Rattle.command_core.specs.Outputs.{Takes}
-use Rattle.address_queries.specs.Frames.{MakesFramed, RefusesFrames, TellsFrames, frames}
+use Rattle.archive_queries.specs.Frames.{MakesFramed, RefusesFrames, TellsFrames, frames}
 use Rattle.archive_laws.specs.Joins.{IsGivenJoin, TellOne}
 use Rattle.archive_laws.specs.Refusals.{ArchivesHoldAlike, EachHoldAlike, EndAlike, HoldAlike, RefuseOne}
 use Rattle.archive_laws.proofs.Given.{is_given, one_value}
@@ -22,8 +22,8 @@ use Rattle.exchange_script.specs.Script.{acts, script_of}
 use Rattle.command_core.specs.Found.{TellsFound}
 use Rattle.archive_queries.specs.List.{list}
 use Rattle.archive_queries.specs.Name.{TellsNamed}
-use Rattle.address_queries.specs.Symbolicate.{TellsAddresses}
-use Rattle.rehearse.specs.Rehearse.{rehearse}
+use Rattle.archive_queries.specs.Symbolicate.{TellsAddresses}
+use Rattle.archive_exchange.specs.Rehearse.{rehearse}
 use Rattle.archive_laws.proofs.FramesTold.{one_told as one_frame_told}
 use Rattle.archive_laws.proofs.OneRehearsal.{one_text}
 use Rattle.archive_laws.proofs.Viewed.{one_told}

@@ -1,7 +1,7 @@
 use Rattle.command_core.specs.Found.{TellsFound}
 use Rattle.archive_queries.specs.Name.{TellsNamed}
-use Rattle.address_queries.specs.Frames.{TellsFrames}
-use Rattle.address_queries.specs.Symbolicate.{TellsAddresses}
+use Rattle.archive_queries.specs.Frames.{TellsFrames}
+use Rattle.archive_queries.specs.Symbolicate.{TellsAddresses}
 use Rattle.archive_laws.proofs.Joins.{as_merged}
 use Rattle.archive_laws.proofs.report_laws.asked_together.Goals as goal
 

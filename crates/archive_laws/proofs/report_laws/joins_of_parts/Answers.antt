@@ -1,6 +1,6 @@
 use Rattle.archive_core.proofs.Picked.{part_alike}
 use Rattle.archive_core.specs.Part.{part}
-use Rattle.command_inputs.proofs.Parts.{joins_of_parts, merged_alike}
+use Rattle.command_core.proofs.Parts.{joins_of_parts, merged_alike}
 use Rattle.archive_laws.proofs.report_laws.joins_of_parts.Goals as goal
 
 pub returns : goal.returns

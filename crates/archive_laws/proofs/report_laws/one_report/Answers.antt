@@ -1,6 +1,6 @@
 use Rattle.command_core.specs.Found.{TellsFound}
 use Rattle.archive_queries.specs.Name.{TellsNamed}
-use Rattle.address_queries.specs.Symbolicate.{TellsAddresses}
+use Rattle.archive_queries.specs.Symbolicate.{TellsAddresses}
 use Rattle.archive_laws.proofs.FramesTold.{one_made}
 use Rattle.archive_laws.proofs.Joins.{listed_once, told_once}
 use Rattle.archive_laws.proofs.OneRehearsal.{one_text}

@@ -7,7 +7,7 @@ use Rattle.report_text.specs.Finds.{find_lines}
 use Rattle.command_core.specs.Found.{found_status}
 use Rattle.command_core.proofs.Endings.{reported}
 use Rattle.command_core.proofs.Readers.{none_failed}
-use Rattle.command_inputs.proofs.Parts.{together_refused, together_tells}
+use Rattle.command_core.proofs.Parts.{together_refused, together_tells}
 use Rattle.archive_queries.proofs.find.run_find.Goals as goal
 
 pub returns-in_err-clone : goal.returns-in_err-clone

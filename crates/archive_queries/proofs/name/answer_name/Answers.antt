@@ -4,7 +4,7 @@ use Rattle.report_text.specs.Names.{name_lines}
 use Rattle.command_core.specs.Found.{found_status}
 use Rattle.archive_queries.proofs.Found.{found_map}
 use Rattle.archive_queries.proofs.NamesTogether.{underscored_by}
-use Rattle.command_inputs.proofs.Parts.{together_tells, wanting_first}
+use Rattle.command_core.proofs.Parts.{together_tells, wanting_first}
 use Rattle.archive_queries.proofs.name.answer_name.Goals as goal
 
 pub returns-in_err-clone : goal.returns-in_err-clone

@@ -1,4 +1,4 @@
-use Rattle.command_inputs.proofs.BorrowedSources.{read_borrowed}
+use Rattle.command_core.proofs.BorrowedSources.{read_borrowed}
 use Rattle.archive_queries.proofs.name.gather_input.Goals as goal
 
 pub returns-in-Ok : goal.returns-in-Ok

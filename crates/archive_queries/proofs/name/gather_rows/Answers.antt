@@ -2,7 +2,7 @@ use Rattle.std.proofs.Common.{refl}
 use Rattle.std.proofs.lemmas.Result.{err_from_is_err_and}
 use Rattle.command_core.proofs.Readers.{none_failed, none_touched}
 use Rattle.archive_queries.proofs.NamesTogether.{entries_together, names_together}
-use Rattle.command_inputs.proofs.Parts.{first_refused, other_refused, wanting_first}
+use Rattle.command_core.proofs.Parts.{first_refused, other_refused, wanting_first}
 use Rattle.archive_queries.proofs.name.gather_rows.Goals as goal
 
 pub returns-in_err-no_rows : goal.returns-in_err-no_rows

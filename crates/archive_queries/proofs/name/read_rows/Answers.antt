@@ -1,4 +1,4 @@
-use Rattle.command_inputs.proofs.Parts.{alone_told, no_others}
+use Rattle.command_core.proofs.Parts.{alone_told, no_others}
 use Rattle.archive_queries.proofs.name.read_rows.Goals as goal
 
 pub returns-then-is_empty : goal.returns-then-is_empty

@@ -3,7 +3,7 @@ use Rattle.archive_writing.proofs.Begun.{untouched}
 use Rattle.byte_device.proofs.Known.{Appends-none}
 use Rattle.archive_records.proofs.Blamed.{failed}
 use Rattle.archive_writing.proofs.Streamed.{taken_of}
-use Rattle.command_inputs.proofs.BorrowedSources.{borrowed_from}
+use Rattle.command_core.proofs.BorrowedSources.{borrowed_from}
 use Rattle.archive_writing.proofs.Deltas.{copied_opened, stopped_copy, unfinished_copy}
 use Rattle.archive_writing.proofs.delta.copy_input.Goals as goal
 

@@ -3,7 +3,7 @@ use Rattle.archive_writing.proofs.Begun.{untouched}
 use Rattle.byte_device.proofs.Known.{Appends-none}
 use Rattle.archive_records.proofs.Blamed.{failed}
 use Rattle.archive_writing.proofs.Streamed.{joined_opened, stopped_opened, taken_of, unfinished_opened}
-use Rattle.command_inputs.proofs.BorrowedSources.{borrowed_from}
+use Rattle.command_core.proofs.BorrowedSources.{borrowed_from}
 use Rattle.archive_writing.proofs.joining.join_input.Goals as goal
 
 pub returns-in-Ok : goal.returns-in-Ok

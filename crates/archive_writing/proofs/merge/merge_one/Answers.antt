@@ -1,4 +1,4 @@
-use Rattle.command_inputs.proofs.BorrowedSources.{borrowed_from}
+use Rattle.command_core.proofs.BorrowedSources.{borrowed_from}
 use Rattle.archive_writing.proofs.merge.merge_one.Goals as goal
 
 pub returns : goal.returns

@@ -3,7 +3,7 @@ use Rattle.archive_writing.proofs.Begun.{untouched}
 use Rattle.byte_device.proofs.Known.{Appends-none}
 use Rattle.archive_records.proofs.Blamed.{failed}
 use Rattle.archive_writing.proofs.Streamed.{stopped_opened, taken_of, unfinished_opened, makes_at_hand, told_opened}
-use Rattle.command_inputs.proofs.BorrowedSources.{borrowed_from}
+use Rattle.command_core.proofs.BorrowedSources.{borrowed_from}
 use Rattle.archive_writing.proofs.Joined.{text_in_order}
 use Rattle.sorted_archive.proofs.Held.{are_records}
 use Rattle.archive_writing.proofs.telling.tell_operations.Goals as goal

@@ -1,6 +1,6 @@
 use Rattle.std.proofs.lemmas.Result.{err_from_is_err_and}
 use Rattle.index_writing.proofs.Stopped.{stopped_so, unopened, wanted_before}
-use Rattle.command_inputs.proofs.BorrowedSources.{borrowed_from}
+use Rattle.command_core.proofs.BorrowedSources.{borrowed_from}
 use Rattle.index_writing.proofs.indexing.index_input.Goals as goal
 
 pub returns-in_err-source : goal.returns-in_err-source

@@ -4,7 +4,7 @@ use Rattle.byte_device.proofs.Known.{Appends-none}
 use Rattle.report_text.specs.Finds.{find_lines}
 use Rattle.command_core.specs.Found.{found_status}
 use Rattle.command_core.proofs.Endings.{reported}
-use Rattle.index_inputs.proofs.Refused.{query_refused}
+use Rattle.indexed_queries.proofs.Refused.{query_refused}
 use Rattle.indexed_queries.proofs.find.run_find_together.Goals as goal
 
 pub returns-in_err-kept : goal.returns-in_err-kept

@@ -5,7 +5,7 @@ use Rattle.std.proofs.lemmas.Result.{IfOk-weaker}
 use Rattle.archive_core.specs.Content.{HaveSameMembers}
 use Rattle.archive_core.specs.Key.{key_bytes}
 use Rattle.archive_core.specs.declared.keys.SliceKey.{SliceKey}
-use Rattle.index_inputs.specs.Prefixes.{prefix_bytes}
+use Rattle.indexed_queries.specs.Prefixes.{prefix_bytes}
 use Rattle.indexed_symbols.specs.Frames.{keys_of}
 use Rattle.indexed_symbols.proofs.frames.prefixes_of.Goals as goal
 

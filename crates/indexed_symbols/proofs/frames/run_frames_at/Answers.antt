@@ -4,7 +4,7 @@ use Rattle.byte_device.proofs.Known.{Appends-none}
 use Rattle.command_core.specs.Inputs.{readers}
 use Rattle.command_core.proofs.Endings.{reported}
 use Rattle.command_core.proofs.Readers.{none_failed, none_touched}
-use Rattle.command_inputs.proofs.Parts.{refusal_of, together_refused}
+use Rattle.command_core.proofs.Parts.{refusal_of, together_refused}
 use Rattle.indexed_symbols.specs.Frames.{keys_of}
 use Rattle.indexed_symbols.proofs.Ended.{as_many, frames_refused, frames_told}
 use Rattle.indexed_symbols.proofs.States.{opened_read}

@@ -1,8 +1,8 @@
 use Rattle.std.proofs.Common.{map}
 use Rattle.std.proofs.lemmas.Result.{err_from_is_err_and}
 use Rattle.command_core.proofs.Readers.{none_failed}
-use Rattle.command_inputs.proofs.Parts.{refusal_of}
-use Rattle.index_inputs.specs.Prefixes.{prefix_bytes}
+use Rattle.command_core.proofs.Parts.{refusal_of}
+use Rattle.indexed_queries.specs.Prefixes.{prefix_bytes}
 use Rattle.indexed_symbols.proofs.frames.tell_by_slices.Goals as goal
 
 pub returns-in_err-prefixes : goal.returns-in_err-prefixes

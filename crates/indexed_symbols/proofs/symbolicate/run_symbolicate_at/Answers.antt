@@ -3,7 +3,7 @@ use Rattle.std.proofs.lemmas.Result.{err_from_is_err_and}
 use Rattle.byte_device.proofs.Known.{Appends-none}
 use Rattle.command_core.specs.Inputs.{readers}
 use Rattle.command_core.proofs.Endings.{reported}
-use Rattle.command_inputs.proofs.Parts.{together_refused}
+use Rattle.command_core.proofs.Parts.{together_refused}
 use Rattle.indexed_symbols.proofs.Ended.{as_many, key_refused, key_told}
 use Rattle.indexed_symbols.proofs.States.{opened_read}
 use Rattle.indexed_symbols.proofs.symbolicate.run_symbolicate_at.Goals as goal

@@ -1,7 +1,7 @@
 use Rattle.std.proofs.Common.{inl}
 use Rattle.std.proofs.lemmas.Result.{err_from_is_err_and}
 use Rattle.command_core.proofs.Readers.{none_failed}
-use Rattle.command_inputs.proofs.Parts.{refusal_of}
+use Rattle.command_core.proofs.Parts.{refusal_of}
 use Rattle.indexed_symbols.proofs.symbolicate.tell_addresses.Goals as goal
 
 pub returns-in_err-told : goal.returns-in_err-told

@@ -1,7 +1,7 @@
 use Rattle.std.proofs.{Common.refl, lemmas.Result.err_from_is_err_and}
 use Rattle.byte_device.proofs.Known.{Appends-none}
 use Rattle.command_core.proofs.{Endings.reported, Readers.none_failed}
-use Rattle.command_inputs.proofs.Parts.{together_refused, together_tells}
+use Rattle.command_core.proofs.Parts.{together_refused, together_tells}
 use Rattle.plan_commands.proofs.query_dispatch.name.Goals as goal
 use Rattle.archive_writing.proofs.Taking.{always as on_any}
 

@@ -3,7 +3,7 @@ use Rattle.std.proofs.lemmas.Result.{err_from_is_err_and}
 use Rattle.byte_device.proofs.Known.{Appends-none}
 use Rattle.archive_core.specs.Key.{key_bytes}
 use Rattle.archive_core.specs.Part.{is_under}
-use Rattle.command_inputs.proofs.Parts.{together_tells}
+use Rattle.command_core.proofs.Parts.{together_tells}
 use Rattle.command_core.specs.Archives.{AreRefused, AreUnfailed, HoldTogether}
 use Rattle.command_core.specs.Inputs.{reader, readers}
 use Rattle.command_core.specs.Outputs.{out_of, outs, writer}

@@ -1,6 +1,6 @@
 use Rattle.std.proofs.Common.{refl}
 use Rattle.std.proofs.lemmas.Result.{err_from_is_err_and}
-use Rattle.command_inputs.proofs.BorrowedSources.{borrowed_from}
+use Rattle.command_core.proofs.BorrowedSources.{borrowed_from}
 use Rattle.byte_device.proofs.Known.{Appends-none}
 use Rattle.command_core.specs.declared.faults.CommandFault.TheVariants.{OutOfMemory}
 use Rattle.slice_extraction.proofs.Sent.{sent, unbegun, unopened, unsent}

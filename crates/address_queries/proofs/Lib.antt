@@ -1,3 +1,0 @@
-pub mod Sourced
-pub mod Answered
-pub mod Framed

@@ -1,0 +1,81 @@
+//! `rehearse SCRIPT`.
+ghost use Rattle.std.specs.Prelude.{◌≡◌, ◌++◌, IfOk, OnOk, length, string_bytes};
+ghost use Rattle.archive_exchange.specs.World.{World as WorldModel};
+ghost use Rattle.archive_exchange.specs.WorldState.{Represents};
+ghost use Rattle.command_core.specs.Ends.{EndsReport};
+ghost use Rattle.command_core.specs.Inputs.{reader};
+ghost use Rattle.command_core.specs.Outputs.{writer};
+ghost use Rattle.archive_exchange.specs.Rehearse.{TellsEvents, held_line, rehearse, site_lines};
+
+use crate::laws::one_meaning;
+use crate::lines::{push_events, push_site};
+use crate::running::run;
+use crate::site::Site;
+use crate::world::World;
+use archive_core::{Archive, Digest};
+use archive_records::Sizes;
+use byte_device::{CannotOpen, Sink, Source};
+use command_core::{CommandFault, Status, publish_report, read_events};
+use exchange_script::Script;
+use memory::{Heap, NoMemory};
+use sha2::{Digest as _, Sha256};
+
+/// Adds the line of a site, of which the archive's text is made for its sizes and its SHA-256.
+fn push_held<A: Archive + Drop>(
+    text: &mut String<Heap>,
+    number: u32,
+    site: &Site<A>,
+) -> Result<(), NoMemory>
+    ensures { OnOk result (string_bytes text.new ≡ string_bytes text.old ++ held_line number site.now.held) }
+{
+    let written = site.full()?;
+    let sizes = Sizes {
+        records: site.archive().len(),
+        bytes: written.len() as u128,
+    };
+    let digest = Digest(Sha256::digest(&written));
+    push_site(text, number, sizes, digest)
+}
+
+fn push_sites<A: Archive + Drop>(text: &mut String<Heap>, world: &World<A>) -> Result<(), NoMemory>
+    ensures { OnOk result ((w : WorldModel)
+        → Represents world.now.sites world.now.messages w
+        → string_bytes text.new ≡ string_bytes text.old ++ site_lines w.held (length world.now.sites)) }
+{
+    'sites: for number in 0..world.sites() {
+        push_held(text, number, world.site(number))?;
+    }
+    Ok(())
+}
+
+fn lines_of<A: Archive + Drop>(heap: Heap, script: &Script) -> Result<String<Heap>, NoMemory>
+    ensures { IfOk result (λ text. TellsEvents script.now.sites script.now.events.items (string_bytes text)) }
+{
+    one_meaning();
+    let (world, outcomes) = run::<A>(heap.clone()?, script.sites, &script.events)?;
+    let mut text = String::new(heap);
+    push_events(&mut text, &world, &outcomes)?;
+    push_sites(&mut text, &world)?;
+    Ok(text)
+}
+
+/// Carries out the events of SCRIPT on sites that begin empty, and writes a line an event to the report, and behind
+/// them a line a site: how many records and bytes its archive has, and the SHA-256 of that archive's text. The script
+/// is read to its end before anything is carried out, and the lines are made whole before any is written. Why an event
+/// is refused stands in its line; the status is `Done` all the same.
+///
+/// # Errors
+///
+/// `Input` where the script is refused; `Report` where the report failed; `OutOfMemory`, at whatever event.
+pub fn run_rehearse<A: Archive + Drop, S: Source, P: Sink>(
+    heap: Heap,
+    script: &mut Result<S, CannotOpen>,
+    report: &mut P,
+) -> Result<Status, CommandFault>
+    ensures { EndsReport (rehearse (reader S.left S.failures script.old script.new))
+        (writer P.held P.failures report.old report.new) result }
+{
+    let script = read_events(heap.clone()?, script)?;
+    let text = lines_of::<A>(heap, &script)?;
+    publish_report(Status::Done, &text, report)
+}

@@ -1,0 +1,36 @@
+use Rattle.std.proofs.Common.{refl}
+use Rattle.std.proofs.lemmas.Result.{err_from_is_err_and}
+use Rattle.byte_device.proofs.Known.{Appends-none}
+use Rattle.archive_queries.proofs.Framed.{archives_refused, frames_refused}
+use Rattle.command_core.proofs.Parts.{together_tells}
+use Rattle.command_core.proofs.Endings.{reported}
+use Rattle.command_core.proofs.Readers.{none_failed, none_touched}
+use Rattle.archive_queries.proofs.frames.run_frames.Goals as goal
+
+pub returns-in_err-clone : goal.returns-in_err-clone
+returns-in_err-clone g c =
+    let p = err_from_is_err_and c.from_residual.result c.from_residual.ensures.1 in
+    rw (p.1, p.2) ((refl, (refl, none_failed g.R.Source.left g.R.Source.failures c.args.others.now)), (Appends-none _, refl))
+
+pub returns-in_err-frames : goal.returns-in_err-frames
+returns-in_err-frames g c =
+    let p = err_from_is_err_and c.from_residual-in_err-frames.result c.from_residual-in_err-frames.ensures.1 in
+    rw (p.1, p.2) (frames_refused _ _ _ _ _ c.in_err-frames.field-0.0 c.in_err-frames.ensures refl
+    (none_touched g.R.Source.left g.R.Source.failures c.args.others.now) (none_failed g.R.Source.left g.R.Source.failures c.args.others.now) (Appends-none _, refl))
+
+pub returns-in_err-status : goal.returns-in_err-status
+returns-in_err-status g c =
+    let p = err_from_is_err_and c.from_residual-in_err-status.result c.from_residual-in_err-status.ensures.1 in
+    let listed = c.in_ok-frames.ensures in
+    rw (p.1, p.2) (archives_refused _ _ _ _ _ c.in_err-status.field-0.0 (c.in_ok-frames.frames.items, listed.is) listed.unfailed c.in_err-status.ensures (Appends-none _, refl))
+
+pub returns : goal.returns
+returns g c =
+    let listed = c.in_ok-frames.ensures in
+    reported _ _ _ _ c.publish_bytes.result _ _ (listed.unfailed, c.in_ok-status.ensures.unfailed)
+    (record {
+      listed = c.in_ok-frames.frames.items;
+      frames_are = listed.is;
+      tells = together_tells _ _ _ _ (λ o tells. rw c.deref-2.ensures.value (rw c.deref.ensures.value at tells)) c.in_ok-status.ensures.is;
+    })
+    c.publish_bytes.ensures

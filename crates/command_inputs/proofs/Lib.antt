@@ -1,4 +1,0 @@
-pub mod BorrowedSources
-pub mod Given
-pub mod Parts
-pub mod Alike

@@ -1,3 +1,0 @@
-pub mod InnerSources
-pub mod Together
-pub mod InnerTogether

@@ -1,3 +1,0 @@
-pub mod World
-pub mod Reached
-pub mod Issued

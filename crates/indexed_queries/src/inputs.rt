@@ -1,0 +1,119 @@
+//! An index that is read, and the archive that it is of.
+
+ghost use Rattle.std.specs.Prelude.{◌≡◌, ◌≢◌, OnOk};
+ghost use Rattle.archive_index.specs.Index.{AreIndexEntries};
+ghost use Rattle.archive_index.specs.Places.{HasIndexedLength};
+ghost use Rattle.archive_index.specs.declared.index_fault.IndexFaultKind.TheVariants.{OutOfMemory as IndexOutOfMemory};
+ghost use Rattle.table_index.specs.Text.{placed_of};
+ghost use Rattle.command_core.specs.Inputs.{Gives, IsRefusal, ReadsInput, ReadsInputs, Unfailed, reader};
+ghost use Rattle.archive_records.specs.declared.fault.RecordFaultKind.TheVariants.{Device as DeviceFailed};
+ghost use Rattle.command_core.specs.declared.faults.CommandFault.TheVariants.{Input};
+ghost use Rattle.command_core.specs.declared.faults.InputName.TheVariants.{Archive as ArchivePlace, Index as IndexPlace};
+ghost use Rattle.command_core.specs.declared.faults.Why.TheVariants.{Index as IndexFaulty, Record};
+ghost use Rattle.indexed_queries.specs.Indexes.{HoldsTables, IsIndexOf, IsOfOtherLength, IsRefusedByIndex};
+ghost use Rattle.indexed_queries.specs.Indexes.{IsUnreadIndex};
+ghost use Rattle.indexed_queries.specs.Together.{IsKept, IsReadWith};
+
+use archive_index::{Index, IndexFault, IndexFaultKind};
+use archive_records::{RecordFault, RecordFaultKind};
+use byte_device::{CannotOpen, Failed, Placed};
+use command_core::{CommandFault, InputName, Why, opened};
+use indexed_parts::has_size;
+use memory::Heap;
+use table_index::{TableIndex, read_index};
+
+/// The refusal of an index, whose text has this fault or whose device failed.
+fn refusal(number: u64, fault: IndexFault) -> CommandFault
+    ensures { IsRefusal (λ at why. (at ≡ IndexPlace number) × (why ≡ IndexFaulty fault)
+        × (fault.kind ≢ IndexOutOfMemory)) (fault.kind ≡ IndexOutOfMemory) result }
+{
+    match fault.kind {
+        IndexFaultKind::OutOfMemory => CommandFault::OutOfMemory,
+        _ => CommandFault::Input(InputName::Index(number), Why::Index(fault)),
+    }
+}
+
+/// The refusal of the archive with this number, whose device failed while what begins at this offset was read.
+pub(crate) fn unread(number: u64, offset: u64) -> CommandFault
+    ensures { result ≡ Input (ArchivePlace number) (Record (record { kind = DeviceFailed; offset = offset })) }
+{
+    let fault = RecordFault {
+        kind: RecordFaultKind::Device,
+        offset: u128::from(offset),
+    };
+    CommandFault::Input(InputName::Archive(number), Why::Record(fault))
+}
+
+/// Reads the index with this number among those of the words.
+fn read_tables<I: Placed>(
+    heap: Heap,
+    number: u64,
+    index: &mut Result<I, CannotOpen>,
+) -> Result<TableIndex, CommandFault>
+    ensures read { ReadsInput (reader I.whole I.failures index.old index.new) result HoldsTables
+        (λ index at why. (at ≡ IndexPlace number) × IsUnreadIndex index why) }
+    ensures kept { OnOk result (IsKept I.whole I.failures index.old index.new) }
+{
+    let device = opened(index, InputName::Index(number))?;
+    match read_index(heap, device) {
+        Ok(tables) => Ok(tables),
+        Err(fault) => Err(refusal(number, fault)),
+    }
+}
+
+/// Tests that the archive with this number among those of the words has the length that its index tells.
+fn test_length<P: Placed>(
+    number: u64,
+    tables: &TableIndex,
+    archive: &mut Result<P, CannotOpen>,
+) -> Result<(), CommandFault>
+    ensures entries { AreIndexEntries (placed_of tables.now) }
+    ensures tests { ReadsInput (reader P.whole P.failures archive.old archive.new) result
+        (λ archive _. Gives archive (HasIndexedLength (placed_of tables.now)))
+        (λ archive. IsOfOtherLength number archive (placed_of tables.now)) }
+    ensures kept { OnOk result (IsKept P.whole P.failures archive.old archive.new) }
+{
+    let size = tables.archive_size();
+    let device = opened(archive, InputName::Archive(number))?;
+    match has_size(size, device) {
+        Ok(true) => Ok(()),
+        Ok(false) => Err(CommandFault::Input(InputName::Index(number), Why::Stale(None))),
+        Err(Failed) => Err(unread(number, 0)),
+    }
+}
+
+/// Reads the index of an archive, and tests that this has the length that it tells. Both have this number among those
+/// of the words.
+pub(crate) fn read_with_tables<I: Placed, P: Placed>(
+    heap: &Heap,
+    number: u64,
+    index: &mut Result<I, CannotOpen>,
+    archive: &mut Result<P, CannotOpen>,
+) -> Result<TableIndex, CommandFault>
+    ensures read { let named = reader I.whole I.failures index.old index.new in
+        let known = reader P.whole P.failures archive.old archive.new in
+        ReadsInputs result (IsReadWith named known) (IsRefusedByIndex number named known)
+        (Unfailed named × Unfailed known) }
+    ensures kept { OnOk result (IsKept I.whole I.failures index.old index.new
+        × IsKept P.whole P.failures archive.old archive.new) }
+{
+    let tables = read_tables(heap.clone()?, number, index)?;
+    test_length(number, &tables, archive)?;
+    Ok(tables)
+}
+
+/// Reads the index of the first archive, and tests that this has the length that it tells.
+pub fn read_index_of<I: Placed, P: Placed>(
+    heap: &Heap,
+    index: &mut Result<I, CannotOpen>,
+    archive: &mut Result<P, CannotOpen>,
+) -> Result<Index, CommandFault>
+    ensures { let named = reader I.whole I.failures index.old index.new in
+        let known = reader P.whole P.failures archive.old archive.new in
+        ReadsInputs result (IsIndexOf named known) (IsRefusedByIndex 0 named known) (Unfailed named × Unfailed known) }
+{
+    let tables = read_with_tables(heap, 0, index, archive)?;
+    let entries = tables.placed(heap.clone()?)?;
+    let _count = entries.len();
+    Ok(entries)
+}

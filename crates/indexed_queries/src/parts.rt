@@ -1,0 +1,148 @@
+//! What an index names in its archive, read and joined.
+
+ghost use Rattle.std.specs.Prelude.{◌≡◌, IfSome, OnOk, map};
+ghost use Rattle.std.specs.FinSet as set;
+ghost use Rattle.archive_core.specs.Content.{content_of, joined};
+ghost use Rattle.archive_core.specs.Record.{record_bytes};
+ghost use Rattle.byte_device.specs.Places.{HasSize};
+ghost use Rattle.archive_index.specs.Places.{HasIndexedLength, IsReadUnder};
+ghost use Rattle.table_index.specs.Text.{placed_of};
+ghost use Rattle.command_core.specs.Inputs.{ReadsInput, reader};
+ghost use Rattle.indexed_parts.specs.Places.{AreGatheredUnder, IsEntryFault, ReadsPlaces};
+ghost use Rattle.indexed_queries.specs.Prefixes.{IsReadFor, IsReadUnderOne, prefix_bytes};
+ghost use Rattle.indexed_queries.specs.InnerParts.{HasJoinedNamed, HaveGathered, IsFaultAmong, IsFaultUnder, IsNamedIn};
+ghost use Rattle.indexed_queries.specs.InnerParts.{told_fault};
+ghost use Rattle.indexed_queries.specs.Together.{IsRefusedAtPlaces};
+
+use crate::inputs::unread;
+use crate::prefixes::{KeyPrefix, key_of, uuid_bytes};
+use archive_core::{Archive, Operation, take_all};
+use archive_index::{Index, PlaceFault};
+use byte_device::{CannotOpen, Placed};
+use command_core::{CommandFault, InputName, Why, opened};
+use indexed_parts::{archive_of, gather_at, indexed_size};
+use memory::{Heap, NoMemory};
+use table_index::TableIndex;
+
+/// Gathers the records under a prefix, at the places that an index names, after those that were gathered.
+fn gather_prefix<P: Placed>(
+    heap: &Heap,
+    gathered: &mut Vec<Operation, Heap>,
+    prefix: &KeyPrefix,
+    entries: &Index,
+    device: &mut P,
+    size: u64,
+) -> Result<(), PlaceFault>
+    requires { HasSize (P.whole device.old) size }
+    ensures { ReadsPlaces P.whole P.failures device.old device.new result
+        (λ _. AreGatheredUnder (P.whole device.old) (prefix_bytes prefix.now) entries.now
+        (map record_bytes gathered.old.items) (map record_bytes gathered.new.items))
+        (IsEntryFault (prefix_bytes prefix.now) entries.now) (IsReadUnder (prefix_bytes prefix.now) entries.now) }
+{
+    match prefix {
+        KeyPrefix::Uuid(uuid) => {
+            gather_at(heap, gathered, &uuid_bytes(*uuid), entries, device, size)
+        }
+        KeyPrefix::Key(key) => gather_at(heap, gathered, &key_of(*key), entries, device, size),
+    }
+}
+
+/// Gathers the records under each of these prefixes, at the places that an index names.
+fn gather_prefixes<P: Placed>(
+    heap: &Heap,
+    gathered: &mut Vec<Operation, Heap>,
+    prefixes: &[KeyPrefix],
+    entries: &Index,
+    device: &mut P,
+    size: u64,
+) -> Result<(), PlaceFault>
+    requires { HasSize (P.whole device.old) size }
+    ensures { ReadsPlaces P.whole P.failures device.old device.new result
+        (λ _. HaveGathered (P.whole device.old) (map prefix_bytes prefixes.now) entries.now
+        (map record_bytes gathered.old.items) (map record_bytes gathered.new.items))
+        (IsFaultAmong (map prefix_bytes prefixes.now) entries.now)
+        (IsReadUnderOne (map prefix_bytes prefixes.now) entries.now) }
+{
+    'prefixes: for prefix in prefixes {
+        gather_prefix(heap, gathered, prefix, entries, device, size)?;
+    }
+    Ok(())
+}
+
+/// Joins operations that were gathered, together: a join for each prefix would go through what is there for each.
+fn join_gathered<A: Archive + Drop>(
+    heap: &Heap,
+    kept: &mut A,
+    gathered: Vec<Operation, Heap>,
+) -> Result<(), NoMemory>
+    ensures { OnOk result (A.content kept.new
+        ≡ joined (A.content kept.old) (content_of (set.from_list (map record_bytes gathered.items)))) }
+{
+    let part: A = archive_of(heap.clone()?, gathered)?;
+    take_all(kept, part)?;
+    Ok(())
+}
+
+/// Joins the records under these prefixes, at the places that an index names in an archive of the length that it tells.
+fn join_prefixes<A: Archive + Drop, P: Placed>(
+    heap: &Heap,
+    kept: &mut A,
+    prefixes: &[KeyPrefix],
+    entries: &Index,
+    device: &mut P,
+) -> Result<(), PlaceFault>
+    ensures { ReadsPlaces P.whole P.failures device.old device.new result
+        (λ _. IfSome (P.whole device.old) (HasIndexedLength entries.now) × HasJoinedNamed (P.whole device.old)
+        (map prefix_bytes prefixes.now) entries.now (A.content kept.old) (A.content kept.new))
+        (IsFaultUnder (map prefix_bytes prefixes.now) entries.now)
+        (IsReadFor (map prefix_bytes prefixes.now) entries.now) }
+{
+    let _held = kept.len();
+    let size = indexed_size(entries, device)?;
+    let Ok(own) = heap.clone() else {
+        return Err(PlaceFault::OutOfMemory);
+    };
+    let mut gathered = Vec::new(own);
+    gather_prefixes(heap, &mut gathered, prefixes, entries, device, size)?;
+    match join_gathered(heap, kept, gathered) {
+        Ok(()) => Ok(()),
+        Err(NoMemory) => Err(PlaceFault::OutOfMemory),
+    }
+}
+
+/// A fault of the archive with this number, as a command tells it.
+fn told(number: u64, fault: PlaceFault) -> CommandFault
+    ensures { result ≡ told_fault number fault }
+{
+    match fault {
+        PlaceFault::Stale(entry) => CommandFault::Input(
+            InputName::Index(number),
+            Why::Stale(entry),
+        ),
+        PlaceFault::Device(offset) => unread(number, offset),
+        PlaceFault::OutOfMemory => CommandFault::OutOfMemory,
+    }
+}
+
+/// Joins what an index names under each of these prefixes in its archive, which have this number among those of the
+/// words.
+pub(crate) fn join_archive<A: Archive + Drop, P: Placed>(
+    heap: &Heap,
+    kept: &mut A,
+    number: u64,
+    prefixes: &[KeyPrefix],
+    tables: &TableIndex,
+    archive: &mut Result<P, CannotOpen>,
+) -> Result<(), CommandFault>
+    ensures { let sought = map prefix_bytes prefixes.now in
+        ReadsInput (reader P.whole P.failures archive.old archive.new) result
+        (λ archive _. IsNamedIn archive sought (placed_of tables.now) (A.content kept.old) (A.content kept.new))
+        (λ archive. IsRefusedAtPlaces sought number archive tables.now) }
+{
+    let entries = tables.placed(heap.clone()?)?;
+    let device = opened(archive, InputName::Archive(number))?;
+    match join_prefixes(heap, kept, prefixes, &entries, device) {
+        Ok(()) => Ok(()),
+        Err(fault) => Err(told(number, fault)),
+    }
+}
