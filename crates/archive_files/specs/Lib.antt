@@ -1,7 +1,4 @@
 pub mod FileCalls
-pub mod Opened
-pub mod InputStates
-pub mod AtTurns
 pub mod OutFiles
 pub mod Publishing
 pub mod Fresh

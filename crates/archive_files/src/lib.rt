@@ -1,12 +1,6 @@
-//! Files of the system as inputs and as OUT. What they hold is in no contract; what is called is.
+//! Files of the system as OUT. What they hold is in no contract; what is called of them is.
 //!
-//! - `call_log`: a list of calls that only clauses read;
-//! - `file_calls`: the same, of the calls for one output;
-//! - `opened_file`: a file that is read from its start; `placed_file`: one that is read from any place;
-//! - `disks`: [`Disk`], files by their paths; `system_disk`: those of the system;
-//! - `input_state`: an input that is opened at its turn;
-//! - `inputs`: the inputs of a command;
-//! - `identities`: which file a path names;
+//! - `file_calls`: the calls for one output, a list that only clauses read;
 //! - `descriptors`: the paths of descriptors; `ways`: how OUT is written, by what its path leads to;
 //! - `replaceable`: which file at OUT's path may be replaced;
 //! - `losses`: what would be lost of an archive in its place; `sameness`: whether it has the same bytes;
@@ -25,17 +19,13 @@
 //!   is no regular file, or a descriptor, is written through (`IsWritable`).
 //! - [`SystemFiles::begin`](SystemFiles) gives OUT its path if each input was found to be another file, and otherwise
 //!   none.
-//! - [`AtTurn`], an input over any disk, opens its path with the first call for its bytes, once, and no other path
-//!   (`IsAtTurn`). If it is not opened, that call fails, and each after it; that memory was wanting is reported only
-//!   where the system said so. A file that is read from its start is closed at its end ([`OpenedFile`]).
 //!
 //! # Why it is so
 //!
-//! - What was called is a list that only clauses read (`CallLog`; for OUT `FileCalls`). What fills it does nothing at
-//!   run time, and is proved by hand. Nothing ties a list to the system: each entry stands beside its call, in private
-//!   fields. Without it a body that opens an input twice, or renames a draft before it is synced, would meet its
-//!   contract. `FileCalls` takes the number of a call, and `call_of` gives the call, so one proof by hand serves them
-//!   all. What the system said is an entry too, so that no body says of a file what the system did not.
+//! - What was called is a list that only clauses read (`FileCalls`), as `CallLog` of `input_files` is. Without it a
+//!   body that renames a draft before it is synced would meet its contract. It takes the number of a call, and
+//!   `call_of` gives the call, so one proof by hand serves them all. What the system said is an entry too, so that no
+//!   body says of a file what the system did not.
 //! - Facts by cases in a ghost field have to be propositions: what was called so far stands in `∥ ∥₁`.
 //! - What OUT's draft holds, for a clause, is its path, which files it may replace, and after these the bytes that it
 //!   took (`account`). That the draft is the same file at each push is in no contract.
@@ -58,41 +48,23 @@
 //!   call for access lists and extended attributes.
 //! - A sync of the draft that fails is `cannot replace`. One of the folder is not reported: some file systems cannot do
 //!   it, and no command can take the rename back.
-//! - Each input has a disk of its own, since what a shared cell holds is in no contract; so its log is of one input.
-//! - What a missing file has left is, for a clause, a number that no byte is (256), so nothing follows from reading it.
-//! - OUT and each input are compared by device and file number before any input is opened, links followed, regular
-//!   files only; a number of 0 counts as unknown. A file that is put there later is not noticed.
-//! - An input keeps its first eight bytes and what the system said, for the second line; nothing is opened again for
-//!   that. A sink cannot say why it failed, so `execute` asks OUT afterwards.
+//! - OUT and each input are compared before any input is opened (`are_other_files`).
+//! - A sink cannot say why it failed, so `execute` asks OUT afterwards.
 #![tactic(auto)]
 
-mod call_log;
 mod descriptors;
-mod disks;
 mod drafts;
 mod file_calls;
-mod identities;
-mod input_state;
-mod inputs;
 mod losses;
-mod opened_file;
 mod out_file;
 mod out_path;
-mod placed_file;
 mod published;
 mod replaceable;
 mod sameness;
-mod system_disk;
 mod system_files;
 mod ways;
 
-pub use disks::Disk;
-pub use input_state::{AtTurn, Unopened};
-pub use inputs::SystemInput;
-pub use opened_file::{LeadingBytes, OpenedFile};
 pub use out_file::OutFile;
 pub use out_path::OutPath;
-pub use placed_file::PlacedFile;
 pub use replaceable::{Obstacle, OutFault, Replaces};
-pub use system_disk::SystemDisk;
 pub use system_files::SystemFiles;

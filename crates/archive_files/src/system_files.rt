@@ -1,19 +1,17 @@
 //! The files of the system in one command: its inputs, and OUT.
 
 ghost use Rattle.std.specs.Prelude.{◌≡◌, ◌++◌, [], IfOk, None, OnOk, Some, map, option_map, string_bytes};
-ghost use Rattle.archive_files.specs.AtTurns.{told};
+ghost use Rattle.input_files.specs.AtTurns.{told};
 ghost use Rattle.archive_files.specs.Fresh.{AreFresh};
-ghost use Rattle.archive_files.specs.InputStates.{AreFirstAsked, AreWaiting};
+ghost use Rattle.input_files.specs.InputStates.{AreFirstAsked, AreWaiting};
 ghost use Rattle.archive_files.specs.OutFiles.{Untouched, stage_of};
 ghost use Rattle.archive_files.specs.Publishing.{IsPath};
 
-use crate::call_log::CallLog;
-use crate::identities::are_other_files;
-use crate::inputs::{SystemInput, make_inputs};
 use crate::out_file::OutFile;
 use crate::out_path::OutPath;
 use crate::replaceable::Replaces;
 use command_core::Output;
+use input_files::{CallLog, SystemInput, are_other_files, make_inputs};
 use memory::NoMemory;
 use std::alloc::Global;
 use std::rt::Files;

@@ -1,13 +1,13 @@
 //! The files of a desk as the inputs of a line.
 
 ghost use Rattle.std.specs.Prelude.{◌≡◌, [], OnOk, map};
-ghost use Rattle.archive_files.specs.AtTurns.{told};
-ghost use Rattle.archive_files.specs.InputStates.{AreWaiting};
+ghost use Rattle.input_files.specs.AtTurns.{told};
+ghost use Rattle.input_files.specs.InputStates.{AreWaiting};
 
 use crate::desk::Desk;
-use archive_files::{AtTurn, Disk};
 use byte_device::{CannotOpen, PlacedPieces};
 use case_parts::StrictSource;
+use input_files::{AtTurn, Disk};
 use memory::NoMemory;
 
 impl<'a> Disk for Desk<'a> {

@@ -1,7 +1,7 @@
 //! What a file that is refused looks like, by its first bytes, and which command takes it. No contract speaks of it.
 
-use archive_files::LeadingBytes;
 use archive_records::Format;
+use input_files::LeadingBytes;
 use std::fmt;
 
 /// What a file begins as.

@@ -3,7 +3,8 @@ use Rattle.std.proofs.Common.{◌≡◌, ℕ, List, [], Option, Some, Result, Ok
 use Rattle.std.specs.Prelude.{IsErrAnd, MatchResult, OnOk}
 use Rattle.clap.specs.Words.{Text}
 use Rattle.command_line.specs.Lines.{Line, error_kinds, inputs_of, line_of}
-use Rattle.archive_files.specs.{InputStates.AreFirstAsked, declared.replaceable.OutFault.OutFault}
+use Rattle.archive_files.specs.{declared.replaceable.OutFault.OutFault}
+use Rattle.input_files.specs.{InputStates.AreFirstAsked}
 use Rattle.archive_writing.specs.declared.notes.Note.{Note}
 use Rattle.command_core.specs.declared.failures.Failure.{Failure, TheVariants.Command}
 use Rattle.command_core.specs.{Outputs.Writer, Statuses.status_of, declared.faults.Status.Status}

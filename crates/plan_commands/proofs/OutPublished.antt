@@ -4,7 +4,8 @@ use Rattle.std.proofs.{lemmas.List.append_cancel_left, lemmas.Grind.not_there, M
 use mathlib.Core.Logic.{∥∥₁_map}
 use Rattle.std.specs.Io.KnownBytes.{Appends}
 use Rattle.clap.specs.Words.{Text}
-use Rattle.archive_files.specs.{InputStates.AreFirstAsked, FileCalls.FileCall, FileCalls.bytes_in}
+use Rattle.archive_files.specs.{FileCalls.FileCall, FileCalls.bytes_in}
+use Rattle.input_files.specs.{InputStates.AreFirstAsked}
 use Rattle.archive_files.specs.OutFiles.{Stage, draft_account, has_calls, is_settled, published_account, publishing_calls}
 use Rattle.archive_files.specs.Publishing.{IsPath, IsPublished, IsRemoved, account, number_of, place, took_nothing}
 use Rattle.archive_files.specs.declared.{replaceable.Replaces.Replaces, published.Published.Published}

@@ -1,8 +1,8 @@
 -- Inputs that are opened at their turn.
 use Rattle.std.proofs.Common.{List, [], ◌∷◌, Result, Ok, Err}
 use Rattle.byte_device.specs.declared.{Source.Ghosts as Sources, Placed.Ghosts as Places, disks.CannotOpen.CannotOpen}
-use Rattle.archive_files.specs.declared.{disks.Disk.Ghosts as Disks, input_state.AtTurn.AtTurn}
-use Rattle.archive_files.specs.{AtTurns.told_by, InputStates.AreAtTurn}
+use Rattle.input_files.specs.declared.{disks.Disk.Ghosts as Disks, input_state.AtTurn.AtTurn}
+use Rattle.input_files.specs.{AtTurns.told_by, InputStates.AreAtTurn}
 
 -- each input keeps its rules
 pub at_turn : {D I P : Type 0} (disk : Disks D I P) (input : Sources I) (places : Places P)

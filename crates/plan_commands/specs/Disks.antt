@@ -1,9 +1,9 @@
 -- A plan over inputs that are opened at their turn.
 use Rattle.std.specs.Prelude.{◌≡◌, List, OnOk, length, Option, Some, None, option_and_then, slice_get, Result, Ok, Err}
 use Rattle.byte_device.specs.declared.disks.CannotOpen.{CannotOpen}
-use Rattle.archive_files.specs.InputStates.{AreAtTurn, AreWaiting, Told, unopened_in}
-use Rattle.archive_files.specs.declared.input_state.Unopened.{Unopened}
-use Rattle.archive_files.specs.declared.input_state.Unopened.TheVariants as unopened
+use Rattle.input_files.specs.InputStates.{AreAtTurn, AreWaiting, Told, unopened_in}
+use Rattle.input_files.specs.declared.input_state.Unopened.{Unopened}
+use Rattle.input_files.specs.declared.input_state.Unopened.TheVariants as unopened
 use Rattle.command_line.specs.Lines.{Line, inputs_of}
 use Rattle.command_core.specs.declared.faults.{CommandFault.CommandFault, InputName.InputName, Status.Status}
 use Rattle.command_core.specs.declared.faults.CommandFault.TheVariants.{Input, Output, Report, OutOfMemory}

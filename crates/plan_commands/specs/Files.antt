@@ -9,7 +9,8 @@ use Rattle.command_core.specs.declared.failures.Failure.TheVariants.{Command, Ca
 use Rattle.command_core.specs.declared.faults.{CommandFault.CommandFault, Status.Status}
 use Rattle.command_core.specs.declared.faults.CommandFault.TheVariants.{Input, Output, Report, OutOfMemory}
 use Rattle.command_core.specs.Outputs.{IsKept, IsPublished as IsOutPublished, Outs, Writer, out_of as known_of, outs}
-use Rattle.archive_files.specs.{FileCalls.FileCall, FileCalls.bytes_in, InputStates.AreFirstAsked, InputStates.Told}
+use Rattle.archive_files.specs.{FileCalls.FileCall, FileCalls.bytes_in}
+use Rattle.input_files.specs.{InputStates.AreFirstAsked, InputStates.Told}
 use Rattle.archive_files.specs.OutFiles.{fault_of, publishing_calls, stage_of}
 use Rattle.archive_files.specs.Publishing.{IsPath, IsPublished, IsRemoved, account}
 use Rattle.archive_files.specs.declared.replaceable.{OutFault.OutFault, Replaces.Replaces}

@@ -1,7 +1,7 @@
 //! A line that is carried out over inputs which are opened at their turn.
 
-ghost use Rattle.archive_files.specs.AtTurns.{told};
-ghost use Rattle.archive_files.specs.InputStates.{AreWaiting};
+ghost use Rattle.input_files.specs.AtTurns.{told};
+ghost use Rattle.input_files.specs.InputStates.{AreWaiting};
 ghost use Rattle.command_core.specs.Outputs.{outs, writer};
 ghost use Rattle.command_line.specs.LineView.{line_view};
 ghost use Rattle.command_line.specs.Lines.{inputs_of};
@@ -11,11 +11,11 @@ ghost use Rattle.plan_commands.specs.Plans.{IsPlanOf};
 use crate::plans::{Plan, execute};
 use crate::unopened::blamed;
 use archive_core::Archive;
-use archive_files::{AtTurn, Disk};
 use archive_writing::Note;
 use byte_device::{CannotOpen, Sink};
 use command_core::{CommandFault, Output, Status, Target};
 use command_line::Line;
+use input_files::{AtTurn, Disk};
 use memory::Heap;
 
 /// Carries out the plan of a line over inputs with its paths, in the order of the words. Each is opened with the first call for its

@@ -3,11 +3,11 @@
 ghost use Rattle.std.specs.Prelude.{◌≡◌, ◌≢◌, ◌++◌, [], Err, IfOk, MatchResult, None, Ok, OnOk};
 ghost use Rattle.std.specs.Prelude.{option_map, string_bytes};
 ghost use Rattle.command_core.specs.Outputs.{writer};
-ghost use Rattle.archive_files.specs.AtTurns.{told as told_of, told_by};
+ghost use Rattle.input_files.specs.AtTurns.{told as told_of, told_by};
 ghost use Rattle.archive_files.specs.Fresh.{AreFresh};
 ghost use Rattle.archive_files.specs.OutFiles.{Untouched, stage_of};
 ghost use Rattle.archive_files.specs.Publishing.{IsPath};
-ghost use Rattle.archive_files.specs.InputStates.{AreFirstAsked, AreWaiting};
+ghost use Rattle.input_files.specs.InputStates.{AreFirstAsked, AreWaiting};
 ghost use Rattle.command_line.specs.Lines.{inputs_of, out_of};
 ghost use Rattle.command_line.specs.LineView.{line_view};
 ghost use Rattle.plan_commands.specs.Files.{IsDone, calls_of, command_fault_of, out_failure};
@@ -15,15 +15,13 @@ ghost use Rattle.plan_commands.specs.Plans.{IsPlanOf};
 
 use crate::execute_on;
 use crate::plans::Plan;
-use archive_files::{
-    Disk, OpenedFile, OutFault, OutFile, OutPath, PlacedFile, Replaces, SystemDisk, SystemFiles,
-    SystemInput,
-};
+use archive_files::{OutFault, OutFile, OutPath, Replaces, SystemFiles};
 use archive_writing::Note;
 use byte_device::{CannotCreate, Placed, Sink, Source};
 use command_core::{CommandFault, Failure, Status, Target};
 use command_line::Line;
 use error_lines::Seen;
+use input_files::{Disk, OpenedFile, PlacedFile, SystemDisk, SystemInput};
 use memory::{Heap, NoMemory};
 use sorted_archive::{IndexedArchive, PlainArchive};
 use std::io::BufReader;

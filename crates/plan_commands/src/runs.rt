@@ -3,7 +3,7 @@
 ghost use Rattle.std.specs.Prelude.{◌≡◌, ◌≢◌, Err, MatchResult, Ok, map, string_bytes};
 ghost use Rattle.std.specs.IoError.{error_kind};
 ghost use Rattle.command_core.specs.Outputs.{writer};
-ghost use Rattle.archive_files.specs.AtTurns.{told_by};
+ghost use Rattle.input_files.specs.AtTurns.{told_by};
 ghost use Rattle.archive_files.specs.Fresh.{AreFresh};
 ghost use Rattle.command_line.specs.LineView.{line_view};
 ghost use Rattle.plan_commands.specs.Files.{calls_of};
@@ -13,12 +13,13 @@ ghost use Rattle.error_lines.specs.StandardError.{SaysFailure, SaysNotes, behind
 
 use crate::files::execute;
 use crate::plans::Plan;
-use archive_files::{Disk, OpenedFile, OutFile, OutPath, PlacedFile, SystemDisk, SystemFiles};
+use archive_files::{OutFile, OutPath, SystemFiles};
 use archive_writing::Note;
 use byte_device::{Placed, Sink, Source, push_all};
 use command_core::{Failure, Status, Target, status_of};
 use command_line::{Line, LineFault, read_line};
 use error_lines::{RefusedLine, Seen, help_with, say, say_help, say_notes, say_wanting};
+use input_files::{Disk, OpenedFile, PlacedFile, SystemDisk};
 use memory::Heap;
 use std::alloc::Global;
 use std::io::{self, BufReader, ErrorKind};

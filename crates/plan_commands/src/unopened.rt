@@ -1,17 +1,17 @@
 //! What is told of an input that was not opened at its turn.
 
 ghost use Rattle.std.specs.Prelude.{◌≡◌, length, option_and_then, slice_get};
-ghost use Rattle.archive_files.specs.AtTurns.{told};
+ghost use Rattle.input_files.specs.AtTurns.{told};
 ghost use Rattle.command_line.specs.LineView.{line_view};
 ghost use Rattle.command_line.specs.Lines.{inputs_of};
 ghost use Rattle.error_lines.specs.Numbers.{number_at};
 ghost use Rattle.plan_commands.specs.Disks.{Tells, fault_at, unopened_of};
 
-use archive_files::{AtTurn, Disk, Unopened};
 use byte_device::CannotOpen;
 use command_core::{CommandFault, InputName, Status, Why};
 use command_line::Line;
 use error_lines::input_at;
+use input_files::{AtTurn, Disk, Unopened};
 
 /// Why the input of this name was not opened at its turn, if it was not.
 fn unopened_at<D: Disk>(

@@ -1,4 +1,4 @@
-use Rattle.archive_files.proofs.Asked.{inputs_more, is_waiting}
+use Rattle.input_files.proofs.Asked.{inputs_more, is_waiting}
 use Rattle.case_calls.proofs.inputs.make_inputs.Goals as goal
 
 pub paths-preserved : goal.paths-preserved

@@ -1,6 +1,6 @@
 use Rattle.std.proofs.Common.{take, map}
-use Rattle.archive_files.specs.AtTurns.{told}
-use Rattle.archive_files.specs.InputStates.{AreWaiting}
+use Rattle.input_files.specs.AtTurns.{told}
+use Rattle.input_files.specs.InputStates.{AreWaiting}
 use Rattle.case_calls.proofs.inputs.make_inputs.Given as goal
 
 abbrev pub invariant-paths : goal.invariant-paths

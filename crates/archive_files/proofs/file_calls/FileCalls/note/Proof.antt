@@ -1,13 +1,13 @@
 -- An empty body. The borrow is opened and closed at another ghost value.
 use Rattle.std.proofs.Common.{ℕ, List, [], ◌∷◌, ◌++◌, refl, MutBor, ◌<◌, ◌^◌, length}
-use Rattle.archive_files.proofs.ByHand.{Ura, named, Val, vunit, vptr, SProp, ent, sep, emp, via, fst∗, id⊢, GName, Lft}
-use Rattle.archive_files.proofs.ByHand.{Share, ftrue, flft, fobs, fbor, Memory, Routine, Calls, Loops, WpFn, Tables}
-use Rattle.archive_files.proofs.ByHand.{Logic, Fun, unit_lit, of_opd, returns, enter, Body, alloc_all, pass_all}
-use Rattle.archive_files.proofs.ByHand.{free_all, look_at, sets, WpFn-mono, owns, mem, MutRef, mut_vals, mut_Tells, Bor}
-use Rattle.archive_files.proofs.ByHand.{plain, opens, closes, on_entry, Meets, triple_of, entered, says, Stays}
-use Rattle.archive_files.proofs.ByHand.{stay_ref, walk_of, AllGo, Goes-ref, Walks, ends_at, walked, walk_Meets}
-use Rattle.archive_files.proofs.ByHand.{stay_none_slice, Goes-none_slice, u8, yes, ShrSlice, slice_val, shr_slice_vals}
-use Rattle.archive_files.proofs.ByHand.{shr_slice_Tells}
+use Rattle.input_files.proofs.ByHand.{Ura, named, Val, vunit, vptr, SProp, ent, sep, emp, via, fst∗, id⊢, GName, Lft}
+use Rattle.input_files.proofs.ByHand.{Share, ftrue, flft, fobs, fbor, Memory, Routine, Calls, Loops, WpFn, Tables}
+use Rattle.input_files.proofs.ByHand.{Logic, Fun, unit_lit, of_opd, returns, enter, Body, alloc_all, pass_all}
+use Rattle.input_files.proofs.ByHand.{free_all, look_at, sets, WpFn-mono, owns, mem, MutRef, mut_vals, mut_Tells, Bor}
+use Rattle.input_files.proofs.ByHand.{plain, opens, closes, on_entry, Meets, triple_of, entered, says, Stays}
+use Rattle.input_files.proofs.ByHand.{stay_ref, walk_of, AllGo, Goes-ref, Walks, ends_at, walked, walk_Meets}
+use Rattle.input_files.proofs.ByHand.{stay_none_slice, Goes-none_slice, u8, yes, ShrSlice, slice_val, shr_slice_vals}
+use Rattle.input_files.proofs.ByHand.{shr_slice_Tells}
 use contract.Running.{tables, tables_of}
 use types.Kit.{‵, ◌⊛◌, ◌$◌, ◌∵◌, !, qed, by, move, keep, drop, use1, split, join, fsplit, fsplit3, fjoin, fjoin3, feq_i, suffices, frame, done}
 use Rattle.archive_files.specs.declared.file_calls.FileCalls.{FileCalls}

@@ -5,13 +5,20 @@ use Rattle.std.specs.List.{AllZip}
 use Rattle.byte_device.specs.Disks.{FileAt, Path}
 use Rattle.byte_device.specs.declared.Source.{Ghosts as Sources}
 use Rattle.byte_device.specs.declared.Placed.{Ghosts as Places}
-use Rattle.archive_files.specs.AtTurns.{told_by}
-use Rattle.archive_files.specs.declared.disks.Disk.{Ghosts as Disks}
-use Rattle.archive_files.specs.declared.input_state.AtTurn.{AtTurn}
-use Rattle.archive_files.specs.InputStates.{AreFirstAsked, IsWaiting, Waiting, bytes_at, left_in, stage_of}
-use Rattle.archive_files.specs.declared.input_state.InputState.{InputState}
-use Rattle.archive_files.specs.declared.input_state.InputState.TheVariants as state
-use Rattle.command_core.proofs.Readers.{pairs_more as zip_more}
+use Rattle.input_files.specs.AtTurns.{told_by}
+use Rattle.input_files.specs.declared.disks.Disk.{Ghosts as Disks}
+use Rattle.input_files.specs.declared.input_state.AtTurn.{AtTurn}
+use Rattle.input_files.specs.InputStates.{AreFirstAsked, IsWaiting, Waiting, bytes_at, left_in, stage_of}
+use Rattle.input_files.specs.declared.input_state.InputState.{InputState}
+use Rattle.input_files.specs.declared.input_state.InputState.TheVariants as state
+
+-- one more of each of two lists
+zip_more : {X Y : Type 0} (R : X → Y → Type 0) (xs : List X) (ys : List Y) (x : X) (y : Y) → AllZip R xs ys → R x y
+    → AllZip R (xs ++ x ∷ []) (ys ++ y ∷ [])
+zip_more R [] [] x y all one = (one, tt)
+zip_more R [] (_ ∷ _) x y all one = absurd all
+zip_more R (_ ∷ _) [] x y all one = absurd all
+zip_more R (a ∷ xs) (b ∷ ys) x y all one = (all.0, zip_more R xs ys x y all.1 one)
 
 -- one more input is made
 pub inputs_more : {B X P : Type 0} (R : P → B → Type 0) (f : X → P) (xs : List X) (i : ℕ) (ys zs : List B) (d : X)

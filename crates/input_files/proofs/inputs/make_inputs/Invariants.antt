@@ -1,7 +1,7 @@
 use Rattle.std.proofs.Common.{◌≡◌, ◌++◌, take, map}
-use Rattle.archive_files.specs.AtTurns.{told}
-use Rattle.archive_files.specs.InputStates.{AreWaiting}
-use Rattle.archive_files.proofs.inputs.make_inputs.Given as goal
+use Rattle.input_files.specs.AtTurns.{told}
+use Rattle.input_files.specs.InputStates.{AreWaiting}
+use Rattle.input_files.proofs.inputs.make_inputs.Given as goal
 
 abbrev pub invariant-paths : goal.invariant-paths
 invariant-paths g l =

@@ -6,10 +6,10 @@ use Rattle.std.specs.IoError.{error_kind}
 use Rattle.std.specs.declared.io.ErrorKind.TheVariants.{OutOfMemory}
 use Rattle.byte_device.specs.Disks.{At, FileAt, Holding, IsOpened, Missing, Path, Unknown, opened_with}
 use Rattle.byte_device.specs.declared.disks.CannotOpen.{CannotOpen}
-use Rattle.archive_files.specs.declared.input_state.InputState.{InputState}
-use Rattle.archive_files.specs.declared.input_state.InputState.TheVariants as state
-use Rattle.archive_files.specs.declared.input_state.Unopened.{Unopened as Reason}
-use Rattle.archive_files.specs.declared.input_state.Unopened.TheVariants as why
+use Rattle.input_files.specs.declared.input_state.InputState.{InputState}
+use Rattle.input_files.specs.declared.input_state.InputState.TheVariants as state
+use Rattle.input_files.specs.declared.input_state.Unopened.{Unopened as Reason}
+use Rattle.input_files.specs.declared.input_state.Unopened.TheVariants as why
 
 -- how far an input is
 pub data Stage : Type 0 where

@@ -2,7 +2,7 @@
 
 ghost use Rattle.std.specs.Prelude.{◌≡◌, ◌≤◌, ◌<◌, None, Ok, IfOk, ◌∷◌, [], length};
 ghost use Rattle.std.specs.Io.KnownBytes.{ReadConsumes};
-ghost use Rattle.archive_files.specs.Opened.{left_of};
+ghost use Rattle.input_files.specs.Opened.{left_of};
 
 use crate::call_log::CallLog;
 use byte_device::{Failed, Reading, Source};

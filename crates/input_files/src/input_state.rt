@@ -6,9 +6,9 @@ ghost use Rattle.std.specs.Prelude.{◌≡◌, ◌≢◌, ◌≤◌, List, ◌�
 ghost use Rattle.std.specs.Io.KnownBytes.{ReadConsumes};
 ghost use Rattle.byte_device.specs.Disks.{FileAt, Path, opened_with};
 ghost use Rattle.byte_device.specs.Places.{HasSize, TakenAt};
-ghost use Rattle.archive_files.specs.InputStates.{GivesPlaces, GivesState, HoldsFile, IsStateOf, Open, SaysWanting};
-ghost use Rattle.archive_files.specs.InputStates.{Waiting, bytes_at, left_in, opened_in, stage_of, unopened_in};
-ghost use Rattle.archive_files.specs.InputStates.{wanting_in};
+ghost use Rattle.input_files.specs.InputStates.{GivesPlaces, GivesState, HoldsFile, IsStateOf, Open, SaysWanting};
+ghost use Rattle.input_files.specs.InputStates.{Waiting, bytes_at, left_in, opened_in, stage_of, unopened_in};
+ghost use Rattle.input_files.specs.InputStates.{wanting_in};
 
 use crate::disks::Disk;
 use byte_device::{CannotOpen, Failed, Placed, Source};

@@ -1,5 +1,5 @@
 use Rattle.std.proofs.Common.{◌≡◌, ◌++◌, take, map}
-use Rattle.archive_files.proofs.identities.are_other_files.Given as goal
+use Rattle.input_files.proofs.identities.are_other_files.Given as goal
 
 abbrev pub invariant-inputs : goal.invariant-inputs
 invariant-inputs g l =

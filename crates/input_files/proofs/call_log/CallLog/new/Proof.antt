@@ -1,17 +1,17 @@
 -- `new` makes a value of no bytes, at the empty list.
 use Rattle.std.proofs.Common.{[], ◌∷◌, refl}
-use Rattle.archive_files.proofs.ByHand.{Ura, Val, vstruct, vcons, vnil, SProp, Memory, Routine, WpFn, Tables, Logic}
-use Rattle.archive_files.proofs.ByHand.{Fun, WpFn-mono, no_more, and_then, returns, enter, agg, alloc_all, pass_all}
-use Rattle.archive_files.proofs.ByHand.{free_all, look_at, get, sets, pure_i, nothing, on_entry, Meets, triple_of}
-use Rattle.archive_files.proofs.ByHand.{entered, says, ends_at, walked, walk_Meets}
+use Rattle.input_files.proofs.ByHand.{Ura, Val, vstruct, vcons, vnil, SProp, Memory, Routine, WpFn, Tables, Logic}
+use Rattle.input_files.proofs.ByHand.{Fun, WpFn-mono, no_more, and_then, returns, enter, agg, alloc_all, pass_all}
+use Rattle.input_files.proofs.ByHand.{free_all, look_at, get, sets, pure_i, nothing, on_entry, Meets, triple_of}
+use Rattle.input_files.proofs.ByHand.{entered, says, ends_at, walked, walk_Meets}
 use contract.Running.{tables, tables_of}
 use types.Kit.{raw, ◌$◌, ◌∵◌, !, qed, keep, join, suffices, done}
-use Rattle.archive_files.specs.declared.call_log.CallLog.{CallLog}
-use Rattle.archive_files.specs.contracts.call_log.CallLog as T
-use Rattle.archive_files.specs.contracts.call_log.CallLog.new.Key.{name as #it}
-use Rattle.archive_files.specs.contracts.call_log.CallLog.new as it
-use Rattle.archive_files.proofs.call_log.CallLog.new.Statement as stated
-use Rattle.archive_files.proofs.call_log.CallLog.new.Code as code
+use Rattle.input_files.specs.declared.call_log.CallLog.{CallLog}
+use Rattle.input_files.specs.contracts.call_log.CallLog as T
+use Rattle.input_files.specs.contracts.call_log.CallLog.new.Key.{name as #it}
+use Rattle.input_files.specs.contracts.call_log.CallLog.new as it
+use Rattle.input_files.proofs.call_log.CallLog.new.Statement as stated
+use Rattle.input_files.proofs.call_log.CallLog.new.Code as code
 
 abbrev v : Val
 v = vstruct (vcons (vstruct vnil) vnil)

@@ -1,9 +1,9 @@
 -- What is told of an input that is opened at its turn.
 use Rattle.byte_device.specs.declared.Source.{Ghosts as Sources}
 use Rattle.byte_device.specs.declared.Placed.{Ghosts as Places}
-use Rattle.archive_files.specs.InputStates.{Told, bytes_at, left_in, stage_of}
-use Rattle.archive_files.specs.declared.disks.Disk.{Ghosts as Disks}
-use Rattle.archive_files.specs.declared.input_state.AtTurn.{AtTurn}
+use Rattle.input_files.specs.InputStates.{Told, bytes_at, left_in, stage_of}
+use Rattle.input_files.specs.declared.disks.Disk.{Ghosts as Disks}
+use Rattle.input_files.specs.declared.input_state.AtTurn.{AtTurn}
 
 -- this is told of one of such a disk, whose files are such
 abbrev pub told_by : {D I P : Type 0} (disk : Disks D I P) (input : Sources I) (places : Places P)

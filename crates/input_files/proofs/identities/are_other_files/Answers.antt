@@ -1,6 +1,6 @@
 use Rattle.std.proofs.Common.{◌∙◌, ◌++◌, ◌∷◌, [], ap}
-use Rattle.archive_files.proofs.Accounts.{has_made}
-use Rattle.archive_files.proofs.identities.are_other_files.Goals as goal
+use Rattle.input_files.proofs.Accounts.{has_made}
+use Rattle.input_files.proofs.identities.are_other_files.Goals as goal
 
 pub returns-then-is_same_file-clause-same : goal.returns-then-is_same_file-clause-same
 returns-then-is_same_file-clause-same g c = λ _. (

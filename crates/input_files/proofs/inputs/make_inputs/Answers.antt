@@ -1,6 +1,6 @@
 use Rattle.std.proofs.Common.{◌∙◌, ◌+◌, ◌++◌, ◌∷◌, [], ap}
-use Rattle.archive_files.proofs.Asked.{asked_more, first_asked, inputs_more, is_waiting}
-use Rattle.archive_files.proofs.inputs.make_inputs.Goals as goal
+use Rattle.input_files.proofs.Asked.{asked_more, first_asked, inputs_more, is_waiting}
+use Rattle.input_files.proofs.inputs.make_inputs.Goals as goal
 
 pub paths-preserved : goal.paths-preserved
 paths-preserved g c =

@@ -1,8 +1,8 @@
 //! The inputs of a command, each of which is opened at its turn.
 
 ghost use Rattle.std.specs.Prelude.{◌≡◌, ◌++◌, [], OnOk, map};
-ghost use Rattle.archive_files.specs.AtTurns.{told};
-ghost use Rattle.archive_files.specs.InputStates.{AreFirstAsked, AreWaiting};
+ghost use Rattle.input_files.specs.AtTurns.{told};
+ghost use Rattle.input_files.specs.InputStates.{AreFirstAsked, AreWaiting};
 
 use crate::call_log::CallLog;
 use crate::input_state::AtTurn;

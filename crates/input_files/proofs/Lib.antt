@@ -1,0 +1,4 @@
+pub mod Accounts
+pub mod Asked
+mod PlacesHeld
+pub mod ByHand
