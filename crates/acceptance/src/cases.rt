@@ -116,9 +116,8 @@ use case_parts::{
     CaseFault, FileLimit, Left, Limits, Store, Sweep, bytes_of, first_word, number, tell_left,
     tell_line_fault, tell_room, tell_room_of_bytes, tell_same, words_of,
 };
-use command_line::{Line, LineFault, read_line};
+use command_line::{Line, LineFault, Plan, read_line};
 use memory::NoMemory;
-use plan_commands::Plan;
 use std::alloc::Global;
 use std::mem;
 use std::rt::Files;

@@ -1,12 +1,12 @@
 //! A line, carried out over files in memory.
 
 use archive_core::Archive;
+use byte_device::Output;
 use case_calls::{Desk, make_inputs};
 use case_parts::{End, Left, Shelf, StrictSink};
-use command_core::Output;
-use command_line::Line;
+use command_line::{Line, Plan};
 use memory::{Heap, NoMemory};
-use plan_commands::{Plan, execute_on};
+use plan_commands::execute_on;
 
 /// Carries out a line.
 pub fn run_line<A: Archive + Drop>(desk: Desk<'_>, line: &Line) -> Result<Left, NoMemory> {
@@ -18,7 +18,7 @@ pub fn run_line<A: Archive + Drop>(desk: Desk<'_>, line: &Line) -> Result<Left, 
     let mut inputs = Vec::new(desk.alloc);
     make_inputs(desk, &line.inputs(desk.alloc)?, &mut inputs)?;
     let heap = desk.heap()?;
-    let mut notes = Vec::new(heap.clone()?);
+    let mut notes = Vec::new(heap.share());
     let ended = execute_on::<A, A, _, _, _>(
         heap,
         &mut inputs,

@@ -3,8 +3,7 @@
 use crate::commands::run_line;
 use case_calls::{Call, Desk, Tried};
 use case_parts::{CaseFault, Left};
-use command_line::Line;
-use plan_commands::Plan;
+use command_line::{Line, Plan};
 use sorted_archive::{IndexedArchive, PlainArchive};
 
 /// What a case asks for.

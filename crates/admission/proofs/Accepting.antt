@@ -3,10 +3,10 @@ use Rattle.std.proofs.Common.{◌≡◌, ℕ, Bool, true, false, List, [], lengt
 use Rattle.std.specs.Prelude.{All}
 use Rattle.std.proofs.lemmas.List.{take_all}
 use Rattle.std.proofs.lemmas.List.Elements.{All-nil, All-cons}
-use Rattle.fat_slices.specs.Kind.{kind_of, is_fat}
-use Rattle.fat_slices.specs.Slices.{slices}
-use Rattle.fat_slices.specs.Fault.{IsUniversal}
-use Rattle.fat_slices.specs.declared.file_kind.FileKind.TheVariants.{Thin}
+use Rattle.admission.specs.Kind.{kind_of, is_fat}
+use Rattle.admission.specs.Slices.{slices}
+use Rattle.admission.specs.FatFault.{IsUniversal}
+use Rattle.admission.specs.declared.file_kind.FileKind.TheVariants.{Thin}
 use Rattle.archive_core.specs.Valid.{IsValid, IsSliceFault}
 use Rattle.archive_core.specs.declared.faults.SliceFault.{SliceFault}
 use Rattle.admission.specs.File.{is_admissible, parts, IsAcceptedFile, IsTakeFault}

@@ -3,11 +3,11 @@ use Rattle.std.proofs.Common.{◌≡◌, ◌≢◌, ℕ, suc, true, List, [], �
 use Rattle.std.proofs.lemmas.Bool.{cases_Bool, cases_order}
 use Rattle.std.specs.Prelude.{All}
 use Rattle.std.proofs.lemmas.List.Elements.{All-nil, All-cons}
-use Rattle.fat_slices.specs.Kind.{kind_of, is_fat}
-use Rattle.fat_slices.specs.Fault.{IsFatFault, IsUniversal}
-use Rattle.fat_slices.specs.declared.fault.FatFault.{FatFault}
-use Rattle.fat_slices.specs.declared.file_kind.FileKind.{FileKind}
-use Rattle.fat_slices.specs.declared.file_kind.FileKind.TheVariants.{Thin, Universal, Universal64, Other}
+use Rattle.admission.specs.Kind.{kind_of, is_fat}
+use Rattle.admission.specs.FatFault.{IsFatFault, IsUniversal}
+use Rattle.admission.specs.declared.fat_fault.FatFault.{FatFault}
+use Rattle.admission.specs.declared.file_kind.FileKind.{FileKind}
+use Rattle.admission.specs.declared.file_kind.FileKind.TheVariants.{Thin, Universal, Universal64, Other}
 use Rattle.archive_core.specs.Valid.{IsValid, IsSliceFault}
 use Rattle.archive_core.specs.declared.faults.SliceFault.{SliceFault}
 use Rattle.admission.specs.File.{is_admissible, parts, admissible, HasParts, IsAcceptedFile, IsRefusedPart, IsFirstRefused, IsTakeFault}

@@ -3,11 +3,11 @@ use Rattle.std.proofs.Common.{◌≡◌, ◌≢◌, ℕ, Bool, true, false, List
 use Rattle.std.specs.Prelude.{◌&&◌, nat_eq, if◌then◌else◌}
 use Rattle.std.proofs.lemmas.Bool.{false_from_ne_true}
 use Rattle.std.proofs.lemmas.Bool.Decides.{nat_tests}
-use Rattle.fat_slices.specs.Kind.{kind_of, is_fat}
-use Rattle.fat_slices.specs.Slices.{slices}
-use Rattle.fat_slices.specs.Fault.{IsUniversal}
-use Rattle.fat_slices.specs.declared.file_kind.FileKind.{FileKind}
-use Rattle.fat_slices.specs.declared.file_kind.FileKind.TheVariants.{Thin, Universal, Universal64, Other}
+use Rattle.admission.specs.Kind.{kind_of, is_fat}
+use Rattle.admission.specs.Slices.{slices}
+use Rattle.admission.specs.FatFault.{IsUniversal}
+use Rattle.admission.specs.declared.file_kind.FileKind.{FileKind}
+use Rattle.admission.specs.declared.file_kind.FileKind.TheVariants.{Thin, Universal, Universal64, Other}
 use Rattle.archive_core.specs.Valid.{IsValid}
 use Rattle.archive_core.proofs.Beginnings.{slice_begins}
 use Rattle.admission.specs.File.{is_admissible, parts, parts_of, HasParts}

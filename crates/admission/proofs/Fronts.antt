@@ -6,9 +6,9 @@ use Rattle.std.proofs.lemmas.Grind.{take_at_read}
 use Rattle.std.proofs.lemmas.List.Elements.{filter-append}
 use Rattle.std.proofs.lemmas.Option.{get_or_from_slice_get, slice_get_within}
 use Rattle.std.proofs.Math.Seq.{take-append_seam}
-use Rattle.fat_slices.specs.Kind.{kind_of, is_fat}
-use Rattle.fat_slices.specs.Slices.{slices}
-use Rattle.fat_slices.specs.declared.file_kind.FileKind.TheVariants.{Thin}
+use Rattle.admission.specs.Kind.{kind_of, is_fat}
+use Rattle.admission.specs.Slices.{slices}
+use Rattle.admission.specs.declared.file_kind.FileKind.TheVariants.{Thin}
 use Rattle.archive_core.specs.Content.{Operations}
 use Rattle.admission.specs.File.{is_admissible, parts, admissible}
 use Rattle.admission.specs.Take.{admitted, taken_of, taken_rows, HoldsFirstParts}

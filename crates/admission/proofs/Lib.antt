@@ -1,3 +1,5 @@
+pub mod FatFaults
+pub mod SlicePlaces
 pub mod FileKinds
 pub mod Files
 pub mod Found

@@ -1,8 +1,8 @@
 -- What an accepted file was accepted as.
 use Rattle.std.specs.Prelude.{◌≡◌, ℕ, List, Option, None, Some, true, false, slice_get, slice_index_or}
-use Rattle.fat_slices.specs.Kind.{kind_of, is_fat}
-use Rattle.fat_slices.specs.Slices.{slices}
-use Rattle.fat_slices.specs.declared.file_kind.FileKind.TheVariants.{Thin as thin_kind}
+use Rattle.admission.specs.Kind.{kind_of, is_fat}
+use Rattle.admission.specs.Slices.{slices}
+use Rattle.admission.specs.declared.file_kind.FileKind.TheVariants.{Thin as thin_kind}
 use Rattle.archive_core.specs.Valid.{IsCheckedOf}
 use Rattle.archive_core.specs.declared.slices.SliceFacts.{SliceFacts}
 use Rattle.admission.specs.File.{is_admissible}

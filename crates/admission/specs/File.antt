@@ -1,11 +1,11 @@
 -- Which files are taken, and why others are not (mach-o/fat.h, mach-o/loader.h).
 use Rattle.std.specs.Prelude.{◌≡◌, ◌≢◌, ◌<◌, ℕ, Bool, true, List, [], ◌∷◌, Some, All, nat_eq, filter, slice_get}
 use Rattle.std.specs.List.{starts_with}
-use Rattle.fat_slices.specs.Kind.{kind_of, is_fat, mh_magic_64}
-use Rattle.fat_slices.specs.Slices.{slices}
-use Rattle.fat_slices.specs.Fault.{IsFatFault, IsUniversal}
-use Rattle.fat_slices.specs.declared.file_kind.FileKind.{FileKind}
-use Rattle.fat_slices.specs.declared.file_kind.FileKind.TheVariants.{Thin, Universal, Universal64, Other}
+use Rattle.admission.specs.Kind.{kind_of, is_fat, mh_magic_64}
+use Rattle.admission.specs.Slices.{slices}
+use Rattle.admission.specs.FatFault.{IsFatFault, IsUniversal}
+use Rattle.admission.specs.declared.file_kind.FileKind.{FileKind}
+use Rattle.admission.specs.declared.file_kind.FileKind.TheVariants.{Thin, Universal, Universal64, Other}
 use Rattle.archive_core.specs.Valid.{IsValid, IsSliceFault}
 use Rattle.archive_core.specs.declared.faults.SliceFault.{SliceFault}
 use Rattle.admission.specs.declared.fault.TakeFault.{TakeFault}

@@ -1,15 +1,14 @@
 //! Whether a file is accepted, before anything of it is taken.
 ghost use Rattle.std.specs.Prelude.{◌≡◌, ◌≢◌, true, IfOk, IfErr, OnOk, is_some};
-ghost use Rattle.fat_slices.specs.Kind.{kind_of, is_fat};
+ghost use Rattle.admission.specs.Kind.{kind_of, is_fat};
 ghost use Rattle.archive_core.specs.Valid.{IsSliceFault};
 ghost use Rattle.archive_core.specs.declared.faults.SliceFault.{SliceFault};
 ghost use Rattle.admission.specs.File.{IsAcceptedFile, IsTakeFault, is_admissible};
 ghost use Rattle.admission.specs.Accepted.{IsAcceptedAs, IsFoundOf};
 
-use crate::TakeFault;
+use crate::{FileKind, TakeFault, Universal, kind};
 use archive_core::laws::one_slice_fault;
 use archive_core::{CheckedSlice, Slice, SliceFacts};
-use fat_slices::{FileKind, Universal, kind};
 
 /// The most parts that a universal file has.
 pub const MOST_PARTS: usize = 32;

@@ -1,7 +1,7 @@
 //! Why no slice of a file is taken.
 
+use crate::FatFault;
 use archive_core::SliceFault;
-use fat_slices::FatFault;
 use std::alloc::{AllocError, AllocFailed};
 
 /// Why no slice of a file is taken.

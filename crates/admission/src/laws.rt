@@ -15,8 +15,8 @@ ghost use Rattle.admission.specs.declared.fault.TakeFault.{TakeFault};
 ghost use Rattle.admission.specs.declared.fault.TakeFault.TheVariants.{OutOfMemory};
 ghost use Rattle.admission.specs.declared.taken.Taken.TheVariants.{Known, Skipped};
 
+use crate::fat_laws::one_fault as one_fat_fault;
 use archive_core::laws::one_slice_fault;
-use fat_slices::laws::one_fault as one_fat_fault;
 
 /// A file is accepted or has a fault other than want of memory, never both and never two faults.
 pub fn one_take_fault()

@@ -1,8 +1,16 @@
-//! Files that an archive takes slices from: thin images and universal files.
+//! Files that an archive takes slices from: thin images, and universal files as mach-o/fat.h describes them.
+//!
+//! A universal file is a header, and a table that names the slices of the file, one for each architecture:
+//!
+//! - `number`, `file_kind`: numbers, and what the first four bytes of a file say; `fat_fault`: why bytes are no
+//!   universal file;
+//! - `fat_header`, `fat_arch`: the header and an entry of the table; `bounds` tests what the entries name;
+//! - `universal`: [`Universal::read`] says whether bytes are a universal file, and else what is wrong with them; a
+//!   slice is any bytes, borrowed from the file. [`fat_laws`]: what these definitions say of each other.
 //!
 //! All slices of a file are taken or none. A file's parts are the file itself where it is thin, and the
 //! slices of its table where it is universal; a part that does not begin as a 64-bit little-endian image
-//! is skipped, and each other one has to be a slice.
+//! is skipped, and each other one has to be a slice:
 //!
 //! - `fault`: why no slice of a file is taken;
 //! - `checking`: whether a file is accepted;
@@ -20,13 +28,24 @@
 //! - Why a file is not taken (`TakeFault`) is here, since it is the lowest crate that can have it.
 #![tactic(auto)]
 
+mod bounds;
 mod checking;
+mod fat_arch;
+mod fat_fault;
+mod fat_header;
+pub mod fat_laws;
 mod fault;
+mod file_kind;
 pub mod laws;
+mod number;
 mod taken;
 mod taking;
+mod universal;
 
 pub use checking::{AcceptedFile, check_file};
+pub use fat_fault::FatFault;
 pub use fault::TakeFault;
+pub use file_kind::{FileKind, kind};
 pub use taken::Taken;
 pub use taking::take_accepted;
+pub use universal::Universal;

@@ -1,16 +1,15 @@
 //! The slices of a file taken into an archive.
 ghost use Rattle.std.specs.Prelude.{◌≡◌, [], ◌∷◌, true, IfOk, OnOk, OnErr, filter, if◌then◌else◌};
-ghost use Rattle.fat_slices.specs.Kind.{kind_of, is_fat};
-ghost use Rattle.fat_slices.specs.Slices.{slices};
+ghost use Rattle.admission.specs.Kind.{kind_of, is_fat};
+ghost use Rattle.admission.specs.Slices.{slices};
 ghost use Rattle.admission.specs.Accepted.{AreFound, IsAcceptedAs, IsFoundOf};
 ghost use Rattle.admission.specs.InnerTaking.{file_of};
 ghost use Rattle.admission.specs.File.{is_admissible, admissible, parts};
 ghost use Rattle.admission.specs.Take.{admitted, taken_of, taken_rows, HoldsFirstParts};
 
-use crate::Taken;
 use crate::checking::{AcceptedFile, MOST_PARTS};
+use crate::{FileKind, Taken, Universal};
 use archive_core::{Archive, Digest, Operation, Slice, SliceFacts, SliceKey};
-use fat_slices::{FileKind, Universal};
 use memory::{Heap, NoMemory};
 
 /// What became of a slice, by whether its admission changed the archive.
@@ -89,10 +88,10 @@ fn take_universal<A: Archive>(
     ensures rows { IfOk result (λ rows. rows.items ≡ taken_rows (A.content archive.old) (parts universal.now)) }
     ensures stopped { OnErr result (HoldsFirstParts universal.now (A.content archive.old) (A.content archive.new)) }
 {
-    let mut rows = Vec::new(heap.clone()?);
+    let mut rows = Vec::new(heap.share());
     'parts: for index in 0..universal.len() {
         let facts = found[index as usize];
-        let row = take_part(archive, heap.clone()?, universal.slice(index), facts)?;
+        let row = take_part(archive, heap.share(), universal.slice(index), facts)?;
         rows.push(row)?;
     }
     Ok(rows)
@@ -115,7 +114,7 @@ pub fn take_accepted<A: Archive>(
         (HoldsFirstParts (file_of accepted.now) (A.content archive.old) (A.content archive.new)) }
 {
     match accepted {
-        AcceptedFile::Thin(slice) => take_thin(archive, heap.clone()?, slice.admit(heap)?),
+        AcceptedFile::Thin(slice) => take_thin(archive, heap.share(), slice.admit(heap)?),
         AcceptedFile::Universal(universal, found) => {
             take_universal(archive, heap, universal, found)
         }

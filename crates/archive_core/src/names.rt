@@ -52,8 +52,8 @@ impl<'a> NameRow<'a> {
             digest: self.digest,
             address: self.address,
             sect: self.sect,
-            segment: Vec::from_slice(heap.clone()?, self.segment)?,
-            section: Vec::from_slice(heap.clone()?, self.section)?,
+            segment: Vec::from_slice(heap.share(), self.segment)?,
+            section: Vec::from_slice(heap.share(), self.section)?,
         })
     }
 

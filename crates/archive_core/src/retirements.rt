@@ -123,13 +123,13 @@ fn has_other_prefix(records: &BTreeSet<[u8; 57], Heap>, prefix: &[u8; 25]) -> bo
 
 impl Retirements {
     /// None.
-    pub fn none(heap: &Heap) -> Result<Retirements, NoMemory>
-        ensures { IfOk result (λ none. none ≡ []) }
+    pub fn none(heap: &Heap) -> Retirements
+        ensures { result ≡ [] }
     {
-        Ok(Retirements {
-            ascending: Vec::new(heap.clone()?),
-            others: BTreeSet::new(heap.clone()?),
-        })
+        Retirements {
+            ascending: Vec::new(heap.share()),
+            others: BTreeSet::new(heap.share()),
+        }
     }
 
     // Whether a retirement of the key is there.

@@ -261,8 +261,8 @@ impl Slice {
         if self.table.is_some() {
             return Ok(());
         }
-        let table = AddressTable::build(heap.clone()?, &self.symbols())?;
-        self.table = Some(Box::new(heap.clone()?, table)?);
+        let table = AddressTable::build(heap.share(), &self.symbols())?;
+        self.table = Some(Box::new(heap.share(), table)?);
         Ok(())
     }
 

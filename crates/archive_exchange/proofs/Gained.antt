@@ -18,7 +18,7 @@ use Rattle.archive_records.specs.Reader.{set_of}
 use Rattle.archive_records.proofs.Contents.{same_bytes}
 use Rattle.archive_exchange.specs.World as model
 use Rattle.archive_exchange.specs.World.{records, rows, World}
-use Rattle.archive_exchange.proofs.Content.{taken_gain, below_reflexive}
+use Rattle.archive_exchange.proofs.Content.{taken_gain}
 use Rattle.archive_exchange.proofs.Kept.{either}
 use Rattle.admission.specs.File.{IsAcceptedFile, is_admissible, admissible, parts, IsTakeFault}
 use Rattle.admission.specs.Take.{admitted, taken_of, taken_rows, HoldsFirstParts}
@@ -28,8 +28,8 @@ use Rattle.admission.specs.declared.taken.Taken.TheVariants as taken
 use Rattle.admission.proofs.Files.{kept_is}
 use Rattle.admission.specs.declared.fault.TakeFault.{TakeFault}
 use Rattle.admission.specs.declared.fault.TakeFault.TheVariants.{OutOfMemory}
-use Rattle.exchange_script.specs.declared.event.Event.{Event}
-use Rattle.exchange_script.specs.declared.event.Event.TheVariants.{Take, Retire, Full, Ask, Reply, Deliver, Save, Stop}
+use Rattle.line_inputs.specs.declared.event.Event.{Event}
+use Rattle.line_inputs.specs.declared.event.Event.TheVariants.{Take, Retire, Full, Ask, Reply, Deliver, Save, Stop}
 use Rattle.std.proofs.lemmas.Result.{on_ok_weaker}
 use Rattle.std.specs.Ordering.{nat_cmp}
 use Rattle.archive_core.specs.declared.keys.SliceKey.{SliceKey}
@@ -40,7 +40,7 @@ use Rattle.admission.specs.declared.checking.AcceptedFile.{AcceptedFile}
 use Rattle.admission.specs.declared.checking.AcceptedFile.TheVariants.{Thin, Universal}
 use Rattle.archive_exchange.specs.SiteState.{SiteState, IsWhole, IsBetween}
 use Rattle.archive_exchange.specs.WorldState.{RunState, AreSites, Represents}
-use Rattle.admission.proofs.Resumed.{grows, above_old, below_asked}
+use Rattle.admission.proofs.Resumed.{above_old, below_asked}
 
 pub records_seen : (ps : List (List ℕ)) → records (map part_record ps) ≡ map admission_record (filter is_admissible ps)
 records_seen [] = refl
@@ -178,9 +178,6 @@ between_parts file a o mid is accepted as_is first =
       above_old = above_old file o mid part;
       below_new = below_asked file o mid part;
     }
-
-pub between_none : (o : Operations) (images : List (List ℕ)) → IsContent o → IsBetween o o (admitted o images)
-between_none o images is = record { content = is; above_old = below_reflexive o; below_new = grows o images }
 
 -- whatever the fault
 pub if_err : {T E : Type 0} (P : E → Type 0) (r : Result T E) → ((e : E) → P e) → IfErr r P

@@ -13,7 +13,7 @@ use Rattle.archive_core.specs.Content.{Operations}
 use Rattle.archive_exchange.specs.SiteState.{SiteState}
 use Rattle.archive_exchange.specs.WorldState.{Represents, message_text}
 use Rattle.archive_exchange.specs.ModelEvent.{ModelEvent, AreSeen, OutcomeIs}
-use Rattle.exchange_script.specs.declared.event.Event.{Event as Event_given}
+use Rattle.line_inputs.specs.declared.event.Event.{Event as Event_given}
 use Rattle.admission.specs.declared.fault.TakeFault.{TakeFault}
 use Rattle.archive_exchange.specs.declared.outcome.Outcome.{Outcome}
 use Rattle.archive_exchange.specs.declared.outcome.Outcome.TheVariants.{Sent}

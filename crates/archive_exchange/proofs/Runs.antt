@@ -17,7 +17,7 @@ use Rattle.archive_exchange.specs.ModelEvent.{IsSeen, AreSeen, OutcomeIs}
 use Rattle.archive_exchange.specs.InnerEvents.{IsRecorded, Happens, HasRun}
 use Rattle.archive_exchange.specs.WorldState.{Represents}
 use Rattle.archive_exchange.specs.Alike.{AreAlike}
-use Rattle.exchange_script.specs.declared.event.Event as code
+use Rattle.line_inputs.specs.declared.event.Event as code
 use Rattle.archive_exchange.specs.declared.outcome.Outcome as answered
 use Rattle.admission.specs.declared.fault.TakeFault.{TakeFault}
 

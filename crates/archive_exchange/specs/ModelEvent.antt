@@ -15,8 +15,8 @@ use Rattle.admission.specs.declared.fault.TakeFault.{TakeFault}
 use Rattle.admission.specs.declared.fault.TakeFault.TheVariants.{OutOfMemory}
 use Rattle.admission.specs.declared.taken.Taken.{Taken}
 use Rattle.admission.specs.declared.taken.Taken.TheVariants.{Added, Known, Skipped}
-use Rattle.exchange_script.specs.declared.event.Event.{Event}
-use Rattle.exchange_script.specs.declared.event.Event.TheVariants.{Take, Retire, Full, Ask, Reply, Deliver, Save, Stop}
+use Rattle.line_inputs.specs.declared.event.Event.{Event}
+use Rattle.line_inputs.specs.declared.event.Event.TheVariants.{Take, Retire, Full, Ask, Reply, Deliver, Save, Stop}
 use Rattle.archive_exchange.specs.declared.outcome.EventFault.{EventFault}
 use Rattle.archive_exchange.specs.declared.outcome.EventFault.TheVariants.{NoSite, NoMessage, NotASummary}
 use Rattle.archive_exchange.specs.declared.outcome.EventFault.TheVariants.{Refused as Text_refused, File}

@@ -10,7 +10,7 @@ use crate::{DeliverFault, EventFault, Outcome, ReplyFault, Site};
 use admission::TakeFault;
 use admission::laws::one_take_fault;
 use archive_core::{Archive, Digest, SliceKey};
-use exchange_script::Event;
+use line_inputs::Event;
 use memory::{Heap, NoMemory};
 
 fn send(messages: &mut Vec<Message, Heap>, text: Vec<u8, Heap>) -> Result<Outcome, NoMemory>

@@ -6,7 +6,7 @@ ghost use Rattle.std.specs.Prelude.{◌≡◌, ℕ, List};
 ghost use Rattle.archive_core.specs.Content.{IsContent, IsBelow};
 ghost use Rattle.archive_exchange.specs.SiteState.{SiteState, HasJoined, HasJoinedInPart};
 ghost use Rattle.archive_exchange.specs.ModelEvent.{ModelEvent, AreSeen};
-ghost use Rattle.exchange_script.specs.declared.event.Event.{Event};
+ghost use Rattle.line_inputs.specs.declared.event.Event.{Event};
 
 use admission::laws::one_take_fault;
 

@@ -16,7 +16,7 @@ use archive_core::{Archive, Digest};
 use archive_records::Sizes;
 use byte_device::{CannotOpen, Sink, Source};
 use command_core::{CommandFault, Status, publish_report, read_events};
-use exchange_script::Script;
+use line_inputs::Script;
 use memory::{Heap, NoMemory};
 use sha2::{Digest as _, Sha256};
 
@@ -52,7 +52,7 @@ fn lines_of<A: Archive + Drop>(heap: Heap, script: &Script) -> Result<String<Hea
     ensures { IfOk result (λ text. TellsEvents script.now.sites script.now.events.items (string_bytes text)) }
 {
     one_meaning();
-    let (world, outcomes) = run::<A>(heap.clone()?, script.sites, &script.events)?;
+    let (world, outcomes) = run::<A>(heap.share(), script.sites, &script.events)?;
     let mut text = String::new(heap);
     push_events(&mut text, &world, &outcomes)?;
     push_sites(&mut text, &world)?;
@@ -75,7 +75,7 @@ pub fn run_rehearse<A: Archive + Drop, S: Source, P: Sink>(
     ensures { EndsReport (rehearse (reader S.left S.failures script.old script.new))
         (writer P.held P.failures report.old report.new) result }
 {
-    let script = read_events(heap.clone()?, script)?;
+    let script = read_events(heap.share(), script)?;
     let text = lines_of::<A>(heap, &script)?;
     publish_report(Status::Done, &text, report)
 }

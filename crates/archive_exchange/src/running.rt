@@ -19,16 +19,16 @@ use crate::model_laws::{
 use crate::{Outcome, Site, World};
 use admission::TakeFault;
 use archive_core::Archive;
-use exchange_script::Event;
+use line_inputs::Event;
 use memory::{Heap, NoMemory};
 
 fn empty_sites<A: Archive + Drop>(heap: &Heap, sites: u32) -> Result<Vec<Site<A>, Heap>, NoMemory>
     ensures number { IfOk result (λ row. length row.items ≡ sites) }
     ensures empty { IfOk result (λ row. Represents row.items [] start) }
 {
-    let mut row = Vec::new(heap.clone()?);
+    let mut row = Vec::new(heap.share());
     'sites: for _ in 0..sites {
-        row.push(Site::new(heap.clone()?)?)?;
+        row.push(Site::new(heap.share())?)?;
     }
     Ok(row)
 }
@@ -44,7 +44,7 @@ fn carry_out<A: Archive + Drop>(
 {
     one_meaning();
     let mut row = empty_sites(&heap, sites)?;
-    let mut messages = Vec::new(heap.clone()?);
+    let mut messages = Vec::new(heap.share());
     let mut outcomes = Vec::new(heap);
     'events: for event in events {
         let outcome = happen(&mut row, &mut messages, event)?;

@@ -49,7 +49,7 @@ fn archive_in<A: Archive + Drop>(heap: Heap, text: &[u8]) -> Result<A, DeliverFa
 fn text_of_summary<A: Archive>(heap: Heap, archive: &A) -> Result<Vec<u8, Heap>, NoMemory>
     ensures { IfOk result (λ text. text.items ≡ summary_text (summary (A.content archive.now))) }
 {
-    let summary = Summary::of(heap.clone()?, archive)?;
+    let summary = Summary::of(heap.share(), archive)?;
     let mut text = Grown::new(heap);
     match write_summary(&summary, &mut text) {
         Ok(_) => Ok(text.into_bytes()),
@@ -116,7 +116,7 @@ impl<A: Archive + Drop> Site<A> {
         ensures empty { IfOk result (λ site. site ≡ record { held = set.empty; saved = written set.empty }) }
         ensures whole { IfOk result IsWhole }
     {
-        let archive = A::empty(heap.clone()?);
+        let archive = A::empty(heap.share());
         let saved = archive_text(heap, &archive)?;
         Ok(Site { archive, saved })
     }
@@ -148,7 +148,7 @@ impl<A: Archive + Drop> Site<A> {
     {
         let heap = self.saved.allocator();
         let accepted = check_file(file)?;
-        let rows = take_accepted(&mut self.archive, heap.clone()?, &accepted)?;
+        let rows = take_accepted(&mut self.archive, heap.share(), &accepted)?;
         Ok(rows)
     }
 
@@ -168,7 +168,7 @@ impl<A: Archive + Drop> Site<A> {
     pub fn full(&self) -> Result<Vec<u8, Heap>, NoMemory>
         ensures { IfOk result (λ text. IsArchiveTextOf text.items self.now.held) }
     {
-        archive_text(self.saved.allocator().clone()?, &self.archive)
+        archive_text(self.saved.allocator().share(), &self.archive)
     }
 
     /// Saves, and gives the text of the summary of what it saved. Want of memory may leave it saved.
@@ -180,7 +180,7 @@ impl<A: Archive + Drop> Site<A> {
         ensures whole { IsWhole self.new }
     {
         self.save()?;
-        text_of_summary(self.saved.allocator().clone()?, &self.archive)
+        text_of_summary(self.saved.allocator().share(), &self.archive)
     }
 
     /// The text of what the site holds beyond the summary that a message is.
@@ -192,8 +192,8 @@ impl<A: Archive + Drop> Site<A> {
         ensures replies { IfOk result (λ text. RepliesTo message.now self.now.held text.items) }
         ensures refused { IfErr result (IsReplyFault message.now) }
     {
-        let summary = summary_in(self.saved.allocator().clone()?, message)?;
-        let text = text_of_delta(self.saved.allocator().clone()?, &self.archive, &summary)?;
+        let summary = summary_in(self.saved.allocator().share(), message)?;
+        let text = text_of_delta(self.saved.allocator().share(), &self.archive, &summary)?;
         Ok(text)
     }
 
@@ -211,7 +211,7 @@ impl<A: Archive + Drop> Site<A> {
         ensures stopped { OnErr result ((self.new ≡ self.old) ⊎ HasJoinedInPart message.now self.old self.new) }
         ensures whole { IsWhole self.new }
     {
-        let other: A = archive_in(self.saved.allocator().clone()?, message)?;
+        let other: A = archive_in(self.saved.allocator().share(), message)?;
         take_all(&mut self.archive, other)?;
         Ok(())
     }
@@ -223,7 +223,7 @@ impl<A: Archive + Drop> Site<A> {
         ensures refused { OnErr result (self.new ≡ self.old) }
         ensures whole { IsWhole self.new }
     {
-        self.saved = archive_text(self.saved.allocator().clone()?, &self.archive)?;
+        self.saved = archive_text(self.saved.allocator().share(), &self.archive)?;
         Ok(())
     }
 
@@ -234,7 +234,7 @@ impl<A: Archive + Drop> Site<A> {
         ensures refused { OnErr result (self.new ≡ self.old) }
         ensures whole { IsWhole self.new }
     {
-        let heap = self.saved.allocator().clone()?;
+        let heap = self.saved.allocator().share();
         // The saved bytes are an archive's text, which is refused for want of memory alone.
         let Ok(archive) = archive_in(heap, &self.saved) else {
             return Err(NoMemory);

@@ -5,13 +5,13 @@ use Rattle.std.specs.List.{AllZip}
 use Rattle.byte_device.specs.Disks.{FileAt, Path}
 use Rattle.byte_device.specs.declared.Source.{Ghosts as Sources}
 use Rattle.byte_device.specs.declared.Placed.{Ghosts as Places}
+use Rattle.archive_core.proofs.Members.{pairs_more as zip_more}
 use Rattle.archive_files.specs.AtTurns.{told_by}
 use Rattle.archive_files.specs.declared.disks.Disk.{Ghosts as Disks}
 use Rattle.archive_files.specs.declared.input_state.AtTurn.{AtTurn}
 use Rattle.archive_files.specs.InputStates.{AreFirstAsked, IsWaiting, Waiting, bytes_at, left_in, stage_of}
 use Rattle.archive_files.specs.declared.input_state.InputState.{InputState}
 use Rattle.archive_files.specs.declared.input_state.InputState.TheVariants as state
-use Rattle.command_core.proofs.Readers.{pairs_more as zip_more}
 
 -- one more input is made
 pub inputs_more : {B X P : Type 0} (R : P → B → Type 0) (f : X → P) (xs : List X) (i : ℕ) (ys zs : List B) (d : X)

@@ -5,8 +5,7 @@ ghost use Rattle.archive_files.specs.OutFiles.{published_account};
 
 use crate::out_file::{MOST_FAILURES, OutFile};
 use crate::published::Published;
-use byte_device::Failed;
-use command_core::Target;
+use byte_device::{Failed, Target};
 use std::rt::Files;
 
 /// What was published at OUT's path, if anything was.

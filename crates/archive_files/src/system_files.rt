@@ -13,7 +13,7 @@ use crate::inputs::{SystemInput, make_inputs};
 use crate::out_file::OutFile;
 use crate::out_path::OutPath;
 use crate::replaceable::Replaces;
-use command_core::Output;
+use byte_device::Output;
 use memory::NoMemory;
 use std::alloc::Global;
 use std::rt::Files;

@@ -9,4 +9,7 @@ pub mod Entries
 pub mod Made
 pub mod Versions
 pub mod Blamed
-pub mod Runs
+pub mod RunLemmas
+pub mod NamedRecord
+pub mod Ordered
+pub mod Gathered

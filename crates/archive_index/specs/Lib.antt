@@ -6,3 +6,5 @@ pub mod Places
 pub mod InnerMaking
 pub mod Runs
 pub mod IndexFaultText
+pub mod Gathering
+pub mod InnerGathering

@@ -7,12 +7,12 @@ use Rattle.archive_exchange.specs.World.{state, outcomes}
 use Rattle.archive_exchange.specs.InnerEvents.{SeenFile}
 use Rattle.archive_exchange.specs.ModelEvent.{ModelEvent, IsFile, IsSeen, AreSeen, OutcomeIs, row_told, fault_told}
 use Rattle.admission.specs.declared.fault.TakeFault.{TakeFault}
-use Rattle.exchange_script.specs.declared.event.Event.{Event}
-use Rattle.exchange_script.specs.declared.event.Event.TheVariants as event
+use Rattle.line_inputs.specs.declared.event.Event.{Event}
+use Rattle.line_inputs.specs.declared.event.Event.TheVariants as event
 use Rattle.archive_exchange.specs.declared.outcome.Outcome.{Outcome}
 use Rattle.archive_exchange.specs.declared.outcome.Outcome.TheVariants.{Took, Retired, Refused}
-use Rattle.exchange_script.specs.Events.{Act, Take, Retire, Full, Ask, Reply, Deliver, Save, Stop, act_of}
-use Rattle.exchange_script.specs.Script.{acts, script_of}
+use Rattle.line_inputs.specs.Events.{Act, Take, Retire, Full, Ask, Reply, Deliver, Save, Stop, act_of}
+use Rattle.line_inputs.specs.Script.{acts, script_of}
 use Rattle.archive_exchange.specs.EventLines.{event_fault_text, event_lines, outcome_text, sent_text, took_text}
 use Rattle.report_text.specs.Report.{line}
 use Rattle.command_core.specs.declared.faults.Status.{Status}

@@ -14,11 +14,11 @@ use Rattle.admission.specs.File.{IsAcceptedFile, IsTakeFault}
 use Rattle.admission.specs.declared.fault.TakeFault.{TakeFault}
 use Rattle.admission.specs.declared.fault.TakeFault.TheVariants.{OutOfMemory as TakeOutOfMemory}
 use Rattle.archive_words.specs.Lines.{line_at}
-use Rattle.crash_frames.specs.Flaws.{frame_flaw}
-use Rattle.crash_frames.specs.Frames.{frames_of}
-use Rattle.exchange_script.specs.Flaws.{script_flaw}
-use Rattle.exchange_script.specs.Events.{Act}
-use Rattle.exchange_script.specs.Script.{Wrong, script_of}
+use Rattle.line_inputs.specs.FrameFlaws.{frame_flaw}
+use Rattle.line_inputs.specs.Frames.{frames_of}
+use Rattle.line_inputs.specs.ScriptFlaws.{script_flaw}
+use Rattle.line_inputs.specs.Events.{Act}
+use Rattle.line_inputs.specs.Script.{Wrong, script_of}
 use Rattle.byte_device.specs.declared.disks.CannotOpen.{CannotOpen}
 use Rattle.command_core.specs.declared.faults.InputName.{InputName}
 use Rattle.command_core.specs.declared.faults.InputName.TheVariants.{Archive}

@@ -36,8 +36,7 @@ ghost use Rattle.command_core.specs.Archives.{merged};
 use crate::content_laws::{contents_join, migrate_joins, takes_in_any_order};
 use crate::text_laws::{one_list_of_operations, one_summary};
 use admission::laws::one_take_fault;
-use byte_device::{Sink, Source};
-use command_core::Target;
+use byte_device::{Sink, Source, Target};
 
 /// Where archives of one content, of whichever version, and files of the same bytes are given, a command makes one OUT
 /// and one report of them, wherever they come from.

@@ -31,7 +31,7 @@ use Rattle.archive_core.proofs.Members.{in_cons, in_front, in_map, in_rest}
 use Rattle.archive_core.proofs.Answering.{one_key}
 use Rattle.std.specs.Option.{ForSome}
 use Rattle.archive_reading.specs.Keys.{AnswersAs, AreInOrder, first_key}
-use Rattle.crash_frames.specs.declared.frame.Frame.{Frame}
+use Rattle.line_inputs.specs.declared.frame.Frame.{Frame}
 use Rattle.report_text.specs.Answers.{answer_lines}
 use Rattle.report_text.proofs.Grouped.{key_is_same}
 use Rattle.archive_queries.specs.declared.asked_frames.AskedFrame.{AskedFrame}

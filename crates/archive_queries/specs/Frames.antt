@@ -2,8 +2,8 @@
 use Rattle.std.specs.Prelude.{◌≡◌, ℕ, List, [], ◌∷◌, Bool, true, false, Ok, ◌⊎◌, if◌then◌else◌}
 use Rattle.std.specs.List.{AllZip, flat_map, list_all}
 use Rattle.archive_core.specs.Content.{Operations}
-use Rattle.crash_frames.specs.Frames.{frames_of}
-use Rattle.crash_frames.specs.declared.frame.Frame.{Frame}
+use Rattle.line_inputs.specs.Frames.{frames_of}
+use Rattle.line_inputs.specs.declared.frame.Frame.{Frame}
 use Rattle.command_core.specs.declared.faults.InputName.{InputName}
 use Rattle.command_core.specs.declared.faults.Status.{Status}
 use Rattle.command_core.specs.declared.faults.Status.TheVariants.{Done, Partial}

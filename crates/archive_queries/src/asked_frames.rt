@@ -22,7 +22,7 @@ use archive_core::{Answer, Archive, SliceKey, Where, compare_keys};
 use archive_reading::{Questions, Selects};
 use archive_records::key_prefix;
 use command_core::Status;
-use crash_frames::Frame;
+use line_inputs::Frame;
 use memory::{Heap, NoMemory};
 use report_text::push_answer;
 use std::cmp::Ordering;
@@ -150,10 +150,10 @@ fn sources_of<'s, A: Archive>(
         sources.found.items) }
 {
     if lines {
-        let places = places_of(heap.clone()?, asked)?;
+        let places = places_of(heap.share(), asked)?;
         Sources::of(heap, archive, key, &places)
     } else {
-        Ok(Sources::none(heap.clone()?))
+        Ok(Sources::none(heap.share()))
     }
 }
 
@@ -187,8 +187,8 @@ impl<'f> FrameQuestions<'f> {
             lines,
             left: asked,
             ahead: 0,
-            told: vec![in heap.clone()?; nothing; asked.len()]?,
-            text: String::new(heap.clone()?),
+            told: vec![in heap.share(); nothing; asked.len()]?,
+            text: String::new(heap.share()),
             heap,
         })
     }
@@ -212,7 +212,7 @@ impl<'f> FrameQuestions<'f> {
         let frame = asked.frame;
         let place = asked_of(frame.load, frame.address);
         let answer = archive.lookup(&frame.key, place)?;
-        let frames = sources.at(self.heap.clone()?, place)?;
+        let frames = sources.at(self.heap.share(), place)?;
         let from = self.text.len();
         push_answer(&self.heap, &mut self.text, frame.address, &answer, &frames)?;
         let told = ToldFrame {

@@ -40,7 +40,7 @@ pub fn run_find<A: Archive + Drop, R: Source, P: Sink>(
         (writer P.held P.failures report.old report.new) result }
 {
     let prefix = bytes_of(*uuid);
-    let kept: A = read_parts(heap.clone()?, &Under(&prefix), archive, others)?;
+    let kept: A = read_parts(heap.share(), &Under(&prefix), archive, others)?;
     let rows = kept.find(uuid)?;
     let text = find_lines(heap, &rows)?;
     publish_report(found_status(&rows), &text, report)

@@ -10,7 +10,7 @@ use crate::asked_frames::{AskedKeys, FrameQuestions, in_key_order};
 use archive_core::Archive;
 use byte_device::{CannotOpen, Sink, Source};
 use command_core::{CommandFault, Status, answer_all, answer_archives, publish_bytes, read_crash};
-use crash_frames::Frame;
+use line_inputs::Frame;
 use memory::{Heap, NoMemory};
 
 /// The lines of the answers to frames, in their order, with how a command ends that prints them. The frames are asked
@@ -23,8 +23,8 @@ pub fn answer_frames<A: Archive>(
 ) -> Result<(Status, Vec<u8, Heap>), NoMemory>
     ensures { IfOk result (λ told. TellsFrames lines (A.content archive.now) frames.now told.0 told.1.items) }
 {
-    let asked = in_key_order(heap.clone()?, frames)?;
-    let mut questions = FrameQuestions::of(heap.clone()?, lines, &asked)?;
+    let asked = in_key_order(heap.share(), frames)?;
+    let mut questions = FrameQuestions::of(heap.share(), lines, &asked)?;
     answer_all(&mut questions, archive)?;
     let text = questions.in_line_order(heap)?;
     Ok(text)
@@ -43,17 +43,17 @@ fn tell_frames<A: Archive + Drop, R: Source>(
         (readers R.left R.failures others.old others.new) result
         (λ told o. TellsFrames lines o frames.now told.0 told.1.items) }
 {
-    let asked = in_key_order(heap.clone()?, frames)?;
-    let questions = FrameQuestions::of(heap.clone()?, lines, &asked)?;
+    let asked = in_key_order(heap.share(), frames)?;
+    let questions = FrameQuestions::of(heap.share(), lines, &asked)?;
     let keys = AskedKeys { asked: &asked };
     let told = answer_archives::<A, FrameQuestions<'_>, AskedKeys<'_>, R>(
-        heap.clone()?,
+        heap.share(),
         questions,
         &keys,
         archive,
         others,
     )?;
-    let text = told.in_line_order(heap.clone()?)?;
+    let text = told.in_line_order(heap.share())?;
     Ok(text)
 }
 
@@ -81,7 +81,7 @@ pub fn run_frames<A: Archive + Drop, R: Source, P: Sink>(
         (reader R.left R.failures archive.old archive.new) (readers R.left R.failures others.old others.new))
         (writer P.held P.failures report.old report.new) result }
 {
-    let frames = read_crash(heap.clone()?, crash)?;
+    let frames = read_crash(heap.share(), crash)?;
     let (status, text) = tell_frames::<A, R>(&heap, lines, &frames, archive, others)?;
     publish_bytes(status, &text, report)
 }

@@ -25,7 +25,7 @@ pub fn run_list<R: Source, P: Sink>(
     ensures { EndsReport (list (reader R.left R.failures archive.old archive.new))
         (writer P.held P.failures report.old report.new) result }
 {
-    let rows = read_rows(heap.clone()?, archive)?;
+    let rows = read_rows(heap.share(), archive)?;
     let text = list_lines(heap, &rows)?;
     publish_report(found_status(&rows), &text, report)
 }

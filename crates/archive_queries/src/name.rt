@@ -14,13 +14,13 @@ use command_core::{CommandFault, InputName, Status, found_status, opened, refusa
 use memory::{Heap, NoMemory};
 use report_text::name_lines;
 
-fn no_rows(heap: &Heap) -> Result<NamesTold, NoMemory>
-    ensures { IfOk result (λ told. (told.rows.items ≡ []) × (told.others.items ≡ [])) }
+fn no_rows(heap: &Heap) -> NamesTold
+    ensures { (result.rows.items ≡ []) × (result.others.items ≡ []) }
 {
-    Ok(NamesTold {
-        rows: Vec::new(heap.clone()?),
-        others: Vec::new(heap.clone()?),
-    })
+    NamesTold {
+        rows: Vec::new(heap.share()),
+        others: Vec::new(heap.share()),
+    }
 }
 
 /// Reads the one archive that is searched, and gives the rows of the names.
@@ -36,7 +36,7 @@ fn read_name_rows<R: Source>(
         (IsRefusedArchive 0) }
 {
     let at = InputName::Archive(0);
-    let none = no_rows(&heap)?;
+    let none = no_rows(&heap);
     let source = opened(input, at)?;
     match read_names(heap, none, sought, source) {
         Ok(told) => Ok(told),
@@ -77,7 +77,7 @@ fn gather_others<R: Source>(
 {
     let mut now = found;
     'others: for (index, other) in others.iter_mut().enumerate() {
-        now = gather_input(heap.clone()?, now, index as u64 + 1, sought, other)?;
+        now = gather_input(heap.share(), now, index as u64 + 1, sought, other)?;
     }
     Ok(now)
 }
@@ -96,10 +96,10 @@ fn gather_rows<R: Source>(
         × IsNames o sought.entry.other.now (map owned_name_view told.others.items)) }
 {
     let none = NamesFound {
-        told: no_rows(heap)?,
-        retired: Vec::new(heap.clone()?),
+        told: no_rows(heap),
+        retired: Vec::new(heap.share()),
     };
-    let first = gather_input(heap.clone()?, none, 0, sought, archive)?;
+    let first = gather_input(heap.share(), none, 0, sought, archive)?;
     let found = gather_others(heap, first, sought, others)?;
     Ok(live_names(found))
 }
@@ -168,12 +168,12 @@ pub fn answer_name<R: Source>(
         (readers R.left R.failures others.old others.new) result
         (λ answer o. Answers o sought.now answer.status (string_bytes answer.text) answer.is_underscored) }
 {
-    let other = underscored(heap.clone()?, sought)?;
+    let other = underscored(heap.share(), sought)?;
     let names = SoughtNames {
         name: sought,
         other: &other,
     };
-    let told = read_rows(heap.clone()?, names, archive, others)?;
+    let told = read_rows(heap.share(), names, archive, others)?;
     let text = name_lines(heap, &told.rows)?;
     Ok(NameAnswer {
         status: found_status(&told.rows),

@@ -43,7 +43,7 @@ impl<'s> SlicedFrames<'s> {
         ensures frames { IfOk result (λ it. (place : Where) → Contains places.now place
             → AreFramesAt place slice.now (frames_in place it)) }
     {
-        let addresses = addresses_in(heap.clone()?, slice, places)?;
+        let addresses = addresses_in(heap.share(), slice, places)?;
         let frames = frames_of(heap, &slice.image(), &addresses)?;
         Ok(SlicedFrames { slice, frames })
     }
@@ -77,9 +77,9 @@ impl<'s> Sources<'s> {
             → AreSourcesOf (A.content archive.now) key.now true place sources.found.items) }
     {
         let slices = archive.answering_slices(key)?;
-        let mut found = Vec::new(heap.clone()?);
+        let mut found = Vec::new(heap.share());
         'slices: for slice in &slices {
-            found.push(SlicedFrames::of(heap.clone()?, slice, places)?)?;
+            found.push(SlicedFrames::of(heap.share(), slice, places)?)?;
         }
         Ok(Sources { found })
     }

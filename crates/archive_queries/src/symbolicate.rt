@@ -61,10 +61,10 @@ fn sources_of<'s, A: Archive>(
         → AreSourcesOf (A.content archive.now) key.now lines (asked_of load address) sources.found.items) }
 {
     if lines {
-        let places = places_of(heap.clone()?, load, addresses)?;
+        let places = places_of(heap.share(), load, addresses)?;
         Sources::of(heap, archive, key, &places)
     } else {
-        Ok(Sources::none(heap.clone()?))
+        Ok(Sources::none(heap.share()))
     }
 }
 
@@ -84,12 +84,12 @@ pub fn answer_each<A: Archive>(
 {
     let sources = sources_of(&heap, archive, key, load, lines, addresses)?;
     let mut status = Status::Done;
-    let mut text = String::new(heap.clone()?);
+    let mut text = String::new(heap.share());
     'addresses: for address in addresses {
         let place = asked_of(load, *address);
         let answer = archive.lookup(key, place)?;
         status = status_behind(status, &answer);
-        let frames = sources.at(heap.clone()?, place)?;
+        let frames = sources.at(heap.share(), place)?;
         push_answer(&heap, &mut text, *address, &answer, &frames)?;
     }
     Ok((status, text))
@@ -120,7 +120,7 @@ pub fn run_symbolicate<A: Archive + Drop, R: Source, P: Sink>(
         (writer P.held P.failures report.old report.new) result }
 {
     let prefix = bytes_of(key);
-    let kept: A = read_parts(heap.clone()?, &Under(&prefix), archive, others)?;
+    let kept: A = read_parts(heap.share(), &Under(&prefix), archive, others)?;
     let (status, text) = answer_each(heap, &kept, key, load, lines, addresses)?;
     publish_report(status, &text, report)
 }

@@ -82,7 +82,7 @@ fn answer_next<A: Archive + Drop, Q: Questions>(
 {
     asked.questions.answer(&asked.held)?;
     if !is_next(&asked.questions, &key_prefix(key)) {
-        asked.held = A::empty(heap.clone()?);
+        asked.held = A::empty(heap.share());
     }
     Ok(())
 }

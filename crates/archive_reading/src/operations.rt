@@ -32,7 +32,7 @@ impl FromRecords for Listed {
     }
 
     fn take(&mut self, heap: &Heap, reader: &RecordReader) -> Result<(), NoMemory> {
-        let operation = reader.record().copy(heap.clone()?)?;
+        let operation = reader.record().copy(heap.share())?;
         self.0.push(operation)?;
         Ok(())
     }

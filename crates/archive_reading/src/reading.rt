@@ -19,7 +19,7 @@ pub(crate) fn take_record<A: Archive>(
 ) -> Result<(), NoMemory>
     ensures { OnOk result (A.content archive.new ≡ with_record (A.content archive.old) (borrowed_bytes record.now)) }
 {
-    let operation = record.copy(heap.clone()?)?;
+    let operation = record.copy(heap.share())?;
     archive.take(operation)?;
     Ok(())
 }

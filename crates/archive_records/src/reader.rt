@@ -72,7 +72,7 @@ impl Model for RecordReader {
 fn chunk_of(size: usize, heap: &Heap) -> Result<Vec<u8, Heap>, NoMemory>
     ensures { IfOk result (λ chunk. length chunk.items ≡ size) }
 {
-    Ok(vec![in heap.clone()?; 0; size]?)
+    Ok(vec![in heap.share(); 0; size]?)
 }
 
 /// Reads the magic into the empty buffer, and gives the format that it tells.
@@ -151,9 +151,7 @@ impl RecordReader {
         let Ok(mut chunk) = chunk_of(CHUNK, &heap) else {
             return Err(RecordFault::out_of_memory(0));
         };
-        let Ok(retired) = Retirements::none(&heap) else {
-            return Err(RecordFault::out_of_memory(0));
-        };
+        let retired = Retirements::none(&heap);
         let mut buffer = Buffer {
             bytes: Vec::new(heap),
             at: 0,

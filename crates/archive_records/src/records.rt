@@ -106,14 +106,8 @@ pub fn read_text<T: FromRecords + Drop, R: Source>(
     ensures no_trailing { IfErr result (λ fault. fault.kind ≢ Trailing) }
     ensures reader { FaultBlamesReader R.left R.failures r.old r.new result }
 {
-    let Ok(kept) = heap.clone() else {
-        return Err(RecordFault::out_of_memory(0));
-    };
-    let Ok(buffers) = heap.clone() else {
-        return Err(RecordFault::out_of_memory(0));
-    };
-    let mut taker = T::begin(kept, question);
-    let mut reader = RecordReader::begin(buffers, file, r)?;
+    let mut taker = T::begin(heap.share(), question);
+    let mut reader = RecordReader::begin(heap.share(), file, r)?;
     take_records(&mut taker, heap, &mut reader, r)?;
     Ok((taker, reader))
 }

@@ -1,5 +1,5 @@
 -- What `delta` makes, by a copy of what a summary does not name.
-use Rattle.std.proofs.Common.{◌≡◌, ◌∙◌, ◌++◌, ℕ, List, [], Option, Result, Ok, Err, refl, ap, sym, subst}
+use Rattle.std.proofs.Common.{◌≡◌, ◌∙◌, ◌++◌, ℕ, List, [], Option, Result, Ok, refl, ap, sym, subst}
 use mathlib.Core.Logic.{⊎_map}
 use Rattle.archive_core.specs.Summary.{Entries, delta}
 use Rattle.archive_records.specs.Entry.{AreEntries}
@@ -16,16 +16,16 @@ use Rattle.report_text.specs.Report.{archive_line}
 use Rattle.command_core.specs.declared.faults.CommandFault.{CommandFault}
 use Rattle.command_core.specs.declared.faults.CommandFault.TheVariants.{Input, Output, OutOfMemory}
 use Rattle.command_core.specs.declared.faults.Status.{Status}
-use Rattle.command_core.specs.Ends.{EndsStreamed, HasFirst, MakesArchive, StopsAmidst}
-use Rattle.command_core.specs.Inputs.{Holds, IsKnown, IsRefusedArchive, IsRefusedSummary, Reader, Unfailed, reader}
-use Rattle.command_core.specs.Outputs.{IsKept, Out, Publishes, Takes, Writer, writer}
-use Rattle.command_core.proofs.Amidst.{gives_known, nothing_first}
+use Rattle.command_core.specs.Ends.{EndsStreamed, HasFirst, StopsAmidst}
+use Rattle.command_core.specs.Inputs.{Holds, IsKnown, IsRefusedSummary, Reader, Unfailed, reader}
+use Rattle.command_core.specs.Outputs.{Out, Publishes, Takes, Writer, writer}
+use Rattle.command_core.proofs.Amidst.{gives_known}
 use Rattle.archive_writing.specs.Begun.{EndsBegun, HasBegun, IsUnfinished}
 use Rattle.archive_writing.specs.Copying.{CopiesUnnamed, IsUnnamed, MakesUnnamed, StopsCopy, StopsCopyBy, copying}
 use Rattle.archive_writing.specs.Delta.{GivesSummary, MakesDelta, delta_as_it_comes}
 use Rattle.archive_writing.specs.MergeStreams.{IsMergeFaultTold}
-use Rattle.archive_writing.proofs.Streamed.{archive_published, stopped_begun}
-use Rattle.archive_writing.proofs.Begun.{untouched, one_given, read_behind}
+use Rattle.archive_writing.proofs.Streamed.{archive_published}
+use Rattle.archive_writing.proofs.Begun.{one_given, read_behind}
 
 -- ---- an archive that was opened
 
@@ -65,12 +65,6 @@ module _ {R W : Type 0} (left : R → Option (List ℕ)) (failures : R → ℕ) 
 -- ---- OUT, and the report
 
 module _ {R : Type 0} (archive : Reader R) (s : Entries) where
-  -- memory was wanted before anything was written
-  pub unnamed_wanting : (out : Out) (report : Writer) → Unfailed archive → IsKept out → Takes report [] → EndsBegun archive (copying archive s) out report (Err OutOfMemory)
-  unnamed_wanting out report unfailed kept unreported =
-      stopped_begun archive (MakesArchive (MakesUnnamed archive s)) (IsRefusedArchive 0 archive) (Unfailed archive) out report OutOfMemory
-      (unfailed, kept.0.1, (0, λ known text told m. nothing_first (MakesUnnamed archive s) out.draft.old out.draft.new text told kept.0.0 m)) (untouched archive (Unit {0}) out.draft kept.0) ([], kept.0.0, λ n h. cc) kept.1 unreported
-
   pub unnamed_published : {W : Type 0} (draft : Stream W) (sizes : Sizes) (u : IsUnnamed archive s draft sizes) (lines : List ℕ) → lines ≡ [] → (out : Out) (report : Writer) (result : Result Status CommandFault)
       → Publishes out report (written (delta u.before s)) (lines ++ archive_line sizes) result → EndsBegun archive (copying archive s) out report result
   unnamed_published draft sizes u lines none out report result =

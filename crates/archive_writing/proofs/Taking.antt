@@ -4,9 +4,9 @@ use Rattle.std.proofs.Common.{Result, Ok, Err}
 use Rattle.std.specs.Prelude.{if◌then◌else◌, OnOk}
 use Rattle.std.proofs.lemmas.List.{map-append, take_all, take_more}
 use Rattle.std.proofs.lemmas.Option.{get_or_from_slice_get, slice_get_within}
-use Rattle.fat_slices.specs.Kind.{kind_of, is_fat}
-use Rattle.fat_slices.specs.Slices.{slices}
-use Rattle.fat_slices.specs.declared.file_kind.FileKind.TheVariants.{Thin}
+use Rattle.admission.specs.Kind.{kind_of, is_fat}
+use Rattle.admission.specs.Slices.{slices}
+use Rattle.admission.specs.declared.file_kind.FileKind.TheVariants.{Thin}
 use Rattle.archive_core.specs.declared.slices.SliceFacts.{SliceFacts}
 use Rattle.admission.specs.Accepted.{IsFoundOf}
 use Rattle.admission.specs.File.{parts}

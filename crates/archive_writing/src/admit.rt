@@ -25,9 +25,9 @@ use crate::slicing::slice_file;
 use crate::telling::tell_operations;
 use admission::TakeFault;
 use archive_core::Slice;
-use byte_device::{CannotOpen, Sink, Source};
+use byte_device::{CannotOpen, Output, Sink, Source, Target};
 use command_core::{
-    CommandFault, InputName, Output, Status, Target, Why, publish_draft, read_file, refused_behind,
+    CommandFault, InputName, Status, Why, publish_draft, read_file, refused_behind,
 };
 use memory::{Heap, NoMemory};
 use record_merge::Arrival;
@@ -72,7 +72,7 @@ fn admit_file<S: Source>(
         → AreFirstRows (listing arrivals.new.came) arrivals.new.first_rows.items arrivals.new.rows.items
         (records ++ records_in bytes))) (IsRefusedFile index) }
 {
-    let bytes = read_file(heap.clone()?, index, file)?;
+    let bytes = read_file(heap.share(), index, file)?;
     let slices = slice_bytes(index, bytes)?;
     arrivals.take_slices(index, slices)?;
     Ok(())
@@ -86,7 +86,7 @@ fn admit_files<S: Source>(
         ReadsInputs result (λ arrivals. HasCome known arrivals.came arrivals.first_rows.items arrivals.rows.items)
         (IsFirstRefused File IsAccepted IsFileRefused known) (EachUnfailed known) }
 {
-    let mut arrivals = Arrivals::none(heap)?;
+    let mut arrivals = Arrivals::none(heap);
     'files: for (index, file) in files.iter_mut().enumerate() {
         admit_file(heap, &mut arrivals, index as u64, file)?;
     }

@@ -16,10 +16,8 @@ ghost use Rattle.command_core.specs.Outputs.{out_of, outs, writer};
 
 use crate::telling::tell_operations;
 use archive_core::Operation;
-use byte_device::{CannotOpen, Sink, Source};
-use command_core::{
-    CommandFault, Output, Status, Target, publish_draft, read_operations, refused_behind,
-};
+use byte_device::{CannotOpen, Output, Sink, Source, Target};
+use command_core::{CommandFault, Status, publish_draft, read_operations, refused_behind};
 use memory::Heap;
 use record_merge::number_of_new;
 use report_text::apply_line;
@@ -86,8 +84,7 @@ pub fn run_apply<R: Source, S: Source, T: Target, P: Sink>(
         (reader S.left S.failures ops.old ops.new) known.draft) known
         (writer P.held P.failures report.old report.new) result }
 {
-    let kept = heap.clone()?;
-    match read_new(kept, ops) {
+    match read_new(heap.share(), ops) {
         Ok((sorted, number)) => write_applied(heap, input, &sorted, number, out, report),
         Err(fault) => Err(refused_behind(heap, input, fault)),
     }

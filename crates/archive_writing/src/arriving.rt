@@ -27,16 +27,16 @@ pub struct Arrivals {
 }
 
 impl Arrivals {
-    pub fn none(heap: &Heap) -> Result<Arrivals, NoMemory>
-        ensures came { IfOk result (λ arrivals. arrivals.came ≡ set.empty) }
-        ensures first_rows { IfOk result (λ arrivals. arrivals.first_rows.items ≡ []) }
-        ensures rows { IfOk result (λ arrivals. arrivals.rows.items ≡ []) }
+    pub fn none(heap: &Heap) -> Arrivals
+        ensures came { result.came ≡ set.empty }
+        ensures first_rows { result.first_rows.items ≡ [] }
+        ensures rows { result.rows.items ≡ [] }
     {
-        Ok(Arrivals {
-            came: PlainArchive::empty(heap.clone()?),
-            first_rows: Vec::new(heap.clone()?),
-            rows: Vec::new(heap.clone()?),
-        })
+        Arrivals {
+            came: PlainArchive::empty(heap.share()),
+            first_rows: Vec::new(heap.share()),
+            rows: Vec::new(heap.share()),
+        }
     }
 
     /// Takes a slice, whose row is to come next, and tells what became of it.

@@ -11,10 +11,9 @@ ghost use Rattle.command_core.specs.Outputs.{out_of, outs, writer};
 use crate::copying::copy_unnamed;
 use crate::joining::command_fault_of;
 use archive_records::{Sizes, Summary};
-use byte_device::{CannotOpen, Sink, Source};
+use byte_device::{CannotOpen, Output, Sink, Source, Target};
 use command_core::{
-    CommandFault, InputName, Output, Status, Target, opened, publish_draft, read_summary_input,
-    refused_behind,
+    CommandFault, InputName, Status, opened, publish_draft, read_summary_input, refused_behind,
 };
 use memory::Heap;
 
@@ -47,8 +46,7 @@ fn write_unnamed<R: Source, T: Target, P: Sink>(
         (out_of (outs T.Draft.held T.Draft.failures T.published T.failures out.old out.new))
         (writer P.held P.failures report.old report.new) result }
 {
-    let kept = heap.clone()?;
-    let sizes = copy_input(kept, archive, named, &mut out.draft)?;
+    let sizes = copy_input(heap.share(), archive, named, &mut out.draft)?;
     publish_draft(String::new(heap), sizes, out, report)
 }
 
@@ -73,8 +71,7 @@ pub fn run_delta<R: Source, S: Source, T: Target, P: Sink>(
         (reader S.left S.failures summary.old summary.new) known.draft) known
         (writer P.held P.failures report.old report.new) result }
 {
-    let kept = heap.clone()?;
-    match read_summary_input(kept, summary) {
+    match read_summary_input(heap.share(), summary) {
         Ok(named) => write_unnamed(heap, archive, &named, out, report),
         Err(fault) => Err(refused_behind(heap, archive, fault)),
     }

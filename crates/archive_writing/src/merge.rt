@@ -16,10 +16,9 @@ ghost use Rattle.command_core.specs.Outputs.{draft_of, out_of, outs, writer};
 use crate::joining::{command_fault_of, join_input};
 use archive_core::{Archive, take_all};
 use archive_records::write_archive;
-use byte_device::{Bytes, CannotOpen, Grown, Sink, Source};
+use byte_device::{Bytes, CannotOpen, Grown, Output, Sink, Source, Target};
 use command_core::{
-    CommandFault, InputName, Output, Status, Target, opened, publish_draft, read_input,
-    refused_behind,
+    CommandFault, InputName, Status, opened, publish_draft, read_input, refused_behind,
 };
 use memory::Heap;
 use record_merge::merge_streams;
@@ -50,7 +49,7 @@ fn join_files<A: Archive + Drop, S: Source>(
         (λ files _. HasJoined files (A.content archive.old) (A.content archive.new)) }
 {
     'files: for (index, file) in files.iter_mut().enumerate() {
-        join_file(heap.clone()?, archive, index as u64 + 1, file)?;
+        join_file(heap.share(), archive, index as u64 + 1, file)?;
     }
     Ok(())
 }
@@ -60,7 +59,7 @@ fn text_in_memory<A: Archive>(heap: &Heap, archive: &A) -> Result<Grown, Command
     ensures content { OnOk result (IsContent (A.content archive.now)) }
     ensures wanting { IfErr result (λ fault. fault ≡ OutOfMemory) }
 {
-    let mut text = Grown::new(heap.clone()?);
+    let mut text = Grown::new(heap.share());
     match write_archive(archive, &mut text) {
         Ok(_) => Ok(text),
         Err(_) => Err(CommandFault::OutOfMemory),
@@ -75,7 +74,7 @@ fn joined_text<A: Archive + Drop, S: Source>(
         (λ files text. (p : Operations) × IsContent p × (⟦<Grown as Sink>⟧.held text ≡ Some (written p))
         × HasJoined files set.empty p) }
 {
-    let mut joined = A::empty(heap.clone()?);
+    let mut joined = A::empty(heap.share());
     join_files(heap, &mut joined, files)?;
     text_in_memory(heap, &joined)
 }

@@ -8,8 +8,8 @@ ghost use Rattle.archive_writing.specs.Migrate.{migrate_as_it_comes};
 ghost use Rattle.command_core.specs.Outputs.{out_of, outs, writer};
 
 use crate::joining::join_input;
-use byte_device::{Bytes, CannotOpen, Sink, Source};
-use command_core::{CommandFault, Output, Status, Target, publish_draft};
+use byte_device::{Bytes, CannotOpen, Output, Sink, Source, Target};
+use command_core::{CommandFault, Status, publish_draft};
 use memory::Heap;
 
 fn empty_text() -> [u8; 17]

@@ -5,8 +5,8 @@ ghost use Rattle.archive_records.specs.Text.{written};
 ghost use Rattle.command_core.specs.Outputs.{Publishes, out_of, outs, report_of, writer};
 
 use archive_core::Archive;
-use byte_device::Sink;
-use command_core::{CommandFault, Output, Status, Target, publish};
+use byte_device::{Output, Sink, Target};
+use command_core::{CommandFault, Status, publish};
 use memory::Heap;
 
 /// Writes the empty archive to OUT, and its sizes to the report.
@@ -23,6 +23,6 @@ pub fn run_new<A: Archive + Drop, T: Target, P: Sink>(
         (writer P.held P.failures report.old report.new)
         (written set.empty) (report_of set.empty []) result }
 {
-    let archive = A::empty(heap.clone()?);
+    let archive = A::empty(heap.share());
     publish(&archive, String::new(heap), out, report)
 }

@@ -14,8 +14,8 @@ use crate::notes::{Note, note_missing};
 use crate::telling::tell_operations;
 use archive_core::{Digest, Operation, SliceKey};
 use archive_records::Sizes;
-use byte_device::{CannotOpen, Sink, Source};
-use command_core::{CommandFault, Output, Status, Target, publish_draft};
+use byte_device::{CannotOpen, Output, Sink, Source, Target};
+use command_core::{CommandFault, Status, publish_draft};
 use memory::Heap;
 use report_text::retire_line;
 

@@ -1,14 +1,13 @@
 //! The slices of a file, each with its bytes to itself.
 ghost use Rattle.std.specs.Prelude.{◌≡◌, true, map, IfOk, IfErr, OnOk};
-ghost use Rattle.fat_slices.specs.Kind.{kind_of, is_fat};
-ghost use Rattle.fat_slices.specs.Slices.{slices};
+ghost use Rattle.admission.specs.Kind.{kind_of, is_fat};
+ghost use Rattle.admission.specs.Slices.{slices};
 ghost use Rattle.admission.specs.Accepted.{AreFound, IsFoundOf};
 ghost use Rattle.admission.specs.File.{IsAcceptedFile, IsTakeFault, parts};
 ghost use Rattle.archive_writing.specs.Slicing.{slice_in};
 
-use admission::{AcceptedFile, TakeFault, check_file};
+use admission::{AcceptedFile, FileKind, TakeFault, Universal, check_file};
 use archive_core::{Slice, SliceFacts};
-use fat_slices::{FileKind, Universal};
 use memory::{Heap, NoMemory};
 
 /// The slice that a part of a file is, by what its check found out. Its bytes are copied. A part of which nothing was
@@ -45,10 +44,10 @@ fn slices_in(
     requires found { AreFound (slices universal.now) found.now }
     ensures { IfOk result (λ slices. slices.items ≡ map slice_in (parts universal.now)) }
 {
-    let mut slices = Vec::new(heap.clone()?);
+    let mut slices = Vec::new(heap.share());
     'parts: for index in 0..universal.len() {
         let facts = found[index as usize];
-        let slice = slice_in(heap.clone()?, universal.slice(index), facts)?;
+        let slice = slice_in(heap.share(), universal.slice(index), facts)?;
         slices.push(slice)?;
     }
     Ok(slices)
@@ -68,7 +67,7 @@ pub fn slice_file(file: Vec<u8, Heap>) -> Result<Vec<Option<Slice>, Heap>, TakeF
     ensures refused { IfErr result (IsTakeFault file.items) }
 {
     let accepted = check_file(&file)?;
-    let heap = file.allocator().clone()?;
+    let heap = file.allocator().share();
     let slices = match accepted {
         AcceptedFile::Thin(slice) => {
             let facts = slice.facts();

@@ -4,8 +4,8 @@ ghost use Rattle.command_core.specs.Inputs.{reader};
 ghost use Rattle.command_core.specs.Outputs.{out_of, outs, writer};
 ghost use Rattle.archive_writing.specs.Summary.{summary};
 
-use byte_device::{CannotOpen, Sink, Source};
-use command_core::{CommandFault, Output, Status, Target, publish_summary, read_entries};
+use byte_device::{CannotOpen, Output, Sink, Source, Target};
+use command_core::{CommandFault, Status, publish_summary, read_entries};
 use memory::Heap;
 
 /// Writes the summary of ARCHIVE's content to OUT, and to the report how many entries and bytes it has.
@@ -23,6 +23,6 @@ pub fn run_summary<R: Source, T: Target, P: Sink>(
         (out_of (outs T.Draft.held T.Draft.failures T.published T.failures out.old out.new))
         (writer P.held P.failures report.old report.new) result }
 {
-    let summary = read_entries(heap.clone()?, archive)?;
+    let summary = read_entries(heap.share(), archive)?;
     publish_summary(heap, &summary, out, report)
 }

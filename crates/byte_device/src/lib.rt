@@ -5,6 +5,7 @@
 //!   [`read_to_end`], all the bytes; `writing`: [`put`], a whole text;
 //! - [`Placed`], from any place: `placed_memory`, `placing` of files, `placed_pieces` for tests;
 //!   `placed_reading`: [`read_at`], so many bytes from a place;
+//! - `targets`: [`Output`], a draft that takes bytes, and the [`Target`] at which it is published;
 //! - `disks`: why a file cannot be opened or created.
 #![tactic(auto)]
 
@@ -22,6 +23,7 @@ mod placed_reading;
 mod placing;
 mod reading;
 mod streams;
+mod targets;
 mod writing;
 
 pub use buffers::{Bytes, Grown};
@@ -33,6 +35,7 @@ pub use placed_reading::read_at;
 pub use placing::Placing;
 pub use reading::{ReadFault, is_at_end, read_to_end};
 pub use streams::{Reading, Writing};
+pub use targets::{Output, Target};
 pub use writing::{WriteFault, push_all, put};
 
 /// The device failed in this call: no byte was given or taken, and its count of failures rose by

@@ -11,7 +11,7 @@ use case_parts::{
     tell_named, tell_nearest, tell_operations, tell_pairs, tell_part, tell_reading, tell_slice,
     tell_summary, tell_text, tell_whole, tell_writing, text_of,
 };
-use exchange_script::{Script, read_script};
+use line_inputs::{Script, read_script};
 use memory::Heap;
 use sorted_archive::{IndexedArchive, PlainArchive};
 

@@ -50,7 +50,7 @@ fn tell_other_answers<A: Archive + Drop>(
     told: &mut String,
 ) -> Ended {
     let heap = Heap::new(change.alloc)?;
-    let archive: A = read(heap.clone()?, &seen.held)?;
+    let archive: A = read(heap.share(), &seen.held)?;
     if answers_of(&heap, &archive, change.questions, told)? != seen.answers {
         writeln!(told, "WRONG: an archive of the same text answers otherwise")?;
     }

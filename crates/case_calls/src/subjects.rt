@@ -67,9 +67,9 @@ impl<A: Archive + Drop> Subject<A> {
     /// What the call is made on, before it.
     pub fn begin(heap: &Heap, change: Change) -> Result<Subject<A>, CallFault> {
         let Some(saved) = change.saved else {
-            return Ok(Subject::Archive(read(heap.clone()?, change.held)?));
+            return Ok(Subject::Archive(read(heap.share(), change.held)?));
         };
-        let mut site = Site::new(heap.clone()?)?;
+        let mut site = Site::new(heap.share())?;
         site.deliver(saved)?;
         site.save()?;
         site.deliver(change.held)?;
@@ -151,7 +151,7 @@ fn tell_on_archive<A: Archive + Drop>(
 
 // The operations that a call is given, for which memory is held from here on.
 fn operations_of(heap: &Heap, change: Change) -> Result<Vec<Operation, Heap>, CallFault> {
-    let operations = read_ops(heap.clone()?, &mut Bytes::new(change.input))?;
+    let operations = read_ops(heap.share(), &mut Bytes::new(change.input))?;
     heap.grant(change.growths);
     Ok(operations)
 }
@@ -163,7 +163,7 @@ fn other_of<A: Archive + Drop>(
     change: Change,
     told: &mut String,
 ) -> Result<A, CallFault> {
-    let other = read(heap.clone()?, change.input)?;
+    let other = read(heap.share(), change.input)?;
     tell_beside(archive, &other, told)?;
     heap.grant(change.growths);
     Ok(other)
@@ -177,7 +177,7 @@ fn tell_at_site<A: Archive + Drop>(
 ) -> Ended {
     let input = change.input;
     match change.verb {
-        "new" => *site = Site::new(heap.clone()?)?,
+        "new" => *site = Site::new(heap.share())?,
         "take" => {
             for row in site.take_file(input)? {
                 writeln!(told, "{}", Text(row))?;

@@ -43,7 +43,7 @@ pub fn tell_whole<A: Archive + Drop>(
     source: &mut StrictSource,
     told: &mut String,
 ) -> Ended {
-    let archive = read_archive::<A, _>(heap.clone()?, source)?;
+    let archive = read_archive::<A, _>(heap.share(), source)?;
     let records = archive.len();
     let entries = Summary::of(heap, &archive)?.len();
     Ok(writeln!(told, "{records} records, {entries} entries")?)

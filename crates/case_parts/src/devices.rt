@@ -3,8 +3,7 @@
 
 ghost use Rattle.std.specs.Prelude.{◌≡◌, ◌<◌, None, Some, [], false, if◌then◌else◌};
 
-use byte_device::{Failed, Pieces, Short, Sink, Source};
-use command_core::Target;
+use byte_device::{Failed, Pieces, Short, Sink, Source, Target};
 use memory::Heap;
 use std::mem;
 

@@ -1,10 +1,9 @@
 //! Why a case is not carried out, and why a call below the commands is refused.
 
-use admission::TakeFault;
+use admission::{FatFault, TakeFault};
 use archive_core::{AdmitFault, SliceFault};
 use archive_exchange::{DeliverFault, ReplyFault};
 use archive_records::{RecordFault, RecordFaultKind};
-use fat_slices::FatFault;
 use hex::FromHexError;
 use macho_image::ImageFault;
 use macho_symbols::SymbolFault;

@@ -31,9 +31,9 @@ fn tell_one(heap: Heap, told: &mut String) -> Result<(), NoMemory> {
 // Tells which of three vectors take a number, the first of which is made smaller and goes back before the third is
 // asked, and what the third and a fourth take once a growth more is granted.
 fn tell_three(heap: Heap, told: &mut String) -> Result<(), NoMemory> {
-    let mut first = Vec::new(heap.clone()?);
-    let mut second = Vec::new(heap.clone()?);
-    let mut third = Vec::new(heap.clone()?);
+    let mut first = Vec::new(heap.share());
+    let mut second = Vec::new(heap.share());
+    let mut third = Vec::new(heap.share());
     let taken = [first.push(1u8).is_ok(), second.push(2u8).is_ok()];
     first.shrink_to_fit();
     drop(first);

@@ -31,8 +31,8 @@ impl<A: Archive + Drop> Apart<A> {
         let own = Heap::new(texts.alloc)?;
         let theirs = Heap::new(texts.alloc)?;
         Ok(Apart {
-            archive: read(own.clone()?, texts.one)?,
-            other: read(theirs.clone()?, texts.other)?,
+            archive: read(own.share(), texts.one)?,
+            other: read(theirs.share(), texts.other)?,
             own,
             theirs,
         })
@@ -50,7 +50,7 @@ pub fn tell_heaps<A: Archive + Drop>(texts: Texts, told: &mut String) -> Ended {
 fn tell_copies(texts: Texts, told: &mut String) -> Ended {
     let own = Heap::new(texts.alloc)?;
     let theirs = Heap::new(texts.alloc)?;
-    let operations = read_ops(theirs.clone()?, &mut Bytes::new(texts.operations))?;
+    let operations = read_ops(theirs.share(), &mut Bytes::new(texts.operations))?;
     theirs.grant(0);
     let with = count_copies(&own, &operations)?;
     theirs.grant(u64::MAX);
@@ -66,7 +66,7 @@ fn tell_copies(texts: Texts, told: &mut String) -> Ended {
 fn count_copies(heap: &Heap, operations: &[Operation]) -> Result<u64, NoMemory> {
     let mut copied: u64 = 0;
     for operation in operations {
-        if operation.copy(heap.clone()?).is_ok() {
+        if operation.copy(heap.share()).is_ok() {
             copied = copied.saturating_add(1);
         }
     }

@@ -2,9 +2,9 @@
 
 use crate::faults::Ended;
 use crate::tellings::tell_text;
+use admission::{Universal, kind};
 use archive_core::{ArchKey, Slice, SliceKey};
 use archive_words::{Address, Spelled};
-use fat_slices::{Universal, kind};
 use macho_image::{Image, Section};
 use macho_symbols::{AddressTable, Found, Symbols};
 use memory::{Heap, NoMemory};
@@ -110,7 +110,7 @@ fn tell_section(number: u32, section: Section, told: &mut String) -> Result<(), 
 /// Tells the key and the digest of a slice, which is copied, too.
 pub fn tell_slice(heap: Heap, bytes: &[u8], told: &mut String) -> Ended {
     let checked = Slice::check(bytes).map(|slice| slice.key());
-    let slice = Slice::admit(heap.clone()?, bytes)?;
+    let slice = Slice::admit(heap.share(), bytes)?;
     let copy = slice.copy(heap)?;
     let key = Text(slice.key());
     writeln!(told, "{key} {}", Spelled(slice.digest()))?;

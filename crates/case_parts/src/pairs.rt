@@ -59,11 +59,11 @@ pub fn tell_pairs<A: Archive + Drop>(
     let mut all = Vec::new(alloc);
     for number in 0..pairs {
         let (left, right) = random_pair::<A>(alloc, &heap, number, image, &mut dice)?;
-        let mut merged = Grown::new(heap.clone()?);
+        let mut merged = Grown::new(heap.share());
         let (mut one, mut other) = (Bytes::new(&left), Bytes::new(&right));
         let sizes = merge_streams(&heap, &mut one, &mut other, &mut merged);
-        let mut joined: A = read(heap.clone()?, &left)?;
-        take_all(&mut joined, read(heap.clone()?, &right)?)?;
+        let mut joined: A = read(heap.share(), &left)?;
+        take_all(&mut joined, read(heap.share(), &right)?)?;
         let records = sizes.map(|sizes| sizes.records);
         if records != Ok(joined.len()) || merged.as_slice() != text_of(alloc, &joined)?.as_slice() {
             writeln!(told, "WRONG: pair {number} is merged otherwise")?;
@@ -81,13 +81,13 @@ fn random_pair<A: Archive + Drop>(
     image: &[u8],
     dice: &mut Dice,
 ) -> Result<(Vec<u8>, Vec<u8>), CallFault> {
-    let mut left = A::empty(heap.clone()?);
-    let mut right = A::empty(heap.clone()?);
+    let mut left = A::empty(heap.share());
+    let mut right = A::empty(heap.share());
     for _ in 0..dice.below(12) {
         let operation = random_operation(alloc, heap, image, dice)?;
         let (to_left, to_right) = sides(number, &operation, dice);
         if to_left {
-            left.take(operation.copy(heap.clone()?)?)?;
+            left.take(operation.copy(heap.share())?)?;
         }
         if to_right {
             right.take(operation)?;
@@ -110,7 +110,7 @@ fn random_operation(
     for _ in 0..dice.below(3) {
         bytes.extend_from_slice(&[dice.below(255)])?;
     }
-    let slice = Slice::admit(heap.clone()?, &bytes)?;
+    let slice = Slice::admit(heap.share(), &bytes)?;
     if dice.below(3) == 0 {
         return Ok(Operation::Retire(slice.key(), slice.digest()));
     }

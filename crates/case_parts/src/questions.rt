@@ -30,7 +30,7 @@ pub fn tell_answers<A: Archive>(heap: &Heap, archive: &A, words: &str, told: &mu
 fn tell_lookups<A: Archive>(heap: &Heap, archive: &A, address: u64, told: &mut String) -> Ended {
     for key in keys_of(*told.allocator(), archive)? {
         let answer = archive.lookup(&key, Where::File(address))?;
-        let mut text = String::new(heap.clone()?);
+        let mut text = String::new(heap.share());
         push_answer(heap, &mut text, address, &answer, &[])?;
         told.push_str(&text)?;
     }
@@ -42,7 +42,7 @@ fn tell_finds<A: Archive>(heap: &Heap, archive: &A, told: &mut String) -> Result
     for key in keys_of(*told.allocator(), archive)? {
         if asked != Some(key.uuid) {
             let rows = archive.find(&key.uuid)?;
-            told.push_str(&find_lines(heap.clone()?, &rows)?)?;
+            told.push_str(&find_lines(heap.share(), &rows)?)?;
             asked = Some(key.uuid);
         }
     }

@@ -44,7 +44,7 @@ pub fn tell_part<A: Archive + Drop>(
     source: &mut StrictSource,
     told: &mut String,
 ) -> Ended {
-    let part: A = read_picked(heap.clone()?, picked, source)?;
+    let part: A = read_picked(heap.share(), picked, source)?;
     heap.grant(u64::MAX);
     heap.grant_bytes(u64::MAX);
     tell_records(&part, told)?;

@@ -46,17 +46,11 @@ impl Pages {
         let Some(len) = digests_len(&claim) else {
             return Err(CheckFault::Changed);
         };
-        let Ok(own) = heap.clone() else {
-            return Err(CheckFault::OutOfMemory);
-        };
-        let Ok(kept) = heap.clone() else {
-            return Err(CheckFault::OutOfMemory);
-        };
-        let digests = read_checked(own, device, claim.offset, len, &claim.root)?;
+        let digests = read_checked(heap.share(), device, claim.offset, len, &claim.root)?;
         Ok(Pages {
             claim,
             digests,
-            kept: Vec::new(kept),
+            kept: Vec::new(heap.share()),
             heap,
         })
     }

@@ -75,8 +75,7 @@ impl Pages {
             → AreKept (map (λ page. page.items) self.new.kept.items) all }
     {
         'room: while self.kept.len() as u64 <= index {
-            let heap = self.heap.clone()?;
-            self.kept.push(Vec::new(heap))?;
+            self.kept.push(Vec::new(self.heap.share()))?;
         }
         Ok(())
     }
@@ -100,10 +99,7 @@ impl Pages {
         if self.kept[place].len() as u64 == self.page_len(index) {
             return Ok(());
         }
-        let Ok(heap) = self.heap.clone() else {
-            return Err(CheckFault::OutOfMemory);
-        };
-        let page = self.page(heap, device, index)?;
+        let page = self.page(self.heap.share(), device, index)?;
         self.kept[place] = page;
         Ok(())
     }

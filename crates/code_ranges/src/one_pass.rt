@@ -39,6 +39,6 @@ pub fn first_tuples(
 ) -> Result<BTreeMap<u64, Arange, Heap>, NoMemory>
     ensures { IfOk result (λ found. AreFirstTuples tuples.entry addresses.now found) }
 {
-    let pending = pending_addresses(heap.clone()?, addresses)?;
+    let pending = pending_addresses(heap.share(), addresses)?;
     assign_all(heap, tuples, pending)
 }

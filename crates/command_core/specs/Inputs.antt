@@ -18,11 +18,11 @@ use Rattle.admission.specs.File.{IsAcceptedFile, IsTakeFault}
 use Rattle.admission.specs.declared.fault.TakeFault.{TakeFault}
 use Rattle.admission.specs.declared.fault.TakeFault.TheVariants.{OutOfMemory as TakeOutOfMemory}
 use Rattle.archive_words.specs.Lines.{line_at}
-use Rattle.crash_frames.specs.Flaws.{frame_flaw}
-use Rattle.crash_frames.specs.Frames.{frames_of}
-use Rattle.crash_frames.specs.declared.frame.Frame.{Frame}
-use Rattle.exchange_script.specs.Flaws.{script_flaw}
-use Rattle.exchange_script.specs.Script.{script_of}
+use Rattle.line_inputs.specs.FrameFlaws.{frame_flaw}
+use Rattle.line_inputs.specs.Frames.{frames_of}
+use Rattle.line_inputs.specs.declared.frame.Frame.{Frame}
+use Rattle.line_inputs.specs.ScriptFlaws.{script_flaw}
+use Rattle.line_inputs.specs.Script.{script_of}
 use Rattle.byte_device.specs.declared.disks.CannotOpen.{CannotOpen}
 use Rattle.command_core.specs.declared.faults.CommandFault.{CommandFault}
 use Rattle.command_core.specs.declared.faults.CommandFault.TheVariants.{Input, Output, Report, OutOfMemory}

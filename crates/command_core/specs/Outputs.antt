@@ -13,7 +13,7 @@ use Rattle.command_core.specs.declared.faults.CommandFault.{CommandFault}
 use Rattle.command_core.specs.declared.faults.CommandFault.TheVariants.{Input, Output, Report, OutOfMemory}
 use Rattle.command_core.specs.declared.faults.Status.{Status}
 use Rattle.command_core.specs.declared.faults.Status.TheVariants.{Done}
-use Rattle.command_core.specs.declared.outputs.Output.{Output as Out_value}
+use Rattle.byte_device.specs.declared.targets.Output.{Output as Out_value}
 
 -- A writer in a call: what it held before and after it, where that is known, and how often it had failed.
 pub record Writer : Type 0 where

@@ -3,8 +3,7 @@
 use admission::TakeFault;
 use archive_index::IndexFault;
 use archive_records::RecordFault;
-use crash_frames::FrameFlaw;
-use exchange_script::{ScriptFault, ScriptFlaw};
+use line_inputs::{FrameFlaw, ScriptFault, ScriptFlaw};
 use report_text::Text;
 use std::alloc::{AllocError, AllocFailed};
 use std::error::Error;

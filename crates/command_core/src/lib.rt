@@ -6,7 +6,7 @@
 //! - `faults`: how a command ends, and why one is refused;
 //! - `failures`: the line that the program says where it fails;
 //! - `statuses`: how a search ends, and the exit status of what was carried out;
-//! - `outputs`: OUT, which takes bytes and is then published;
+//! - `outputs`: OUT, published when it is whole;
 //! - `publishing`: the end of each command;
 //! - `sources`: what one input holds, or its refusal;
 //! - `together`: archives of which parts are kept and joined, and questions that their join answers.
@@ -28,7 +28,7 @@ mod together;
 
 pub use failures::Failure;
 pub use faults::{CommandFault, InputName, Status, Why};
-pub use outputs::{Output, Target, publish_output};
+pub use outputs::publish_output;
 pub use publishing::{publish, publish_bytes, publish_draft, publish_report, publish_summary};
 pub use sources::{
     answer_input, opened, read_crash, read_entries, read_events, read_file, read_input,

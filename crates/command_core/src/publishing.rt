@@ -6,10 +6,10 @@ ghost use Rattle.command_core.specs.Outputs.{Publishes, Reports, Takes, out_of, 
 ghost use Rattle.command_core.specs.Outputs.{writer};
 
 use crate::faults::{CommandFault, Status};
-use crate::outputs::{Output, Target, publish_output};
+use crate::outputs::publish_output;
 use archive_core::Archive;
 use archive_records::{Sizes, Summary, write_archive, write_summary};
-use byte_device::{Sink, push_all};
+use byte_device::{Output, Sink, Target, push_all};
 use memory::Heap;
 use report_text::{summary_line, with_sizes};
 

@@ -8,8 +8,8 @@ ghost use Rattle.archive_records.specs.declared.fault.RecordFaultKind.TheVariant
 ghost use Rattle.archive_records.specs.Entry.{AreEntries};
 ghost use Rattle.archive_reading.specs.Keys.{AreInOrder};
 ghost use Rattle.archive_records.specs.Text.{IsOperationsText, summary_text};
-ghost use Rattle.crash_frames.specs.Frames.{frames_of};
-ghost use Rattle.exchange_script.specs.Script.{acts, script_of};
+ghost use Rattle.line_inputs.specs.Frames.{frames_of};
+ghost use Rattle.line_inputs.specs.Script.{acts, script_of};
 ghost use Rattle.command_core.specs.declared.faults.CommandFault.TheVariants.{Input};
 ghost use Rattle.command_core.specs.declared.faults.Why.TheVariants.{CannotOpen as NotOpened, Record};
 ghost use Rattle.command_core.specs.Inputs.{Gives, Holds, HoldsArchive, HoldsContent, HoldsPart, IsArchive, IsRefusal};
@@ -26,8 +26,9 @@ use archive_reading::{
 use archive_records::{RecordFault, RecordFaultKind, Summary, read_summary};
 use archive_words::line_at;
 use byte_device::{CannotOpen, ReadFault, Source, read_to_end};
-use crash_frames::{Frame, FramesError, frame_flaw, read_frames};
-use exchange_script::{Script, ScriptError, read_script, script_flaw};
+use line_inputs::{
+    Frame, FramesError, Script, ScriptError, frame_flaw, read_frames, read_script, script_flaw,
+};
 use memory::Heap;
 
 /// The source of an input, or its refusal where it could not be opened.
@@ -229,7 +230,7 @@ pub fn read_events<S: Source>(
         (λ script listed. Gives script (λ bytes. script_of bytes ≡ Ok (listed.sites, acts listed.events.items)))
         IsRefusedScript }
 {
-    let bytes = read_bytes(heap.clone()?, InputName::Script, script)?;
+    let bytes = read_bytes(heap.share(), InputName::Script, script)?;
     match read_script(heap, &bytes) {
         Ok(listed) => Ok(listed),
         Err(ScriptError::Faulty { fault, line }) => {
@@ -248,7 +249,7 @@ pub fn read_crash<S: Source>(
     ensures { ReadsInput (reader S.left S.failures frames.old frames.new) result
         (λ frames listed. Gives frames (λ bytes. frames_of bytes ≡ Ok listed.items)) IsRefusedFrames }
 {
-    let bytes = read_bytes(heap.clone()?, InputName::Frames, frames)?;
+    let bytes = read_bytes(heap.share(), InputName::Frames, frames)?;
     match read_frames(heap, &bytes) {
         Ok(listed) => Ok(listed),
         Err(FramesError::BadFrame { line }) => {

@@ -47,7 +47,7 @@ fn join_parts<A: Archive + Drop, S: Selects, R: Source>(
         (λ others _. HasJoinedParts others (S.picked select.now) (A.content kept.old) (A.content kept.new)) }
 {
     'others: for (index, other) in others.iter_mut().enumerate() {
-        join_part(heap.clone()?, kept, index as u64 + 1, select, other)?;
+        join_part(heap.share(), kept, index as u64 + 1, select, other)?;
     }
     Ok(())
 }
@@ -64,7 +64,7 @@ pub fn read_parts<A: Archive + Drop, S: Selects, R: Source>(
         (readers R.left R.failures others.old others.new) result
         (λ kept. AreAlikeWhere (S.picked select.now) (A.content kept)) }
 {
-    let mut kept: A = read_input_part(heap.clone()?, 0, select, archive)?;
+    let mut kept: A = read_input_part(heap.share(), 0, select, archive)?;
     join_parts(&heap, &mut kept, select, others)?;
     Ok(kept)
 }

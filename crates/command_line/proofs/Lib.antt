@@ -8,3 +8,4 @@ pub mod Exactly
 pub mod Listed
 pub mod Passed
 pub mod Flags
+pub mod Counted

@@ -10,3 +10,4 @@ pub mod InnerWords
 pub mod Shown
 pub mod LineFaults
 pub mod Samples
+pub mod Plan

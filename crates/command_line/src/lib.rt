@@ -8,11 +8,15 @@
 //! - `clap_commands`: the commands of the table, as `clap` builds them;
 //! - `spelled_values`: the values that the words of an argument spell;
 //! - `parsing`: a line, read;
+//! - `plan`: what a line asks for, by name, with its values;
 //! - `laws`: what the definitions say of words and of the table.
 //!
 //! # Why it is so
 //!
 //! - `clap`'s definition of a simple command is cited. The table is `'static`. A FILE may be IN.
+//! - `Plan` has a case a command, with its values and no path. It is made once.
+//! - Each pattern of values stands beside its row of the table, since one generic step over names and values did
+//!   not prove.
 #![tactic(auto)]
 
 mod clap_commands;
@@ -22,6 +26,7 @@ pub mod laws;
 mod line_faults;
 mod lines;
 mod parsing;
+mod plan;
 mod spelled_values;
 mod values;
 
@@ -29,4 +34,5 @@ pub use commands::{Argument, Form, Kind, Role, form_text, is_input, is_input_of}
 pub use line_faults::LineFault;
 pub use lines::Line;
 pub use parsing::read_line;
+pub use plan::Plan;
 pub use values::{Amount, Values};

@@ -36,14 +36,14 @@ fn read_declarations<'a>(heap: Heap, section: &'a [u8]) -> Result<Declarations<'
     ensures { IfOk result (λ declarations. (table code : ℕ) →
         option_map declaration_view (declaration_in declarations table code) ≡ declaration_of section.now table code) }
 {
-    let mut declarations = Declarations::none(heap.clone()?)?;
+    let mut declarations = Declarations::none(heap.share());
     let mut table = 0u64;
     let mut rest = section;
-    'declarations: while let Some((found, after)) = read_declaration(heap.clone()?, rest)? {
+    'declarations: while let Some((found, after)) = read_declaration(heap.share(), rest)? {
         rest = after;
         match found {
             Some((code, declaration)) => declarations.keep_first(
-                heap.clone()?,
+                heap.share(),
                 table,
                 code,
                 declaration,

@@ -1,7 +1,7 @@
 //! The declarations of all tables, by which each is found at once where the codes of a table ascend from 1 on, as
 //! compilers write them.
 
-ghost use Rattle.std.specs.Prelude.{[], ◌≡◌, ◌≢◌, ◌==◌, ◌&&◌, ◌++◌, ◌∷◌, ℕ, None, IfOk, OnOk, Some, length, if◌then◌else◌};
+ghost use Rattle.std.specs.Prelude.{[], ◌≡◌, ◌≢◌, ◌==◌, ◌&&◌, ◌++◌, ◌∷◌, ℕ, None, OnOk, Some, length, if◌then◌else◌};
 ghost use Rattle.std.specs.Option.{is_some, option_map, option_or};
 ghost use Rattle.std.specs.Ordering.{nat_cmp};
 ghost use Rattle.std.specs.BTreeMap as tree_map;
@@ -67,13 +67,13 @@ fn push_row<'a>(
 
 impl<'a> Declarations<'a> {
     /// None.
-    pub fn none(heap: Heap) -> Result<Declarations<'a>, NoMemory>
-        ensures { IfOk result (λ declarations. (table code : ℕ) → declaration_in declarations table code ≡ None) }
+    pub fn none(heap: Heap) -> Declarations<'a>
+        ensures { (table code : ℕ) → declaration_in result table code ≡ None }
     {
-        Ok(Declarations {
-            rows: BTreeMap::new(heap.clone()?),
+        Declarations {
+            rows: BTreeMap::new(heap.share()),
             others: BTreeMap::new(heap),
-        })
+        }
     }
 
     /// The rows of a table, if it has some.

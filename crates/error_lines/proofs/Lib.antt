@@ -2,3 +2,4 @@ pub mod Helping
 pub mod Numbers
 pub mod Numbered
 pub mod Saying
+pub mod Reasons

@@ -16,8 +16,8 @@ use Rattle.error_lines.specs.declared.{flaws.FaultyLine.FaultyLine, hints.Hint.H
 use Rattle.error_lines.specs.declared.flaws.Flaw.TheVariants as flaw
 use Rattle.error_lines.specs.declared.hints.Hint.TheVariants as hint
 use Rattle.error_lines.specs.declared.hints.Subject.TheVariants as subject
-use Rattle.exchange_script.specs.declared.numbers.NumberFlaw.{NumberFlaw}
-use Rattle.exchange_script.specs.declared.numbers.NumberFlaw.TheVariants.{NotDecimal, LeadingZeros, TooLarge}
+use Rattle.line_inputs.specs.declared.numbers.NumberFlaw.{NumberFlaw}
+use Rattle.line_inputs.specs.declared.numbers.NumberFlaw.TheVariants.{NotDecimal, LeadingZeros, TooLarge}
 
 -- the path of the input that is of this name: the one of that number among those of its kind
 abbrev pub path_at : Line → InputName → Option Text

@@ -1,3 +1,5 @@
 pub mod Numbers
 pub mod Hints
 pub mod StandardError
+pub mod Ending
+pub mod Unopened

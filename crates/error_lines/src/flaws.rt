@@ -6,8 +6,7 @@ ghost use Rattle.error_lines.specs.Hints.{faulty_line};
 use archive_words::LineFlaw;
 use command_core::Why;
 use command_line::{Form, form_text};
-use crash_frames::FrameFlaw;
-use exchange_script::{NumberFlaw, ScriptFlaw};
+use line_inputs::{FrameFlaw, NumberFlaw, ScriptFlaw};
 use std::fmt;
 
 /// What is wrong with a line.

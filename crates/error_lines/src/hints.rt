@@ -14,7 +14,7 @@ ghost use Rattle.error_lines.specs.Hints.{stale_hint, subject_of, subject_text};
 
 use crate::file_kinds::FileKind;
 use crate::flaws::FaultyLine;
-use crate::line_inputs::input_at;
+use crate::input_names::input_at;
 use archive_files::{Obstacle, OutFile, SystemInput, Unopened};
 use command_core::{CommandFault, Failure, InputName, Status, Why};
 use command_line::Line;

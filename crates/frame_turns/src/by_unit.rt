@@ -81,11 +81,11 @@ pub(crate) fn by_unit(heap: Heap, steps: &UnitSteps) -> Result<(Vec<u64, Heap>, 
     ensures under { IfOk result (λ x. (place a : ℕ) → Contains (addresses_under x.1 place) a
         ↔ IsStep steps.now.starts.items steps.now.places.items a (Some place)) }
 {
-    let mut without = Vec::new(heap.clone()?);
-    let mut by_unit = BTreeMap::new(heap.clone()?);
+    let mut without = Vec::new(heap.share());
+    let mut by_unit = BTreeMap::new(heap.share());
     for (i, start) in steps.starts.iter().enumerate() {
         add_step(
-            heap.clone()?,
+            heap.share(),
             &mut without,
             &mut by_unit,
             steps.places[i],

@@ -47,8 +47,8 @@ impl<'a> UnitParts<'a> {
             (T.tells_frames taker.new) (lines_view lines.now) parts) }
         ensures taken { OnOk result (Takes (T.has_taken taker.old) (T.has_taken taker.new) []) }
     {
-        let links = Links::read(heap.clone()?, info, unit)?;
-        let mut paths = Paths::new(heap.clone()?);
+        let links = Links::read(heap.share(), info, unit)?;
+        let mut paths = Paths::new(heap.share());
         let linked = all_linked(heap, lines, &mut paths, &links, taker)?;
         Ok(UnitParts {
             paths,

@@ -168,7 +168,7 @@ pub(crate) fn all_linked<'a, T: FrameTaker<'a>>(
     ensures kept { OnOk result (ArePathNumbers (T.tells_path taker.new) (lines_view lines.now) paths.new) }
     ensures taken { OnOk result (Takes (T.has_taken taker.old) (T.has_taken taker.new) []) }
 {
-    let mut names = Names::new(heap.clone()?, links.name_count)?;
+    let mut names = Names::new(heap.share(), links.name_count)?;
     let mut all: Vec<Linked, Heap> = Vec::new(heap);
     'links: while all.len() < links.links.len() {
         push_linked(lines, paths, links, &mut names, &mut all, taker)?;

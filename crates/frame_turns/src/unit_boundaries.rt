@@ -101,7 +101,7 @@ pub(crate) fn boundaries(heap: Heap, info: &DebugInfo<'_>) -> Result<Vec<u64, He
     ensures same { IfOk result (λ starts. (a : ℕ) → Contains starts.items a
         ↔ Contains (boundaries (sections_view info.now.sections)) a) }
 {
-    let mut starts = Vec::new(heap.clone()?);
+    let mut starts = Vec::new(heap.share());
     push_tuples(&mut starts, Aranges::of(info.sections.debug_aranges))?;
     let named = named_units(heap, info.sections.debug_aranges)?;
     push_units(&mut starts, info, &named)?;

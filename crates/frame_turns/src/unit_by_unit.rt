@@ -99,8 +99,8 @@ fn give_unit<'a, T: FrameTaker<'a>>(
         give_without(taker, &of.boundaries)?;
         return Ok(());
     };
-    let lines = UnitLines::read(heap.clone()?, &info.sections, line_units, &unit)?;
-    last.run(heap.clone()?, &lines, unit.program_offset())?;
+    let lines = UnitLines::read(heap.share(), &info.sections, line_units, &unit)?;
+    last.run(heap.share(), &lines, unit.program_offset())?;
     let mut parts = UnitParts::read(heap, info, &unit, &lines, taker)?;
     parts.give_all(&lines, &last.rows, steps, &of.boundaries, taker)?;
     Ok(())
@@ -151,14 +151,14 @@ fn give_units<'a, T: FrameTaker<'a>>(
         × Takes (T.has_taken taker.old) (T.has_taken taker.new) given
         × AreTurnsWithUnits (sections_view info.now.sections) given) }
 {
-    let all = by_program(heap.clone()?, info, by_unit)?;
+    let all = by_program(heap.share(), info, by_unit)?;
     let mut last = LastRows {
         program: None,
-        rows: RowSteps::none(heap.clone()?)?,
+        rows: RowSteps::none(heap.share()),
     };
     for unit in all.iter() {
         give_unit(
-            heap.clone()?,
+            heap.share(),
             info,
             line_units,
             steps,
@@ -183,10 +183,10 @@ pub fn give_turns<'a, T: FrameTaker<'a>>(
     ensures { OnOk result ((given : List TurnRecord)
         × Takes (T.has_taken taker.old) (T.has_taken taker.new) given × AreTurnsOf image.now given) }
 {
-    let info = DebugInfo::read(heap.clone()?, image)?;
-    let line_units = Units::read(heap.clone()?, info.sections.debug_line)?;
-    let steps = UnitSteps::read(heap.clone()?, &info)?;
-    let (without, by_unit) = by_unit(heap.clone()?, &steps)?;
+    let info = DebugInfo::read(heap.share(), image)?;
+    let line_units = Units::read(heap.share(), info.sections.debug_line)?;
+    let steps = UnitSteps::read(heap.share(), &info)?;
+    let (without, by_unit) = by_unit(heap.share(), &steps)?;
     let without = sorted_once(without);
     give_without(taker, &without)?;
     give_units(heap, &info, &line_units, &steps, by_unit, taker)?;

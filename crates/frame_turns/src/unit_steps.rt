@@ -32,7 +32,7 @@ impl UnitSteps {
         ensures { IfOk result (λ steps.
             AreUnitSteps (sections_view info.now.sections) steps.starts.items steps.places.items) }
     {
-        let starts = boundaries(heap.clone()?, info)?;
+        let starts = boundaries(heap.share(), info)?;
         let places = info.units_of(heap, &starts)?;
         Ok(UnitSteps { starts, places })
     }

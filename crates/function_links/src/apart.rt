@@ -24,8 +24,8 @@ pub fn apart_of(heap: &Heap, ranges: &[CodeRange]) -> Result<Vec<CodeRange, Heap
     ensures same { IfOk result (λ apart. (a : ℕ) → in_ranges a apart.items ≡ in_ranges a ranges.now) }
     ensures apart { IfOk result (λ apart. AreApart apart.items) }
 {
-    let sorted = in_order(heap.clone()?, ranges)?;
-    let mut apart = Vec::new(heap.clone()?);
+    let sorted = in_order(heap.share(), ranges)?;
+    let mut apart = Vec::new(heap.share());
     let mut reached = 0;
     for range in &sorted {
         apart.push(CodeRange {

@@ -205,9 +205,9 @@ impl<'a> Functions<'a> {
         let ranges = unit.unit_ranges(&info.sections);
         let mut left = unit.entries_of_lists();
         let mut all = Functions {
-            functions: Vec::new(heap.clone()?),
-            ranges: Vec::new(heap.clone()?),
-            origins: Origins::new(heap.clone()?)?,
+            functions: Vec::new(heap.share()),
+            ranges: Vec::new(heap.share()),
+            origins: Origins::new(heap.share())?,
         };
         let mut opened = Vec::new(heap);
         for placed in Entries::of(&info.abbreviations, unit.header, unit.bytes) {

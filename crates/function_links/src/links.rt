@@ -75,18 +75,18 @@ impl<'a> Links<'a> {
             → AreLinkSteps sections unit (links_view links.links.items) links.starts.items links.numbers.items) }
         ensures names { IfOk result (λ links. AreNamesNumbered links.name_count links.links.items) }
     {
-        let starts = starts_of(heap.clone()?, &all.ranges)?;
+        let starts = starts_of(heap.share(), &all.ranges)?;
         let count = starts.len();
-        let waiting = Waiting::new(heap.clone()?, count)?;
+        let waiting = Waiting::new(heap.share(), count)?;
         let making = Making {
             all,
-            links: Vec::new(heap.clone()?),
+            links: Vec::new(heap.share()),
             last: 0,
         };
         let mut taking = Taking {
             making,
             starts,
-            numbers: vec![in heap.clone()?; 0; count]?,
+            numbers: vec![in heap.share(); 0; count]?,
             waiting,
         };
         taking.take_all(&heap)?;
@@ -112,7 +112,7 @@ impl<'a> Links<'a> {
             (links_view links.links.items) links.starts.items links.numbers.items) }
         ensures names { IfOk result (λ links. AreNamesNumbered links.name_count links.links.items) }
     {
-        let functions = Functions::read(heap.clone()?, info, unit)?;
+        let functions = Functions::read(heap.share(), info, unit)?;
         Links::of(heap, &functions)
     }
 }

@@ -115,11 +115,11 @@ impl RowSteps {
         requires { again ≡ rows }
         ensures { IfOk result (λ steps. AreRowSteps rows.entry steps.starts.items steps.rows.items) }
     {
-        let mut starts = Vec::new(heap.clone()?);
+        let mut starts = Vec::new(heap.share());
         push_addresses(&mut starts, rows)?;
         let starts = sorted_once(starts);
         let count = starts.len();
-        let mut waiting = Waiting::new(heap.clone()?, count)?;
+        let mut waiting = Waiting::new(heap.share(), count)?;
         let mut steps = RowSteps {
             starts,
             rows: vec![in heap; None; count]?,
@@ -129,13 +129,13 @@ impl RowSteps {
     }
 
     /// Those of no rows.
-    pub fn none(heap: Heap) -> Result<RowSteps, NoMemory>
-        ensures { IfOk result (λ steps. AreRowSteps [] steps.starts.items steps.rows.items) }
+    pub fn none(heap: Heap) -> RowSteps
+        ensures { AreRowSteps [] result.starts.items result.rows.items }
     {
-        Ok(RowSteps {
-            starts: Vec::new(heap.clone()?),
+        RowSteps {
+            starts: Vec::new(heap.share()),
             rows: Vec::new(heap),
-        })
+        }
     }
 
     /// Those of the program of a unit, which is run twice. It takes the time of a sort of their addresses, and the
@@ -148,7 +148,7 @@ impl RowSteps {
     {
         match &lines.program {
             Some(program) => RowSteps::of_rows(heap, Rows::of(program), Rows::of(program)),
-            None => RowSteps::none(heap),
+            None => Ok(RowSteps::none(heap)),
         }
     }
 }

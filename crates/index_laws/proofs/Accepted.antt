@@ -26,8 +26,8 @@ use Rattle.archive_index.proofs.Placed.{entry_long}
 use Rattle.table_index.specs.Entry.{claim_bytes}
 use Rattle.table_index.specs.Text.{IsIndexText, placed_of}
 use Rattle.table_index.proofs.Faults.{one_list, no_fault}
-use Rattle.indexed_tables.specs.Content.{IsTableOf, claim_of, entries_of, table_entries, table_entry}
-use Rattle.indexed_tables.proofs.Accepted.{accepted}
+use Rattle.index_writing.specs.Content.{IsTableOf, claim_of, entries_of, table_entries, table_entry}
+use Rattle.index_writing.proofs.Accepted.{accepted}
 use Rattle.byte_device.specs.declared.disks.CannotOpen.{CannotOpen}
 use Rattle.command_core.specs.Inputs.{Gives, IsGiven, Reader, reader, IsDeviceFault, IsUnread}
 use Rattle.index_laws.specs.Indexes.{IsIndexFile}

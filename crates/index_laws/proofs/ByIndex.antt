@@ -25,7 +25,7 @@ use Rattle.archive_queries.specs.Symbolicate.{Answered, asked_of}
 use Rattle.command_core.proofs.Parts.{joined_alike}
 use Rattle.archive_queries.proofs.Sourced.{sourced_as}
 use Rattle.command_core.proofs.Alike.{answers_alike}
-use Rattle.crash_frames.specs.declared.frame.Frame.{Frame}
+use Rattle.line_inputs.specs.declared.frame.Frame.{Frame}
 use Rattle.command_core.specs.Archives.{merged}
 use Rattle.command_core.specs.Inputs.{IsGiven, Reader}
 use Rattle.command_core.specs.declared.faults.Status.{Status}

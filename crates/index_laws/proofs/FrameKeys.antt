@@ -17,8 +17,8 @@ use Rattle.archive_core.specs.declared.keys.ArchKey.{ArchKey}
 use Rattle.archive_core.proofs.Members.{in_cons}
 use Rattle.archive_words.specs.Lines.{Field, Line, counting, fields}
 use Rattle.archive_words.specs.Words.{NamedArch, arch_key, arch_key_of, arch_named, arch_of, cpu_of, named_archs, number_of}
-use Rattle.crash_frames.specs.Frames.{fields_frame, frame_then, frame_with, frames_in, frames_of, line_frame}
-use Rattle.crash_frames.specs.declared.frame.Frame.{Frame}
+use Rattle.line_inputs.specs.Frames.{fields_frame, frame_then, frame_with, frames_in, frames_of, line_frame}
+use Rattle.line_inputs.specs.declared.frame.Frame.{Frame}
 
 -- ---- architectures
 

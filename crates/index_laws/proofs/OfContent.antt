@@ -41,9 +41,9 @@ use Rattle.archive_index.proofs.Sums.{nonempty, text_length}
 use Rattle.table_index.specs.Text.{IsIndexText}
 use Rattle.table_index.proofs.Entries.{byte_kept}
 use Rattle.table_index.proofs.Faults.{one_list}
-use Rattle.indexed_tables.specs.Content.{claim_of, entries_of, table_entries, table_entry, tables_text}
-use Rattle.indexed_tables.proofs.Accepted.{accepted}
-use Rattle.indexed_tables.proofs.Contents.{claim_stored, entry_at, entry_begins, entry_length, entry_offset, is_table, length-table_entries}
+use Rattle.index_writing.specs.Content.{claim_of, entries_of, table_entries, table_entry, tables_text}
+use Rattle.index_writing.proofs.Accepted.{accepted}
+use Rattle.index_writing.proofs.Contents.{claim_stored, entry_at, entry_begins, entry_length, entry_offset, is_table, length-table_entries}
 use Rattle.index_laws.specs.Indexes.{IsIndexFile}
 
 -- ---- the key of a slice

@@ -10,7 +10,7 @@ use Rattle.archive_core.specs.Record.{admission_record}
 use Rattle.archive_core.specs.declared.keys.SliceKey.{SliceKey}
 use Rattle.archive_records.specs.Text.{written}
 use Rattle.table_index.specs.Text.{IsIndexText}
-use Rattle.indexed_tables.specs.Content.{IsIndexOf}
+use Rattle.index_writing.specs.Content.{IsIndexOf}
 
 -- the text is the index of a content of byte strings, and neither it nor the archive has 2^64 bytes
 pub record IsIndexFile (o : Operations) (text : List ℕ) : Type 0 where

@@ -4,8 +4,8 @@ use Rattle.std.specs.FinSet as set
 use Rattle.byte_device.specs.Devices.{Stream}
 use Rattle.byte_device.specs.declared.disks.CannotOpen.{CannotOpen}
 use Rattle.archive_records.specs.declared.writing.Sizes.{Sizes}
-use Rattle.indexed_tables.specs.declared.fault.MakingFault.{MakingFault}
-use Rattle.indexed_tables.specs.declared.fault.MakingFault.TheVariants.{Archive as Refused, Write as Wrote}
+use Rattle.index_writing.specs.declared.fault.MakingFault.{MakingFault}
+use Rattle.index_writing.specs.declared.fault.MakingFault.TheVariants.{Archive as Refused, Write as Wrote}
 use Rattle.command_core.specs.Ends.{Carries, EndsStreamed, HasTaken, IsStopped}
 use Rattle.command_core.specs.Inputs.{Reader, Unfailed, reader}
 use Rattle.command_core.specs.Outputs.{Out, PublishesNothing, Publishes, Takes, Writer}

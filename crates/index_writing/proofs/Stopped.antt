@@ -1,27 +1,19 @@
 -- What is told where making the index of an archive was stopped, and what OUT's draft has then.
-use Rattle.std.proofs.Common.{◌≡◌, ℕ, List, [], length, Option, Result, Ok, Err, refl, sym, ◌∙◌, inl, inr, arith}
-use Rattle.std.specs.Prelude.{MatchResult, None, Some}
+use Rattle.std.proofs.Common.{◌≡◌, ℕ, List, [], length, Option, Result, Ok, Err, refl, sym, ◌∙◌}
+use Rattle.std.specs.Prelude.{MatchResult}
 use Rattle.byte_device.specs.Devices.{stream}
-use Rattle.byte_device.proofs.Known.{Appends-none, Consumes-none}
-use Rattle.archive_records.specs.Reader.{HasStopped}
-use Rattle.archive_records.specs.Reading.{Blames}
-use Rattle.archive_records.specs.declared.fault.RecordFault.{RecordFault}
-use Rattle.archive_records.specs.declared.fault.RecordFaultKind.TheVariants.{OutOfMemory as RecordOutOfMemory}
-use Rattle.archive_records.specs.declared.kind.TextKind.TheVariants.{Archive as Archive_text}
-use Rattle.archive_index.specs.Reading.{TellsVersion}
+use Rattle.byte_device.proofs.Known.{Appends-none}
 use Rattle.archive_index.specs.declared.fault.IndexingFault.{IndexingFault}
-use Rattle.archive_index.specs.declared.fault.IndexingFault.TheVariants.{Archive as OfArchive}
 use Rattle.byte_device.specs.declared.disks.CannotOpen.{CannotOpen}
-use Rattle.indexed_tables.specs.Making.{Makes}
-use Rattle.indexed_tables.specs.declared.fault.MakingFault.{MakingFault}
-use Rattle.indexed_tables.specs.declared.fault.MakingFault.TheVariants.{Archive as Refused, Write as Wrote}
-use Rattle.indexed_tables.proofs.Contents.{HaveOneTable}
-use Rattle.indexed_tables.proofs.Made.{gained_bytes, stopped}
+use Rattle.index_writing.specs.Making.{Makes}
+use Rattle.index_writing.specs.declared.fault.MakingFault.{MakingFault}
+use Rattle.index_writing.specs.declared.fault.MakingFault.TheVariants.{Archive as Refused, Write as Wrote}
+use Rattle.index_writing.proofs.Made.{gained_bytes, stopped}
 use Rattle.command_core.specs.Ends.{HasTaken}
 use Rattle.command_core.specs.Inputs.{reader}
 use Rattle.command_core.specs.Outputs.{writer}
 use Rattle.command_core.specs.declared.faults.CommandFault.{CommandFault}
-use Rattle.command_core.specs.declared.faults.CommandFault.TheVariants.{Input, Output, Report, OutOfMemory}
+use Rattle.command_core.specs.declared.faults.CommandFault.TheVariants.{Input, Output, Report}
 use Rattle.command_core.specs.declared.faults.InputName.TheVariants.{Archive}
 use Rattle.command_core.specs.declared.faults.Why.TheVariants.{CannotOpen as NotOpened}
 use Rattle.index_writing.specs.Index.{TellsRefusal, TellsStop}
@@ -44,28 +36,6 @@ module _ {R D : Type 0} (left : R → Option (List ℕ)) (failures : R → ℕ) 
   pub stopped_so : (fault : MakingFault) (told : CommandFault) → Makes (stream left failures source after) (stream held writes start end) (Err fault) → TellsStop fault told
       → IndexesAmidst (reader left failures (Ok source) (Ok after)) (stream held writes start end) (Err told)
   stopped_so fault told makes tells = (taken fault told makes tells, (after, refl, record { stopped = fault; makes = makes; tells = tells }))
-
--- ---- memory was wanted before anything was read
-
-abbrev wanted : RecordFault
-wanted = record { kind = RecordOutOfMemory; offset = 0 }
-
-nothing_read : (a : Option (List ℕ)) → HasStopped Archive_text a a wanted
-nothing_read a = inl ([], Consumes-none a, λ format is. inr (inr (refl, omega arith)), refl)
-
-no_version : (a : Option (List ℕ)) → TellsVersion a (OfArchive wanted)
-no_version None = tt
-no_version (Some text) = λ old. inr refl
-
-module _ {R D : Type 0} (left : R → Option (List ℕ)) (failures : R → ℕ) (source : R) (held : D → Option (List ℕ)) (writes : D → ℕ) (draft : D) where
-  unblamed : Blames left failures source source RecordOutOfMemory
-  unblamed = (λ device. absurd (cc (device)), λ other. refl, λ cut. absurd (cc (cut)))
-
-  pub wanted_before : HaveOneTable → IndexesAmidst (reader left failures (Ok source) (Ok source)) (stream held writes draft draft) (Err OutOfMemory)
-  wanted_before once =
-      stopped_so left failures source source held writes draft draft (Refused (OfArchive wanted)) OutOfMemory
-      (stopped once left failures held writes source source draft draft (Refused (OfArchive wanted)) (nothing_read (left source), refl, (0, inl (refl, Appends-none (held draft)))) unblamed (no_version (left source)))
-      refl
 
 -- ---- the archive was not opened
 

@@ -9,10 +9,10 @@ use Rattle.archive_records.specs.declared.fault.RecordFaultKind.TheVariants.{Out
 use Rattle.archive_records.specs.declared.writing.Sizes.{Sizes}
 use Rattle.archive_index.specs.declared.fault.IndexingFault.{IndexingFault}
 use Rattle.archive_index.specs.declared.fault.IndexingFault.TheVariants.{Archive as OfArchive, OldArchive, TooLong}
-use Rattle.indexed_tables.specs.Content.{IsIndexOf}
-use Rattle.indexed_tables.specs.Making.{Makes}
-use Rattle.indexed_tables.specs.declared.fault.MakingFault.{MakingFault}
-use Rattle.indexed_tables.specs.declared.fault.MakingFault.TheVariants.{Archive as Refused, Write as Wrote}
+use Rattle.index_writing.specs.Content.{IsIndexOf}
+use Rattle.index_writing.specs.Making.{Makes}
+use Rattle.index_writing.specs.declared.fault.MakingFault.{MakingFault}
+use Rattle.index_writing.specs.declared.fault.MakingFault.TheVariants.{Archive as Refused, Write as Wrote}
 use Rattle.report_text.specs.Report.{line}
 use Rattle.command_core.specs.Ends.{Streamed}
 use Rattle.command_core.specs.Inputs.{Reader, IsRefusal, IsUntouched, Unfailed, Holds}

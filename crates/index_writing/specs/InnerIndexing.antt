@@ -6,7 +6,7 @@ use Rattle.archive_core.specs.Content.{Operations, IsContent}
 use Rattle.archive_records.specs.Text.{written}
 use Rattle.archive_records.specs.Writing.{IsWrittenWhole}
 use Rattle.archive_records.specs.declared.writing.Sizes.{Sizes}
-use Rattle.indexed_tables.specs.Content.{IsIndexOf}
+use Rattle.index_writing.specs.Content.{IsIndexOf}
 use Rattle.command_core.specs.Ends.{HasTaken}
 use Rattle.command_core.specs.Inputs.{Holds, Reader, Unfailed}
 use Rattle.command_core.specs.Outputs.{writer}

@@ -6,8 +6,8 @@ ghost use Rattle.index_writing.specs.Index.{index};
 
 use crate::indexing::index_input;
 use crate::publishing::publish_index;
-use byte_device::{CannotOpen, Sink, Source};
-use command_core::{CommandFault, Output, Status, Target};
+use byte_device::{CannotOpen, Output, Sink, Source, Target};
+use command_core::{CommandFault, Status};
 use memory::Heap;
 
 /// Writes the index of ARCHIVE, with the tables of its slices, to OUT as ARCHIVE comes, and to the report how many

@@ -4,11 +4,12 @@ ghost use Rattle.command_core.specs.Inputs.{reader};
 ghost use Rattle.index_writing.specs.Index.{TellsRefusal, TellsStop};
 ghost use Rattle.index_writing.specs.InnerIndexing.{IndexesAmidst};
 
+use crate::fault::MakingFault;
+use crate::making::index_into;
 use archive_index::IndexingFault;
 use archive_records::Sizes;
 use byte_device::{CannotOpen, Sink, Source};
 use command_core::{CommandFault, InputName, Why, opened, refusal};
-use indexed_tables::{MakingFault, index_into};
 use line_tables::laws::one_slice_table;
 use memory::Heap;
 
@@ -45,7 +46,7 @@ pub fn index_input<R: Source, W: Sink>(
 {
     one_slice_table();
     let source = opened(archive, InputName::Archive(0))?;
-    match index_into(heap.clone()?, source, draft) {
+    match index_into(heap.share(), source, draft) {
         Ok(sizes) => Ok(sizes),
         Err(fault) => Err(stop_of(fault)),
     }

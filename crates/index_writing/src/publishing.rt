@@ -4,8 +4,8 @@ ghost use Rattle.command_core.specs.Outputs.{Publishes, Takes, out_of, outs, wri
 ghost use Rattle.index_writing.specs.Index.{index_line};
 
 use archive_records::Sizes;
-use byte_device::Sink;
-use command_core::{CommandFault, Output, Status, Target, publish_output, publish_report};
+use byte_device::{Output, Sink, Target};
+use command_core::{CommandFault, Status, publish_output, publish_report};
 use memory::{Heap, NoMemory};
 
 /// The line of `index`: how many entries were written, and how many bytes.

@@ -4,7 +4,7 @@ use Rattle.std.specs.Prelude.{All, filter}
 use Rattle.std.specs.List.{AllWithin}
 use Rattle.std.proofs.lemmas.List.{get_or-drop, get_or-take, length-map, take_all}
 use Rattle.archive_index.specs.Runs.{IsRun}
-use Rattle.archive_index.proofs.Runs.{past, length_run}
+use Rattle.archive_index.proofs.RunLemmas.{past, length_run}
 use Rattle.table_index.specs.Entry.{HasItsFields, entry_bytes}
 use Rattle.table_index.specs.declared.entry.TableEntry.{TableEntry}
 use Rattle.indexed_answers.specs.Among.{EntryAt}

@@ -96,9 +96,9 @@ fn frames_of_each<'c>(
     ensures { IfOk result (λ lists. map borrowed_in lists.items
         ≡ map (frames_at number) columns.now) }
 {
-    let mut lists = Vec::new(heap.clone()?);
+    let mut lists = Vec::new(heap.share());
     'columns: for column in columns {
-        let frames = column.frames(heap.clone()?, number)?;
+        let frames = column.frames(heap.share(), number)?;
         lists.push(frames)?;
     }
     Ok(lists)
@@ -131,7 +131,7 @@ impl Answers {
         if lines {
             frames_of_each(heap, &self.columns, number)
         } else {
-            Ok(Vec::new(heap.clone()?))
+            Ok(Vec::new(heap.share()))
         }
     }
 }

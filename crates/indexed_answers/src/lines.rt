@@ -58,15 +58,9 @@ fn frames_of_each<P: Placed>(
         (λ text. (slice all : List ℕ) (steps : List StepRecord) → AreStored text (claim_view pages.old.claim) all
         → AreFrameSteps slice steps → IsOpened table.now pages.old text all steps → ⊥) }
 {
-    let Ok(own) = heap.clone() else {
-        return Err(CheckFault::OutOfMemory);
-    };
-    let mut lists = Vec::new(own);
+    let mut lists = Vec::new(heap.share());
     'asked: for place in asked {
-        let Ok(own) = heap.clone() else {
-            return Err(CheckFault::OutOfMemory);
-        };
-        let frames = frames_of(own, device, pages, table, base, *place)?;
+        let frames = frames_of(heap.share(), device, pages, table, base, *place)?;
         if let Err(_) = lists.push(frames) {
             return Err(CheckFault::OutOfMemory);
         }
@@ -90,10 +84,7 @@ fn frames_by_claim<P: Placed>(
         (λ text. length text < 2 ^ 64 → (slice all : List ℕ) → IsSliceTable slice all
         → AreStored text (claim_view claim) all → ⊥) }
 {
-    let Ok(own) = heap.clone() else {
-        return Err(CheckFault::OutOfMemory);
-    };
-    let (mut pages, first) = open_lines(own, device, claim)?;
+    let (mut pages, first) = open_lines(heap.share(), device, claim)?;
     let Some(table) = LineTable::open(device, &mut pages, first)? else {
         return Ok(None);
     };
@@ -121,8 +112,5 @@ pub(crate) fn frames_if<P: Placed>(
     if lines {
         return frames_by_claim(heap, device, claim, base, asked);
     }
-    let Ok(own) = heap.clone() else {
-        return Err(CheckFault::OutOfMemory);
-    };
-    Ok(Some(Vec::new(own)))
+    Ok(Some(Vec::new(heap.share())))
 }

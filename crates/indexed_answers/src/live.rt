@@ -74,8 +74,8 @@ pub(crate) fn live_under(
     ensures { IfOk result (λ live. map entry_at live.items
         ≡ filter (λ x. lives_under prefix.now (all_of indexes.now) x.entry) (all_at 0 indexes.now)) }
 {
-    let retired = retired_under(heap.clone()?, prefix, indexes)?;
-    live_besides(heap.clone()?, prefix, &retired, indexes)
+    let retired = retired_under(heap.share(), prefix, indexes)?;
+    live_besides(heap.share(), prefix, &retired, indexes)
 }
 
 /// Whether one of these entries is that of a companion.

@@ -89,7 +89,7 @@ pub fn named_among(
 {
     match answering_among(heap, key, indexes)? {
         Some(answering) => {
-            let named = named_by_each(heap.clone()?, answering.entries())?;
+            let named = named_by_each(heap.share(), answering.entries())?;
             Ok(Some(named))
         }
         None => Ok(None),

@@ -39,15 +39,9 @@ fn owns_of<P: Placed>(
         (λ text. (t : TableParts) → IsOpened table.old text t
         → AreStored text (claim_view table.old.pages.claim) (table_bytes t) → ⊥) }
 {
-    let Ok(own) = heap.clone() else {
-        return Err(CheckFault::OutOfMemory);
-    };
-    let mut owns = Vec::new(own);
+    let mut owns = Vec::new(heap.share());
     'asked: for place in asked {
-        let Ok(own) = heap.clone() else {
-            return Err(CheckFault::OutOfMemory);
-        };
-        let found = own_of(own, device, table, *place)?;
+        let found = own_of(heap.share(), device, table, *place)?;
         if let Err(_) = owns.push(found) {
             return Err(CheckFault::OutOfMemory);
         }
@@ -68,10 +62,7 @@ fn owns_by_claim<P: Placed>(
         (λ text. length text < 2 ^ 64 → (slice all : List ℕ) → IsSliceTable slice all
         → AreStored text (claim_view claim) all → ⊥) }
 {
-    let Ok(own) = heap.clone() else {
-        return Err(CheckFault::OutOfMemory);
-    };
-    let mut table = Table::open(own, device, claim)?;
+    let mut table = Table::open(heap.share(), device, claim)?;
     let base = table.text_base();
     let owns = owns_of(heap, device, &mut table, asked)?;
     Ok((base, owns))
@@ -165,10 +156,7 @@ fn told_by_each<P: Placed>(
     ensures { AsksAmong P.whole P.failures lines (map entry_at answering.now) devices.old devices.new result
         (λ texts columns. AllZip (IsColumnAt texts lines asked.now) (map entry_at answering.now) columns.items) }
 {
-    let Ok(own) = heap.clone() else {
-        return Err(AnswerFault::OutOfMemory);
-    };
-    let mut columns = Vec::new(own);
+    let mut columns = Vec::new(heap.share());
     'answering: for numbered in answering {
         let column = told_at(heap, devices, numbered, lines, asked)?;
         if let Err(_) = columns.push(column) {

@@ -16,8 +16,8 @@ use Rattle.archive_index.specs.declared.fault.PlaceFault.TheVariants.{Stale, Dev
 use Rattle.command_core.specs.Archives.{merged}
 use Rattle.command_core.specs.Inputs.{Reader, IsRefusal, Unfailed, reader}
 use Rattle.command_core.proofs.Readers.{pairs_more}
-use Rattle.indexed_parts.specs.Places.{AreGatheredUnder, IsEntryFault}
-use Rattle.indexed_parts.proofs.Gathered.{along_both, known}
+use Rattle.archive_index.specs.Gathering.{AreGatheredUnder, IsEntryFault}
+use Rattle.archive_index.proofs.Gathered.{along_both, known}
 use Rattle.indexed_queries.specs.declared.prefixes.KeyPrefix.{KeyPrefix}
 use Rattle.table_index.specs.Text.{placed_of}
 use Rattle.indexed_queries.specs.Prefixes.{AreNamedUnder, IsReadFor, IsReadUnderOne, prefix_bytes}

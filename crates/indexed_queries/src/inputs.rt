@@ -14,11 +14,10 @@ ghost use Rattle.indexed_queries.specs.Indexes.{HoldsTables, IsIndexOf, IsOfOthe
 ghost use Rattle.indexed_queries.specs.Indexes.{IsUnreadIndex};
 ghost use Rattle.indexed_queries.specs.Together.{IsKept, IsReadWith};
 
-use archive_index::{Index, IndexFault, IndexFaultKind};
+use archive_index::{Index, IndexFault, IndexFaultKind, has_size};
 use archive_records::{RecordFault, RecordFaultKind};
 use byte_device::{CannotOpen, Failed, Placed};
 use command_core::{CommandFault, InputName, Why, opened};
-use indexed_parts::has_size;
 use memory::Heap;
 use table_index::{TableIndex, read_index};
 
@@ -97,7 +96,7 @@ pub(crate) fn read_with_tables<I: Placed, P: Placed>(
     ensures kept { OnOk result (IsKept I.whole I.failures index.old index.new
         × IsKept P.whole P.failures archive.old archive.new) }
 {
-    let tables = read_tables(heap.clone()?, number, index)?;
+    let tables = read_tables(heap.share(), number, index)?;
     test_length(number, &tables, archive)?;
     Ok(tables)
 }
@@ -113,7 +112,7 @@ pub fn read_index_of<I: Placed, P: Placed>(
         ReadsInputs result (IsIndexOf named known) (IsRefusedByIndex 0 named known) (Unfailed named × Unfailed known) }
 {
     let tables = read_with_tables(heap, 0, index, archive)?;
-    let entries = tables.placed(heap.clone()?)?;
+    let entries = tables.placed(heap.share())?;
     let _count = entries.len();
     Ok(entries)
 }

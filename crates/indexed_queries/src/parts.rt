@@ -8,7 +8,7 @@ ghost use Rattle.byte_device.specs.Places.{HasSize};
 ghost use Rattle.archive_index.specs.Places.{HasIndexedLength, IsReadUnder};
 ghost use Rattle.table_index.specs.Text.{placed_of};
 ghost use Rattle.command_core.specs.Inputs.{ReadsInput, reader};
-ghost use Rattle.indexed_parts.specs.Places.{AreGatheredUnder, IsEntryFault, ReadsPlaces};
+ghost use Rattle.archive_index.specs.Gathering.{AreGatheredUnder, IsEntryFault, ReadsPlaces};
 ghost use Rattle.indexed_queries.specs.Prefixes.{IsReadFor, IsReadUnderOne, prefix_bytes};
 ghost use Rattle.indexed_queries.specs.InnerParts.{HasJoinedNamed, HaveGathered, IsFaultAmong, IsFaultUnder, IsNamedIn};
 ghost use Rattle.indexed_queries.specs.InnerParts.{told_fault};
@@ -17,10 +17,9 @@ ghost use Rattle.indexed_queries.specs.Together.{IsRefusedAtPlaces};
 use crate::inputs::unread;
 use crate::prefixes::{KeyPrefix, key_of, uuid_bytes};
 use archive_core::{Archive, Operation, take_all};
-use archive_index::{Index, PlaceFault};
+use archive_index::{Index, PlaceFault, archive_of, gather_at, indexed_size};
 use byte_device::{CannotOpen, Placed};
 use command_core::{CommandFault, InputName, Why, opened};
-use indexed_parts::{archive_of, gather_at, indexed_size};
 use memory::{Heap, NoMemory};
 use table_index::TableIndex;
 
@@ -78,7 +77,7 @@ fn join_gathered<A: Archive + Drop>(
     ensures { OnOk result (A.content kept.new
         ≡ joined (A.content kept.old) (content_of (set.from_list (map record_bytes gathered.items)))) }
 {
-    let part: A = archive_of(heap.clone()?, gathered)?;
+    let part: A = archive_of(heap.share(), gathered)?;
     take_all(kept, part)?;
     Ok(())
 }
@@ -99,10 +98,7 @@ fn join_prefixes<A: Archive + Drop, P: Placed>(
 {
     let _held = kept.len();
     let size = indexed_size(entries, device)?;
-    let Ok(own) = heap.clone() else {
-        return Err(PlaceFault::OutOfMemory);
-    };
-    let mut gathered = Vec::new(own);
+    let mut gathered = Vec::new(heap.share());
     gather_prefixes(heap, &mut gathered, prefixes, entries, device, size)?;
     match join_gathered(heap, kept, gathered) {
         Ok(()) => Ok(()),
@@ -139,7 +135,7 @@ pub(crate) fn join_archive<A: Archive + Drop, P: Placed>(
         (λ archive _. IsNamedIn archive sought (placed_of tables.now) (A.content kept.old) (A.content kept.new))
         (λ archive. IsRefusedAtPlaces sought number archive tables.now) }
 {
-    let entries = tables.placed(heap.clone()?)?;
+    let entries = tables.placed(heap.share())?;
     let device = opened(archive, InputName::Archive(number))?;
     match join_prefixes(heap, kept, prefixes, &entries, device) {
         Ok(()) => Ok(()),

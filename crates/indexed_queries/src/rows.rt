@@ -9,8 +9,7 @@ ghost use Rattle.archive_index.specs.Entry.{offset_in, placed_bytes};
 ghost use Rattle.indexed_queries.specs.Rows.{AreIndexRows, IsEntryRow, has_lower_key, stands_before};
 
 use archive_core::{Digest, FindRow, FindState, SliceKey, compare_keys};
-use archive_index::{Index, PlacedEntry};
-use indexed_parts::is_under;
+use archive_index::{Index, PlacedEntry, is_under};
 use memory::{Heap, NoMemory};
 
 /// The row with these parts.
@@ -103,9 +102,9 @@ pub(crate) fn rows_under(
     ensures { IfOk result (λ rows. AreIndexRows prefix.now index.now rows.items) }
 {
     let _count = index.len();
-    let mut placed = entries_under(heap.clone()?, prefix, index.entries())?;
+    let mut placed = entries_under(heap.share(), prefix, index.entries())?;
     sort_by_offset(&mut placed);
-    let mut rows = rows_of(heap.clone()?, &placed)?;
+    let mut rows = rows_of(heap.share(), &placed)?;
     put_by_key(&mut rows)?;
     Ok(rows)
 }

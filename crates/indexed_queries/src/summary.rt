@@ -6,8 +6,8 @@ ghost use Rattle.indexed_queries.specs.Summary.{summary_at};
 
 use crate::inputs::read_index_of;
 use crate::summaries::summary_of;
-use byte_device::{CannotOpen, Placed, Sink};
-use command_core::{CommandFault, Output, Status, Target, publish_summary};
+use byte_device::{CannotOpen, Output, Placed, Sink, Target};
+use command_core::{CommandFault, Status, publish_summary};
 use memory::Heap;
 
 /// Writes the summary that INDEX tells to OUT, and to the report how many entries and bytes it has, as `summary` does
@@ -30,6 +30,6 @@ pub fn run_summary_at<I: Placed, P: Placed, T: Target, W: Sink>(
         (writer W.held W.failures report.old report.new) result }
 {
     let entries = read_index_of(&heap, index, archive)?;
-    let summary = summary_of(heap.clone()?, &entries)?;
+    let summary = summary_of(heap.share(), &entries)?;
     publish_summary(heap, &summary, out, report)
 }

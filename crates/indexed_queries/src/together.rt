@@ -36,7 +36,7 @@ pub fn read_indexes<I: Placed, P: Placed>(
     ensures kept { OnOk result (AreAllKept I.whole I.failures indexes.old indexes.new
         × AreAllKept P.whole P.failures archives.old archives.new) }
 {
-    let mut read = Vec::new(heap.clone()?);
+    let mut read = Vec::new(heap.share());
     'indexes: for number in 0..indexes.len() {
         let tables = read_with_tables(
             heap,
@@ -96,7 +96,7 @@ pub fn read_prefixes<A: Archive + Drop, P: Placed>(
         ReadsInputs result (λ kept. HoldNamed sought known read.now (A.content kept))
         (IsFirstRefusedAtPlaces sought known read.now) (EachUnfailed known) }
 {
-    let mut kept = A::empty(heap.clone()?);
+    let mut kept = A::empty(heap.share());
     join_each(heap, &mut kept, prefixes, read, archives)?;
     Ok(kept)
 }

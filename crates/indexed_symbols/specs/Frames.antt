@@ -5,8 +5,8 @@ use Rattle.archive_core.specs.Content.{HaveSameMembers}
 use Rattle.archive_core.specs.Key.{key_bytes}
 use Rattle.archive_queries.specs.Frames.{TellsFrames}
 use Rattle.archive_queries.specs.Symbolicate.{Answered, answers_status, answers_text}
-use Rattle.crash_frames.specs.Frames.{frames_of}
-use Rattle.crash_frames.specs.declared.frame.Frame.{Frame}
+use Rattle.line_inputs.specs.Frames.{frames_of}
+use Rattle.line_inputs.specs.declared.frame.Frame.{Frame}
 use Rattle.command_core.specs.Ends.{Query}
 use Rattle.command_core.specs.Inputs.{Reader, EachUntouched, Gives, IsRefusedFrames, Unfailed}
 use Rattle.command_core.specs.declared.faults.InputName.{InputName}

@@ -7,7 +7,7 @@ use Rattle.std.specs.declared.cmp.Ordering.{Ordering}
 use Rattle.archive_core.specs.Key.{key_bytes}
 use Rattle.archive_queries.specs.Symbolicate.{asked_of}
 use Rattle.archive_core.specs.declared.keys.SliceKey.{SliceKey}
-use Rattle.crash_frames.specs.declared.frame.Frame.{Frame}
+use Rattle.line_inputs.specs.declared.frame.Frame.{Frame}
 use Rattle.archive_core.specs.declared.lookup.Where.{Where}
 use Rattle.archive_core.specs.declared.lookup.Where.TheVariants.{File, Loaded}
 use Rattle.indexed_symbols.specs.declared.places.AskedPlace.{AskedPlace}

@@ -18,8 +18,8 @@ use archive_core::{Archive, SliceKey, compare_keys};
 use archive_queries::answer_frames;
 use byte_device::{CannotOpen, Placed, Sink, Source};
 use command_core::{CommandFault, Status, publish_bytes, read_crash};
-use crash_frames::Frame;
 use indexed_queries::{KeyPrefix, read_indexes, read_prefixes};
+use line_inputs::Frame;
 use memory::{Heap, NoMemory};
 use table_index::TableIndex;
 
@@ -44,10 +44,10 @@ fn keys_once(heap: Heap, frames: &[Frame]) -> Result<Vec<SliceKey, Heap>, NoMemo
 fn prefixes_of(heap: &Heap, frames: &[Frame]) -> Result<Vec<KeyPrefix, Heap>, NoMemory>
     ensures { IfOk result (λ prefixes. HaveSameMembers (map prefix_bytes prefixes.items) (keys_of frames.now)) }
 {
-    let keys = keys_once(heap.clone()?, frames)?;
+    let keys = keys_once(heap.share(), frames)?;
     keys.iter()
         .map(|key| KeyPrefix::Key(*key))
-        .collect(heap.clone()?)
+        .collect(heap.share())
 }
 
 /// The lines of the answers to the frames by the tables of the indexes, with how a command ends that prints them; or
@@ -65,11 +65,11 @@ fn tell_by_tables<I: Placed>(
         (λ found. MatchOption found (AreTiedUnder (keys_of frames.now) read.now)
         (λ told. TellTablesOfFrames (HaveTexts I.whole indexes.old) read.now lines frames.now told.0 told.1.items)) }
 {
-    let asked = asked_places(heap.clone()?, frames)?;
+    let asked = asked_places(heap.share(), frames)?;
     let Some(told) = tell_keys(heap, read, indexes, lines, &asked)? else {
         return Ok(None);
     };
-    let (status, text) = answer_frames_by_tables(heap.clone()?, &told, lines, frames)?;
+    let (status, text) = answer_frames_by_tables(heap.share(), &told, lines, frames)?;
     Ok(Some((status, text.into_bytes())))
 }
 
@@ -88,7 +88,7 @@ fn tell_by_slices<A: Archive + Drop, P: Placed>(
 {
     let prefixes = prefixes_of(heap, frames)?;
     let kept: A = read_prefixes(heap, &prefixes, read, archives)?;
-    let told = answer_frames(heap.clone()?, &kept, frames, lines)?;
+    let told = answer_frames(heap.share(), &kept, frames, lines)?;
     Ok(told)
 }
 
@@ -141,7 +141,7 @@ pub fn run_frames_at<A: Archive + Drop, C: Source, I: Placed, P: Placed, W: Sink
         (readers I.whole I.failures indexes.old indexes.new) (readers P.whole P.failures archives.old archives.new))
         (writer W.held W.failures report.old report.new) result }
 {
-    let frames = read_crash(heap.clone()?, crash)?;
+    let frames = read_crash(heap.share(), crash)?;
     let read = read_indexes(&heap, indexes, archives)?;
     let (status, text) = tell_frames::<A, I, P>(&heap, lines, &frames, &read, indexes, archives)?;
     publish_bytes(status, &text, report)

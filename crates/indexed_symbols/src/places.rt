@@ -5,7 +5,7 @@ ghost use Rattle.indexed_symbols.specs.InnerPlaces.{AreAskedOf, asked_cmp, numbe
 
 use archive_core::{SliceKey, Where, compare_keys};
 use archive_queries::asked_of;
-use crash_frames::Frame;
+use line_inputs::Frame;
 use memory::{Heap, NoMemory};
 use std::cmp::Ordering;
 

@@ -31,9 +31,9 @@ fn answer_by_tables(
     ensures { IfOk result (λ told. ShowsAddresses answers.now lines addresses.now told.0 (string_bytes told.1)) }
 {
     let mut status = Status::Done;
-    let mut text = String::new(heap.clone()?);
+    let mut text = String::new(heap.share());
     'addresses: for (number, address) in addresses.iter().enumerate() {
-        let answer = answers.answer(heap.clone()?, number)?;
+        let answer = answers.answer(heap.share(), number)?;
         status = status_behind(status, &answer);
         push_told(&heap, &mut text, *address, &answer, answers, lines, number)?;
     }
@@ -58,11 +58,11 @@ fn tell_by_tables<I: Placed>(
         (λ told. TellTables (HaveTexts I.whole indexes.old) read.now key.now load lines addresses.now told.0
         (string_bytes told.1))) }
 {
-    let places = places_of(heap.clone()?, load, addresses)?;
+    let places = places_of(heap.share(), load, addresses)?;
     let Some(answers) = tell_key(heap, read, indexes, key, lines, &places)? else {
         return Ok(None);
     };
-    let told = answer_by_tables(heap.clone()?, &answers, lines, addresses)?;
+    let told = answer_by_tables(heap.share(), &answers, lines, addresses)?;
     Ok(Some(told))
 }
 
@@ -83,7 +83,7 @@ fn tell_by_slices<A: Archive + Drop, P: Placed>(
         (λ content told. TellsAddresses content key.now load lines addresses.now told.0 (string_bytes told.1)) }
 {
     let kept: A = read_prefixes(heap, &[KeyPrefix::Key(*key)], read, archives)?;
-    let told = answer_each(heap.clone()?, &kept, key, load, lines, addresses)?;
+    let told = answer_each(heap.share(), &kept, key, load, lines, addresses)?;
     Ok(told)
 }
 

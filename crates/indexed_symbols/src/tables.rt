@@ -97,6 +97,6 @@ pub(crate) fn push_told(
         ++ answer_lines address answer.now (shown_at lines answers.now number)) }
 {
     let lists = answers.frames(heap, lines, number)?;
-    let borrowed = borrowed_lists(heap.clone()?, &lists)?;
+    let borrowed = borrowed_lists(heap.share(), &lists)?;
     push_answer(heap, text, address, answer, &borrowed)
 }

@@ -19,8 +19,8 @@ use archive_core::{SliceKey, Where, compare_keys};
 use archive_queries::status_behind;
 use byte_device::{CannotOpen, Placed};
 use command_core::{CommandFault, Status};
-use crash_frames::Frame;
 use indexed_answers::Answers;
+use line_inputs::Frame;
 use memory::{Heap, NoMemory};
 use table_index::TableIndex;
 
@@ -67,7 +67,7 @@ fn tell_run<I: Placed>(
         (λ one. (one.key ≡ key) × (one.places.items ≡ map (λ asked. asked.place) run.now)
         × IsToldUnder (HaveTexts I.whole indexes.old) read.now lines one)) }
 {
-    let places = places_in(heap.clone()?, run)?;
+    let places = places_in(heap.share(), run)?;
     let Some(answers) = tell_key(heap, read, indexes, &key, lines, &places)? else {
         return Ok(None);
     };
@@ -95,7 +95,7 @@ pub(crate) fn tell_keys<I: Placed>(
         (λ told. MatchOption told (AreTiedUnder keys read.now)
         (λ each. AreTold (HaveTexts I.whole indexes.old) read.now lines asked.now each.items)) }
 {
-    let mut told = Vec::new(heap.clone()?);
+    let mut told = Vec::new(heap.share());
     let mut left = asked;
     'keys: while let Some(first) = left.first() {
         let key = first.key;
@@ -141,10 +141,10 @@ pub(crate) fn answer_frames_by_tables(
     ensures { IfOk result (λ shown. ShowsFrames told.now lines frames.now shown.0 (string_bytes shown.1)) }
 {
     let mut status = Status::Done;
-    let mut text = String::new(heap.clone()?);
+    let mut text = String::new(heap.share());
     'frames: for frame in frames {
         let (one, number) = told_at(told, frame);
-        let answer = one.answers.answer(heap.clone()?, number)?;
+        let answer = one.answers.answer(heap.share(), number)?;
         status = status_behind(status, &answer);
         push_told(
             &heap,

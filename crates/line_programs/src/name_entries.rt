@@ -183,7 +183,7 @@ pub(crate) fn read_entries<'a>(
     ensures { IfOk result (λ found. option_map (λ x. (map (λ n. name_view n) x.0.items, x.1.now)) found
         ≡ entries_at bytes.now) }
 {
-    let Some((format, rest)) = read_format(heap.clone()?, bytes)? else {
+    let Some((format, rest)) = read_format(heap.share(), bytes)? else {
         return Ok(None);
     };
     let Some((count, rest)) = unsigned_leb128(rest) else {

@@ -36,7 +36,7 @@ fn read_to_version_4<'a>(
 ) -> Result<Option<Names<'a>>, NoMemory>
     ensures { IfOk result (λ names. option_map names_view names ≡ names_to_version_4 version bytes.now) }
 {
-    let Some((directories, rest)) = read_listed_names(heap.clone()?, false, bytes)? else {
+    let Some((directories, rest)) = read_listed_names(heap.share(), false, bytes)? else {
         return Ok(None);
     };
     let Some((files, _)) = read_listed_names(heap, true, rest)? else {
@@ -53,7 +53,7 @@ fn read_to_version_4<'a>(
 fn read_version_5<'a>(heap: Heap, bytes: &'a [u8]) -> Result<Option<Names<'a>>, NoMemory>
     ensures { IfOk result (λ names. option_map names_view names ≡ names_of_version_5 bytes.now) }
 {
-    let Some((directories, rest)) = read_entries(heap.clone()?, bytes)? else {
+    let Some((directories, rest)) = read_entries(heap.share(), bytes)? else {
         return Ok(None);
     };
     let Some((files, _)) = read_entries(heap, rest)? else {

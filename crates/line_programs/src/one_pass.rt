@@ -60,8 +60,8 @@ pub fn covering_rows(
 ) -> Result<Vec<Option<Row>, Heap>, NoMemory>
     ensures { IfOk result (λ found. AreCovering rows.entry addresses.now found.items) }
 {
-    let pending = pending_addresses(heap.clone()?, addresses)?;
-    let assigned = assign_all(heap.clone()?, rows, pending)?;
+    let pending = pending_addresses(heap.share(), addresses)?;
+    let assigned = assign_all(heap.share(), rows, pending)?;
     let found = answers_for(heap, &assigned, addresses)?;
     Ok(found)
 }

@@ -121,7 +121,7 @@ impl<'a> PathParts<'a> {
     pub fn joined(&self, heap: Heap) -> Result<Vec<u8, Heap>, NoMemory>
         ensures { IfOk result (λ path. path.items ≡ path_of (path_view self.now)) }
     {
-        let folder = onto(heap.clone()?, self.base, self.directory)?;
+        let folder = onto(heap.share(), self.base, self.directory)?;
         let path = onto(heap, &folder, self.name)?;
         Ok(path)
     }

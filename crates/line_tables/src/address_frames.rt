@@ -16,7 +16,6 @@ use crate::frame::OwnedFrame;
 use crate::laws::frames_by_step;
 use crate::row::{LOCATION_LEN, Location, index_of};
 use crate::table::LineTable;
-use crate::texts::handle;
 use byte_device::Placed;
 use checked_pages::{CheckFault, Pages, u32_be_at};
 use memory::Heap;
@@ -87,8 +86,7 @@ impl LineTable {
             → AreStored text (claim_view pages.old.claim) all → IsOpened self.now pages.old text all steps
             → IsLocation (parts_of steps) row told callers → ⊥) }
     {
-        let own = handle(&heap)?;
-        let name = self.maybe_text(own, device, pages, row.name)?;
+        let name = self.maybe_text(heap.share(), device, pages, row.name)?;
         let path = self.maybe_path(heap, device, pages, row.file)?;
         Ok(OwnedFrame {
             name,
@@ -116,8 +114,7 @@ impl LineTable {
             → AreStored text (claim_view pages.old.claim) all → IsOpened self.now pages.old text all steps
             → IsMaybeChain (parts_of steps) location chain → length chain ≤ 256 → ⊥) }
     {
-        let first = handle(&heap)?;
-        let mut frames = Vec::new(first);
+        let mut frames = Vec::new(heap.share());
         let mut number = location;
         'callers: while number != 0 {
             if frames.len() == MOST_FRAMES {
@@ -127,8 +124,7 @@ impl LineTable {
             if row.caller >= number {
                 return Err(CheckFault::Changed);
             }
-            let own = handle(&heap)?;
-            let frame = self.frame(own, device, pages, row)?;
+            let frame = self.frame(heap.share(), device, pages, row)?;
             push(&mut frames, frame)?;
             number = row.caller;
         }

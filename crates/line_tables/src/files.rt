@@ -12,7 +12,6 @@ ghost use Rattle.line_tables.specs.Opened.{ReadsPart};
 use crate::frame::OwnedPath;
 use crate::row::{FILE_LEN, File, index_of};
 use crate::table::LineTable;
-use crate::texts::handle;
 use byte_device::Placed;
 use checked_pages::{CheckFault, Pages, u32_be_at};
 use memory::Heap;
@@ -58,10 +57,8 @@ impl LineTable {
             (λ steps told. IsFileRow (parts_of steps) row told)
             (λ _ told path. owned_path_view path ≡ told) }
     {
-        let first = handle(&heap)?;
-        let second = handle(&heap)?;
-        let base = self.text(first, device, pages, row.base)?;
-        let directory = self.text(second, device, pages, row.directory)?;
+        let base = self.text(heap.share(), device, pages, row.base)?;
+        let directory = self.text(heap.share(), device, pages, row.directory)?;
         let name = self.text(heap, device, pages, row.name)?;
         Ok(OwnedPath {
             base,

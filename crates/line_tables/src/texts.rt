@@ -16,16 +16,6 @@ use byte_device::Placed;
 use checked_pages::{CheckFault, Pages, u32_be_at};
 use memory::Heap;
 
-/// A handle to the memory.
-pub(crate) fn handle(heap: &Heap) -> Result<Heap, CheckFault>
-    ensures { IfErr result (λ fault. fault ≡ CheckFault.OutOfMemory) }
-{
-    match heap.clone() {
-        Ok(own) => Ok(own),
-        Err(_) => Err(CheckFault::OutOfMemory),
-    }
-}
-
 /// So many zeros.
 fn zeros(heap: Heap, count: usize) -> Result<Vec<u8, Heap>, CheckFault>
     ensures long { IfOk result (λ zeros. length zeros.items ≡ count) }

@@ -92,7 +92,7 @@ impl<'a> Kept<'a> {
         if steps.len() as u64 > u64::from(u32::MAX) {
             return Ok(None);
         }
-        let parts = self.parts(heap.clone()?, steps)?;
+        let parts = self.parts(heap.share(), steps)?;
         let most = room.min(u64::from(u32::MAX));
         let Some(len) = self.texts_len(parts.texts.order(), most) else {
             return Ok(None);
@@ -121,8 +121,8 @@ impl<'a> LineStore<'a> {
             return no_lines(heap);
         }
         steps.sort_unstable_by_key(|step| step.start);
-        let changed = changed_steps(heap.clone()?, &steps)?;
-        match kept.table_within(heap.clone()?, &changed, room)? {
+        let changed = changed_steps(heap.share(), &steps)?;
+        match kept.table_within(heap.share(), &changed, room)? {
             Some(bytes) => Ok(bytes),
             None => no_lines(heap),
         }

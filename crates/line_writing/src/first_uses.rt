@@ -23,7 +23,7 @@ impl FirstUses {
         ensures none { IfOk result (λ uses. uses.order.items ≡ []) }
     {
         Ok(FirstUses {
-            given: vec![in heap.clone()?; 0; count]?,
+            given: vec![in heap.share(); 0; count]?,
             order: Vec::new(heap),
         })
     }

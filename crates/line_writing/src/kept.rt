@@ -28,14 +28,14 @@ impl<'a> Kept<'a> {
     ghost use Rattle.line_writing.specs.KeptViews.{kept_view};
 
     /// Nothing.
-    pub fn new(heap: Heap) -> Result<Kept<'a>, NoMemory>
-        ensures { IfOk result (λ kept. kept_view kept ≡ record { texts = []; files = []; locations = [] }) }
+    pub fn new(heap: Heap) -> Kept<'a>
+        ensures { kept_view result ≡ record { texts = []; files = []; locations = [] } }
     {
-        Ok(Kept {
-            texts: Numbers::new(heap.clone()?)?,
-            files: Numbers::new(heap.clone()?)?,
-            locations: Numbers::new(heap)?,
-        })
+        Kept {
+            texts: Numbers::new(heap.share()),
+            files: Numbers::new(heap.share()),
+            locations: Numbers::new(heap),
+        }
     }
 
     /// The number of a text.

@@ -25,8 +25,8 @@ pub fn line_table(heap: Heap, image: &Image) -> Result<Vec<u8, Heap>, NoMemory>
     ensures { IfOk result (λ bytes. IsLineTable image.now bytes.items) }
 {
     table_by_turns();
-    let store = LineStore::new(heap.clone()?)?;
+    let store = LineStore::new(heap.share());
     let mut taker = StoreTaker { store };
-    give_turns(heap.clone()?, image, &mut taker)?;
+    give_turns(heap.share(), image, &mut taker)?;
     taker.store.finish(heap, room_for(image))
 }

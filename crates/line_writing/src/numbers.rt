@@ -28,13 +28,13 @@ impl<K: Ord + Copy + Drop> Model for Numbers<K> {
 
 impl<K: Ord + Copy + Drop> Numbers<K> {
     /// No key.
-    pub fn new(heap: Heap) -> Result<Numbers<K>, NoMemory>
-        ensures { IfOk result (λ numbers. numbers ≡ []) }
+    pub fn new(heap: Heap) -> Numbers<K>
+        ensures { result ≡ [] }
     {
-        Ok(Numbers {
-            by_key: BTreeMap::new(heap.clone()?),
+        Numbers {
+            by_key: BTreeMap::new(heap.share()),
             keys: Vec::new(heap),
-        })
+        }
     }
 
     /// The number of a key; a new one gets the next. Past 2^32 - 1 keys there is no memory.

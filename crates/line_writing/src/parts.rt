@@ -46,7 +46,7 @@ impl<'a> Kept<'a> {
         ensures order { IfOk result (λ uses. uses.order.items
             ≡ numbered_after nat_eq [] (location_uses (kept_view self.now) steps.now)) }
     {
-        let mut uses = FirstUses::new(heap.clone()?, self.locations.len())?;
+        let mut uses = FirstUses::new(heap.share(), self.locations.len())?;
         let mut callers = Vec::new(heap);
         for step in steps {
             self.push_callers(&mut callers, step.location)?;
@@ -136,8 +136,8 @@ impl<'a> Kept<'a> {
         ensures orders { IfOk result (λ parts. AreOrders (kept_view self.now) steps.now
             parts.locations.order.items parts.files.order.items parts.texts.order.items) }
     {
-        let locations = self.used_locations(heap.clone()?, steps)?;
-        let files = self.used_files(heap.clone()?, locations.order())?;
+        let locations = self.used_locations(heap.share(), steps)?;
+        let files = self.used_files(heap.share(), locations.order())?;
         let texts = self.used_texts(heap, locations.order(), files.order())?;
         Ok(Parts {
             locations,

@@ -45,17 +45,17 @@ impl<'a> LineStore<'a> {
     ghost use Rattle.line_writing.specs.Located.{IsLocated, StillTells};
 
     /// No address.
-    pub fn new(heap: Heap) -> Result<LineStore<'a>, NoMemory>
-        ensures { IfOk result (λ store. store ≡ record {
+    pub fn new(heap: Heap) -> LineStore<'a>
+        ensures { result ≡ record {
           taken = Some [];
           kept = record { texts = []; files = []; locations = [] };
-        }) }
+        } }
     {
-        Ok(LineStore {
-            kept: Kept::new(heap.clone()?)?,
+        LineStore {
+            kept: Kept::new(heap.share()),
             steps: Vec::new(heap),
             too_wide: false,
-        })
+        }
     }
 
     /// Takes the frames of an address, the innermost first; an address is to come once. It takes the time of six

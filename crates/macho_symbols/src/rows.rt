@@ -72,7 +72,7 @@ fn collect_rows(heap: Heap, symbols: &Symbols<'_>) -> Result<Vec<Candidate, Heap
         (row : Candidate) → Contains rows.items row ↔ Contains (rows_of symbols.now) row) }
 {
     let scan = Scan::new(symbols);
-    let keys = sorted_keys(heap.clone()?, &scan)?;
+    let keys = sorted_keys(heap.share(), &scan)?;
     rows_of_keys(heap, &scan, &keys)
 }
 

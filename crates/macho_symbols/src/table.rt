@@ -70,8 +70,8 @@ impl AddressTable {
     pub fn build(heap: Heap, symbols: &Symbols<'_>) -> Result<AddressTable, NoMemory>
         ensures { IfOk result (λ table. IsTableOf table symbols.now) }
     {
-        let rows = sorted_rows(heap.clone()?, symbols)?;
-        let extents = collect_extents(heap.clone()?, &symbols.image)?;
+        let rows = sorted_rows(heap.share(), symbols)?;
+        let extents = collect_extents(heap.share(), &symbols.image)?;
         let nul_places = collect_nul_places(heap, symbols.strings())?;
         Ok(AddressTable {
             rows,

@@ -16,16 +16,12 @@ use denote.Builtin.{bool}
 use denote.Steps.{only, nothing}
 use denote.Triple.Statement.{Contract}
 use denote.Triple.Spec.{triple_of}
-use Rattle.std.specs.contracts.alloc.Global as GL
-use Rattle.std.specs.contracts.impls.GlobalAllocator.TheImpl as GI
-use Rattle.std.specs.contracts.cell.Cell as CE
-use Rattle.std.specs.contracts.rc.Rc as RC
-use Rattle.memory.specs.contracts.Allowance as AW
+use Rattle.memory.specs.contracts.Granted as GR
 use Rattle.memory.specs.contracts.take_growth as TK
 
 -- the field `left` of a handle
 abbrev pub Left : RattleType
-Left = RC.the_row (CE.the_row AW.the_row) GL.the_row GI.ghosts
+Left = GR.the_row
 
 module _ {M : Type 1} {𝓤 : Ura M} (𝓛 : Logic 𝓤) (at_mem : Memory → SProp 𝓤) (run : Routine → Fun 𝓤) where
   abbrev pub Grows : Contract 𝓤

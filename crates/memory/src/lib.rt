@@ -1,5 +1,5 @@
-//! The memory that every collection of the archive keeps: a handle, passed by value and cloned
-//! where a second owner needs it, that a test can make run out at the growth of its choice.
+//! The memory that every collection of the archive keeps: a handle, passed by value and shared
+//! with a second owner, that a test can make run out at the growth of its choice.
 #![tactic(auto)]
 
 use std::alloc::{AllocError, Allocator, Global};
@@ -14,7 +14,7 @@ pub use std::alloc::AllocError as NoMemory;
 pub type Heap = Memory<Global>;
 
 /// A handle to the memory of `B`: it passes each call on, and refuses every growth once its
-/// growths are used up, and each that asks for more bytes than are left. A clone shares what is left.
+/// growths are used up, and each that asks for more bytes than are left. Handles share what is left.
 ///
 /// A growth is an allocation, or a block that is made larger, which counts as one growth however
 /// `B` makes it larger, and asks for all bytes that the block has then. A block that is made smaller, or
@@ -22,7 +22,7 @@ pub type Heap = Memory<Global>;
 /// refuses, so that growths and bytes are counted is shown by cases of `acceptance` and by no clause.
 pub struct Memory<B: Allocator> {
     inner: B,
-    left: Rc<Cell<Allowance>>,
+    left: Granted,
 }
 
 // What is still granted.
@@ -30,6 +30,25 @@ pub struct Memory<B: Allocator> {
 struct Allowance {
     growths: u64,
     bytes: u64,
+}
+
+// The allowance that handles share, or none: nothing is granted.
+#[derive(Drop)]
+struct Granted {
+    shared: Option<Rc<Cell<Allowance>>>,
+}
+
+impl Granted {
+    // The same allowance; none if more handles share it than can be counted.
+    fn share(&self) -> Granted {
+        let Some(left) = &self.shared else {
+            return Granted { shared: None };
+        };
+        match left.clone() {
+            Ok(left) => Granted { shared: Some(left) },
+            Err(_) => Granted { shared: None },
+        }
+    }
 }
 
 impl Memory<Global> {
@@ -46,24 +65,41 @@ impl Memory<Global> {
             growths,
             bytes: u64::MAX,
         };
+        let shared = Rc::new(global, Cell::new(left))?;
         Ok(Memory {
             inner: global,
-            left: Rc::new(global, Cell::new(left))?,
+            left: Granted {
+                shared: Some(shared),
+            },
         })
+    }
+
+    /// A second handle to the same memory, which shares what is left of its growths.
+    pub fn share(&self) -> Heap {
+        Memory {
+            inner: self.inner,
+            left: self.left.share(),
+        }
     }
 }
 
 impl<B: Allocator> Memory<B> {
     /// Grants `growths` growths from here on, to this handle and its clones, in place of what is left.
     pub fn grant(&self, growths: u64) {
-        let bytes = self.left.get().bytes;
-        self.left.set(Allowance { growths, bytes });
+        let Some(left) = &self.left.shared else {
+            return;
+        };
+        let bytes = left.get().bytes;
+        left.set(Allowance { growths, bytes });
     }
 
     /// Grants `bytes` bytes from here on, to this handle and its clones, in place of what is left.
     pub fn grant_bytes(&self, bytes: u64) {
-        let growths = self.left.get().growths;
-        self.left.set(Allowance { growths, bytes });
+        let Some(left) = &self.left.shared else {
+            return;
+        };
+        let growths = left.get().growths;
+        left.set(Allowance { growths, bytes });
     }
 }
 
@@ -71,7 +107,7 @@ impl<B: Allocator + Clone> Clone for Memory<B> {
     fn clone(&self) -> Result<Self, AllocError> {
         Ok(Memory {
             inner: self.inner.clone()?,
-            left: self.left.clone()?,
+            left: self.left.share(),
         })
     }
 }
@@ -83,7 +119,10 @@ impl<B: Allocator> Drop for Memory<B> {
 }
 
 // Whether a growth to so many items of a size was left: it is used up now, with its bytes.
-fn take_growth(left: &Rc<Cell<Allowance>>, items: usize, size: usize) -> bool {
+fn take_growth(left: &Granted, items: usize, size: usize) -> bool {
+    let Some(left) = &left.shared else {
+        return false;
+    };
     let Allowance { growths, bytes } = left.get();
     let asked = (items as u64).saturating_mul(size as u64);
     if growths == 0 || asked > bytes {

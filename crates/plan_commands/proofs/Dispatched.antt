@@ -30,7 +30,7 @@ module _ {S : Type 0} (left : S → Option (List ℕ)) (failures : S → ℕ) wh
   joined a b c d is = absurd (omega arith)
 
   -- the parts, between their states
-  pub parts : (n : ℕ) (a b c d : List (Result S CannotOpen)) → length a ≡ n → length c ≡ length a
+  parts : (n : ℕ) (a b c d : List (Result S CannotOpen)) → length a ≡ n → length c ≡ length a
       → (take n (readers left failures (a ++ b) (c ++ d)) ≡ readers left failures a c)
       × (drop n (readers left failures (a ++ b) (c ++ d)) ≡ readers left failures b d)
   parts n a b c d is same =
@@ -129,3 +129,15 @@ module _ {S : Type 0} (left whole : S → Option (List ℕ)) (failures place_fai
       → EndsReport made report result → EndsReport query report result
   paired_kept a c ix iy query made report result as_many same indexes by ends =
       rw (by, readers_paired a c ix iy as_many same indexes) ends
+
+  -- what holds of archives and indexes that are handed on holds of the parts of the inputs that they were made of
+  pub at_parts : (Holds : List (Reader S) → List (Reader S) → List (Reader S) → List (Reader S) → Type 0) (n : ℕ)
+      (inputs a b c d : List (Result S CannotOpen)) → inputs ≡ a ++ b → length a ≡ n → length c ≡ length a
+      → Holds (readers left failures a c) (readers left failures b d) (readers whole place_failures a c)
+      (readers whole place_failures b d)
+      → Holds (take n (readers left failures inputs (c ++ d))) (drop n (readers left failures inputs (c ++ d)))
+      (take n (readers whole place_failures inputs (c ++ d))) (drop n (readers whole place_failures inputs (c ++ d)))
+  at_parts Holds n inputs a b c d is long same holds =
+      let read = parts left failures n a b c d long same in
+      let placed = parts whole place_failures n a b c d long same in
+      rw (is, read.0, read.1, placed.0, placed.1) holds

@@ -4,7 +4,8 @@ use Rattle.std.proofs.{KnownBytes.Appends-nil, lemmas.Bool.ne_eqb}
 use Rattle.std.specs.Io.KnownBytes.{Appends}
 use Rattle.archive_core.specs.declared.keys.{Digest.Digest, SliceKey.SliceKey}
 use Rattle.byte_device.specs.declared.disks.CannotOpen.{CannotOpen}
-use Rattle.command_core.specs.{Inputs.Reader, Inputs.reader, Inputs.readers, declared.outputs.Output.Output as Out}
+use Rattle.byte_device.specs.declared.targets.Output.{Output as Out}
+use Rattle.command_core.specs.Inputs.{Reader, reader, readers}
 use Rattle.command_core.specs.Outputs.{Outs, Takes, Writer, out_of}
 use Rattle.command_core.specs.declared.faults.CommandFault.{CommandFault, TheVariants.Input}
 use Rattle.command_core.specs.declared.faults.{Status.Status, Why.Why, InputName.InputName}

@@ -4,7 +4,6 @@ pub mod Pathless
 pub mod Outcomes
 pub mod Saying
 pub mod Noting
-pub mod Reasons
-pub mod Counted
 pub mod Extracted
 mod Dispatched
+mod Asked

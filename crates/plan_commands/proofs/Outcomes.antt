@@ -8,15 +8,18 @@ use Rattle.archive_records.specs.Text.{written}
 use Rattle.byte_device.specs.declared.disks.CannotOpen.{CannotOpen}
 use Rattle.command_core.specs.declared.faults.{CommandFault.CommandFault, InputName.InputName, Status.Status, Why.Why}
 use Rattle.command_core.specs.declared.faults.CommandFault.TheVariants.{Input, Output, Report, OutOfMemory}
-use Rattle.command_core.specs.declared.{outputs.Output.Output as Out, faults.Why.TheVariants.CannotOpen as NotOpened}
+use Rattle.byte_device.specs.declared.targets.Output.{Output as Out}
+use Rattle.command_core.specs.declared.faults.Why.TheVariants.{CannotOpen as NotOpened}
 use Rattle.command_core.specs.{Inputs.readers, Ends.Command, Ends.Ends, Ends.EndsStreamed, Ends.Query, Ends.Streamed}
 use Rattle.command_core.specs.Outputs.{FailsAt, IsKept, Outs, Publishes, Writer, out_of, report_of}
 use Rattle.archive_files.specs.{InputStates.Told, declared.input_state.Unopened.Unopened}
 use Rattle.archive_writing.specs.declared.notes.Note.{Note}
 use Rattle.archive_files.specs.declared.input_state.Unopened.TheVariants as unopened
-use Rattle.plan_commands.specs.Disks.{Carried, Tells, fault_at, unopened_of}
+use Rattle.plan_commands.specs.Disks.{Carried}
+use Rattle.error_lines.specs.Unopened.{Tells, fault_at, unopened_of}
 use Rattle.plan_commands.specs.Plans.{Deed, EndsDeed, EndsQuery, answers, changes, deed_of, empties, extracts, none, streams}
-use Rattle.plan_commands.specs.{Files.IsNotPut, Files.IsOutcome, declared.plans.Plan.Plan}
+use Rattle.plan_commands.specs.Files.{IsNotPut, IsOutcome}
+use Rattle.command_line.specs.declared.plan.Plan.{Plan}
 use Rattle.slice_extraction.specs.Extract.{Extraction, Extracts, LacksSlice}
 use Rattle.error_lines.specs.Numbers.{number_at}
 

@@ -4,7 +4,8 @@ use Rattle.std.proofs.KnownBytes.{Appends-nil}
 use Rattle.std.specs.Io.KnownBytes.{Appends}
 use Rattle.command_line.specs.Lines.{Line}
 use Rattle.archive_writing.specs.declared.notes.Note.{Note}
-use Rattle.command_core.specs.declared.{failures.Failure.Failure, outputs.Output.Output as Out}
+use Rattle.byte_device.specs.declared.targets.Output.{Output as Out}
+use Rattle.command_core.specs.declared.failures.Failure.{Failure}
 use Rattle.command_core.specs.declared.faults.{CommandFault.CommandFault, Status.Status}
 use Rattle.command_core.specs.declared.faults.CommandFault.TheVariants.{Input, Output, OutOfMemory}
 use Rattle.command_core.specs.Outputs.{IsKept, Outs, Writer, out_of as known_of}

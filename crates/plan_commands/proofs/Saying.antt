@@ -8,7 +8,8 @@ use Rattle.command_line.specs.Lines.{error_kinds, is_in_order, named_command}
 use Rattle.command_line.specs.declared.line_faults.LineFault.{LineFault}
 use Rattle.command_line.specs.declared.line_faults.LineFault.TheVariants.{Help, Refused, OutOfMemory}
 use Rattle.command_core.specs.Outputs.{Writer}
-use Rattle.plan_commands.specs.Ends.{EndsLine, IsHelped, IsRefused, WantsMemory}
+use Rattle.error_lines.specs.Ending.{EndsLine, WantsMemory}
+use Rattle.plan_commands.specs.Ends.{IsHelped, IsRefused}
 
 -- ---- words that give no plan
 

@@ -1,16 +1,17 @@
 -- How the program ends.
-use Rattle.std.specs.Prelude.{◌≡◌, ◌≢◌, ◌⊎◌, ℕ, Bool, true, List, [], ◌∷◌, codes, Some, Result, String, string_bytes}
+use Rattle.std.specs.Prelude.{◌≡◌, ◌≢◌, ◌⊎◌, ℕ, Bool, true, List, [], ◌∷◌, Some, Result, String, string_bytes}
 use Rattle.std.specs.declared.alloc.Global.{Global}
 use Rattle.clap.specs.Words.{IsAmong, Text}
 use Rattle.clap.specs.declared.error.kind.ErrorKind.TheVariants.{DisplayHelp, DisplayVersion}
-use Rattle.command_line.specs.{LineFaults.IsRefusedBy, LineFaults.refusal_of, declared.line_faults.LineFault.LineFault}
+use Rattle.command_line.specs.LineFaults.{IsRefusedBy, refusal_of}
 use Rattle.command_line.specs.Lines.{Line, error_kinds, is_in_order, line_of, named_command}
 use Rattle.command_line.specs.declared.line_faults.LineFault.TheVariants as fault
 use Rattle.command_core.specs.declared.{failures.Failure.Failure, faults.Status.Status}
 use Rattle.command_core.specs.{Outputs.Takes, Outputs.Writer, Statuses.status_of}
 use Rattle.archive_writing.specs.declared.notes.Note.{Note}
 use Rattle.plan_commands.specs.Files.{Calls, IsDone}
-use Rattle.error_lines.specs.StandardError.{IsPushed, SaysEnd, SaysRefused, SaysWanting, reason_in}
+use Rattle.error_lines.specs.Ending.{Refuses, WantsMemory}
+use Rattle.error_lines.specs.StandardError.{IsPushed, SaysEnd, reason_in}
 
 -- No call of the system was noted, and no input was made.
 pub record IsIdle {S D T : Type 0} (calls : Calls S D T) : Type 0 where
@@ -34,12 +35,6 @@ pub record Ran {S D T : Type 0} (calls : Calls S D T) (words : List Text) (told 
 abbrev pub HasNoPlan : List Text → Type 0
 HasNoPlan words = error_kinds words ≡ [] → is_in_order words ≡ true → ⊥
 
--- Nothing is told, and this reason is said.
-pub record Refuses (told standard_error : Writer) (reason : Text) (status : ℕ) : Type 0 where
-  pub nothing_told : Takes told []
-  pub says : SaysRefused standard_error reason
-  pub status_is : status ≡ 3
-
 -- The words are refused, and why is said: of words that are accepted the first reason of the command that they name.
 pub record IsRefused (words : List Text) (told standard_error : Writer) (status : ℕ) : Type 0 where
   pub no_plan : HasNoPlan words
@@ -59,13 +54,6 @@ pub record IsHelped (words : List Text) (told standard_error : Writer) (status :
   pub nothing_said : Takes standard_error []
   pub status_is : status ≡ 0
 
--- Memory is wanting, and that is said.
-pub record WantsMemory (told standard_error : Writer) (status : ℕ) : Type 0 where
-  pub nothing_told : Takes told []
-  pub whole : Bool
-  pub says : SaysWanting standard_error whole
-  pub status_is : status ≡ 4
-
 -- How the program ends with these words: what they ask for was carried out; or they are refused, or ask for help, or
 -- memory is wanting, and nothing was called.
 abbrev pub EndsWords : {S D T : Type 0} → Calls S D T → List Text → Writer → Writer → ℕ → Type 0
@@ -74,15 +62,3 @@ EndsWords calls words told standard_error status =
     ⊎ (IsIdle calls
     × (IsRefused words told standard_error status ⊎ IsHelped words told standard_error status
     ⊎ WantsMemory told standard_error status))
-
--- It ends so where the words could not be read, for another reason than want of memory.
-abbrev pub IsUnreadable : Writer → Writer → ℕ → Type 0
-IsUnreadable told standard_error status = Refuses told standard_error (codes "invalid word: expected UTF-8 text") status
-
--- what is told and said of a line that gives no plan, and the exit status
-abbrev pub EndsLine : LineFault → Writer → Writer → ℕ → Type 0
-EndsLine (fault.Help text) told standard_error status =
-    (whole : Bool) × IsPushed told (string_bytes text) whole × Takes standard_error [] × (status ≡ 0)
-EndsLine (fault.Refused text) told standard_error status =
-    Refuses told standard_error (reason_in (string_bytes text)) status
-EndsLine fault.OutOfMemory told standard_error status = WantsMemory told standard_error status

@@ -4,7 +4,8 @@ use Rattle.std.specs.Io.KnownBytes.{Appends}
 use Rattle.std.specs.declared.io.traits.{Read.Ghosts as Reads, Seek.Ghosts as Seeks, Write.Ghosts as Writes}
 use Rattle.clap.specs.Words.{Text}
 use Rattle.command_line.specs.Lines.{Line, inputs_of, out_of}
-use Rattle.command_core.specs.declared.{failures.Failure.Failure, outputs.Output.Output as Out}
+use Rattle.byte_device.specs.declared.targets.Output.{Output as Out}
+use Rattle.command_core.specs.declared.failures.Failure.{Failure}
 use Rattle.command_core.specs.declared.failures.Failure.TheVariants.{Command, CannotCreate, CannotReplace}
 use Rattle.command_core.specs.declared.faults.{CommandFault.CommandFault, Status.Status}
 use Rattle.command_core.specs.declared.faults.CommandFault.TheVariants.{Input, Output, Report, OutOfMemory}
@@ -16,7 +17,8 @@ use Rattle.archive_files.specs.declared.replaceable.{OutFault.OutFault, Replaces
 use Rattle.archive_files.specs.declared.system_files.SystemFiles.{SystemFiles}
 use Rattle.archive_files.specs.declared.replaceable.OutFault.TheVariants as fault
 use Rattle.archive_writing.specs.declared.notes.Note.{Note}
-use Rattle.plan_commands.specs.{Disks.Carried, Plans.replaces_of, declared.plans.Plan.Plan}
+use Rattle.command_line.specs.declared.plan.Plan.{Plan}
+use Rattle.plan_commands.specs.{Disks.Carried, Plans.replaces_of}
 use Rattle.byte_device.specs.declared.disks.CannotOpen.{CannotOpen}
 
 -- why OUT failed after it took so many bytes

@@ -6,16 +6,16 @@ ghost use Rattle.command_core.specs.Outputs.{outs, writer};
 ghost use Rattle.command_line.specs.LineView.{line_view};
 ghost use Rattle.command_line.specs.Lines.{inputs_of};
 ghost use Rattle.plan_commands.specs.Disks.{Carried};
-ghost use Rattle.plan_commands.specs.Plans.{IsPlanOf};
+ghost use Rattle.command_line.specs.Plan.{IsPlanOf};
 
-use crate::plans::{Plan, execute};
-use crate::unopened::blamed;
+use crate::plans::execute;
 use archive_core::Archive;
 use archive_files::{AtTurn, Disk};
 use archive_writing::Note;
-use byte_device::{CannotOpen, Sink};
-use command_core::{CommandFault, Output, Status, Target};
-use command_line::Line;
+use byte_device::{CannotOpen, Output, Sink, Target};
+use command_core::{CommandFault, Status};
+use command_line::{Line, Plan};
+use error_lines::blamed;
 use memory::Heap;
 
 /// Carries out the plan of a line over inputs with its paths, in the order of the words. Each is opened with the first call for its

@@ -11,18 +11,18 @@ ghost use Rattle.archive_files.specs.InputStates.{AreFirstAsked, AreWaiting};
 ghost use Rattle.command_line.specs.Lines.{inputs_of, out_of};
 ghost use Rattle.command_line.specs.LineView.{line_view};
 ghost use Rattle.plan_commands.specs.Files.{IsDone, calls_of, command_fault_of, out_failure};
-ghost use Rattle.plan_commands.specs.Plans.{IsPlanOf};
+ghost use Rattle.command_line.specs.Plan.{IsPlanOf};
 
 use crate::execute_on;
-use crate::plans::Plan;
+use crate::plans::replaces;
 use archive_files::{
     Disk, OpenedFile, OutFault, OutFile, OutPath, PlacedFile, Replaces, SystemDisk, SystemFiles,
     SystemInput,
 };
 use archive_writing::Note;
-use byte_device::{CannotCreate, Placed, Sink, Source};
-use command_core::{CommandFault, Failure, Status, Target};
-use command_line::Line;
+use byte_device::{CannotCreate, Placed, Sink, Source, Target};
+use command_core::{CommandFault, Failure, Status};
+use command_line::{Line, Plan};
 use error_lines::Seen;
 use memory::{Heap, NoMemory};
 use sorted_archive::{IndexedArchive, PlainArchive};
@@ -132,8 +132,8 @@ pub fn execute<'f, F: Files, P: Sink>(
         (λ failure. IsDone calls (line_view line.now) told (Err failure) []) }
 {
     let heap = Heap::new(files.alloc())?;
-    let mut notes = Vec::new(heap.clone()?);
-    begin(files, line, plan.replaces())?;
+    let mut notes = Vec::new(heap.share());
+    begin(files, line, replaces(plan))?;
     let mut inputs = inputs_for(files, line)?;
     let ended = execute_on::<PlainArchive, IndexedArchive, _, _, _>(
         heap,

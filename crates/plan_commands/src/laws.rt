@@ -8,8 +8,7 @@ ghost use Rattle.command_core.specs.declared.faults.Status.{Status};
 ghost use Rattle.command_line.specs.Lines.{Line};
 ghost use Rattle.plan_commands.specs.Files.{Calls, IsCarriedOut};
 
-use byte_device::{Sink, Source};
-use command_core::Target;
+use byte_device::{Sink, Source, Target};
 
 /// For an output without a path nothing is called: it takes nothing, and is created nowhere.
 pub fn nothing_is_called_without_a_path<S: Source, D: Sink, T: Target>()

@@ -13,8 +13,8 @@ ghost use Rattle.slice_extraction.specs.Extract.{Extracts};
 use archive_core::{Archive, Digest, SliceKey};
 use archive_queries::{answer_name, run_find, run_frames, run_list, run_symbolicate};
 use archive_writing::Note;
-use byte_device::{CannotOpen, Placed, Sink, Source};
-use command_core::{CommandFault, InputName, Output, Status, Target, Why, publish_report};
+use byte_device::{CannotOpen, Output, Placed, Sink, Source, Target};
+use command_core::{CommandFault, InputName, Status, Why, publish_report};
 use indexed_queries::{run_find_at, run_find_together, run_list_at};
 use indexed_symbols::{run_frames_at, run_symbolicate_at};
 use memory::{Heap, NoMemory};
@@ -130,7 +130,7 @@ pub fn name<S: Source, P: Sink>(
         (reader S.left S.failures archive.old archive.new)
         (readers S.left S.failures others.old others.new) sought.now notes.old.items notes.new.items) }
 {
-    let answer = answer_name(heap.clone()?, archive, others, sought)?;
+    let answer = answer_name(heap.share(), archive, others, sought)?;
     note_underscored(heap, notes, answer.is_underscored, sought)?;
     publish_report(answer.status, &answer.text, report)
 }

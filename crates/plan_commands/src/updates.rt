@@ -1,18 +1,16 @@
 //! Commands that write OUT, over the inputs of a line, which stand in the order of its words.
 
-ghost use Rattle.std.specs.Prelude.{◌<◌, ◌≤◌, OnOk, drop, length, suc, take};
+ghost use Rattle.std.specs.Prelude.{◌≤◌, OnOk, length};
 ghost use Rattle.command_core.specs.Inputs.{readers};
-ghost use Rattle.command_core.specs.Outputs.{out_of, outs, writer};
-ghost use Rattle.plan_commands.specs.QueryDispatch.{extract_of};
+ghost use Rattle.command_core.specs.Outputs.{outs, writer};
 ghost use Rattle.plan_commands.specs.Plans.{Executes, Notes};
-ghost use Rattle.slice_extraction.specs.Extract.{Extracts};
-ghost use Rattle.plan_commands.specs.declared.plans.Plan.TheVariants.{Admit, Apply, Delta, Merge, Retire, Summary};
+ghost use Rattle.command_line.specs.declared.plan.Plan.TheVariants.{Admit, Apply, Delta, Merge, Retire, Summary};
 
-use crate::query_dispatch::{self, Input, first_and_rest};
+use crate::query_dispatch::{Input, first_and_rest};
 use archive_core::{Archive, Digest, SliceKey};
 use archive_writing::{Note, run_admit, run_apply, run_delta, run_merge, run_retire, run_summary};
-use byte_device::{Placed, Sink, Source};
-use command_core::{CommandFault, Output, Status, Target};
+use byte_device::{Output, Placed, Sink, Source, Target};
+use command_core::{CommandFault, Status};
 use indexed_queries::run_summary_at;
 use memory::Heap;
 
@@ -135,25 +133,4 @@ pub fn delta<S: Source + Placed, T: Target, P: Sink>(
 {
     let (archive, summary) = first_and_rest(inputs);
     run_delta(heap, archive, first_and_rest(summary).0, out, report)
-}
-
-/// `extract` over an archive, so many others, and their indexes, if they have some.
-pub fn extract<A: Archive + Drop, S: Source + Placed, T: Target, P: Sink>(
-    heap: Heap,
-    inputs: &mut [Input<S>],
-    others: usize,
-    key: &SliceKey,
-    digest: &Option<Digest>,
-    out: &mut Output<T::Draft, T>,
-    report: &mut P,
-) -> Result<Status, CommandFault>
-    requires { others < length inputs.old }
-    ensures { let read = readers ⟦<S as Source>⟧.left ⟦<S as Source>⟧.failures inputs.old inputs.new in
-        let placed = readers ⟦<S as Placed>⟧.whole ⟦<S as Placed>⟧.failures inputs.old inputs.new in
-        let known = outs T.Draft.held T.Draft.failures T.published T.failures out.old out.new in
-        Extracts (extract_of (take (suc others) read) (take (suc others) placed) (drop (suc others) placed) key.now
-        digest.now (out_of known).draft) known (writer P.held P.failures report.old report.new) result }
-{
-    let (archives, indexes) = inputs.split_at_mut(others + 1);
-    query_dispatch::extract::<A, _, _, _>(heap, archives, indexes, key, digest, out, report)
 }

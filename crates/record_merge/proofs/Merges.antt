@@ -24,16 +24,15 @@ use Rattle.archive_records.specs.Fault.{IsOfText}
 use Rattle.archive_records.specs.Reading.{Blames, IsOfMachine, IsReadWhole}
 use Rattle.archive_records.specs.Reader.{HasReadAll, HasStopped, Position}
 use Rattle.record_merge.specs.Merging.{IsArchiveText, AreGoodRecords, LeftStops, RightStops, of_both, IsMerged, IsRefusedAlone, IsUnfailed, StopsBy, Merges}
-use Rattle.byte_device.specs.Devices.{Stream, stream}
+use Rattle.byte_device.specs.Devices.{Stream}
 use Rattle.byte_device.proofs.Known.{Appends-then}
-use Rattle.archive_records.proofs.FaultKinds.{memory_blames}
 use Rattle.record_merge.specs.Sides.{Sides}
 use Rattle.record_merge.specs.MergeSteps.{LeftTold, RightTold, StopsMerge, Merging, Stands, WriteStopped, memory_behind, Leaves, MergedAll, BlamesBy, BlamesDevices}
 use Rattle.archive_records.proofs.Puts.{length_written, concat-push}
 use Rattle.record_merge.proofs.MergeSteps.{first_greater, first_held}
 use Rattle.archive_records.proofs.Apart.{apart_front}
 use Rattle.archive_records.proofs.Undecided.{cut_behind}
-use Rattle.record_merge.proofs.Starts.{memory_stopped, memory_stops}
+use Rattle.record_merge.proofs.Starts.{memory_stopped}
 use Rattle.record_merge.proofs.Unread.{text_none}
 use Rattle.record_merge.proofs.Orders.{left_order, right_order, side_begun}
 use Rattle.archive_records.proofs.Contents.{written_text}
@@ -247,11 +246,3 @@ module _ {R S W : Type 0} (left : Stream R) (right : Stream S) (out : Stream W) 
       let stopped = stops_by e.cause e.written s blames in
       let w = written_by _ _ _ _ _ _ e.written e.cause s in
       (stopped.0, stopped.1, text_none (out.bytes out.old) (out.bytes out.new) w.0 e.written w.1 w.2)
-
--- there was no memory before anything was read
-pub no_memory : {R S W : Type 0} (left : R → Option (List ℕ)) (left_failures : R → ℕ) (right : S → Option (List ℕ)) (right_failures : S → ℕ) (held : W → Option (List ℕ)) (failures : W → ℕ) (r : R) (s : S) (w : W) (e : MergeFault) (fault : RecordFault) → e ≡ record { cause = Left fault; written = 0 } → fault ≡ memory_behind 0
-    → Merges (stream left left_failures r r) (stream right right_failures s s) (stream held failures w w) (Err e)
-no_memory left left_failures right right_failures held failures r s w e fault is memory =
-    merges (stream left left_failures r r) (stream right right_failures s s) (stream held failures w w) (Err e)
-    (memory_stops (left r) (right s) (held w) e fault is memory)
-    (rw (is, memory) (memory_blames left left_failures r r refl, refl, refl))

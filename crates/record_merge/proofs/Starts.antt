@@ -1,11 +1,10 @@
 -- How a side of a merge stands that was read on, and how a merge begins and ends.
-use Rattle.std.proofs.Common.{◌≡◌, ◌≢◌, ℕ, ◌+◌, ◌^◌, ◌<◌, lit<, true, List, [], ◌∷◌, ◌++◌, length, take, Option, Some, Ok, refl, sym, ap, ◌∙◌, subst, arith, inl, inr, append_assoc, length-append}
+use Rattle.std.proofs.Common.{◌≡◌, ◌≢◌, ℕ, ◌+◌, ◌^◌, ◌<◌, true, List, [], ◌∷◌, ◌++◌, length, take, Option, Some, Ok, refl, sym, ap, ◌∙◌, subst, arith, inl, inr, append_assoc, length-append}
 use Rattle.std.proofs.lemmas.List.{append-nil, take-append-le}
 use Rattle.std.specs.List.{concat}
 use Rattle.std.specs.Io.KnownBytes.{Appends, Consumes}
 use Rattle.byte_device.specs.Writes.{WritesFirst}
 use Rattle.byte_device.proofs.Gains.{stopped}
-use Rattle.byte_device.proofs.Known.{Appends-none, Consumes-none}
 use Rattle.archive_records.specs.declared.format.Format.{Format}
 use Rattle.archive_records.specs.declared.format.Format.TheVariants.{Archive, OldArchive, Operations as Operations_file, Summary as Summary_file}
 use Rattle.archive_records.specs.declared.kind.TextKind.TheVariants.{Archive as Archive_text}
@@ -201,15 +200,6 @@ stops_later a1 b1 a2 b2 w0 w1 e h = by e.cause h
     by (Left fault) p = inr p
     by (Right fault) p = inr p
     by Write p = p
-
--- a merge for which there is no memory reads nothing
-pub memory_stops : (a1 a2 w0 : Option (List ℕ)) (e : MergeFault) (fault : RecordFault) → e ≡ record { cause = Left fault; written = 0 } → fault ≡ memory_behind 0 → MergeStops a1 a1 a2 a2 w0 w0 e
-memory_stops a1 a2 w0 e fault is memory = rw (is, memory) (inl (
-  refl,
-  Appends-none w0,
-  Consumes-none a2,
-  record { bytes = []; taken = Consumes-none a1; stops = λ _ _. inr (inr (refl, lit< tt)); start = refl },
-))
 
 -- ---- the end record
 

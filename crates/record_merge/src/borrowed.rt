@@ -330,9 +330,6 @@ impl<'a> ReadFrom<BorrowedText<'a>> for BorrowedSide<'a> {
     ghost failures = { λ _. 0 };
 
     fn begin(heap: &Heap, text: &mut BorrowedText<'a>) -> Result<BorrowedSide<'a>, RecordFault> {
-        let Ok(retired) = Retirements::none(heap) else {
-            return Err(RecordFault::out_of_memory(0));
-        };
         if !text.take_magic() {
             return Err(RecordFault::out_of_memory(0));
         }
@@ -341,7 +338,7 @@ impl<'a> ReadFrom<BorrowedText<'a>> for BorrowedSide<'a> {
             ahead: Lookahead::Unread,
             count: 0,
             offset: MAGIC_LEN,
-            retired,
+            retired: Retirements::none(heap),
             dropped: false,
         })
     }

@@ -210,10 +210,7 @@ impl<S: Source> ReadFrom<S> for MergeInput {
     ghost failures = { λ s. S.failures s };
 
     fn begin(heap: &Heap, text: &mut S) -> Result<MergeInput, RecordFault> {
-        let Ok(buffers) = heap.clone() else {
-            return Err(RecordFault::out_of_memory(0));
-        };
-        let reader = RecordReader::begin(buffers, TextKind::Archive, text)?;
+        let reader = RecordReader::begin(heap.share(), TextKind::Archive, text)?;
         Ok(MergeInput {
             reader,
             ahead: Lookahead::Unread,

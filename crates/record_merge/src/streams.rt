@@ -12,7 +12,7 @@ ghost use Rattle.record_merge.specs.TellingSteps.{Telling, ToldAll};
 use crate::merging::{Merge, merge_records};
 use crate::side::{MergeInput, ReadFrom, Side};
 use archive_core::Retirements;
-use archive_records::{Format, MergeCause, MergeFault, RecordFault, Sizes, put_end};
+use archive_records::{Format, MergeCause, MergeFault, Sizes, put_end};
 use byte_device::{Sink, Source, put};
 use memory::Heap;
 
@@ -39,9 +39,6 @@ pub fn begin_both<R: Source, F, B: ReadFrom<F>, W: Sink>(
     ensures devices { BlamesDevices (stream R.left R.failures r1.old r1.new) (stream B.left B.failures r2.old r2.new)
         (W.failures w.old) (W.failures w.new) result }
 {
-    let Ok(shared) = Retirements::none(heap) else {
-        return Err(before_the_magic(MergeCause::Left(RecordFault::out_of_memory(0))));
-    };
     let left = match MergeInput::begin(heap, r1) {
         Ok(side) => side,
         Err(fault) => return Err(before_the_magic(MergeCause::Left(fault))),
@@ -54,7 +51,7 @@ pub fn begin_both<R: Source, F, B: ReadFrom<F>, W: Sink>(
         Ok(bytes) => Ok(Merge {
             left,
             right,
-            shared,
+            shared: Retirements::none(heap),
             written: Sizes { records: 0, bytes },
         }),
         Err(fault) => Err(MergeFault {

@@ -21,7 +21,7 @@ ghost use Rattle.record_merge.specs.Arrivals.{arrival_of};
 use crate::arrivals::{Arrival, Told, arrival_by};
 use crate::merging::{Merge, first, read_left, read_right, share, take_turn};
 use crate::side::{Lookahead, ReadFrom, Side};
-use crate::streams::{before_the_magic, begin_both, finish};
+use crate::streams::{begin_both, finish};
 use archive_records::{MergeCause, MergeFault, RecordFault, Sizes};
 use byte_device::{Sink, Source};
 use memory::Heap;
@@ -209,10 +209,7 @@ pub fn merge_telling<R: Source, F, B: ReadFrom<F>, W: Sink>(
     // Whatever stops it, and whatever is known of the inputs.
     ensures written { IfErr result (λ e. GainsCount (stream W.held W.failures w.old w.new) e.written) }
 {
-    let Ok(memory) = heap.clone() else {
-        return Err(before_the_magic(MergeCause::Left(RecordFault::out_of_memory(0))));
-    };
-    let mut told = Told::nothing(memory);
+    let mut told = Told::nothing(heap.share());
     let sizes = tell_taken::<R, F, B, W>(heap, left, right, w, &mut told)?;
     Ok((sizes, told))
 }

@@ -18,12 +18,12 @@ use Rattle.archive_records.specs.declared.fault.RecordFault.{RecordFault}
 use Rattle.admission.specs.declared.fault.TakeFault.{TakeFault}
 use Rattle.admission.specs.declared.fault.TakeFault.TheVariants.{Unrecognised, Fat, Slice, NothingToAdmit}
 use Rattle.admission.specs.declared.fault.TakeFault.TheVariants.{OutOfMemory as TakeOutOfMemory}
-use Rattle.fat_slices.specs.declared.fault.FatFault.{FatFault}
-use Rattle.fat_slices.specs.declared.fault.FatFault.TheVariants.{NotUniversal, HeaderTruncated as FatHeaderTruncated}
-use Rattle.fat_slices.specs.declared.fault.FatFault.TheVariants.{TooManyArches, TableTruncated, SliceOutside}
-use Rattle.fat_slices.specs.declared.fault.FatFault.TheVariants.{TooLarge as FatTooLarge}
-use Rattle.exchange_script.specs.declared.script.ScriptFault.{ScriptFault}
-use Rattle.exchange_script.specs.declared.script.ScriptFault.TheVariants.{NoSites, BadEvent, TooManyEvents}
+use Rattle.admission.specs.declared.fat_fault.FatFault.{FatFault}
+use Rattle.admission.specs.declared.fat_fault.FatFault.TheVariants.{NotUniversal, HeaderTruncated as FatHeaderTruncated}
+use Rattle.admission.specs.declared.fat_fault.FatFault.TheVariants.{TooManyArches, TableTruncated, SliceOutside}
+use Rattle.admission.specs.declared.fat_fault.FatFault.TheVariants.{TooLarge as FatTooLarge}
+use Rattle.line_inputs.specs.declared.script.ScriptFault.{ScriptFault}
+use Rattle.line_inputs.specs.declared.script.ScriptFault.TheVariants.{NoSites, BadEvent, TooManyEvents}
 
 -- a fault's name, and what it holds in parentheses
 abbrev pub called : List ℕ → List ℕ → List ℕ

@@ -69,7 +69,7 @@ fn push_path(
 {
     match path {
         Some(parts) => {
-            let path = parts.joined(heap.clone()?)?;
+            let path = parts.joined(heap.share())?;
             let path = Escaped(&path);
             write!(text, "{path}")
         }

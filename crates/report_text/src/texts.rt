@@ -1,10 +1,9 @@
 //! The printed texts of faults: a fault's name, and in parentheses its numbers or the fault inside.
 
-use admission::TakeFault;
+use admission::{FatFault, TakeFault};
 use archive_core::SliceFault;
 use archive_records::{RecordFault, RecordFaultKind};
-use exchange_script::ScriptFault;
-use fat_slices::FatFault;
+use line_inputs::ScriptFault;
 use macho_image::ImageFault;
 use macho_symbols::SymbolFault;
 use std::fmt::{self, Display};

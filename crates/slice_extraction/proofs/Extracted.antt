@@ -15,7 +15,7 @@ use Rattle.command_core.specs.Outputs.{Outs, Publishes, PublishesNothing, Takes,
 use Rattle.command_core.specs.declared.faults.CommandFault.{CommandFault}
 use Rattle.command_core.specs.declared.faults.CommandFault.TheVariants.{Input, Output, OutOfMemory}
 use Rattle.command_core.specs.declared.faults.InputName.{InputName}
-use Rattle.command_core.specs.declared.outputs.Output.{Output as Out_value}
+use Rattle.byte_device.specs.declared.targets.Output.{Output as Out_value}
 use Rattle.command_core.specs.declared.faults.Status.{Status}
 use Rattle.command_core.specs.declared.faults.Why.{Why}
 use Rattle.slice_extraction.proofs.Held.{live_alike}

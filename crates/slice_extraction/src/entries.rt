@@ -47,7 +47,7 @@ fn answering(heap: &Heap, key: &SliceKey, read: &[TableIndex]) -> Result<EntryCh
     };
     match only(&named) {
         Some(one) => Ok(EntryChoice::One(one)),
-        None => Ok(EntryChoice::Undecided(rows_of(heap.clone()?, &named)?)),
+        None => Ok(EntryChoice::Undecided(rows_of(heap.share(), &named)?)),
     }
 }
 
@@ -66,6 +66,6 @@ pub(crate) fn choose_entry(
     };
     match named_with(heap, key, digest, read)? {
         Some(one) => Ok(EntryChoice::One(one)),
-        None => Ok(EntryChoice::Undecided(Vec::new(heap.clone()?))),
+        None => Ok(EntryChoice::Undecided(Vec::new(heap.share()))),
     }
 }

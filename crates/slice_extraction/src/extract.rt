@@ -7,8 +7,8 @@ ghost use Rattle.slice_extraction.specs.Extract.{Extracts, extract};
 use crate::publishing::publish_wanted;
 use archive_core::{Archive, Digest, SliceKey};
 use archive_reading::Under;
-use byte_device::{CannotOpen, Sink, Source};
-use command_core::{CommandFault, Output, Status, Target, bytes_of, read_parts};
+use byte_device::{CannotOpen, Output, Sink, Source, Target};
+use command_core::{CommandFault, Status, bytes_of, read_parts};
 use memory::Heap;
 
 /// Writes the bytes of the one slice that answers under the key in the join of the archives to OUT, or of a held one
@@ -35,6 +35,6 @@ pub fn run_extract<A: Archive + Drop, R: Source, T: Target, P: Sink>(
         (writer P.held P.failures report.old report.new) result }
 {
     let prefix = bytes_of(key);
-    let kept: A = read_parts(heap.clone()?, &Under(&prefix), archive, others)?;
+    let kept: A = read_parts(heap.share(), &Under(&prefix), archive, others)?;
     publish_wanted(&heap, &kept, key, digest, out, report)
 }

@@ -9,8 +9,8 @@ ghost use Rattle.slice_extraction.specs.Wanted.{slice_line};
 use crate::choosing::{Choice, choose};
 use crate::sending::line_of;
 use archive_core::{Archive, CheckedSlice, Digest, FindRow, SliceKey};
-use byte_device::{Sink, push_all};
-use command_core::{CommandFault, Output, Status, Target, publish_output, publish_report};
+use byte_device::{Output, Sink, Target, push_all};
+use command_core::{CommandFault, Status, publish_output, publish_report};
 use memory::{Heap, NoMemory};
 use report_text::find_lines;
 
@@ -60,10 +60,10 @@ pub(crate) fn publish_wanted<A: Archive, T: Target, P: Sink>(
         (outs T.Draft.held T.Draft.failures T.published T.failures out.old out.new)
         (writer P.held P.failures report.old report.new) result }
 {
-    match choose(heap.clone()?, archive, key, digest)? {
-        Choice::One(slice) => publish_slice(heap.clone()?, &slice, out, report),
+    match choose(heap.share(), archive, key, digest)? {
+        Choice::One(slice) => publish_slice(heap.share(), &slice, out, report),
         Choice::Undecided(rows) => {
-            let text = find_lines(heap.clone()?, &rows)?;
+            let text = find_lines(heap.share(), &rows)?;
             publish_report(Status::Partial, &text, report)
         }
     }

@@ -14,10 +14,8 @@ use crate::tested_copy::{SendFault, send_at};
 use archive_core::{Digest, SliceKey};
 use archive_records::{RecordFault, RecordFaultKind};
 use archive_words::Spelled;
-use byte_device::{CannotOpen, Placed, Sink};
-use command_core::{
-    CommandFault, InputName, Output, Status, Target, Why, opened, publish_output, publish_report,
-};
+use byte_device::{CannotOpen, Output, Placed, Sink, Target};
+use command_core::{CommandFault, InputName, Status, Why, opened, publish_output, publish_report};
 use indexed_answers::NamedSlice;
 use memory::{Heap, NoMemory};
 use report_text::Text;
@@ -138,8 +136,8 @@ pub(crate) fn publish_named<P: Placed, T: Target, W: Sink>(
         (outs T.Draft.held T.Draft.failures T.published T.failures out.old out.new)
         (writer W.held W.failures report.old report.new) result }
 {
-    let text = line_of(heap.clone()?, *key, named.row.digest, named.size)?;
-    send_named(heap.clone()?, named, archive, &mut out.draft)?;
+    let text = line_of(heap.share(), *key, named.row.digest, named.size)?;
+    send_named(heap.share(), named, archive, &mut out.draft)?;
     publish_output(out, named.size as u128)?;
     publish_report(Status::Done, &text, report)
 }

@@ -18,14 +18,14 @@ pub(crate) struct Parts {
 
 impl Parts {
     // No operations.
-    fn none(heap: &Heap) -> Result<Parts, NoMemory>
-        ensures admissions { IfOk result (λ parts. parts.admissions.items ≡ []) }
-        ensures retirements { IfOk result (λ parts. parts.retirements.items ≡ []) }
+    fn none(heap: &Heap) -> Parts
+        ensures admissions { result.admissions.items ≡ [] }
+        ensures retirements { result.retirements.items ≡ [] }
     {
-        Ok(Parts {
-            admissions: Vec::new(heap.clone()?),
-            retirements: Vec::new(heap.clone()?),
-        })
+        Parts {
+            admissions: Vec::new(heap.share()),
+            retirements: Vec::new(heap.share()),
+        }
     }
 
     // Puts an admission behind the others, where none of the retirements before it covers it.
@@ -83,8 +83,8 @@ pub(crate) fn parts_of(operations: Vec<Operation, Heap>) -> Result<Parts, NoMemo
     ensures { IfOk result (λ parts. (old : Operations) → IsMade old
         → IsParted old operations.items parts.admissions.items parts.retirements.items) }
 {
-    let mut parts = Parts::none(operations.allocator())?;
-    let mut seen = Retirements::none(operations.allocator())?;
+    let mut parts = Parts::none(operations.allocator());
+    let mut seen = Retirements::none(operations.allocator());
     'operations: for operation in operations {
         parts.put(&mut seen, operation)?;
     }

@@ -125,7 +125,7 @@ impl PlainArchive {
     pub fn keep_tables(&mut self) -> Result<(), NoMemory>
         ensures { self.new ≡ self.old }
     {
-        let heap = self.operations.allocator().clone()?;
+        let heap = self.operations.allocator().share();
         keep_each_table(&mut self.operations, &heap)
     }
 
@@ -166,7 +166,7 @@ impl PlainArchive {
 
     /// The keys of the operations: those of the retirements, then those of the admissions, each once.
     pub fn keys(&self) -> Result<Vec<SliceKey, Heap>, NoMemory> {
-        let heap = self.operations.allocator().clone()?;
+        let heap = self.operations.allocator().share();
         let mut keys: Vec<SliceKey, Heap> = self
             .operations
             .iter()
@@ -322,7 +322,7 @@ impl PlainArchive {
         ensures { IfOk result (λ slices.
             map (λ slice. slice.now) slices.items ≡ held_among key.now dsym operations.now) }
     {
-        let mut slices = Vec::new(self.operations.allocator().clone()?);
+        let mut slices = Vec::new(self.operations.allocator().share());
         'operations: for operation in operations {
             if let Some(asked) = PlainArchive::held(operation, key, dsym) {
                 slices.push(asked.slice())?;
@@ -342,7 +342,7 @@ impl PlainArchive {
         ensures { IfOk result (λ rows.
             AllZip (IsOwnRow asked) (held_among key.now dsym operations.now) (map own_row rows.items)) }
     {
-        let mut rows = Vec::new(self.operations.allocator().clone()?);
+        let mut rows = Vec::new(self.operations.allocator().share());
         'operations: for operation in operations {
             if let Some(slice) = PlainArchive::held(operation, key, dsym) {
                 rows.push(slice.row(asked))?;
@@ -382,7 +382,7 @@ impl PlainArchive {
     ) -> Result<Vec<NameRow<'a>, Heap>, NoMemory>
         ensures { IfOk result (λ rows. map name_view rows.items ≡ names_of name.now operation.now) }
     {
-        let heap = self.operations.allocator().clone()?;
+        let heap = self.operations.allocator().share();
         let Operation::Admit(slice) = operation else {
             return Ok(Vec::new(heap));
         };
@@ -400,7 +400,7 @@ impl PlainArchive {
     ) -> Result<Vec<NameRow<'a>, Heap>, NoMemory>
         ensures { IfOk result (λ rows. map name_view rows.items ≡ names_among name.now operations.now) }
     {
-        let mut rows = Vec::new(self.operations.allocator().clone()?);
+        let mut rows = Vec::new(self.operations.allocator().share());
         'operations: for operation in operations {
             let mut more = self.names_of(operation, name)?;
             rows.append(&mut more)?;
@@ -414,12 +414,12 @@ impl PlainArchive {
             missing.items ≡ filter (λ operation. changes self.now (record_bytes operation)) operations.now) }
     {
         let heap = self.operations.allocator();
-        let mut missing = Vec::new(heap.clone()?);
+        let mut missing = Vec::new(heap.share());
         let borrowed = self.lend();
         let mut near = 0;
         'operations: for operation in operations {
             if !borrowed.knows(operation, &mut near) {
-                let copy = operation.copy(heap.clone()?)?;
+                let copy = operation.copy(heap.share())?;
                 missing.push(copy)?;
             }
         }
@@ -520,11 +520,11 @@ impl Archive for PlainArchive {
     fn find(&self, uuid: &Uuid) -> Result<Vec<FindRow, Heap>, NoMemory> {
         let retirements = under_uuid(&self.operations, RecordKind::Retirement, *uuid);
         let admissions = under_uuid(&self.operations, RecordKind::Admission, *uuid);
-        let mut hashed = Vec::new(self.operations.allocator().clone()?);
+        let mut hashed = Vec::new(self.operations.allocator().share());
         PlainArchive::gather(&mut hashed, retirements)?;
         PlainArchive::gather(&mut hashed, admissions)?;
         hashed.sort_unstable_by(|a, b| a.compare(b));
-        rows_of(self.operations.allocator().clone()?, &hashed)
+        rows_of(self.operations.allocator().share(), &hashed)
     }
 
     fn lookup(&self, key: &SliceKey, asked: Where) -> Result<Answer<'_>, NoMemory> {

@@ -63,7 +63,7 @@ fn take_sorted<A: Archive + Drop>(
 {
     let _before = archive.len();
     operations.sort_unstable_by(|a, b| a.compare(b));
-    let mut taken = A::empty(operations.allocator().clone()?);
+    let mut taken = A::empty(operations.allocator().share());
     take_in_turn(&mut taken, operations)?;
     archive.absorb(taken)?;
     Ok(())

@@ -94,9 +94,9 @@ impl<'a> DebugInfo<'a> {
             AreOfUnit (sections_view self.now.sections) place (addresses_under by_unit place)) }
         ensures all { IfOk result (λ by_unit. AreByUnit addresses.now places.now (length addresses.now) by_unit) }
     {
-        let mut by_unit = BTreeMap::new(heap.clone()?);
+        let mut by_unit = BTreeMap::new(heap.share());
         for (i, address) in addresses.iter().enumerate() {
-            add_address(heap.clone()?, &mut by_unit, places[i], *address)?;
+            add_address(heap.share(), &mut by_unit, places[i], *address)?;
         }
         Ok(by_unit)
     }
@@ -116,15 +116,9 @@ impl<'a> DebugInfo<'a> {
         ensures each { IfOk result (λ found. (place : ℕ) → EachIndex (addresses_under by_unit place)
             (λ i. IsFound (sections_view self.now.sections) found (slice_index (addresses_under by_unit place) i))) }
     {
-        let mut found = BTreeMap::new(heap.clone()?);
+        let mut found = BTreeMap::new(heap.share());
         'units: while let Some((place, list)) = take_unit(&mut by_unit) {
-            self.find_unit(
-                heap.clone()?,
-                line_units,
-                place,
-                &list.addresses,
-                &mut found,
-            )?;
+            self.find_unit(heap.share(), line_units, place, &list.addresses, &mut found)?;
         }
         Ok(found)
     }
@@ -134,9 +128,9 @@ impl<'a> DebugInfo<'a> {
         ensures { IfOk result (λ found. EachIndex addresses.now
             (λ i. IsFound (sections_view self.now.sections) found (slice_index addresses.now i))) }
     {
-        let line_units = Units::read(heap.clone()?, self.sections.debug_line)?;
-        let places = self.units_of(heap.clone()?, addresses)?;
-        let by_unit = self.by_unit(heap.clone()?, addresses, &places)?;
+        let line_units = Units::read(heap.share(), self.sections.debug_line)?;
+        let places = self.units_of(heap.share(), addresses)?;
+        let by_unit = self.by_unit(heap.share(), addresses, &places)?;
         let found = self.find_all(heap, &line_units, by_unit)?;
         Ok(found)
     }
@@ -164,7 +158,7 @@ pub fn frames_of<'a>(
     ensures { IfOk result (λ frames. EachIndex addresses.now (λ i.
         AreFramesOf image.now (slice_index addresses.now i) (frames_under frames (slice_index addresses.now i)))) }
 {
-    let info = DebugInfo::read(heap.clone()?, image)?;
+    let info = DebugInfo::read(heap.share(), image)?;
     let found = info.find(heap, addresses)?;
     Ok(AddressFrames { found })
 }

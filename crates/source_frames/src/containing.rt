@@ -133,7 +133,7 @@ fn settle<'a>(
 {
     'addresses: while let Some(address) = hits.pop_first() {
         if is_open(path, last_entry(chains, address)) {
-            extend(heap.clone()?, pending, chains, address, last, entry)?;
+            extend(heap.share(), pending, chains, address, last, entry)?;
         }
     }
     Ok(())
@@ -163,7 +163,7 @@ fn take_on<'a>(
     }
     let entry = entry.read();
     let own = scope_ranges(ranges, &entry, left);
-    let hits = take_hits(heap.clone()?, pending, own)?;
+    let hits = take_hits(heap.share(), pending, own)?;
     settle(heap, hits, pending, chains, path, last, &entry)?;
     Ok(())
 }
@@ -183,8 +183,8 @@ impl<'a> DebugInfo<'a> {
     {
         let ranges = unit.unit_ranges(&self.sections);
         let mut left = unit.entries_of_lists();
-        let mut chains = BTreeMap::new(heap.clone()?);
-        let mut path: Vec<usize, Heap> = Vec::new(heap.clone()?);
+        let mut chains = BTreeMap::new(heap.share());
+        let mut path: Vec<usize, Heap> = Vec::new(heap.share());
         let mut index = 0;
         for placed in Entries::of(&self.abbreviations, unit.header, unit.bytes) {
             let depth = placed.depth;
@@ -192,7 +192,7 @@ impl<'a> DebugInfo<'a> {
             path.push(index)?;
             let last = Last { index, depth };
             take_on(
-                heap.clone()?,
+                heap.share(),
                 &ranges,
                 &mut left,
                 &mut pending,

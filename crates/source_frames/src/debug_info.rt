@@ -62,7 +62,7 @@ impl<'a> DebugInfo<'a> {
         ensures { IfOk result (λ info. sections_view info.sections ≡ debug_sections image.now) }
     {
         let sections = DebugSections::of(image);
-        let units = Units::read(heap.clone()?, sections.debug_info)?;
+        let units = Units::read(heap.share(), sections.debug_info)?;
         let abbreviations = Abbreviations::read(heap, sections.debug_abbrev)?;
         Ok(DebugInfo {
             sections,

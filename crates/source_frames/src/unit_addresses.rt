@@ -73,7 +73,7 @@ impl<'a> DebugInfo<'a> {
         ensures { IfOk result (λ x.
             ArePlacesByTuples (sections_view self.now.sections) tuples.now addresses.now x.0 x.1) }
     {
-        let mut places = BTreeMap::new(heap.clone()?);
+        let mut places = BTreeMap::new(heap.share());
         let mut pending = BTreeSet::new(heap);
         for address in addresses {
             let place = self.place_by_tuple(tuples.get(address));
@@ -171,12 +171,12 @@ impl<'a> DebugInfo<'a> {
         ensures { IfOk result (λ places. AreUnitsOf (sections_view self.now.sections) addresses.now places.items) }
     {
         let tuples = first_tuples(
-            heap.clone()?,
+            heap.share(),
             Aranges::of(self.sections.debug_aranges),
             addresses,
         )?;
-        let (mut places, pending) = self.places_by_tuples(heap.clone()?, &tuples, addresses)?;
-        self.assign_pending(heap.clone()?, &mut places, pending)?;
+        let (mut places, pending) = self.places_by_tuples(heap.share(), &tuples, addresses)?;
+        self.assign_pending(heap.share(), &mut places, pending)?;
         answers_for(heap, &places, addresses)
     }
 }

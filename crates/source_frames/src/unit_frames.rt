@@ -107,7 +107,7 @@ impl<'a> DebugInfo<'a> {
             (unit_view unit.now) (reverse (entries_of_chain (tree_map.get nat_cmp chains.now address))) row
             (frames_of_list list)) }
     {
-        let chain = innermost_first(heap.clone()?, chains, address)?;
+        let chain = innermost_first(heap.share(), chains, address)?;
         let frames = self.frames_of_chain(heap, lines, unit, &chain, row)?;
         Ok(FrameList { frames })
     }
@@ -133,11 +133,11 @@ impl<'a> DebugInfo<'a> {
         ensures kept { OnOk result ((a : ℕ) → IsFound (sections_view self.now.sections) found.old a →
             IsFound (sections_view self.now.sections) found.new a) }
     {
-        let pending = pending_addresses(heap.clone()?, addresses)?;
-        let chains = self.chains(heap.clone()?, unit, pending)?;
-        let rows = lines.rows(heap.clone()?, addresses)?;
+        let pending = pending_addresses(heap.share(), addresses)?;
+        let chains = self.chains(heap.share(), unit, pending)?;
+        let rows = lines.rows(heap.share(), addresses)?;
         for (i, address) in addresses.iter().enumerate() {
-            let list = self.frames_at(heap.clone()?, lines, unit, &chains, *address, rows[i])?;
+            let list = self.frames_at(heap.share(), lines, unit, &chains, *address, rows[i])?;
             put_frames(found, *address, list)?;
         }
         Ok(())
@@ -164,7 +164,7 @@ impl<'a> DebugInfo<'a> {
         let Some(unit) = self.unit_at(place) else {
             return Ok(());
         };
-        let lines = UnitLines::read(heap.clone()?, &self.sections, line_units, &unit)?;
+        let lines = UnitLines::read(heap.share(), &self.sections, line_units, &unit)?;
         self.find_in(heap, &lines, &unit, addresses, found)
     }
 }

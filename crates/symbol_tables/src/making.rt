@@ -64,8 +64,8 @@ impl<'a> TableText<'a> {
         requires { HasSymbols image.now }
         ensures { IfOk result (λ text. IsTableWith image.now lines.items text) }
     {
-        let scan = Scan::new(heap.clone()?, image)?;
-        let rows = steps(heap.clone()?, &scan)?;
+        let scan = Scan::new(heap.share(), image)?;
+        let rows = steps(heap.share(), &scan)?;
         let (sections, strings) = (scan.sections(), scan.strings());
         let mut own = Vec::new(heap);
         push_head(

@@ -153,10 +153,10 @@ pub(crate) fn steps(heap: Heap, scan: &Scan<'_>) -> Result<Vec<Row, Heap>, NoMem
     requires { HasSymbols scan.now }
     ensures { IfOk result (λ rows. AreSteps scan.now rows.items) }
 {
-    let mut candidates = scan.candidates(heap.clone()?)?;
+    let mut candidates = scan.candidates(heap.share())?;
     candidates.sort_unstable_by_key(|candidate| candidate.value);
-    let names = ComparedNames::new(heap.clone()?, scan, &candidates)?;
-    let turns = collect_turns(heap.clone()?, &candidates, scan.sections())?;
-    let mut firsts = vec![in heap.clone()?; None; scan.sections().len()]?;
+    let names = ComparedNames::new(heap.share(), scan, &candidates)?;
+    let turns = collect_turns(heap.share(), &candidates, scan.sections())?;
+    let mut firsts = vec![in heap.share(); None; scan.sections().len()]?;
     rows_of(heap, scan, &names, &candidates, &turns, &mut firsts)
 }

@@ -5,7 +5,7 @@ use Rattle.table_index.specs.Fault.{IsOfMachine, IsPartOffset}
 use Rattle.table_index.specs.Reading.{Blames, IsRefused, ReadsText}
 use Rattle.archive_index.specs.declared.index_fault.IndexFault.{IndexFault}
 use Rattle.archive_index.specs.declared.index_fault.IndexFaultKind.{IndexFaultKind}
-use Rattle.archive_index.specs.declared.index_fault.IndexFaultKind.TheVariants.{Device, OutOfMemory}
+use Rattle.archive_index.specs.declared.index_fault.IndexFaultKind.TheVariants.{Device}
 
 -- a fault of the text is one of another kind too
 pub refused_as : (A B : List ℕ → IndexFault → Type 0) (text : List ℕ) (f : IndexFault) → (A text f → B text f) → IsRefused A text f → IsRefused B text f
@@ -27,12 +27,6 @@ passed_on whole failures old new f r s A B A' B' was is to h =
 said_as : {T : Type 0} (r : Result T IndexFault) (A A' : T → Type 0) (B B' : IndexFault → Type 0) → ((value : T) → A value → A' value) → ((f : IndexFault) → B f → B' f) → MatchResult r A B → MatchResult r A' B'
 said_as (Ok value) A A' B B' of to h = of value h
 said_as (Err f) A A' B B' of to h = to f h
-
--- memory was refused before anything was read
-pub memory_refused : {D T : Type 0} (whole : D → Option (List ℕ)) (failures : D → ℕ) (device : D) (f : IndexFault) (offset : ℕ) (A : List ℕ → T → Type 0) (B : List ℕ → IndexFault → Type 0)
-    → f ≡ record { kind = OutOfMemory; offset = offset } → ((text : List ℕ) → IsRefused B text (record { kind = OutOfMemory; offset = offset })) → ReadsText whole failures device device (Err f) A B
-memory_refused {T = T} whole failures device f offset A B is says =
-    subst (λ (t : IndexFault). ReadsText {T = T} whole failures device device (Err t) A B) (sym is) (record { says = λ text known. says text; keeps = refl; counts = refl })
 
 -- what is read is read
 pub read_as : {D T : Type 0} (whole : D → Option (List ℕ)) (failures : D → ℕ) (old new : D) (r : Result T IndexFault)

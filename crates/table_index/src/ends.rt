@@ -198,9 +198,6 @@ pub(crate) fn read_ends<P: Placed>(heap: Heap, device: &mut P) -> Result<Ends, I
     ensures fits { IfOk result (λ ends. ends.start + 122 * ends.count + 41 < 2 ^ 64) }
     ensures read { ReadsText P.whole P.failures device.old device.new result AreEndsOf FailsInEnds }
 {
-    let Ok(own) = heap.clone() else {
-        return Err(IndexFault::out_of_memory(0));
-    };
-    let size = read_beginning(own, device)?;
+    let size = read_beginning(heap.share(), device)?;
     read_end(heap, device, size)
 }

@@ -60,10 +60,7 @@ fn check_entries(heap: Heap, bytes: &[u8], ends: &Ends) -> Result<Vec<TableEntry
         → FailsInEntries text fault ⊎ FailsInPlaces text fault)) }
     ensures device { IfErr result (λ fault. fault.kind ≢ Device) }
 {
-    let Ok(own) = heap.clone() else {
-        return Err(IndexFault::out_of_memory(ends.start));
-    };
-    let entries = entries_in(own, bytes, ends.count, ends.start)?;
+    let entries = entries_in(heap.share(), bytes, ends.count, ends.start)?;
     match are_laid(heap, &entries, ends.start) {
         Ok(true) => Ok(entries),
         Ok(false) => Err(IndexFault {
@@ -86,10 +83,7 @@ fn read_entries<P: Placed>(
         (λ text entries. AreEndsOf text ends.now → AreReadOf text entries.items)
         (λ text fault. AreEndsOf text ends.now → IsRefused FailsBehindEnds text fault) }
 {
-    let Ok(own) = heap.clone() else {
-        return Err(IndexFault::out_of_memory(ends.start));
-    };
-    let bytes = read_bytes(own, device, ends)?;
+    let bytes = read_bytes(heap.share(), device, ends)?;
     check_entries(heap, &bytes, ends)
 }
 
@@ -106,10 +100,7 @@ fn read_entries<P: Placed>(
 pub fn read_index<P: Placed>(heap: Heap, device: &mut P) -> Result<TableIndex, IndexFault>
     ensures { ReadsIndex P.whole P.failures device.old device.new result }
 {
-    let Ok(own) = heap.clone() else {
-        return Err(IndexFault::out_of_memory(0));
-    };
-    let ends = read_ends(own, device)?;
+    let ends = read_ends(heap.share(), device)?;
     let entries = read_entries(heap, device, &ends)?;
     Ok(TableIndex::of_entries(entries))
 }

@@ -1,4 +1,4 @@
-use Rattle.fat_slices.specs.Slices.{slices}
+use Rattle.admission.specs.Slices.{slices}
 use Rattle.admission.proofs.Files.{IsChecked}
 use Rattle.admission.proofs.Found.{AreFoundBelow}
 use Rattle.admission.proofs.checking.check_universal.Given as goal

@@ -1,5 +1,5 @@
-use Rattle.std.proofs.Common.{◌≡◌, ◌<◌, ◌∙◌, refl, arith}
-use Rattle.fat_slices.specs.Slices.{slices}
+use Rattle.std.proofs.Common.{◌≡◌, ◌<◌, ◌∙◌, arith}
+use Rattle.admission.specs.Slices.{slices}
 use Rattle.admission.proofs.Fronts.{errs, taking_none, taking_more, stopped_before, stopped_behind, all_content, all_rows}
 use Rattle.admission.proofs.Found.{found_at}
 use Rattle.admission.proofs.taking.take_universal.Goals as goal
@@ -15,10 +15,6 @@ pub take_part-requires : goal.take_part-requires
 take_part-requires g c =
     let room : c.parts.index < 32 = omega (arith, c.len-index-end.ensures.few) in
     found_at (slices c.args.universal.now) c.args.found.now c.parts.index c.slice.result.now c.index-found-index.result c.requires.found c.slice.ensures.part c.type_inv.found room
-
-pub returns-in_err-clone-2-clause-stopped : goal.returns-in_err-clone-2-clause-stopped
-returns-in_err-clone-2-clause-stopped g c =
-    errs _ (stopped_before c.args.universal.now c.requires.fat c.parts.index _ _ _ c.parts.rows.items c.parts.invariant refl)
 
 pub returns-in_err-row-clause-stopped : goal.returns-in_err-row-clause-stopped
 returns-in_err-row-clause-stopped g c =

@@ -1,4 +1,4 @@
-use Rattle.fat_slices.specs.Slices.{slices}
+use Rattle.admission.specs.Slices.{slices}
 use Rattle.admission.proofs.Fronts.{IsTaking}
 use Rattle.admission.proofs.taking.take_universal.Given as goal
 

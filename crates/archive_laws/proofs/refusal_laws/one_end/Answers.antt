@@ -2,8 +2,8 @@ use Rattle.std.proofs.Common.{◌≡◌, ℕ, List, [], ◌∷◌, Ok, Err, Bool
 use Rattle.std.specs.List.{AllByRecursion, AllZip}
 use Rattle.archive_core.specs.Content.{Operations, IsContent}
 use Rattle.archive_records.specs.Text.{IsArchiveOf}
-use Rattle.crash_frames.specs.Frames.{frames_of}
-use Rattle.crash_frames.specs.declared.frame.Frame.{Frame}
+use Rattle.line_inputs.specs.Frames.{frames_of}
+use Rattle.line_inputs.specs.declared.frame.Frame.{Frame}
 use Rattle.command_core.specs.declared.faults.CommandFault.TheVariants.{Input, Output, Report, OutOfMemory}
 use Rattle.command_core.specs.declared.faults.InputName.{InputName}
 use Rattle.command_core.specs.declared.faults.Status.{Status}
@@ -18,7 +18,7 @@ use Rattle.archive_laws.specs.Refusals.{ArchivesHoldAlike, EachHoldAlike, EndAli
 use Rattle.archive_laws.proofs.Given.{is_given, one_value}
 use Rattle.archive_laws.proofs.Joins.{told_of_join, found_once, listed_once, named_once}
 use Rattle.archive_laws.proofs.Refusals.{all_good, archives_agree, carried, each_swapped, frames_accepted, good_in_turn, one_first, one_frames, one_in_turn, swapped, one_archive, one_script, script_accepted}
-use Rattle.exchange_script.specs.Script.{acts, script_of}
+use Rattle.line_inputs.specs.Script.{acts, script_of}
 use Rattle.command_core.specs.Found.{TellsFound}
 use Rattle.archive_queries.specs.List.{list}
 use Rattle.archive_queries.specs.Name.{TellsNamed}

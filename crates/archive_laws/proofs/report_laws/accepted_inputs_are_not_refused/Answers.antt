@@ -1,6 +1,6 @@
 use Rattle.std.proofs.Common.{◌≡◌, Ok, inl, inr}
-use Rattle.crash_frames.specs.Frames.{frames_of}
-use Rattle.exchange_script.specs.Script.{script_of}
+use Rattle.line_inputs.specs.Frames.{frames_of}
+use Rattle.line_inputs.specs.Script.{script_of}
 use Rattle.archive_laws.proofs.Accepted.{archive as archive_alone}
 use Rattle.archive_laws.proofs.Given.{gives}
 use Rattle.archive_laws.proofs.Joins.{join_refused}

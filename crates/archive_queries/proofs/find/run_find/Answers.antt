@@ -6,18 +6,12 @@ use Rattle.archive_core.proofs.Picked.{finds_alike}
 use Rattle.report_text.specs.Finds.{find_lines}
 use Rattle.command_core.specs.Found.{found_status}
 use Rattle.command_core.proofs.Endings.{reported}
-use Rattle.command_core.proofs.Readers.{none_failed}
 use Rattle.command_core.proofs.Parts.{together_refused, together_tells}
 use Rattle.archive_queries.proofs.find.run_find.Goals as goal
 
-pub returns-in_err-clone : goal.returns-in_err-clone
-returns-in_err-clone g c =
-    let p = err_from_is_err_and c.from_residual.result c.from_residual.ensures.1 in
-    rw (p.1, p.2) ((refl, none_failed g.R.Source.left g.R.Source.failures c.args.others.now), (Appends-none _, refl))
-
 pub returns-in_err-kept : goal.returns-in_err-kept
 returns-in_err-kept g c =
-    let p = err_from_is_err_and c.from_residual-in_err-kept.result c.from_residual-in_err-kept.ensures.1 in
+    let p = err_from_is_err_and c.from_residual.result c.from_residual.ensures.1 in
     rw (p.1, p.2) (together_refused _ _ _ _ c.in_err-kept.field-0.0 c.in_err-kept.ensures (Appends-none _, refl))
 
 pub returns : goal.returns

@@ -7,14 +7,9 @@ use Rattle.command_core.proofs.Endings.{reported}
 use Rattle.command_core.proofs.Readers.{none_failed, none_touched}
 use Rattle.archive_queries.proofs.frames.run_frames.Goals as goal
 
-pub returns-in_err-clone : goal.returns-in_err-clone
-returns-in_err-clone g c =
-    let p = err_from_is_err_and c.from_residual.result c.from_residual.ensures.1 in
-    rw (p.1, p.2) ((refl, (refl, none_failed g.R.Source.left g.R.Source.failures c.args.others.now)), (Appends-none _, refl))
-
 pub returns-in_err-frames : goal.returns-in_err-frames
 returns-in_err-frames g c =
-    let p = err_from_is_err_and c.from_residual-in_err-frames.result c.from_residual-in_err-frames.ensures.1 in
+    let p = err_from_is_err_and c.from_residual.result c.from_residual.ensures.1 in
     rw (p.1, p.2) (frames_refused _ _ _ _ _ c.in_err-frames.field-0.0 c.in_err-frames.ensures refl
     (none_touched g.R.Source.left g.R.Source.failures c.args.others.now) (none_failed g.R.Source.left g.R.Source.failures c.args.others.now) (Appends-none _, refl))
 

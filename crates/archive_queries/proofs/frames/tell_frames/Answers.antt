@@ -4,20 +4,11 @@ use Rattle.archive_queries.proofs.Framed.{asked_picked, begun, frames_told, piec
 use Rattle.command_core.proofs.Parts.{together_tells, wanting_first}
 use Rattle.archive_queries.proofs.frames.tell_frames.Goals as goal
 
-pub returns-in_err-clone : goal.returns-in_err-clone
-returns-in_err-clone g c = wanting_first _ _ _ _ _ _ c.from_residual.ensures.1 refl
-
 pub returns-in_err-asked : goal.returns-in_err-asked
-returns-in_err-asked g c = wanting_first _ _ _ _ _ _ c.from_residual-in_err-asked.ensures.1 refl
-
-pub returns-in_err-clone-2 : goal.returns-in_err-clone-2
-returns-in_err-clone-2 g c = wanting_first _ _ _ _ _ _ c.from_residual-in_err-clone-2.ensures.1 refl
+returns-in_err-asked g c = wanting_first _ _ _ _ _ _ c.from_residual.ensures.1 refl
 
 pub returns-in_err-questions : goal.returns-in_err-questions
 returns-in_err-questions g c = wanting_first _ _ _ _ _ _ c.from_residual-in_err-questions.ensures.1 refl
-
-pub returns-in_err-clone-3 : goal.returns-in_err-clone-3
-returns-in_err-clone-3 g c = wanting_first _ _ _ _ _ _ c.from_residual-in_err-clone-3.ensures.1 refl
 
 pub answer_archives-requires-clause-start : goal.answer_archives-requires-clause-start
 answer_archives-requires-clause-start g c = λ o.

@@ -7,14 +7,8 @@ use Rattle.archive_queries.proofs.NamesTogether.{underscored_by}
 use Rattle.command_core.proofs.Parts.{together_tells, wanting_first}
 use Rattle.archive_queries.proofs.name.answer_name.Goals as goal
 
-pub returns-in_err-clone : goal.returns-in_err-clone
-returns-in_err-clone g c = wanting_first _ _ _ _ _ _ c.from_residual.ensures.1 refl
-
 pub returns-in_err-other : goal.returns-in_err-other
-returns-in_err-other g c = wanting_first _ _ _ _ _ _ c.from_residual-in_err-other.ensures.1 refl
-
-pub returns-in_err-clone-2 : goal.returns-in_err-clone-2
-returns-in_err-clone-2 g c = wanting_first _ _ _ _ _ _ c.from_residual-in_err-clone-2.ensures.1 refl
+returns-in_err-other g c = wanting_first _ _ _ _ _ _ c.from_residual.ensures.1 refl
 
 pub returns : goal.returns
 returns g c = record {

@@ -1,14 +1,8 @@
-use Rattle.std.proofs.Common.{[], inl, inr, refl, arith, ◌∙◌}
+use Rattle.std.proofs.Common.{[], inl, ◌∙◌}
 use Rattle.std.proofs.lemmas.Result.{err_from_is_err_and}
-use Rattle.byte_device.proofs.Known.{Consumes-none}
 use Rattle.archive_records.proofs.Blamed.{blames_behind, failed}
-use Rattle.archive_records.proofs.FaultKinds.{memory_blames}
 use Rattle.archive_records.proofs.Formats.{begun_no_trailing}
 use Rattle.archive_records.proofs.records.read_text.Goals as goal
-
-pub returns-in_default : goal.returns-in_default
-returns-in_default g c =
-    rw c.out_of_memory.ensures (record { read = tt; stopped = inl ([], Consumes-none (g.R.Source.left c.args.r.now), (λ format is. inr (inr (refl, omega arith))), refl); no_trailing = λ e. cc; reader = memory_blames g.R.Source.left g.R.Source.failures c.args.r.now c.args.r.now refl })
 
 pub returns-in_err-reader : goal.returns-in_err-reader
 returns-in_err-reader g c =

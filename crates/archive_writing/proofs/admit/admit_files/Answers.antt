@@ -9,13 +9,9 @@ use Rattle.archive_writing.proofs.FirstRows.{no_listing, first_none}
 use Rattle.command_core.proofs.Readers.{all_read, none_failed, one_more, read_to, refused_at, rest_kept, same_at, unfailed_more}
 use Rattle.archive_writing.proofs.admit.admit_files.Goals as goal
 
-pub returns-in_err-arrivals : goal.returns-in_err-arrivals
-returns-in_err-arrivals g c =
-    rw (failed c.from_residual.result _ c.from_residual.ensures.1) (none_failed g.S.Source.left g.S.Source.failures c.args.files.now)
-
 pub files-init : goal.files-init
 files-init g c =
-    let none = c.in_ok-arrivals.ensures in
+    let none = c.none-arrivals.ensures in
     record {
       taken = come_none _ _ _ none.came none.rows (first_none _ _ _ (ap (λ (o : Operations). listing o) none.came ∙ no_listing) none.first_rows none.rows);
       unfailed = none_failed g.S.Source.left g.S.Source.failures c.args.files.now;
@@ -38,7 +34,7 @@ pub returns-in_err-admit_file : goal.returns-in_err-admit_file
 returns-in_err-admit_file g c =
     let lt : c.files.index < length c.args.files.now = omega arith in
     let is = same_at c.files.files c.args.files.now c.files.index c.index-files-index.result c.files.invariant.rest c.index-files-index.is in
-    rw (failed c.from_residual-in_err-admit_file.result _ c.from_residual-in_err-admit_file.ensures.1) (refused_at _ _ (λ n. File n) IsAccepted IsFileRefused _ _ _ _ _ _ lt c.files.auto.files is (taken_accepted _ _ _ _ c.files.invariant.taken.taken) c.files.invariant.rest c.files.invariant.unfailed
+    rw (failed c.from_residual.result _ c.from_residual.ensures.1) (refused_at _ _ (λ n. File n) IsAccepted IsFileRefused _ _ _ _ _ _ lt c.files.auto.files is (taken_accepted _ _ _ _ c.files.invariant.taken.taken) c.files.invariant.rest c.files.invariant.unfailed
     (rw (← c.index-files-index.is) at c.in_err-admit_file.ensures))
 
 pub returns : goal.returns

@@ -1,15 +1,10 @@
 use Rattle.std.proofs.Common.{refl}
-use Rattle.archive_records.proofs.Blamed.{failed}
 use Rattle.byte_device.proofs.Known.{Appends-none}
 use Rattle.command_core.specs.Inputs.{reader}
 use Rattle.command_core.specs.Outputs.{out_of, outs, writer}
-use Rattle.archive_writing.proofs.Begun.{told_behind, wanting}
+use Rattle.archive_writing.proofs.Begun.{told_behind}
 use Rattle.archive_writing.proofs.Joined.{applied, few_new}
 use Rattle.archive_writing.proofs.apply.run_apply.Goals as goal
-
-pub returns-in_err-kept : goal.returns-in_err-kept
-returns-in_err-kept g c =
-    rw (failed c.from_residual.result _ c.from_residual.ensures.1) (wanting _ _ _ _ _ _ _ _ refl refl ((Appends-none _, refl), (refl, refl)) (Appends-none _, refl))
 
 pub write_applied-requires-clause-ascending : goal.write_applied-requires-clause-ascending
 write_applied-requires-clause-ascending g c = rw c.deref.ensures.value c.in-Ok.ensures.is.sorted_is.ascending

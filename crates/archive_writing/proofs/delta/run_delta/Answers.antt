@@ -1,15 +1,10 @@
 use Rattle.std.proofs.Common.{refl}
-use Rattle.archive_records.proofs.Blamed.{failed}
 use Rattle.byte_device.proofs.Known.{Appends-none}
 use Rattle.command_core.specs.Inputs.{reader}
 use Rattle.command_core.specs.Outputs.{out_of, outs, writer}
-use Rattle.archive_writing.proofs.Begun.{told_behind, wanting}
+use Rattle.archive_writing.proofs.Begun.{told_behind}
 use Rattle.archive_writing.proofs.Deltas.{named}
 use Rattle.archive_writing.proofs.delta.run_delta.Goals as goal
-
-pub returns-in_err-kept : goal.returns-in_err-kept
-returns-in_err-kept g c =
-    rw (failed c.from_residual.result _ c.from_residual.ensures.1) (wanting _ _ _ _ _ _ _ _ refl refl ((Appends-none _, refl), (refl, refl)) (Appends-none _, refl))
 
 pub returns-in-Ok : goal.returns-in-Ok
 returns-in-Ok g c =

@@ -2,16 +2,12 @@ use Rattle.std.proofs.Common.{refl}
 use Rattle.archive_records.proofs.Blamed.{failed}
 use Rattle.byte_device.proofs.Known.{Appends-none}
 use Rattle.archive_writing.proofs.Streamed.{stopped_begun}
-use Rattle.archive_writing.proofs.Deltas.{unnamed_published, unnamed_wanting}
+use Rattle.archive_writing.proofs.Deltas.{unnamed_published}
 use Rattle.archive_writing.proofs.delta.write_unnamed.Goals as goal
-
-pub returns-in_err-kept : goal.returns-in_err-kept
-returns-in_err-kept g c =
-    rw (failed c.from_residual.result _ c.from_residual.ensures.1) (unnamed_wanting _ _ _ _ refl ((Appends-none _, refl), (refl, refl)) (Appends-none _, refl))
 
 pub returns-in_err-sizes : goal.returns-in_err-sizes
 returns-in_err-sizes g c =
-    rw (failed c.from_residual-in_err-sizes.result _ c.from_residual-in_err-sizes.ensures.1) (stopped_begun _ _ _ _ _ _ _ c.in_err-sizes.ensures.1 c.in_err-sizes.ensures.2 c.in_err-sizes.ensures.0 (refl, refl) (Appends-none _, refl))
+    rw (failed c.from_residual.result _ c.from_residual.ensures.1) (stopped_begun _ _ _ _ _ _ _ c.in_err-sizes.ensures.1 c.in_err-sizes.ensures.2 c.in_err-sizes.ensures.0 (refl, refl) (Appends-none _, refl))
 
 pub returns : goal.returns
 returns g c =

@@ -1,5 +1,5 @@
 use Rattle.std.proofs.Common.{◌≡◌, ◌<◌, ◌∙◌, arith}
-use Rattle.fat_slices.specs.Slices.{slices}
+use Rattle.admission.specs.Slices.{slices}
 use Rattle.admission.proofs.Found.{found_at}
 use Rattle.archive_writing.proofs.Taking.{all_sliced, one_more}
 use Rattle.archive_writing.proofs.slicing.slices_in.Goals as goal

@@ -1,5 +1,5 @@
 use Rattle.std.proofs.Common.{◌≡◌, map, take}
-use Rattle.fat_slices.specs.Slices.{slices}
+use Rattle.admission.specs.Slices.{slices}
 use Rattle.archive_writing.specs.Slicing.{slice_in}
 use Rattle.archive_writing.proofs.slicing.slices_in.Given as goal
 

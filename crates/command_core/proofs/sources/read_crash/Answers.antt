@@ -1,7 +1,7 @@
 use Rattle.std.proofs.Common.{◌≡◌, ◌∙◌, Err, ap, refl, subst, sym}
 use Rattle.archive_words.specs.Lines.{line_at}
-use Rattle.crash_frames.specs.Flaws.{frame_flaw}
-use Rattle.crash_frames.specs.Frames.{IsErrorOf, frames_of}
+use Rattle.line_inputs.specs.FrameFlaws.{frame_flaw}
+use Rattle.line_inputs.specs.Frames.{IsErrorOf, frames_of}
 use Rattle.command_core.proofs.Given.{gives_too}
 use Rattle.command_core.proofs.sources.read_crash.Goals as goal
 

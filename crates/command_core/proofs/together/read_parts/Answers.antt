@@ -1,15 +1,11 @@
-use Rattle.std.proofs.Common.{refl}
 use Rattle.std.proofs.lemmas.Result.{err_from_is_err_and}
 use Rattle.command_core.proofs.Readers.{none_failed, none_touched}
-use Rattle.command_core.proofs.Parts.{first_refused, held_together, other_refused, wanting_first}
+use Rattle.command_core.proofs.Parts.{first_refused, held_together, other_refused}
 use Rattle.command_core.proofs.together.read_parts.Goals as goal
-
-pub returns-in_err-clone : goal.returns-in_err-clone
-returns-in_err-clone g c = wanting_first _ _ _ _ _ _ c.from_residual.ensures.1 refl
 
 pub returns-in_err-kept : goal.returns-in_err-kept
 returns-in_err-kept g c =
-    let p = err_from_is_err_and c.from_residual-in_err-kept.result c.from_residual-in_err-kept.ensures.1 in
+    let p = err_from_is_err_and c.from_residual.result c.from_residual.ensures.1 in
     rw (p.1, p.2) (first_refused _ _ c.in_err-kept.field-0.0 c.in_err-kept.ensures
     (none_touched g.R.Source.left g.R.Source.failures c.args.others.now) (none_failed g.R.Source.left g.R.Source.failures c.args.others.now))
 

@@ -5,12 +5,12 @@ use Rattle.debug_entries.specs.DeclarationViews.{declaration_in, declaration_vie
 use Rattle.debug_entries.proofs.DeclarationLemmas.{declaration_shortens, read_step, read_end, read_done}
 use Rattle.debug_entries.proofs.abbreviations.read_declarations.Goals as goal
 
-pub declarations-smaller-in_ok-keep_first-in-Some-found : goal.declarations-smaller-in_ok-keep_first-in-Some-found
-declarations-smaller-in_ok-keep_first-in-Some-found c =
+pub declarations-smaller-in-Continue-branch-3 : goal.declarations-smaller-in-Continue-branch-3
+declarations-smaller-in-Continue-branch-3 c =
     declaration_shortens.less c.declarations.rest.now (Some (c.in-Some-found.code, declaration_view c.in-Some-found.declaration), c.in-Some.after.now) (sym (rw (c.in-Some.is, c.in-Some-found.is) at c.in_ok-found.ensures))
 
-pub declarations-preserved-in_ok-keep_first-in-Some-found : goal.declarations-preserved-in_ok-keep_first-in-Some-found
-declarations-preserved-in_ok-keep_first-in-Some-found c =
+pub declarations-preserved-in-Continue-branch-3 : goal.declarations-preserved-in-Continue-branch-3
+declarations-preserved-in-Continue-branch-3 c =
     let read : ◌≡◌ {A = Option (Option (ℕ × DeclarationRecord) × List ℕ)} (Some (Some (c.in-Some-found.code, declaration_view c.in-Some-found.declaration), c.in-Some.after.now)) (declaration_at c.declarations.rest.now) =
     rw (c.in-Some.is, c.in-Some-found.is) at c.in_ok-found.ensures in
     let less = declaration_shortens.less c.declarations.rest.now (Some (c.in-Some-found.code, declaration_view c.in-Some-found.declaration), c.in-Some.after.now) (sym read) in

@@ -13,7 +13,7 @@ pub loop-unit-init : goal.loop-unit-init
 loop-unit-init g c =
     let s = sections_view c.args.info.now.sections in
     record {
-      last = subst (λ (rs : List Row). AreRowSteps rs c.in_ok-none.field-0.starts.items c.in_ok-none.field-0.rows.items) (sym (no_rows_at s)) c.in_ok-none.ensures;
+      last = subst (λ (rs : List Row). AreRowSteps rs c.none.result.starts.items c.none.result.rows.items) (sym (no_rows_at s)) c.none.ensures;
       given = ([], takes_none (g.T.FrameTaker.has_taken c.args.taker.now), far_start s (places c.deref-unit-items.result.now));
     }
 

@@ -1,5 +1,5 @@
 use Rattle.std.proofs.lemmas.Result.{err_from_is_err_and}
-use Rattle.index_writing.proofs.Stopped.{stopped_so, unopened, wanted_before}
+use Rattle.index_writing.proofs.Stopped.{stopped_so, unopened}
 use Rattle.command_core.proofs.BorrowedSources.{borrowed_from}
 use Rattle.index_writing.proofs.indexing.index_input.Goals as goal
 
@@ -7,11 +7,6 @@ pub returns-in_err-source : goal.returns-in_err-source
 returns-in_err-source g c =
     let p = err_from_is_err_and c.from_residual.result c.from_residual.ensures.1 in
     rw (p.1, p.2) (unopened _ _ _ _ _ _ _ c.in_err-source.ensures.source)
-
-pub returns-in_err-clone : goal.returns-in_err-clone
-returns-in_err-clone g c =
-    let p = err_from_is_err_and c.from_residual-in_err-clone.result c.from_residual-in_err-clone.ensures.1 in
-    rw (p.1, p.2, borrowed_from c.args.archive.now _ c.in_ok-source.ensures.source) (wanted_before g.R.Source.left g.R.Source.failures _ g.W.Sink.held g.W.Sink.failures _ c.one_slice_table.ensures)
 
 pub returns-in-Ok : goal.returns-in-Ok
 returns-in-Ok g c =

@@ -23,14 +23,14 @@ returns-in_err-table g c =
     absent slice all is.lines (subst (λ claim. AreStored text (claim_view claim) all) (sym c.in_ok-pages.ensures.claim) stored) here.0 here.1 is.are_lines)
     (after_ok _ _ _ _ _ _ _ _ opened.keeps opened.counts c.open.ensures.read)
 
-pub returns-in_default-2 : goal.returns-in_default-2
-returns-in_default-2 g c =
+pub returns-in_default : goal.returns-in_default
+returns-in_default g c =
     let opened = c.in_ok-pages.ensures.read in
     let table = after_ok _ _ _ _ _ _ _ _ opened.keeps opened.counts c.in_ok-table.ensures.read in
     record {
       says = λ text known slice all bytes is may.
           let here = opened.says text known slice is.lines all is.is_table may in
-          subst (IsLineTable slice) (found_none slice all is.lines text c.open.new.pages _ c.in_default-2.is (table.says text known slice all is.lines here.0 here.1 is.are_lines)) is.are_lines;
+          subst (IsLineTable slice) (found_none slice all is.lines text c.open.new.pages _ c.in_default.is (table.says text known slice all is.lines here.0 here.1 is.are_lines)) is.are_lines;
       keeps = table.keeps;
       counts = table.counts;
     }

@@ -27,7 +27,7 @@ asked-preserved g c =
       unfailed = own.read.counts ∙ c.asked.invariant.unfailed;
       keeps = λ text all known pages. own.keeps text all (c.asked.invariant.whole ∙ known) (c.asked.invariant.keeps text all known pages);
       told = λ text known.
-          zip_viewed (AreFramesOpened c.args.table.now c.args.pages.now c.args.base text) list_in c.args.asked.now c.asked.place-index (get_or c.args.asked.now c.asked.place-index (File 0)) c.asked.lists.items c.push.new.self.items c.in_ok-frames.frames c.asked-test.true (get_or_default c.args.asked.now c.asked.place-index (File 0) _ c.asked-test.true) c.in_default-push.ensures.items
+          zip_viewed (AreFramesOpened c.args.table.now c.args.pages.now c.args.base text) list_in c.args.asked.now c.asked.place-index (get_or c.args.asked.now c.asked.place-index (File 0)) c.asked.lists.items c.push.new.self.items c.in_ok-frames.frames c.asked-test.true (get_or_default c.args.asked.now c.asked.place-index (File 0) _ c.asked-test.true) c.in_default.ensures.items
           (c.asked.invariant.told text known)
           (λ slice all steps are base opened. own.read.says text (c.asked.invariant.whole ∙ known) slice all steps are base (still c.args.table.now c.args.pages.now c.asked.pages text all steps (c.asked.invariant.keeps text all known) opened));
     }

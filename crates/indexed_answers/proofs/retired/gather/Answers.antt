@@ -7,7 +7,7 @@ use Rattle.indexed_answers.specs.InnerAnswering.{retired_of, retires_under}
 use Rattle.indexed_answers.proofs.Retirements.{retired_pushed}
 use Rattle.indexed_answers.proofs.RunLemmas.{in_run, run_length}
 use Rattle.indexed_answers.proofs.retired.gather.Goals as goal
-use Rattle.archive_index.proofs.Runs.{past}
+use Rattle.archive_index.proofs.RunLemmas.{past}
 
 pub run-init : goal.run-init
 run-init c =

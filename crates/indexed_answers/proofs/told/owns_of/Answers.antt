@@ -20,7 +20,7 @@ asked-preserved g c =
       unfailed = own.read.counts ∙ c.asked.invariant.unfailed;
       keeps = λ text t known opened. own.keeps text t (c.asked.invariant.whole ∙ known) (c.asked.invariant.keeps text t known opened);
       told = λ text known.
-          zip_viewed (IsOwnOpened c.args.table.now text) told_view c.args.asked.now c.asked.place-index (get_or c.args.asked.now c.asked.place-index (File 0)) c.asked.owns.items c.push.new.self.items c.in_ok-found.found c.asked-test.true (get_or_default c.args.asked.now c.asked.place-index (File 0) _ c.asked-test.true) c.in_default-push.ensures.items
+          zip_viewed (IsOwnOpened c.args.table.now text) told_view c.args.asked.now c.asked.place-index (get_or c.args.asked.now c.asked.place-index (File 0)) c.asked.owns.items c.push.new.self.items c.in_ok-found.found c.asked-test.true (get_or_default c.args.asked.now c.asked.place-index (File 0) _ c.asked-test.true) c.in_default.ensures.items
           (c.asked.invariant.told text known)
           (λ slice t bytes is opened. own.read.says text (c.asked.invariant.whole ∙ known) slice t bytes is (c.asked.invariant.keeps text t known opened));
     }

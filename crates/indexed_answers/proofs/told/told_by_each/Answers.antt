@@ -13,7 +13,7 @@ use Rattle.indexed_answers.proofs.told.told_by_each.Goals as goal
 pub answering-preserved : goal.answering-preserved
 answering-preserved g c =
     one_told g.P.Placed.whole g.P.Placed.failures c.args.lines c.args.asked.now c.args.answering.now c.answering.numbered-index c.numbered-item.result c.answering-test.true c.numbered-item.is _ _ _ c.answering.invariant
-    c.told_at.new.devices _ c.in_ok-column.column c.in_default-push.ensures.items c.in_ok-column.ensures
+    c.told_at.new.devices _ c.in_ok-column.column c.in_default.ensures.items c.in_ok-column.ensures
 
 pub told_at-requires-clause-within : goal.told_at-requires-clause-within
 told_at-requires-clause-within g c =

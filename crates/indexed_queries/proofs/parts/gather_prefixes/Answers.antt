@@ -3,7 +3,7 @@ use Rattle.std.proofs.Math.ListN.{length-map}
 use Rattle.std.proofs.lemmas.List.{take_all}
 use Rattle.archive_core.specs.Record.{record_bytes}
 use Rattle.archive_records.proofs.Blamed.{failed}
-use Rattle.indexed_parts.proofs.Gathered.{refused_behind}
+use Rattle.archive_index.proofs.Gathered.{refused_behind}
 use Rattle.archive_index.specs.Places.{IsReadUnder}
 use Rattle.indexed_queries.specs.Prefixes.{IsReadUnderOne, prefix_bytes}
 use Rattle.indexed_queries.proofs.Joined.{fault_at, gathered_more, gathered_none, read_at_prefix}

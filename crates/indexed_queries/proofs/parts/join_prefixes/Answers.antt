@@ -3,7 +3,7 @@ use Rattle.std.specs.Prelude.{IfSome}
 use Rattle.archive_core.specs.Record.{record_bytes}
 use Rattle.archive_index.specs.Places.{HasIndexedLength}
 use Rattle.archive_records.proofs.Blamed.{failed}
-use Rattle.indexed_parts.proofs.Gathered.{along_both, refused_behind}
+use Rattle.archive_index.proofs.Gathered.{along_both, refused_behind}
 use Rattle.indexed_queries.specs.Prefixes.{IsReadFor, IsReadUnderOne, prefix_bytes}
 use Rattle.indexed_queries.specs.InnerParts.{HaveGathered, IsFaultAmong, IsFaultUnder}
 use Rattle.indexed_queries.proofs.Joined.{fault_then, joined_together}
@@ -19,10 +19,10 @@ returns-in_err-gather_prefixes g c =
     (λ h. along_both (HasIndexedLength c.args.entries.now) (λ text. IsFaultAmong prefixes c.args.entries.now text fault) (λ text. IsFaultUnder prefixes c.args.entries.now text fault) (g.P.Placed.whole c.args.device.now)
     (λ text long among. fault_then prefixes c.args.entries.now text fault long among) first.0.1 (subst (λ (w : Option (List ℕ)). IfSome w (λ text. IsFaultAmong prefixes c.args.entries.now text fault)) first.1 h)) (λ n h. inr h) c.in_err-gather_prefixes.ensures)
 
-pub returns-in-Ok-join_gathered : goal.returns-in-Ok-join_gathered
-returns-in-Ok-join_gathered g c =
+pub returns-in-Ok : goal.returns-in-Ok
+returns-in-Ok g c =
     let first = c.in_ok-size.ensures in
     let then = c.in_ok-gather_prefixes.ensures in
     let gathered = subst (λ (w : Option (List ℕ)). HaveGathered w (map prefix_bytes c.args.prefixes.now) c.args.entries.now (map record_bytes c.new-gathered.result.items) (map record_bytes c.gather_prefixes.new.gathered.items)) first.1 then.0 in
-    let joined = joined_together _ (map prefix_bytes c.args.prefixes.now) c.args.entries.now _ _ (g.A.Join.content c.args.kept.now) (g.A.Join.content c.join_gathered.new.kept) c.len-held.ensures.content.itself (ap (map record_bytes) c.new-gathered.ensures.items) gathered c.in-Ok-join_gathered.ensures in
+    let joined = joined_together _ (map prefix_bytes c.args.prefixes.now) c.args.entries.now _ _ (g.A.Join.content c.args.kept.now) (g.A.Join.content c.join_gathered.new.kept) c.len-held.ensures.content.itself (ap (map record_bytes) c.new-gathered.ensures.items) gathered c.in-Ok.ensures in
     ((first.0.1, joined), then.1 ∙ first.1, then.2 ∙ first.2)

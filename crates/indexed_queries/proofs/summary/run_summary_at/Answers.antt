@@ -6,11 +6,6 @@ use Rattle.command_core.specs.Outputs.{summary_report_of}
 use Rattle.command_core.proofs.Endings.{given_out}
 use Rattle.indexed_queries.proofs.summary.run_summary_at.Goals as goal
 
-pub returns-in_err-clone : goal.returns-in_err-clone
-returns-in_err-clone g c =
-    let p = err_from_is_err_and c.from_residual-in_err-clone.result c.from_residual-in_err-clone.ensures.1 in
-    rw (p.1, p.2) (c.in_ok-entries.ensures.unfailed, inl (((Appends-none _, refl), (refl, refl)), (Appends-none _, refl)))
-
 pub returns-in_err-summary : goal.returns-in_err-summary
 returns-in_err-summary g c =
     let p = err_from_is_err_and c.from_residual-in_err-summary.result c.from_residual-in_err-summary.ensures.1 in

@@ -6,11 +6,6 @@ use Rattle.indexed_queries.specs.Together.{AreReadWith}
 use Rattle.indexed_queries.proofs.Groups.{kept_more, kept_none, pair_refused, read_more}
 use Rattle.indexed_queries.proofs.together.read_indexes.Goals as goal
 
-pub returns-in_err-clone-clause-read : goal.returns-in_err-clone-clause-read
-returns-in_err-clone-clause-read g c =
-    let p = err_from_is_err_and c.from_residual.result c.from_residual.ensures.1 in
-    rw (p.1, p.2) (none_failed g.I.Placed.whole g.I.Placed.failures c.args.indexes.now, none_failed g.P.Placed.whole g.P.Placed.failures c.args.archives.now)
-
 pub indexes-init : goal.indexes-init
 indexes-init g c = record {
   read = rw c.new-read.ensures.items tt;
@@ -68,7 +63,7 @@ returns-in_err-tables-clause-read g c =
     let inv = c.indexes.invariant in
     let lt : number < length old = omega arith in
     let lt_at : number < length before = omega arith in
-    let p = err_from_is_err_and c.from_residual-in_err-tables.result c.from_residual-in_err-tables.ensures.1 in
+    let p = err_from_is_err_and c.from_residual.result c.from_residual.ensures.1 in
     rw (p.1, p.2)
     (pair_refused g.I.Placed.whole g.I.Placed.failures g.P.Placed.whole g.P.Placed.failures old now before seen number index _ archive _
     lt c.indexes.auto.indexes (same_at now old number index inv.rest c.index-indexes-number.is) inv.rest inv.unfailed

@@ -1,15 +1,8 @@
 use Rattle.std.proofs.Common.{map}
-use Rattle.std.proofs.lemmas.Result.{err_from_is_err_and}
 use Rattle.command_core.specs.Inputs.{readers}
-use Rattle.command_core.proofs.Readers.{none_failed}
 use Rattle.indexed_queries.specs.Prefixes.{prefix_bytes}
 use Rattle.indexed_queries.proofs.Groups.{all_held}
 use Rattle.indexed_queries.proofs.together.read_prefixes.Goals as goal
-
-pub returns-in_err-clone : goal.returns-in_err-clone
-returns-in_err-clone g c =
-    let p = err_from_is_err_and c.from_residual.result c.from_residual.ensures.1 in
-    rw (p.1, p.2) (none_failed g.P.Placed.whole g.P.Placed.failures c.args.archives.now)
 
 pub returns : goal.returns
 returns g c =

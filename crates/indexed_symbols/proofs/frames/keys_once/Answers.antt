@@ -3,7 +3,7 @@ use Rattle.std.specs.Ordering.{eq_by_cmp}
 use Rattle.std.proofs.lemmas.Fn.{dedup_same}
 use Rattle.std.proofs.lemmas.Simd.{map-map}
 use Rattle.archive_core.specs.Key.{key_bytes}
-use Rattle.crash_frames.specs.declared.frame.Frame.{Frame}
+use Rattle.line_inputs.specs.declared.frame.Frame.{Frame}
 use Rattle.indexed_symbols.specs.InnerPlaces.{key_cmp}
 use Rattle.indexed_symbols.proofs.Runs.{keys_kept}
 use Rattle.indexed_symbols.proofs.frames.keys_once.Goals as goal

@@ -10,15 +10,9 @@ use Rattle.indexed_symbols.proofs.Ended.{as_many, frames_refused, frames_told}
 use Rattle.indexed_symbols.proofs.States.{opened_read}
 use Rattle.indexed_symbols.proofs.frames.run_frames_at.Goals as goal
 
-pub returns-in_err-clone : goal.returns-in_err-clone
-returns-in_err-clone g c =
-    let p = err_from_is_err_and c.from_residual.result c.from_residual.ensures.1 in
-    rw (p.1, p.2)
-    ((refl, (none_failed g.I.Placed.whole g.I.Placed.failures c.args.indexes.now, none_failed g.P.Placed.whole g.P.Placed.failures c.args.archives.now)), (Appends-none _, refl))
-
 pub returns-in_err-frames : goal.returns-in_err-frames
 returns-in_err-frames g c =
-    let p = err_from_is_err_and c.from_residual-in_err-frames.result c.from_residual-in_err-frames.ensures.1 in
+    let p = err_from_is_err_and c.from_residual.result c.from_residual.ensures.1 in
     let indexes = c.args.indexes.now in
     let archives = c.args.archives.now in
     rw (p.1, p.2)

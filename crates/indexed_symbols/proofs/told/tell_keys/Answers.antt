@@ -30,7 +30,7 @@ there asked left told first so is = to_map (λ (one : AskedPlace). key_bytes one
 
 pub returns-in_err-one : goal.returns-in_err-one
 returns-in_err-one g c =
-    let p = err_from_is_err_and c.from_residual-in_err-one.result c.from_residual-in_err-one.ensures.1 in
+    let p = err_from_is_err_and c.from_residual.result c.from_residual.ensures.1 in
     let key = there c.args.asked.now c.keys.left.now c.keys.told.items c.in-Some.first.now c.keys.invariant.so c.in-Some.ensures.value in
     let keys = map (λ (one : AskedPlace). key_bytes one.key) c.args.asked.now in
     rw (p.1, p.2) (untold_first g.I.Placed.whole g.I.Placed.failures c.args.lines c.args.read.now c.args.indexes.now c.keys.indexes c.keys.invariant.texts

@@ -8,7 +8,7 @@ use Rattle.line_writing.proofs.making.line_table.Goals as goal
 pub returns : goal.returns
 returns c =
     let given = c.in_ok-give_turns.ensures.0 in
-    let took = c.in_ok-give_turns.ensures.1 [] (ap (λ (s : StoreRecord). s.taken) c.in_ok-store.ensures) in
+    let took = c.in_ok-give_turns.ensures.1 [] (ap (λ (s : StoreRecord). s.taken) c.new-store.ensures) in
     let image = c.args.image.now in
     let store = c.give_turns.new.taker.store.taken in
     IfOk-weaker c.finish.result (λ bytes. IsWritten c.room_for.result store bytes.items) (λ bytes. IsLineTable image bytes.items)

@@ -1,7 +1,7 @@
 use Rattle.std.proofs.Common.{◌∙◌}
 use Rattle.command_core.proofs.Readers.{pairs_long}
-use Rattle.command_line.specs.LineView.{line_view}
-use Rattle.plan_commands.proofs.{Counted.enough, Turned.at_turn}
+use Rattle.command_line.{proofs.Counted.enough, specs.LineView.line_view}
+use Rattle.plan_commands.proofs.Turned.{at_turn}
 use Rattle.plan_commands.proofs.disks.execute_on.Goals as goal
 
 pub execute-ended-requires : goal.execute-ended-requires

@@ -13,10 +13,6 @@ pub returns-in_err-heap : goal.returns-in_err-heap
 returns-in_err-heap g c = unbegun (λ notes. notes.items) _ _ _ c.from_residual.result c.from_residual.ensures.1
     (none_asked _ _) (none_called _ _ c.requires.files.7 c.requires.files.6) refl refl
 
-pub returns-in_err-clone : goal.returns-in_err-clone
-returns-in_err-clone g c = unbegun (λ notes. notes.items) _ _ _ c.from_residual-in_err-clone.result
-    c.from_residual-in_err-clone.ensures.1 (none_asked _ _) (none_called _ _ c.requires.files.7 c.requires.files.6) refl refl
-
 pub returns-in_err-begin : goal.returns-in_err-begin
 returns-in_err-begin g c = unbegun (λ notes. notes.items) _ _ _ c.from_residual-in_err-begin.result
     c.from_residual-in_err-begin.ensures.1 (0, c.begin.ensures.asked ∙ sym (append-nil _))

@@ -1,18 +1,13 @@
 use Rattle.std.proofs.{Common.refl, lemmas.Result.err_from_is_err_and}
 use Rattle.byte_device.proofs.Known.{Appends-none}
-use Rattle.command_core.proofs.{Endings.reported, Readers.none_failed}
+use Rattle.command_core.proofs.{Endings.reported}
 use Rattle.command_core.proofs.Parts.{together_refused, together_tells}
 use Rattle.plan_commands.proofs.query_dispatch.name.Goals as goal
 use Rattle.archive_writing.proofs.Taking.{always as on_any}
 
-pub returns-in_err-clone-clause-ends : goal.returns-in_err-clone-clause-ends
-returns-in_err-clone-clause-ends g c =
-    let p = err_from_is_err_and c.from_residual.result c.from_residual.ensures.1 in
-    rw (p.1, p.2) ((refl, none_failed g.S.Source.left g.S.Source.failures c.args.others.now), (Appends-none _, refl))
-
 pub returns-in_err-answer-clause-ends : goal.returns-in_err-answer-clause-ends
 returns-in_err-answer-clause-ends g c =
-    let p = err_from_is_err_and c.from_residual-in_err-answer.result c.from_residual-in_err-answer.ensures.1 in
+    let p = err_from_is_err_and c.from_residual.result c.from_residual.ensures.1 in
     rw (p.1, p.2) (together_refused _ _ _ _ c.in_err-answer.field-0.0 c.in_err-answer.ensures (Appends-none _, refl))
 
 pub returns-in_err-note_underscored-clause-ends : goal.returns-in_err-note_underscored-clause-ends

@@ -1,34 +1,31 @@
 use Rattle.std.proofs.Common.{inl, refl}
 use Rattle.byte_device.proofs.Known.{Appends-none, Consumes-none}
-use Rattle.record_merge.proofs.Starts.{magic_read, memory_stops, stops_start}
+use Rattle.record_merge.proofs.Starts.{magic_read, stops_start}
 use Rattle.record_merge.proofs.Tells.{tells_start}
 use Rattle.record_merge.proofs.streams.begin_both.Goals as goal
 
 pub returns-in-Err-put-clause-telling : goal.returns-in-Err-put-clause-telling
 returns-in-Err-put-clause-telling g c =
     let e = c.in-Err-put.ensures in
-    let l = c.in-Ok-begin.ensures in
-    let r = c.in-Ok-begin-2.ensures in
-    stops_start _ _ _ _ _ _ c.in-Ok-begin.side (g.B.Side.seen c.in-Ok-begin-2.side) l.archive r.archive l.read r.read l.unread r.unread c.magic.result c.magic.ensures c.in-Err-put.fault.written e.some e.written_is e.first
+    let l = c.in-Ok.ensures in
+    let r = c.in-Ok-begin.ensures in
+    stops_start _ _ _ _ _ _ c.in-Ok.side (g.B.Side.seen c.in-Ok-begin.side) l.archive r.archive l.read r.read l.unread r.unread c.magic.result c.magic.ensures c.in-Err-put.fault.written e.some e.written_is e.first
 
 pub returns-in-Ok-put-clause-telling : goal.returns-in-Ok-put-clause-telling
 returns-in-Ok-put-clause-telling g c =
     let o = c.in-Ok-put.ensures in
-    let l = c.in-Ok-begin.ensures in
-    let r = c.in-Ok-begin-2.ensures in
-    rw c.in-Ok.ensures (tells_start _ _ _ _ _ _ c.in-Ok-begin.side (g.B.Side.seen c.in-Ok-begin-2.side) l.archive r.archive l.read r.read l.unread r.unread c.magic.result c.magic.ensures c.in-Ok-put.bytes o.size_is o.gained)
+    let l = c.in-Ok.ensures in
+    let r = c.in-Ok-begin.ensures in
+    rw c.none.ensures (tells_start _ _ _ _ _ _ c.in-Ok.side (g.B.Side.seen c.in-Ok-begin.side) l.archive r.archive l.read r.read l.unread r.unread c.magic.result c.magic.ensures c.in-Ok-put.bytes o.size_is o.gained)
 
 pub returns-in-Err-begin-clause-telling : goal.returns-in-Err-begin-clause-telling
 returns-in-Err-begin-clause-telling g c =
-    let l = c.in-Ok-begin.ensures in
-    rw c.before_the_magic-in-Err-begin.ensures (inl (refl, Appends-none (g.W.Sink.held c.args.w.now), magic_read _ _ _ c.in-Ok-begin.side.reader l.archive l.read, c.in-Err-begin.ensures.stops))
-
-pub returns-in_default-clause-telling : goal.returns-in_default-clause-telling
-returns-in_default-clause-telling g c = memory_stops (g.R.Source.left c.args.r1.now) (g.B.ReadFrom.left c.args.r2.now) (g.W.Sink.held c.args.w.now) c.before_the_magic.result c.out_of_memory.result c.before_the_magic.ensures c.out_of_memory.ensures
+    let l = c.in-Ok.ensures in
+    rw c.before_the_magic-in-Err-begin.ensures (inl (refl, Appends-none (g.W.Sink.held c.args.w.now), magic_read _ _ _ c.in-Ok.side.reader l.archive l.read, c.in-Err-begin.ensures.stops))
 
 pub returns-in-Err-clause-telling : goal.returns-in-Err-clause-telling
 returns-in-Err-clause-telling g c =
-    rw c.before_the_magic-in-Err.ensures (inl (refl, Appends-none (g.W.Sink.held c.args.w.now), Consumes-none (g.B.ReadFrom.left c.args.r2.now), c.in-Err.ensures.stops))
+    rw c.before_the_magic.ensures (inl (refl, Appends-none (g.W.Sink.held c.args.w.now), Consumes-none (g.B.ReadFrom.left c.args.r2.now), c.in-Err.ensures.stops))
 
 pub returns-in-Err-begin-clause-devices : goal.returns-in-Err-begin-clause-devices
-returns-in-Err-begin-clause-devices g c = rw c.before_the_magic-in-Err-begin.ensures (c.in-Ok-begin.ensures.reader, c.in-Err-begin.ensures.reader, refl)
+returns-in-Err-begin-clause-devices g c = rw c.before_the_magic-in-Err-begin.ensures (c.in-Ok.ensures.reader, c.in-Err-begin.ensures.reader, refl)

@@ -1,12 +1,9 @@
 use Rattle.std.proofs.Common.{Ok, Err}
 use Rattle.std.proofs.lemmas.Result.{err_from_is_err_and}
 use Rattle.byte_device.specs.Devices.{stream}
-use Rattle.record_merge.proofs.Merges.{merges, no_memory}
+use Rattle.record_merge.proofs.Merges.{merges}
 use Rattle.record_merge.proofs.Tellings.{merged_telling, arrivals_of_texts, withdraws_of_texts}
 use Rattle.record_merge.proofs.telling.merge_telling.Goals as goal
-
-pub returns-in_default-clause-merges : goal.returns-in_default-clause-merges
-returns-in_default-clause-merges g c = no_memory g.R.Source.left g.R.Source.failures g.B.ReadFrom.left g.B.ReadFrom.failures g.W.Sink.held g.W.Sink.failures c.args.left.now c.args.right.now c.args.w.now c.before_the_magic.result c.out_of_memory.result c.before_the_magic.ensures c.out_of_memory.ensures
 
 pub returns-in_err-sizes-clause-merges : goal.returns-in_err-sizes-clause-merges
 returns-in_err-sizes-clause-merges g c =

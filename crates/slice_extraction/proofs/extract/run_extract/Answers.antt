@@ -7,21 +7,9 @@ use Rattle.command_core.proofs.Parts.{together_tells}
 use Rattle.command_core.specs.Archives.{AreRefused, AreUnfailed, HoldTogether}
 use Rattle.command_core.specs.Inputs.{reader, readers}
 use Rattle.command_core.specs.Outputs.{out_of, outs, writer}
-use Rattle.command_core.specs.declared.faults.CommandFault.TheVariants.{OutOfMemory}
-use Rattle.command_core.proofs.Readers.{none_failed}
 use Rattle.slice_extraction.specs.Extract.{extract}
 use Rattle.slice_extraction.proofs.Extracted.{stopped_before, took_nothing, wanted_so}
 use Rattle.slice_extraction.proofs.extract.run_extract.Goals as goal
-
-pub returns-in_err-clone : goal.returns-in_err-clone
-returns-in_err-clone g c =
-    let archive = reader g.R.Source.left g.R.Source.failures c.args.archive.now c.args.archive.now in
-    let others = readers g.R.Source.left g.R.Source.failures c.args.others.now c.args.others.now in
-    let out = outs g.T.Draft.Sink.held g.T.Draft.Sink.failures g.T.Target.published g.T.Target.failures c.args.out.now c.args.out.now in
-    let unfailed : AreUnfailed archive others = (refl, none_failed g.R.Source.left g.R.Source.failures c.args.others.now) in
-    let p = err_from_is_err_and c.from_residual.result c.from_residual.ensures.1 in
-    rw (p.1, p.2) (stopped_before (extract archive others c.args.key.now c.args.digest.now (out_of out).draft) out _ OutOfMemory (AreRefused archive others)
-    (AreUnfailed archive others) unfailed (unfailed, took_nothing out refl) refl (Appends-none _, refl))
 
 pub returns-in_err-kept : goal.returns-in_err-kept
 returns-in_err-kept g c =
@@ -29,7 +17,7 @@ returns-in_err-kept g c =
     let others = readers g.R.Source.left g.R.Source.failures c.args.others.now c.read_parts.new.others in
     let out = outs g.T.Draft.Sink.held g.T.Draft.Sink.failures g.T.Target.published g.T.Target.failures c.args.out.now c.args.out.now in
     let fault = c.in_err-kept.field-0.0 in
-    let p = err_from_is_err_and c.from_residual-in_err-kept.result c.from_residual-in_err-kept.ensures.1 in
+    let p = err_from_is_err_and c.from_residual.result c.from_residual.ensures.1 in
     rw (p.1, p.2) (stopped_before (extract archive others c.args.key.now c.args.digest.now (out_of out).draft) out _ fault (AreRefused archive others)
     (AreUnfailed archive others) c.in_err-kept.ensures (c.in_err-kept.ensures, took_nothing out refl) refl (Appends-none _, refl))
 

@@ -7,31 +7,9 @@ use Rattle.slice_extraction.specs.Wanted.{written_line}
 use Rattle.slice_extraction.proofs.Sent.{same_line, told_so, unbegun}
 use Rattle.slice_extraction.proofs.sending.publish_named.Goals as goal
 
-pub returns-in_err-clone : goal.returns-in_err-clone
-returns-in_err-clone g c =
-    let p = err_from_is_err_and c.from_residual.result c.from_residual.ensures.1 in
-    rw (p.1, p.2) (λ x names. inr (
-      OutOfMemory,
-      refl,
-      unbegun _ x _ OutOfMemory (Appends-none _, refl) (refl, (Appends-none _, refl)),
-      (refl, refl),
-      (Appends-none _, refl),
-    ))
-
 pub returns-in_err-text : goal.returns-in_err-text
 returns-in_err-text g c =
-    let p = err_from_is_err_and c.from_residual-in_err-text.result c.from_residual-in_err-text.ensures.1 in
-    rw (p.1, p.2) (λ x names. inr (
-      OutOfMemory,
-      refl,
-      unbegun _ x _ OutOfMemory (Appends-none _, refl) (refl, (Appends-none _, refl)),
-      (refl, refl),
-      (Appends-none _, refl),
-    ))
-
-pub returns-in_err-clone-2 : goal.returns-in_err-clone-2
-returns-in_err-clone-2 g c =
-    let p = err_from_is_err_and c.from_residual-in_err-clone-2.result c.from_residual-in_err-clone-2.ensures.1 in
+    let p = err_from_is_err_and c.from_residual.result c.from_residual.ensures.1 in
     rw (p.1, p.2) (λ x names. inr (
       OutOfMemory,
       refl,

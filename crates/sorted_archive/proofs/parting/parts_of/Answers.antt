@@ -11,7 +11,7 @@ operations-init c =
     record {
       can = tt;
       finite = tt;
-      way = λ old is. parting_none old all all c.in_ok-parts.parts.admissions.items c.in_ok-parts.parts.retirements.items (from_list c.in_ok-seen.seen) is refl c.in_ok-parts.ensures.admissions c.in_ok-parts.ensures.retirements (ap from_list c.in_ok-seen.ensures);
+      way = λ old is. parting_none old all all c.none-parts.result.admissions.items c.none-parts.result.retirements.items (from_list c.none-seen.result) is refl c.none-parts.ensures.admissions c.none-parts.ensures.retirements (ap from_list c.none-seen.ensures);
       long = omega (arith, c.into_iter-operation-iterator.ensures.into_iter_gives.1, ap length c.into_iter-operation-iterator.ensures.into_iter_gives.0);
     }
 

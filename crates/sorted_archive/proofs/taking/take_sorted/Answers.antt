@@ -6,14 +6,9 @@ use Rattle.archive_core.specs.Record.{record_bytes}
 use Rattle.archive_core.proofs.Joined.{least_is_joined, towards_in_words, none_taken, gathered_joined, gathered_in_part}
 use Rattle.sorted_archive.proofs.taking.take_sorted.Goals as goal
 
-pub returns-in_err-clone : goal.returns-in_err-clone
-returns-in_err-clone g c =
-    let p = err_from_is_err_and c.from_residual.result c.from_residual.ensures.1 in
-    rw p.1 (none_taken (g.A.Join.content c.args.archive.now) (map record_bytes c.args.operations.items) c.len-before.ensures.content)
-
 pub returns-in_err-take_in_turn : goal.returns-in_err-take_in_turn
 returns-in_err-take_in_turn g c =
-    let p = err_from_is_err_and c.from_residual-in_err-take_in_turn.result c.from_residual-in_err-take_in_turn.ensures.1 in
+    let p = err_from_is_err_and c.from_residual.result c.from_residual.ensures.1 in
     rw p.1 (none_taken (g.A.Join.content c.args.archive.now) (map record_bytes c.args.operations.items) c.len-before.ensures.content)
 
 pub returns-in_err-absorb : goal.returns-in_err-absorb

@@ -1,12 +1,9 @@
-use Rattle.std.proofs.Common.{◌∙◌, Err, ap, inl, inr, refl}
+use Rattle.std.proofs.Common.{◌∙◌, Err, ap, inl, inr}
 use Rattle.std.proofs.lemmas.Result.{err_from_is_err_and}
 use Rattle.table_index.specs.Fault.{FailsAtEnd, FailsInBeginning}
 use Rattle.table_index.specs.InnerReading.{FailsInEnds}
-use Rattle.table_index.proofs.ReadLemmas.{after_ok, flat, memory_refused, passed_on, read_as, refused_as}
+use Rattle.table_index.proofs.ReadLemmas.{after_ok, flat, passed_on, read_as, refused_as}
 use Rattle.table_index.proofs.ends.read_ends.Goals as goal
-
-pub returns-in_default-clause-read : goal.returns-in_default-clause-read
-returns-in_default-clause-read g c = memory_refused _ _ _ _ 0 _ _ c.out_of_memory.ensures (λ text. inl (inr refl, inl refl))
 
 pub returns-in_err-size-clause-read : goal.returns-in_err-size-clause-read
 returns-in_err-size-clause-read g c =

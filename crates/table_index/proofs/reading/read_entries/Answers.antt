@@ -1,4 +1,4 @@
-use Rattle.std.proofs.Common.{◌≡◌, ◌∙◌, List, ℕ, Err, Ok, ap, sym, inl, inr, refl, subst}
+use Rattle.std.proofs.Common.{◌≡◌, ◌∙◌, List, ℕ, Err, Ok, ap, sym, inl, inr, subst}
 use Rattle.std.specs.Prelude.{◌⊎◌, IfErr, IfOk, MatchResult, Result}
 use Rattle.std.proofs.lemmas.Result.{err_from_is_err_and}
 use Rattle.table_index.specs.Fault.{FailsDigest, FailsInEntries, FailsInPlaces}
@@ -8,11 +8,8 @@ use Rattle.table_index.specs.declared.ends.Ends.{Ends}
 use Rattle.table_index.specs.declared.entry.TableEntry.{TableEntry}
 use Rattle.archive_index.specs.declared.index_fault.IndexFault.{IndexFault}
 use Rattle.archive_index.specs.declared.index_fault.IndexFaultKind.TheVariants.{OutOfMemory}
-use Rattle.table_index.proofs.ReadLemmas.{memory_refused, passed_on, refused_as, checked, flat}
+use Rattle.table_index.proofs.ReadLemmas.{passed_on, refused_as, checked, flat}
 use Rattle.table_index.proofs.reading.read_entries.Goals as goal
-
-pub returns-in_default-clause-read : goal.returns-in_default-clause-read
-returns-in_default-clause-read g c = memory_refused _ _ _ _ c.args.ends.now.start _ _ c.out_of_memory.ensures (λ text. inr (λ are. inl (inr refl, inr (inr are.start_is))))
 
 pub returns-in_err-bytes-clause-read : goal.returns-in_err-bytes-clause-read
 returns-in_err-bytes-clause-read g c =

@@ -1,11 +1,11 @@
-use Rattle.std.proofs.Common.{◌∙◌, List, ℕ, Err, ap, inl, inr, refl, arith, map}
+use Rattle.std.proofs.Common.{◌∙◌, List, ℕ, Err, ap, inl, inr, arith, map}
 use Rattle.std.proofs.lemmas.Result.{err_from_is_err_and}
 use Rattle.table_index.specs.Entry.{entry_bytes}
 use Rattle.table_index.specs.Fault.{IsIndexFault}
 use Rattle.table_index.specs.InnerReading.{FailsBehindEnds, FailsInEnds}
 use Rattle.archive_index.specs.declared.index_fault.IndexFault.{IndexFault}
 use Rattle.table_index.proofs.Decided.{index_of}
-use Rattle.table_index.proofs.ReadLemmas.{after_ok, flat, memory_refused, passed_on, refused_as}
+use Rattle.table_index.proofs.ReadLemmas.{after_ok, flat, passed_on, refused_as}
 use Rattle.table_index.proofs.reading.read_index.Goals as goal
 
 in_ends : (text : List ℕ) (f : IndexFault) → FailsInEnds text f → IsIndexFault text f
@@ -14,9 +14,6 @@ in_ends text f (inr end) = inr (inl end)
 
 behind_ends : (text : List ℕ) (f : IndexFault) → FailsBehindEnds text f → IsIndexFault text f
 behind_ends text f fault = inr (inr fault)
-
-pub returns-in_default : goal.returns-in_default
-returns-in_default g c = memory_refused _ _ _ _ 0 _ _ c.out_of_memory.ensures (λ text. inl (inr refl, inl refl))
 
 pub returns-in_err-ends : goal.returns-in_err-ends
 returns-in_err-ends g c =

@@ -3,7 +3,7 @@ use Rattle.std.specs.Ordering.{is_lt, is_le}
 use Rattle.std.proofs.lemmas.List.Sorted.{IsPartitionPoint-from_clause}
 use Rattle.table_index.specs.declared.entry.TableEntry.{TableEntry}
 use Rattle.table_index.specs.Entry.{entry_bytes}
-use Rattle.archive_index.proofs.Runs.{begins, parts_items, run_found}
+use Rattle.archive_index.proofs.RunLemmas.{begins, parts_items, run_found}
 use Rattle.table_index.proofs.RunLemmas.{long_enough}
 use Rattle.table_index.proofs.runs.run_under.Goals as goal
 

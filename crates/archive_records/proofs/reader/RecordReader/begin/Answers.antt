@@ -21,17 +21,13 @@ returns-clause-read g c =
       last_is = c.clear.ensures.items;
       count_is = refl;
       offset_is = refl;
-      retired_are = retired_none file c.in-Ok-none.retired c.in-Ok-none.ensures;
+      retired_are = retired_none file c.none-retired.result c.none-retired.ensures;
       dropped_is = drops_none file _ refl;
     }
 
 pub returns-in_default : goal.returns-in_default
 returns-in_default g c =
     rw c.out_of_memory.ensures (record { read = tt; kind = tt; start = refl; stops = ([], Consumes-none (g.R.Source.left c.args.r.now), λ format is. inr (inr (refl, omega arith))); reader = memory_blames g.R.Source.left g.R.Source.failures c.args.r.now c.args.r.now refl })
-
-pub returns-in_default-none : goal.returns-in_default-none
-returns-in_default-none g c =
-    rw c.out_of_memory-in_default-none.ensures (record { read = tt; kind = tt; start = refl; stops = ([], Consumes-none (g.R.Source.left c.args.r.now), λ format is. inr (inr (refl, omega arith))); reader = memory_blames g.R.Source.left g.R.Source.failures c.args.r.now c.args.r.now refl })
 
 pub returns-in-Err-clause-stops : goal.returns-in-Err-clause-stops
 returns-in-Err-clause-stops g c = (bytes_so_far c.read_magic.new.buffer, filled_first refl c.read_magic.ensures.fills, c.in-Err.ensures.stops)

@@ -7,7 +7,7 @@ use Rattle.line_tables.proofs.table.LineTable.frame.Goals as goal
 
 pub returns-in_err-name-clause-read : goal.returns-in_err-name-clause-read
 returns-in_err-name-clause-read g c =
-    passed_on _ _ _ _ _ _ _ _ _ _ _ c.in_err-name.was c.from_residual-in_err-name.ensures.1
+    passed_on _ _ _ _ _ _ _ _ _ _ _ c.in_err-name.was c.from_residual.ensures.1
     (λ text known absent all steps told callers stored opened is. absent all steps told.name stored opened is.name)
     c.maybe_text.ensures.read
 

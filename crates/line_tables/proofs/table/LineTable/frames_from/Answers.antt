@@ -28,7 +28,7 @@ returns-then-len-eq-MOST_FRAMES-clause-read g c = record {
 
 pub returns-in_err-row-clause-read : goal.returns-in_err-row-clause-read
 returns-in_err-row-clause-read g c =
-    passed_on _ _ _ _ _ _ _ _ _ _ _ c.in_err-row.was c.from_residual-in_err-row.ensures.1
+    passed_on _ _ _ _ _ _ _ _ _ _ _ c.in_err-row.was c.from_residual.ensures.1
     (λ text known absent all steps chain stored opened is few.
     let told = c.callers.invariant.told text all steps chain known opened is few in
     let next = maybe_cons (parts_of steps) c.callers.number told.0 c.callers-test.true told.1 in

@@ -7,7 +7,7 @@ use Rattle.line_tables.proofs.table.LineTable.path_of.Goals as goal
 
 pub returns-in_err-base-clause-read : goal.returns-in_err-base-clause-read
 returns-in_err-base-clause-read g c =
-    passed_on _ _ _ _ _ _ _ _ _ _ _ c.in_err-base.was c.from_residual-in_err-base.ensures.1
+    passed_on _ _ _ _ _ _ _ _ _ _ _ c.in_err-base.was c.from_residual.ensures.1
     (λ text known absent all steps told stored opened is. absent all steps told.base stored opened is.base)
     c.text.ensures.read
 

@@ -3,7 +3,7 @@ use Rattle.archive_core.specs.Content.{changes}
 use Rattle.archive_core.specs.Record.{record_bytes}
 use Rattle.archive_core.specs.declared.operations.Operation.{Operation}
 use Rattle.sorted_archive.proofs.Scanned.{one_kept, one_left_out}
-use Rattle.sorted_archive.proofs.plain.PlainArchive.copy_missing.Goals.{then-not-knows+in_ok-clone-2+in_ok-copy+in_ok-push, else-not-knows}
+use Rattle.sorted_archive.proofs.plain.PlainArchive.copy_missing.Goals.{then-not-knows+in_ok-copy+in_ok-push, else-not-knows}
 use Rattle.sorted_archive.proofs.plain.PlainArchive.copy_missing.Goals as goal
 
 pub operations-preserved : goal.operations-preserved
@@ -17,7 +17,7 @@ operations-preserved c =
     let test = λ (operation : Operation). changes self (record_bytes operation) in
     let told = ap (λ o. changes o (record_bytes a)) (sym c.lend-borrowed.ensures.borrowed) in
     elim c.if-not-knows.branch [
-      | then-not-knows+in_ok-clone-2+in_ok-copy+in_ok-push w ↦
+      | then-not-knows+in_ok-copy+in_ok-push w ↦
           one_kept test operations i a c.operations-test.true c.operation-item.is old new w.in_ok-copy.copy (told ∙ w.if-not-knows.ensures.changes) c.operations.invariant w.in_ok-copy.ensures
           (ap (λ v. v.items) w.missing-is ∙ w.in_ok-push.ensures.items)
       | else-not-knows w ↦

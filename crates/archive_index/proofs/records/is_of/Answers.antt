@@ -1,0 +1,15 @@
+use Rattle.std.proofs.Common.{◌∙◌, sym, ap, length}
+use Rattle.std.specs.Str.{bytes_eq}
+use Rattle.std.proofs.lemmas.Slice.Eq.{bytes_eq-Decides}
+use Rattle.archive_index.specs.Entry.{placed_bytes}
+use Rattle.archive_index.proofs.records.is_of.Goals as goal
+
+pub of_record-made-requires : goal.of_record-made-requires
+of_record-made-requires c = ap length (sym c.requires)
+
+pub returns : goal.returns
+returns c =
+    let made = rw c.requires at c.of_record-made.ensures.bytes in
+    let same = c.eq.ensures ∙ (λ i. bytes_eq ((c.bytes.ensures ∙ made) i) (c.bytes-2.ensures i)) in
+    let told = bytes_eq-Decides _ (placed_bytes c.args.entry.now) in
+    (λ e. sym (told.0 (sym same ∙ e)), λ e. same ∙ told.1 (sym e))

@@ -1,3 +1,0 @@
-pub mod FourFields
-pub mod Sequels
-pub mod Meant

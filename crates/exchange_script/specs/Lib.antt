@@ -1,5 +1,0 @@
-pub mod EventSite
-pub mod Numbers
-pub mod Events
-pub mod Script
-pub mod Flaws

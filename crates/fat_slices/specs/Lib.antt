@@ -1,6 +1,0 @@
-pub mod Kind
-pub mod Layout
-pub mod Slices
-pub mod Fault
--- the words of inner functions: no contract of a public one has them
-pub mod Inner

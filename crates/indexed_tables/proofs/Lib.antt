@@ -1,6 +1,0 @@
-pub mod Contents
-pub mod Accepted
-pub mod Sorted
-pub mod TableLemmas
-pub mod Grown
-pub mod Made

@@ -1,4 +1,0 @@
-pub mod Content
-pub mod Asked
-pub mod Making
-pub mod InnerMaking

@@ -1,0 +1,9 @@
+pub mod NumberLemmas
+pub mod ScriptSequels
+pub mod Places
+pub mod ScriptMeant
+pub mod EventLemmas
+pub mod FlawLemmas
+pub mod FourFields
+pub mod FrameSequels
+pub mod FrameMeant
