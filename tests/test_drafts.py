@@ -14,8 +14,8 @@ from typing import Any, Callable, Iterator, List, Optional, Sequence, Tuple
 from .support import traces
 from .support.cases import Without, Wrong, digest_of, is_done, pieces_in, same
 from .support.made_images import EMPTY, admission, archive, image, number_uuid, operations
-from .support.outs import BEFORE, CANNOT_CREATE, CANNOT_REPLACE, COMMANDS, INPUTS, OUT, OWN_FILES, RETIRED, WITH_ANOTHER
-from .support.outs import OutCase, digest, mounted, state_of
+from .support.outs import BEFORE, CANNOT_CREATE, CANNOT_REPLACE, COMMANDS, INPUTS, NOTHING, OUT, RETIRED, WITH_ANOTHER
+from .support.outs import OutCase, digest, mounted, replaced_by, state_of
 from .support.second_lines import ARCHIVE, said_by
 
 # A run is killed at so many moments, in an order that spreads them. On a slow disk not all have their turn.
@@ -47,7 +47,7 @@ class Drafts(OutCase):
         """A draft takes no name of another file. Of a hundred names the last is found, and without one OUT stays."""
         for count in (99, 100):
             self.before = self.taking(count)
-            self.out.write_bytes(OWN_FILES[-1])
+            self.out.write_bytes(NOTHING)
             before = state_of(self.out)
             came = self.run_program(COMMANDS["admit"][0])
             same("other files", self.sizes_of_drafts(), [0] * count)
@@ -128,7 +128,7 @@ class Stopped(OutCase):
 
             return set_limit
 
-        self.out.write_bytes(OWN_FILES[-1])
+        self.out.write_bytes(NOTHING)
         before = state_of(self.out)
         for words, _ in COMMANDS.values():
             self.before = limit(signal.SIG_IGN)
@@ -191,7 +191,8 @@ class KilledCase(OutCase):
 
     def killed(self, words: List[str], new: str) -> None:
         """Kills runs of a command, whose text has this digest."""
-        old = digest(BEFORE)
+        before = replaced_by(words[0])[-1]
+        old = digest(before)
         for _ in range(2):
             began = time.monotonic()
             same("status", self.run_program(words)[0], 0)
@@ -200,7 +201,7 @@ class KilledCase(OutCase):
         came, began = [new], time.monotonic()
         for number in range(MOMENTS):
             if came[-1] == new:
-                self.out.write_bytes(BEFORE)
+                self.out.write_bytes(before)
             moment = number * STEP % MOMENTS
             came.append(self.kill(words, seconds * (moment + 1) / MOMENTS, (old, new)))
             if time.monotonic() - began > MOST_SECONDS:

@@ -41,7 +41,7 @@ WITH_64_MIB = limited(resource.RLIMIT_AS, 64 << 20)
 class HostileCase(PlacesCase):
     """Cases where a file is at OUT, which a refused command leaves as it was."""
 
-    out_before = b"MSYMOPS1as it was"
+    out_before = b""
 
     def does(
         self, words: str, printed: int, out: Optional[bytes] = None, status: int = 0, tells: str = "", **how: Any

@@ -108,6 +108,14 @@ class Indexes(InputsCase):
         # The program has /dev/null in the place of a standard stream that is closed.
         self.refuses_index("/dev/stdin", "Truncated at 0", "", preexec_fn=lambda: os.close(0))
 
+    def test_an_archive_that_is_a_folder(self) -> None:
+        """A folder has a length too, and no byte of it can be read."""
+        (self.folder / "folder").mkdir()
+        for command in alone("one.idx"):
+            words = [word for word in command.words if word not in ("--index", "one.idx")]
+            words = ["folder" if word == "one.sym" else word for word in words] + ["--index", "one.idx"]
+            self.refuses("archive 0: Device at 0", *words, hint=said_by(errno.EISDIR))
+
     def test_that_is_secret(self) -> None:
         """An index that may not be read."""
         for name in ("one.idx", "two.idx"):

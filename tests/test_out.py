@@ -11,9 +11,9 @@ from typing import List
 
 from .support.cases import is_done, same
 from .support.made_images import archive
-from .support.outs import BEFORE, CANNOT_CREATE, CANNOT_REPLACE, COMMANDS, DAMAGED_FILES, INPUTS, MESSAGES, OTHER_FILES
-from .support.outs import OTHER_USER, OUT, OWN_FILES, RETIRED, SLICES, VERSION_1, WITH_ANOTHER, OutCase, mounted
-from .support.outs import need_root, state_of
+from .support.outs import CANNOT_CREATE, CANNOT_REPLACE, COMMANDS, DAMAGED_FILES, INPUTS, KINDS, NOTHING
+from .support.outs import OTHER_FILES, OTHER_USER, OUT, OWN_FILES, REPLACED, RETIRED, SLICES, VERSION_1, WITH_ANOTHER
+from .support.outs import OutCase, mounted, need_root, replaced_by, state_of
 from .support.program import Word
 from .support.second_lines import DAMAGED, FOREIGN, MACHO, OF_AN_INPUT, OTHER_SLICE, losing, path_in, said_by
 from .support.second_lines import second_line
@@ -31,12 +31,21 @@ class WhatIsThere(OutCase):
             self.out.unlink()
 
     def test_own_files(self) -> None:
-        """The program's own files and empty ones are replaced, also by the same command again."""
+        """An empty file is replaced, and one of the kind that the command writes, also by the same command again."""
         for name in COMMANDS:
-            for content in OWN_FILES + (WITH_ANOTHER + DAMAGED_FILES if name in MESSAGES else []):
+            for content in replaced_by(name):
                 self.out.write_bytes(content)
                 self.places(name)
             self.places(name)
+
+    def test_other_kinds(self) -> None:
+        """Another one of the program's own files stays, and a line says what it is; an operations file always."""
+        archives = [*KINDS["an archive"], *WITH_ANOTHER, *DAMAGED_FILES]
+        for name, (words, _) in COMMANDS.items():
+            for kind, contents in {**KINDS, "an archive": archives}.items():
+                for content in () if kind == REPLACED.get(name, "an archive") else contents:
+                    self.out.write_bytes(content)
+                    self.keeps(words, CANNOT_REPLACE, f", there, and {kind}")
 
     def test_other_files(self) -> None:
         """Each other file stays, also where it is one of several images."""
@@ -57,7 +66,7 @@ class WhatIsThere(OutCase):
             line = f"slice {' '.join(RETIRED)}, {len(SLICES[1])} bytes\n".encode()
             same("extract", (status, printed, told, self.out.read_bytes()), (0, line, "", SLICES[1]))
         others = [SLICES[1] + b"\0", SLICES[1][:-1], SLICES[1][:-1] + b"\xff", SLICES[2]]
-        for content in OWN_FILES[1:] + WITH_ANOTHER + DAMAGED_FILES + OTHER_FILES + others:
+        for content in OWN_FILES + WITH_ANOTHER + DAMAGED_FILES + OTHER_FILES + others:
             self.out.write_bytes(content)
             self.keeps(words, CANNOT_REPLACE, OTHER_SLICE)
 
@@ -80,7 +89,7 @@ class WhatIsThere(OutCase):
     def test_archives_not_above(self) -> None:
         """An archive that has something which the new one neither has nor retires stays, and a line says how much."""
         for name, (words, _) in COMMANDS.items():
-            for content in () if name in MESSAGES else WITH_ANOTHER:
+            for content in () if name in REPLACED else WITH_ANOTHER:
                 self.out.write_bytes(content)
                 self.keeps(words, CANNOT_REPLACE, losing(1))
         self.keeps(["merge", "one.sym", OUT, "three.sym"], CANNOT_REPLACE, losing(1), out="two.sym")
@@ -99,7 +108,7 @@ class WhatIsThere(OutCase):
     def test_damaged_archives(self) -> None:
         """What begins as an archive, and is none, stays."""
         for name, (words, _) in COMMANDS.items():
-            for content in () if name in MESSAGES else DAMAGED_FILES:
+            for content in () if name in REPLACED else DAMAGED_FILES:
                 self.out.write_bytes(content)
                 self.keeps(words, CANNOT_REPLACE, DAMAGED)
 
@@ -122,7 +131,7 @@ class FaultyInputs(OutCase):
                 self.refused_input([*words[:at], "input", *words[at + 1 :]], said_by(errno.ENOENT))
 
     def refused_input(self, words: List[str], hint: str) -> None:
-        for before in (None, BEFORE, OTHER_FILES[0]):
+        for before in (None, replaced_by(words[0])[-1], OTHER_FILES[0]):
             self.out.unlink(missing_ok=True)
             if before:
                 self.out.write_bytes(before)
@@ -183,7 +192,7 @@ class WhereItIs(OutCase):
         (self.folder / "elsewhere").chmod(0o777)
         (self.folder / "links").chmod(0o555)
         for name in COMMANDS:
-            self.put("elsewhere/real.sym", OWN_FILES[-1], 0o666)
+            self.put("elsewhere/real.sym", replaced_by(name)[-1], 0o666)
             self.places(name, out="links/first", at=real)
             left = [os.readlink(self.folder / "links" / link) for link in ("first", "second")]
             same(f"{name}: links", left, ["second", "../elsewhere/real.sym"])
@@ -205,10 +214,11 @@ class WhereItIs(OutCase):
         """Other names of the file keep the old one."""
         other = self.folder / "other"
         for name in COMMANDS:
-            self.out.write_bytes(OWN_FILES[-1])
+            before = replaced_by(name)[-1]
+            self.out.write_bytes(before)
             os.link(self.out, other)
             self.places(name)
-            same(f"{name}: other name", (other.read_bytes(), other.stat().st_nlink), (OWN_FILES[-1], 1))
+            same(f"{name}: other name", (other.read_bytes(), other.stat().st_nlink), (before, 1))
             other.unlink()
 
     def test_spellings(self) -> None:
@@ -244,7 +254,7 @@ class Rights(OutCase):
         """The new file has the mode of the old one, and its owner and group."""
         for mode in (0o600, 0o640, 0o664, 0o755):
             for name in COMMANDS:
-                self.put("out.sym", OWN_FILES[-1], mode)
+                self.put("out.sym", replaced_by(name)[-1], mode)
                 if os.getuid() == 0:
                     os.chown(self.out, OTHER_USER, OTHER_USER - 1)
                 before = self.out.stat()
@@ -266,7 +276,7 @@ class Rights(OutCase):
             os.setuid(OTHER_USER)
 
         self.before = become_member
-        self.put("out.sym", OWN_FILES[-1], 0o660)
+        self.put("out.sym", NOTHING, 0o660)
         os.chown(self.out, 0, OTHER_USER - 1)
         self.places("admit")
         after = self.out.stat()
@@ -276,12 +286,12 @@ class Rights(OutCase):
         """A file that may not be written stays, and so does one in a folder that takes no files."""
         self.give_up_root()
         for mode in (0o444, 0o222, 0o000):
-            self.put("out.sym", OWN_FILES[-1], mode)
+            self.put("out.sym", NOTHING, mode)
             if os.getuid() == 0:
                 os.chown(self.out, OTHER_USER, OTHER_USER)
             for words, _ in COMMANDS.values():
                 self.keeps(words, CANNOT_CREATE, said_by(errno.EACCES))
-        self.put("closed/out.sym", OWN_FILES[-1], 0o666)
+        self.put("closed/out.sym", NOTHING, 0o666)
         (self.folder / "closed").chmod(0o555)
         for words, _ in COMMANDS.values():
             for out in ("closed/out.sym", "closed/none.sym"):
@@ -291,15 +301,15 @@ class Rights(OutCase):
         """If the draft cannot be renamed it goes, and OUT is as it was: a file of root in a folder as /tmp is."""
         need_root()
         self.give_up_root()
-        self.put("sticky/out.sym", OWN_FILES[-1], 0o666)
+        self.put("sticky/out.sym", NOTHING, 0o666)
         (self.folder / "sticky").chmod(0o1777)
         for words, _ in COMMANDS.values():
             self.keeps(words, CANNOT_REPLACE, said_by(errno.EPERM), out="sticky/out.sym")
 
     def test_mounted_at(self) -> None:
         """The same of a file at which another one is mounted."""
-        self.out.write_bytes(OWN_FILES[-1])
-        with mounted(self.out, "--bind", self.put("other.sym", OWN_FILES[-1])):
+        self.out.write_bytes(NOTHING)
+        with mounted(self.out, "--bind", self.put("other.sym", NOTHING)):
             for words, _ in COMMANDS.values():
                 self.keeps(words, CANNOT_REPLACE, said_by(errno.EBUSY))
 

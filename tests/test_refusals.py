@@ -59,7 +59,7 @@ class Inputs(PlacesCase):
 class InputsOverAnOut(Inputs):
     """The same where a file is at OUT, which stays as it was."""
 
-    out_before = b"MSYMOPS1as it was"
+    out_before = b""
 
 
 class Beginnings(PlacesCase):

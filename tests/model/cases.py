@@ -127,12 +127,17 @@ class Folder:
             self.names[new] = number
 
 
+# The files of the program by their first bytes, and what a command replaces that writes no archive.
+KINDS = {**{it: "an archive" for it in ARCHIVES}, OPS: "an operations file", SUM: "a summary", IDX: "an index"}
+REPLACED = {"summary": [SUM], "index": [IDX]}
+
+
 def obstacle(command: str, there: bytes, new: Optional[bytes]) -> Optional[str]:
     """Why a file with these bytes does not give way to the new ones, if it does not; there are none if a command is
     stopped before it has all of them."""
-    if there and there[:8] not in [*ARCHIVES, OPS, SUM, IDX]:
-        return "neither empty nor one of symarch's files"
-    if new is None or command in ("summary", "index", "delta") or there[:8] not in ARCHIVES:
+    if there and there[:8] not in REPLACED.get(command, ARCHIVES):
+        return KINDS.get(there[:8], "neither empty nor one of symarch's files")
+    if new is None or there[:8] not in ARCHIVES:
         return None
     records, fault = good_front(there)
     if fault:

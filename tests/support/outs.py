@@ -44,11 +44,18 @@ COMMANDS: Dict[str, Tuple[List[str], bytes]] = {
     "index": (["index", "both.sym", OUT], index(SLICES[1:3])),
     "delta": (["delta", "both.sym", "one.sum", OUT], archive(SLICES[2:3])),
 }
-# The commands that write a message to another site, or an index, which replaces each of the program's own files.
-MESSAGES = "summary", "index", "delta"
-# What may be at OUT: files that each command replaces, archives that have a slice which no other command brings, what
-# begins as an archive and is none, and others.
-OWN_FILES = [b"", EMPTY, VERSION_1 + EMPTY[8:], operations(SLICES[:1]), summary(SLICES[:1]), index(SLICES[:1])]
+# What may be at OUT: an empty file, which each command replaces, and files of the program by their kind.
+NOTHING = b""
+KINDS = {
+    "an archive": [EMPTY, VERSION_1 + EMPTY[8:]],
+    "a summary": [summary(SLICES[:1])],
+    "an index": [index(SLICES[:1])],
+    "an operations file": [operations(SLICES[:1])],
+}
+OWN_FILES = [content for contents in KINDS.values() for content in contents]
+# What a command replaces that writes no archive.
+REPLACED = {"summary": "a summary", "index": "an index"}
+# Archives that have a slice which no other command brings, what begins as an archive and is none, and others.
 WITH_ANOTHER = [archive(SLICES[:1]), archive(SLICES[:1], magic=VERSION_1)]
 DAMAGED_FILES = [EMPTY[:8], EMPTY + b"\0", archive(SLICES[:1])[:-1], archive(SLICES[1:2])[:-1] + b"\2"]
 OTHER_FILES = [
@@ -63,6 +70,11 @@ OTHER_FILES = [
 BEFORE = EMPTY
 
 Path = Union[str, pathlib.Path]
+
+
+def replaced_by(name: str) -> List[bytes]:
+    """Files that a command replaces."""
+    return [NOTHING, *KINDS[REPLACED.get(name, "an archive")]]
 
 
 def state_of(path: Path) -> Any:

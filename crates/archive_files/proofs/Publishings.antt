@@ -5,13 +5,13 @@ use Rattle.std.proofs.lemmas.Bool.{and_parts}
 use Rattle.std.proofs.lemmas.Grind.{not_there}
 use Rattle.std.specs.List.{concat}
 use Rattle.archive_records.proofs.Puts.{concat-push}
-use Rattle.archive_files.specs.FileCalls.{FileCall, Creates, Opens, Writes, Syncs, Removes, are_probes, bytes_in, drafting, publishing, writing}
-use Rattle.archive_files.specs.OutFiles.{IsSoFar, Stage, Untouched, Through, Drafted, WritesTo, draft_account, has_calls, is_drafted, is_settled, takes_bytes}
+use Rattle.archive_files.specs.FileCalls.{FileCall, FindsNoLink, Leads, Creates, Opens, Writes, Syncs, Removes, are_probes, bytes_in, drafting, publishing, writing}
+use Rattle.archive_files.specs.OutFiles.{IsSoFar, Stage, Through, Drafted, WritesTo, draft_account, has_calls, is_drafted, is_settled, takes_bytes}
 use Rattle.archive_files.specs.declared.out_file.OutState.{OutState}
 use Rattle.archive_files.specs.declared.out_file.OutState.TheVariants as state
 use Rattle.archive_files.specs.Publishing.{HandsOn, IsBeside, IsDrafted, IsPublished, IsTargetOf, IsTested, IsWritable, IsWrittenThrough, account, folder_of, number_of, place, took_nothing}
 use Rattle.archive_files.specs.declared.replaceable.Replaces.{Replaces}
-use Rattle.archive_files.specs.declared.replaceable.Replaces.TheVariants.{ArchivesBelow}
+use Rattle.archive_files.specs.declared.replaceable.Replaces.TheVariants.{ArchivesBelow, Summaries, Indexes, SameBytes}
 
 -- the bytes of some calls and of others behind them
 pub bytes_append : (xs ys : List FileCall) → bytes_in (xs ++ ys) ≡ bytes_in xs ++ bytes_in ys
@@ -34,25 +34,29 @@ pub writable_probes : (path : List ℕ) (probes : List FileCall) → IsWritable 
 writable_probes path probes (inl other) = ap are_probes other
 writable_probes path probes (inr descriptor) = ap are_probes descriptor.0
 
-pub target_probes : (path target : List ℕ) (probes : List FileCall) → IsTargetOf path target probes → are_probes probes ≡ true
-target_probes path target probes (inl none) = ap are_probes none.1
-target_probes path target probes (inr (inl file)) = ap are_probes file.1
-target_probes path target probes (inr (inr link)) = ap are_probes link
+pub target_probes : (replaces : Replaces) (path target : List ℕ) (probes : List FileCall)
+    → IsTargetOf replaces path target probes → are_probes probes ≡ true
+target_probes replaces path target probes (inl none) = ap are_probes none.1
+target_probes replaces path target probes (inr (found, (bytes, gives, is), inl file)) =
+    ap are_probes (file.1 ∙ ap (λ f. f ++ FindsNoLink path ∷ []) is)
+target_probes replaces path target probes (inr (found, (bytes, gives, is), inr link)) =
+    ap are_probes (link ∙ ap (λ f. f ++ Leads path target ∷ []) is)
 
 -- OUT is begun
-pub begun_through : (path : List ℕ) (probes new : List FileCall) → IsWritable path probes → new ≡ probes ++ Opens path ∷ []
-    → IsSoFar (Some path) Through new × (bytes_in new ≡ [])
-begun_through path probes new writable is = (
+pub begun_through : (replaces : Replaces) (path : List ℕ) (probes new : List FileCall) → IsWritable path probes → new ≡ probes ++ Opens path ∷ []
+    → IsSoFar replaces (Some path) Through new × (bytes_in new ≡ [])
+begun_through replaces path probes new writable is = (
   (path, refl, [], record { probes = probes; pieces = []; writable = writable; whole = refl; calls_are = is }),
   ap bytes_in is ∙ bytes_behind probes (Opens path ∷ []) (writable_probes path probes writable),
 )
 
-pub begun_drafted : (path draft target : List ℕ) (probes new : List FileCall) → IsTargetOf path target probes
+pub begun_drafted : (replaces : Replaces) (path draft target : List ℕ) (probes new : List FileCall)
+    → IsTargetOf replaces path target probes
     → IsBeside draft target → new ≡ probes ++ Creates draft ∷ []
-    → IsSoFar (Some path) (Drafted draft target) new × (bytes_in new ≡ [])
-begun_drafted path draft target probes new led beside is = (
+    → IsSoFar replaces (Some path) (Drafted draft target) new × (bytes_in new ≡ [])
+begun_drafted replaces path draft target probes new led beside is = (
   (path, refl, record { probes = probes; pieces = []; target_is = led; beside = beside; calls_are = is }),
-  ap bytes_in is ∙ bytes_behind probes (Creates draft ∷ []) (target_probes path target probes led),
+  ap bytes_in is ∙ bytes_behind probes (Creates draft ∷ []) (target_probes replaces path target probes led),
 )
 
 bytes_written : (pieces : List (List ℕ)) → bytes_in (map Writes pieces) ≡ concat pieces
@@ -71,9 +75,9 @@ more_through path text bytes calls w = record {
       ∙ ap (λ cs. w.probes ++ Opens path ∷ cs) (sym (map-append Writes w.pieces (bytes ∷ [])));
 }
 
-pub more_drafted : (path draft target bytes : List ℕ) (calls : List FileCall) → IsDrafted path draft target calls
-    → IsDrafted path draft target (calls ++ Writes bytes ∷ [])
-more_drafted path draft target bytes calls d = record {
+pub more_drafted : (replaces : Replaces) (path draft target bytes : List ℕ) (calls : List FileCall)
+    → IsDrafted replaces path draft target calls → IsDrafted replaces path draft target (calls ++ Writes bytes ∷ [])
+more_drafted replaces path draft target bytes calls d = record {
   probes = d.probes;
   pieces = d.pieces ++ bytes ∷ [];
   target_is = d.target_is;
@@ -84,17 +88,18 @@ more_drafted path draft target bytes calls d = record {
 }
 
 -- more bytes are written
-pub more_so_far : (path : Option (List ℕ)) (stage : Stage) (calls : List FileCall) (bytes : List ℕ)
-    → takes_bytes stage ≡ true → IsSoFar path stage calls → IsSoFar path stage (calls ++ Writes bytes ∷ [])
-more_so_far path Through calls bytes takes so =
+pub more_so_far : (replaces : Replaces) (path : Option (List ℕ)) (stage : Stage) (calls : List FileCall)
+    (bytes : List ℕ) → takes_bytes stage ≡ true → IsSoFar replaces path stage calls
+    → IsSoFar replaces path stage (calls ++ Writes bytes ∷ [])
+more_so_far replaces path Through calls bytes takes so =
     (so.0, so.1, so.2 ++ bytes, more_through so.0 so.2 bytes calls so.3)
-more_so_far path (Drafted draft target) calls bytes takes so =
-    (so.0, so.1, more_drafted so.0 draft target bytes calls so.2)
-more_so_far path stage calls bytes takes so = cc
+more_so_far replaces path (Drafted draft target) calls bytes takes so =
+    (so.0, so.1, more_drafted replaces so.0 draft target bytes calls so.2)
+more_so_far replaces path stage calls bytes takes so = cc
 
 -- what went through is at the path
 pub hands_on_through : (path : Option (List ℕ)) (replaces : Replaces) (calls : List FileCall)
-    → IsSoFar path Through calls → HandsOn path replaces calls
+    → IsSoFar replaces path Through calls → HandsOn path replaces calls
 hands_on_through path replaces calls so =
     let w : IsWrittenThrough so.0 so.2 calls = so.3 in (
       so.0,
@@ -113,17 +118,19 @@ hands_on_through path replaces calls so =
 pub tested_probes : (replaces : Replaces) (draft target : List ℕ) (tests : List FileCall)
     → IsTested replaces draft target tests → are_probes tests ≡ true
 tested_probes ArchivesBelow draft target tests (inl none) = ap are_probes none
-tested_probes ArchivesBelow draft target tests (inr covers) = ap are_probes covers
-tested_probes replaces draft target tests is = ap are_probes is
+tested_probes ArchivesBelow draft target tests (inr (bytes, kind, covers)) = ap are_probes covers
+tested_probes Summaries draft target tests (bytes, gives, is) = ap are_probes is
+tested_probes Indexes draft target tests (bytes, gives, is) = ap are_probes is
+tested_probes SameBytes draft target tests is = ap are_probes is
 
 -- and so is what was drafted and put in place
 pub hands_on_draft : (path : Option (List ℕ)) (replaces : Replaces) (draft target : List ℕ) (calls new : List FileCall)
-    → IsSoFar path (Drafted draft target) calls
+    → IsSoFar replaces path (Drafted draft target) calls
     → (tests : List FileCall) × IsTested replaces draft target tests
     × (new ≡ calls ++ tests ++ publishing draft target (folder_of target))
     → HandsOn path replaces new
 hands_on_draft path replaces draft target calls new so put =
-    let d : IsDrafted so.0 draft target calls = so.2 in
+    let d : IsDrafted replaces so.0 draft target calls = so.2 in
     let tests = put.0 in
     let last = publishing draft target (folder_of target) in
     let calls_are : new ≡ d.probes ++ drafting draft d.pieces ++ tests ++ last =
@@ -143,7 +150,7 @@ hands_on_draft path replaces draft target calls new so put =
             ∙ bytes_same (d.probes ++ drafting draft d.pieces ++ tests) last refl
             ∙ bytes_same (d.probes ++ drafting draft d.pieces) tests
             (probes_bytes tests (tested_probes replaces draft target tests put.1))
-            ∙ bytes_behind d.probes (drafting draft d.pieces) (target_probes so.0 target d.probes d.target_is)
+            ∙ bytes_behind d.probes (drafting draft d.pieces) (target_probes replaces so.0 target d.probes d.target_is)
             ∙ bytes_written d.pieces);
         calls_are = calls_are;
       }),
@@ -184,12 +191,12 @@ takes_unsettled (Drafted d t) takes = refl
 takes_unsettled stage takes = cc
 
 -- a draft was created
-drafted_some : (path : Option (List ℕ)) (stage : Stage) (calls : List FileCall) → is_drafted stage ≡ true → calls ≡ []
-    → IsSoFar path stage calls → ⊥
-drafted_some path (Drafted d t) calls drafted none so =
+drafted_some : (replaces : Replaces) (path : Option (List ℕ)) (stage : Stage) (calls : List FileCall)
+    → is_drafted stage ≡ true → calls ≡ [] → IsSoFar replaces path stage calls → ⊥
+drafted_some replaces path (Drafted d t) calls drafted none so =
     let some = ap length (sym none ∙ so.2.calls_are) ∙ length-append so.2.probes (drafting d so.2.pieces) in
     grind (arith, some)
-drafted_some path stage calls drafted none so = cc
+drafted_some replaces path stage calls drafted none so = cc
 
 -- what was neither begun nor has what was called is as it was
 pub kept_empty : (old new : Stage) (calls after : List FileCall)
@@ -199,14 +206,14 @@ kept_empty old new calls after empty same (inl drafted) without = absurd (drafte
 kept_empty old new calls after empty same (inr is) without = is ∙ empty (sym same ∙ without)
 
 -- and what took nothing has nothing called
-pub kept_first : (path : Option (List ℕ)) (old : Stage) (calls after : List FileCall) (failures : ℕ)
-    → ∥ IsSoFar path old calls ∥₁ → (took_nothing (bytes_in calls) failures ≡ true → calls ≡ [])
+pub kept_first : (replaces : Replaces) (path : Option (List ℕ)) (old : Stage) (calls after : List FileCall) (failures : ℕ)
+    → ∥ IsSoFar replaces path old calls ∥₁ → (took_nothing (bytes_in calls) failures ≡ true → calls ≡ [])
     → bytes_in after ≡ bytes_in calls → (is_drafted old ≡ true) ⊎ (after ≡ calls)
     → took_nothing (bytes_in after) failures ≡ true → after ≡ []
-kept_first path old calls after failures so first bytes (inl drafted) none =
+kept_first replaces path old calls after failures so first bytes (inl drafted) none =
     let empty : calls ≡ [] = first (ap (λ b. took_nothing b failures) (sym bytes) ∙ none) in
-    absurd (not_there so (λ is. drafted_some path old calls drafted empty is))
-kept_first path old calls after failures so first bytes (inr is) none =
+    absurd (not_there so (λ is. drafted_some replaces path old calls drafted empty is))
+kept_first replaces path old calls after failures so first bytes (inr is) none =
     is ∙ first (ap (λ b. took_nothing b failures) (sym bytes) ∙ none)
 
 -- what is handed on is at the path that there is

@@ -4,16 +4,17 @@ use Rattle.std.specs.Fs.{file_type}
 use Rattle.std.specs.declared.fs.attrs.Metadata.{Metadata}
 
 -- A call. The system says what a path leads to: a regular file, something else, or nothing; that the path itself is no
--- link; which path it leads to; or that what is there is no archive. A draft is compared with an archive, of which it
--- has or covers each record, or not; or with what is there, which is nothing, or empty, or has the same bytes. A file is created that was not there, or what is there is opened and emptied; it
--- takes bytes, which are synced to the disk; it is renamed, and the folder synced; or it is removed.
+-- link; which path it leads to; or which bytes the file there begins with, none if it is empty or not there. A draft is
+-- compared with an archive, of which it has or covers each record, or not; or with what is there, which is nothing, or
+-- empty, or has the same bytes. A file is created that was not there, or what is there is opened and emptied; it takes
+-- bytes, which are synced to the disk; it is renamed, and the folder synced; or it is removed.
 pub data FileCall : Type 0 where
   FindsFile : (path : List ℕ) → FileCall
   FindsOther : (path : List ℕ) → FileCall
   FindsNothing : (path : List ℕ) → FileCall
   FindsNoLink : (path : List ℕ) → FileCall
   Leads : (path : List ℕ) → (target : List ℕ) → FileCall
-  FindsNoArchive : (path : List ℕ) → FileCall
+  Begins : (path : List ℕ) → (bytes : List ℕ) → FileCall
   Covers : (draft : List ℕ) → (target : List ℕ) → FileCall
   Loses : (draft : List ℕ) → (target : List ℕ) → FileCall
   Agrees : (draft : List ℕ) → (target : List ℕ) → FileCall
@@ -40,7 +41,7 @@ call_of (number ∷ []) path other =
     else if number == 9 then FindsNothing path
     else if number == 10 then FindsNoLink path
     else if number == 11 then Leads path other
-    else if number == 12 then FindsNoArchive path
+    else if number == 12 then Begins path other
     else if number == 13 then Covers path other
     else if number == 14 then Loses path other
     else Agrees path other

@@ -89,19 +89,21 @@ fault_of (Refused fault) = Some fault
 fault_of Removed = None
 fault_of Settled = None
 
--- OUT is written so, of whose path the system said this
-abbrev pub IsWayTo : List ℕ → Way → List FileCall → Type 0
-IsWayTo path way.Through probes = IsWritable path probes
-IsWayTo path (way.Beside target access) probes = IsTargetOf path (string_bytes target) probes
+-- OUT is written so, of whose path the system said this, where these files are replaced
+abbrev pub IsWayTo : Replaces → List ℕ → Way → List FileCall → Type 0
+IsWayTo replaces path way.Through probes = IsWritable path probes
+IsWayTo replaces path (way.Beside target access) probes = IsTargetOf replaces path (string_bytes target) probes
 
--- what was called for OUT so far, which has this path, if it has one
-abbrev pub IsSoFar : Option (List ℕ) → Stage → List FileCall → Type 0
-IsSoFar path Untouched calls = calls ≡ []
-IsSoFar path Through calls = (p : List ℕ) × (path ≡ Some p) × (text : List ℕ) × IsWrittenThrough p text calls
-IsSoFar path (Drafted draft target) calls = (p : List ℕ) × (path ≡ Some p) × IsDrafted p draft target calls
-IsSoFar path (Refused fault) calls = IsRemoved path calls
-IsSoFar path Removed calls = IsRemoved path calls
-IsSoFar path Settled calls = calls ≡ []
+-- what was called for OUT so far, which has this path, if it has one, and replaces these files
+abbrev pub IsSoFar : Replaces → Option (List ℕ) → Stage → List FileCall → Type 0
+IsSoFar replaces path Untouched calls = calls ≡ []
+IsSoFar replaces path Through calls =
+    (p : List ℕ) × (path ≡ Some p) × (text : List ℕ) × IsWrittenThrough p text calls
+IsSoFar replaces path (Drafted draft target) calls =
+    (p : List ℕ) × (path ≡ Some p) × IsDrafted replaces p draft target calls
+IsSoFar replaces path (Refused fault) calls = IsRemoved replaces path calls
+IsSoFar replaces path Removed calls = IsRemoved replaces path calls
+IsSoFar replaces path Settled calls = calls ≡ []
 
 -- What is known of OUT's draft: the same; and nothing of one that was published.
 abbrev pub draft_account : Bool → Option (List ℕ) → Replaces → List FileCall → List ℕ

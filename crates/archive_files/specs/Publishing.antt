@@ -4,11 +4,12 @@ use Rattle.std.specs.Prelude.{All, Contains, codes, if◌then◌else◌, length,
 use Rattle.std.specs.Fmt.{decimal}
 use Rattle.std.specs.List.{concat}
 use Rattle.std.specs.Path.{path_parent, path_with_file_name}
-use Rattle.archive_files.specs.FileCalls.{Agrees, Covers, FileCall, FindsFile, FindsNoArchive, FindsNoLink, FindsNothing}
+use Rattle.archive_files.specs.FileCalls.{Agrees, Begins, Covers, FileCall, FindsFile, FindsNoLink, FindsNothing}
 use Rattle.archive_files.specs.FileCalls.{FindsOther, Leads, Removes, Syncs, are_probes, bytes_in, drafting, publishing}
 use Rattle.archive_files.specs.FileCalls.{writing}
 use Rattle.archive_files.specs.declared.replaceable.Replaces.{Replaces}
-use Rattle.archive_files.specs.declared.replaceable.Replaces.TheVariants.{OwnFiles, ArchivesBelow, SameBytes}
+use Rattle.archive_files.specs.declared.replaceable.Replaces.TheVariants.{ArchivesBelow, Summaries, Indexes, SameBytes}
+use Rattle.archive_files.specs.Replacing.{GivesWay, IsOfKind}
 
 -- ---- paths
 
@@ -50,24 +51,33 @@ pub record IsBeside (draft target : List ℕ) : Type 0 where
 
 -- ---- calls
 
--- What a path leads to is replaced at the target, as the system said: a regular file, or nothing, at the path itself;
--- or a regular file that a link leads to.
-abbrev pub IsTargetOf : List ℕ → List ℕ → List FileCall → Type 0
-IsTargetOf path target probes =
+-- At a path is a regular file, as the system said, which begins so that it may be replaced.
+abbrev pub FindsReplaced : Replaces → List ℕ → List FileCall → Type 0
+FindsReplaced replaces path probes =
+    (bytes : List ℕ) × GivesWay replaces bytes × (probes ≡ FindsFile path ∷ Begins path bytes ∷ [])
+
+-- What a path leads to is replaced at the target, as the system said: nothing, or a regular file that may be replaced,
+-- at the path itself; or one that a link leads to.
+abbrev pub IsTargetOf : Replaces → List ℕ → List ℕ → List FileCall → Type 0
+IsTargetOf replaces path target probes =
     ((target ≡ path) × (probes ≡ FindsNothing path ∷ FindsNoLink path ∷ []))
-    ⊎ ((target ≡ path) × (probes ≡ FindsFile path ∷ FindsNoLink path ∷ []))
-    ⊎ (probes ≡ FindsFile path ∷ Leads path target ∷ [])
+    ⊎ ((found : List FileCall) × FindsReplaced replaces path found
+    × (((target ≡ path) × (probes ≡ found ++ FindsNoLink path ∷ [])) ⊎ (probes ≡ found ++ Leads path target ∷ [])))
 
 -- What a path leads to is written to: the system said that it is no regular file, or it is a descriptor.
 abbrev pub IsWritable : List ℕ → List FileCall → Type 0
 IsWritable path probes = (probes ≡ FindsOther path ∷ []) ⊎ ((probes ≡ []) × IsDescriptor path)
 
--- The draft may take the place of what is at the target: each of symarch's own files may be replaced; or else what is
--- there is no archive, or one of which the draft has or covers each record; or it has no other bytes than the draft.
+-- The draft may take the place of what is at the target, which is nothing, or empty, or of the kind that the draft is;
+-- an archive there is one of which the draft has or covers each record. Where the draft is a slice, what is there has no
+-- other bytes.
 abbrev pub IsTested : Replaces → List ℕ → List ℕ → List FileCall → Type 0
-IsTested OwnFiles draft target tests = tests ≡ []
-IsTested ArchivesBelow draft target tests = (tests ≡ FindsNoArchive target ∷ []) ⊎ (tests ≡ Covers draft target ∷ [])
 IsTested SameBytes draft target tests = tests ≡ Agrees draft target ∷ []
+IsTested ArchivesBelow draft target tests =
+    (tests ≡ Begins target [] ∷ [])
+    ⊎ ((bytes : List ℕ) × IsOfKind ArchivesBelow bytes × (tests ≡ Begins target bytes ∷ Covers draft target ∷ []))
+IsTested replaces draft target tests =
+    (bytes : List ℕ) × GivesWay replaces bytes × (tests ≡ Begins target bytes ∷ [])
 
 -- Pieces of the text went to a draft beside the target of a path, and the draft, which may replace what is there, was
 -- put in its place.
@@ -76,7 +86,7 @@ pub record IsReplaced (path : List ℕ) (replaces : Replaces) (text : List ℕ) 
   pub target : List ℕ
   pub probes : List FileCall
   pub pieces : List (List ℕ)
-  pub target_is : IsTargetOf path target probes
+  pub target_is : IsTargetOf replaces path target probes
   pub beside : IsBeside draft target
   pub tests : List FileCall
   pub tested : IsTested replaces draft target tests
@@ -96,19 +106,19 @@ abbrev pub IsPublished : List ℕ → Replaces → List ℕ → List FileCall �
 IsPublished path replaces text calls = IsReplaced path replaces text calls ⊎ IsWrittenThrough path text calls
 
 -- Pieces of a text went to a draft beside the target of a path.
-pub record IsDrafted (path draft target : List ℕ) (calls : List FileCall) : Type 0 where
+pub record IsDrafted (replaces : Replaces) (path draft target : List ℕ) (calls : List FileCall) : Type 0 where
   pub probes : List FileCall
   pub pieces : List (List ℕ)
-  pub target_is : IsTargetOf path target probes
+  pub target_is : IsTargetOf replaces path target probes
   pub beside : IsBeside draft target
   pub calls_are : calls ≡ probes ++ drafting draft pieces
 
 -- They did, and the draft, which may have been compared and synced before, was removed.
-pub record IsDraftRemoved (path : List ℕ) (calls : List FileCall) : Type 0 where
+pub record IsDraftRemoved (replaces : Replaces) (path : List ℕ) (calls : List FileCall) : Type 0 where
   pub draft : List ℕ
   pub target : List ℕ
   pub drafted : List FileCall
-  pub is_drafted : IsDrafted path draft target drafted
+  pub is_drafted : IsDrafted replaces path draft target drafted
   pub tests : List FileCall
   pub are_tests : are_probes tests ≡ true
   pub calls_are : (calls ≡ drafted ++ tests ++ Removes draft ∷ [])
@@ -116,10 +126,10 @@ pub record IsDraftRemoved (path : List ℕ) (calls : List FileCall) : Type 0 whe
 
 -- Nothing was called for OUT; or it has this path, and the system was only asked; or it had a draft, which was removed;
 -- or, at this path, it is no regular file, and bytes went to it.
-abbrev pub IsRemoved : Option (List ℕ) → List FileCall → Type 0
-IsRemoved path calls =
+abbrev pub IsRemoved : Replaces → Option (List ℕ) → List FileCall → Type 0
+IsRemoved replaces path calls =
     (calls ≡ []) ⊎ ((p : List ℕ) × (path ≡ Some p) × (are_probes calls ≡ true))
-    ⊎ ((p : List ℕ) × (path ≡ Some p) × IsDraftRemoved p calls)
+    ⊎ ((p : List ℕ) × (path ≡ Some p) × IsDraftRemoved replaces p calls)
     ⊎ ((p : List ℕ) × (path ≡ Some p) × (text : List ℕ) × IsWrittenThrough p text calls)
 
 -- OUT has a path, at which the bytes of these calls are
@@ -146,9 +156,10 @@ place (Some path) = suc (length path) ∷ path
 
 -- a number for which files may be replaced
 abbrev pub number_of : Replaces → ℕ
-number_of OwnFiles = 0
-number_of ArchivesBelow = 1
-number_of SameBytes = 2
+number_of ArchivesBelow = 0
+number_of Summaries = 1
+number_of Indexes = 2
+number_of SameBytes = 3
 
 -- What is known of OUT: its path, which files may be replaced there, and the bytes that were written for it. A text
 -- that it takes stands behind what was known, so that the path and the rule stay with it.

@@ -7,7 +7,7 @@ ghost use Rattle.archive_files.specs.FileCalls.{FileCall, Removes, Syncs, SyncsF
 ghost use Rattle.archive_files.specs.Publishing.{IsBeside, IsTested, draft_name, folder_of};
 
 use crate::file_calls::FileCalls;
-use crate::losses::test_losses;
+use crate::losses::{given_way, test_losses};
 use crate::replaceable::{Obstacle, OutFault, Replaces};
 use crate::sameness::test_sameness;
 use crate::ways::Access;
@@ -173,7 +173,10 @@ fn test_place<F: Files>(
         × (calls.new.entries ≡ calls.old.entries ++ tests)) }
 {
     match replaces {
-        Replaces::OwnFiles => Ok(()),
+        Replaces::Summaries | Replaces::Indexes => {
+            given_way(files, &draft.target, replaces, calls)?;
+            Ok(())
+        }
         Replaces::ArchivesBelow => test_losses(alloc, files, &draft.path, &draft.target, calls),
         Replaces::SameBytes => test_sameness(files, &draft.path, &draft.target, calls),
     }

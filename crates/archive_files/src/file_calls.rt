@@ -4,9 +4,11 @@
 ghost use Rattle.std.specs.Prelude.{◌≡◌, List, [], ◌∷◌, ◌++◌};
 ghost use Rattle.std.specs.Borrow.{ftrue};
 ghost use Rattle.archive_files.specs.FileCalls.{FileCall, Creates, Opens, Removes, Renames, Syncs, SyncsFolder, Writes};
-ghost use Rattle.archive_files.specs.FileCalls.{FindsNoArchive, FindsNoLink, FindsNothing, Leads, compared, found};
-ghost use Rattle.archive_files.specs.FileCalls.{Agrees, call_of};
+ghost use Rattle.archive_files.specs.FileCalls.{Agrees, Begins, FindsNoLink, FindsNothing, Leads, call_of, compared};
+ghost use Rattle.archive_files.specs.FileCalls.{found};
+ghost use Rattle.archive_files.specs.Replacing.{first_bytes};
 
+use crate::opened_file::LeadingBytes;
 use std::fs::Metadata;
 use std::marker::{Model, PhantomData};
 
@@ -118,11 +120,14 @@ impl FileCalls {
         self.note(&[11], path.as_bytes(), target.as_bytes());
     }
 
-    /// What is at a path begins as no archive.
-    pub fn finds_no_archive(&mut self, path: &str)
-        ensures { self.new.entries ≡ self.old.entries ++ FindsNoArchive path.now ∷ [] }
+    /// What is at a path begins with these bytes; `None` if it is empty, or nothing is there.
+    pub fn begins(&mut self, path: &str, beginning: &Option<LeadingBytes>)
+        ensures { self.new.entries ≡ self.old.entries ++ Begins path.now (first_bytes beginning.now) ∷ [] }
     {
-        self.note(&[12], path.as_bytes(), &[]);
+        match beginning {
+            Some(bytes) => self.note(&[12], path.as_bytes(), bytes),
+            None => self.note(&[12], path.as_bytes(), &[]),
+        }
     }
 
     /// A draft neither has nor covers so many records of the archive at a path.

@@ -9,7 +9,8 @@
 //! - `identities`: which file a path names;
 //! - `descriptors`: the paths of descriptors; `ways`: how OUT is written, by what its path leads to;
 //! - `replaceable`: which file at OUT's path may be replaced;
-//! - `losses`: what would be lost of an archive in its place; `sameness`: whether it has the same bytes;
+//! - `losses`: of which kind a file in its place is, and what would be lost of an archive; `sameness`: whether it has
+//!   the same bytes;
 //! - `drafts`: a file beside OUT, which is renamed when it is whole;
 //! - `published`: a published output;
 //! - `out_file`: OUT before it is published;
@@ -46,11 +47,12 @@
 //!   descriptor, by its path: `/dev/stdout` may be a regular file that the shell holds.
 //! - OUT is opened for reading and writing before its draft is created: to rename over a file takes rights in its
 //!   folder alone, and one that may not be written is refused. Its first eight bytes are read by the same opening, and
-//!   say whether it is one of symarch's own; more would cost a pass over it.
-//! - An archive gives way only to one above it, by the order of contents and not by a number of records. The test is a
-//!   merge of both that writes nowhere (`lost_operations`), made over the whole draft. A damaged archive is not
-//!   replaced: nobody can say what it has. `delta`, `summary` and `index` replace each of symarch's own files, since
-//!   what they write is made anew. A slice gives way to itself alone (`SameBytes`), compared once the draft is whole.
+//!   say of which kind it is; more would cost a pass over it.
+//! - A file gives way to one of its own kind (`GivesWay`), as its first bytes say before the draft is made and once
+//!   more before it is renamed. An archive gives way only to one above it, by the order of contents and not by a number
+//!   of records. The test is a merge of both that writes nowhere (`lost_operations`), made over the whole draft. A
+//!   damaged archive is not replaced: nobody can say what it has. A slice gives way to itself alone (`SameBytes`),
+//!   compared once the draft is whole.
 //! - Between the test and the renaming another program may put an archive at OUT, which is then lost: the system has no
 //!   call that renames over one file and no other.
 //! - A link that leads to nothing is refused, since `canonicalize` cannot say where it leads. Hard links keep the old

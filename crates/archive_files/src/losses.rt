@@ -1,13 +1,15 @@
 //! What would be lost of an archive where a draft takes its place. What files hold is in no contract.
 
-ghost use Rattle.std.specs.Prelude.{◌≡◌, ◌≢◌, ◌∷◌, ◌++◌, [], IfOk, List, Ok, OnErr, OnOk, false, true};
-ghost use Rattle.archive_files.specs.FileCalls.{FileCall, FindsNoArchive, are_probes, compared};
+ghost use Rattle.std.specs.Prelude.{◌≡◌, ◌∷◌, ◌++◌, [], IfOk, List, OnErr, OnOk, true};
+ghost use Rattle.archive_files.specs.FileCalls.{Begins, FileCall, are_probes, compared};
 ghost use Rattle.archive_files.specs.Publishing.{IsTested};
+ghost use Rattle.archive_files.specs.Replacing.{GivesWay, first_bytes};
 ghost use Rattle.archive_files.specs.declared.replaceable.Replaces.TheVariants.{ArchivesBelow};
 
 use crate::file_calls::FileCalls;
-use crate::replaceable::{Obstacle, OutFault, magic_in};
-use archive_records::{MergeCause, MergeFault, RecordFaultKind, TextKind};
+use crate::opened_file::LeadingBytes;
+use crate::replaceable::{Obstacle, OutFault, Replaces, beginning_of, test_kind};
+use archive_records::{MergeCause, MergeFault, RecordFaultKind};
 use byte_device::Reading;
 use memory::Heap;
 use record_merge::lost_operations;
@@ -19,8 +21,8 @@ use std::rt::Files;
 /// How many bytes of a file are read at a time.
 const PIECE: usize = 64 * 1024;
 
-/// Tests whether a draft may take the place of what is at its target: an archive there has no record that the draft,
-/// which is an archive too, neither has nor covers.
+/// Tests whether an archive may take the place of what is at its target: nothing, an empty file, or an archive that has
+/// no record which the draft neither has nor covers.
 pub fn test_losses<F: Files>(
     alloc: Global,
     files: &F,
@@ -33,10 +35,8 @@ pub fn test_losses<F: Files>(
     ensures refused { OnErr result ((tests : List FileCall) × (are_probes tests ≡ true)
         × (calls.new.entries ≡ calls.old.entries ++ tests)) }
 {
-    match is_archive_at(files, target, calls) {
-        Ok(true) => {}
-        Ok(false) => return Ok(()),
-        Err(error) => return Err(refused(error)),
+    if given_way(files, target, Replaces::ArchivesBelow, calls)?.is_none() {
+        return Ok(());
     }
     match lost_at(alloc, files, draft, target, calls)? {
         0 => Ok(()),
@@ -68,29 +68,35 @@ fn lost_at<F: Files>(
     }
 }
 
-/// Whether a file is there that begins as an archive does.
-fn is_archive_at<F: Files>(files: &F, path: &str, calls: &mut FileCalls) -> io::Result<bool>
-    ensures none { result ≡ Ok false → calls.new.entries ≡ calls.old.entries ++ FindsNoArchive path.now ∷ [] }
-    ensures other { result ≢ Ok false → calls.new.entries ≡ calls.old.entries }
+/// What the file at a path begins with, which has to give way: `None` if it is empty, or nothing is there.
+pub fn given_way<F: Files>(
+    files: &F,
+    path: &str,
+    replaces: Replaces,
+    calls: &mut FileCalls,
+) -> Result<Option<LeadingBytes>, OutFault>
+    ensures begins { IfOk result (λ beginning. GivesWay replaces (first_bytes beginning)
+        × (calls.new.entries ≡ calls.old.entries ++ Begins path.now (first_bytes beginning) ∷ [])) }
+    ensures refused { OnErr result ((tests : List FileCall) × (are_probes tests ≡ true)
+        × (calls.new.entries ≡ calls.old.entries ++ tests)) }
 {
-    let is = begins_as_archive(files, path)?;
-    if !is {
-        calls.finds_no_archive(path);
-    }
-    Ok(is)
+    let beginning = match beginning_at(files, path) {
+        Ok(beginning) => beginning,
+        Err(error) => return Err(refused(error)),
+    };
+    calls.begins(path, &beginning);
+    test_kind(replaces, &beginning)?;
+    Ok(beginning)
 }
 
-fn begins_as_archive<F: Files>(files: &F, path: &str) -> io::Result<bool> {
-    let mut file = match fs::open(files, path) {
-        Ok(file) => file,
-        Err(error) if error.kind() == ErrorKind::NotFound => return Ok(false),
+/// The first bytes of the file at a path: `None` if it is empty, or nothing is there.
+fn beginning_at<F: Files>(files: &F, path: &str) -> io::Result<Option<LeadingBytes>> {
+    let size = match fs::metadata(files, path) {
+        Ok(metadata) => metadata.len(),
+        Err(error) if error.kind() == ErrorKind::NotFound => return Ok(None),
         Err(error) => return Err(error),
     };
-    match magic_in(&mut file) {
-        Ok(magic) => Ok(TextKind::Archive.format_of(&magic).is_some()),
-        Err(error) if error.kind() == ErrorKind::UnexpectedEof => Ok(false),
-        Err(error) => Err(error),
-    }
+    beginning_of(&mut fs::open(files, path)?, size)
 }
 
 /// A file, read from its beginning.

@@ -7,7 +7,8 @@ ghost use Rattle.archive_files.specs.FileCalls.{are_probes, bytes_in};
 ghost use Rattle.archive_files.specs.OutFiles.{IsSoFar, Settled, Untouched, WritesBegun, WritesTo};
 ghost use Rattle.archive_files.specs.OutFiles.{draft_account, fault_of};
 ghost use Rattle.archive_files.specs.OutFiles.{has_calls, is_drafted, is_settled, stage_of, takes_bytes};
-ghost use Rattle.archive_files.specs.declared.replaceable.Replaces.TheVariants.{OwnFiles};
+ghost use Rattle.archive_files.specs.declared.replaceable.Replaces.{Replaces};
+ghost use Rattle.archive_files.specs.declared.replaceable.Replaces.TheVariants.{ArchivesBelow};
 ghost use Rattle.archive_files.specs.Publishing.{HandsOn, IsRemoved, took_nothing};
 
 use crate::drafts::{Draft, create_draft, put_draft, remove_draft};
@@ -40,7 +41,7 @@ pub struct OutFile<'a, F: Files> {
     calls: FileCalls,
     // What was called is what its state says: nothing before the first bytes and once it was handed on, and nothing
     // where neither bytes nor a failure came.
-    ghost so_far: { ∥ IsSoFar (option_map string_bytes path) (stage_of state) calls.entries ∥₁ },
+    ghost so_far: { ∥ IsSoFar replaces (option_map string_bytes path) (stage_of state) calls.entries ∥₁ },
     ghost empty: { has_calls (stage_of state) ≡ false → calls.entries ≡ [] },
     ghost first: { took_nothing (bytes_in calls.entries) failures ≡ true → calls.entries ≡ [] },
 }
@@ -73,7 +74,7 @@ fn begun<F: Files>(
     calls: &mut FileCalls,
 ) -> Result<OutState<F::File>, OutFault>
     ensures calls { calls.old.entries ≡ [] → IfOk result
-        (λ state. IsSoFar (Some path.now) (stage_of state) calls.new.entries) }
+        (λ state. IsSoFar replaces (Some path.now) (stage_of state) calls.new.entries) }
     ensures bytes { calls.old.entries ≡ [] → bytes_in calls.new.entries ≡ [] }
     ensures begun { IfOk result (λ state. has_calls (stage_of state) ≡ true) }
     ensures refused { calls.old.entries ≡ [] → OnErr result (are_probes calls.new.entries ≡ true) }
@@ -105,7 +106,7 @@ fn first_state<F: Files>(
     calls: &mut FileCalls,
 ) -> OutState<F::File>
     ensures calls { calls.old.entries ≡ []
-        → IsSoFar (option_map string_bytes path.now) (stage_of result) calls.new.entries }
+        → IsSoFar replaces (option_map string_bytes path.now) (stage_of result) calls.new.entries }
     ensures bytes { calls.old.entries ≡ [] → bytes_in calls.new.entries ≡ [] }
     ensures begun { has_calls (stage_of result) ≡ true }
 {
@@ -128,8 +129,8 @@ fn begin<F: Files>(
     state: &mut OutState<F::File>,
     calls: &mut FileCalls,
 )
-    ensures so_far { IsSoFar (option_map string_bytes path.now) (stage_of state.old) calls.old.entries
-        → IsSoFar (option_map string_bytes path.now) (stage_of state.new) calls.new.entries }
+    ensures so_far { IsSoFar replaces (option_map string_bytes path.now) (stage_of state.old) calls.old.entries
+        → IsSoFar replaces (option_map string_bytes path.now) (stage_of state.new) calls.new.entries }
     ensures bytes { (has_calls (stage_of state.old) ≡ false → calls.old.entries ≡ [])
         → bytes_in calls.new.entries ≡ bytes_in calls.old.entries }
     ensures empty { (has_calls (stage_of state.old) ≡ false → calls.old.entries ≡ [])
@@ -167,12 +168,12 @@ fn finish<F: Files>(
     state: &mut OutState<F::File>,
     calls: &mut FileCalls,
 ) -> bool
-    ensures published { result ≡ true → (path : Option (List ℕ)) → IsSoFar path (stage_of state.old) calls.old.entries
+    ensures published { result ≡ true → (path : Option (List ℕ)) → IsSoFar replaces path (stage_of state.old) calls.old.entries
         → HandsOn path replaces calls.new.entries }
     ensures settled { result ≡ true → stage_of state.new ≡ Settled }
     ensures was_open { result ≡ true → is_settled (stage_of state.old) ≡ false }
-    ensures refused { result ≡ false → (path : Option (List ℕ)) → IsSoFar path (stage_of state.old) calls.old.entries
-        → IsSoFar path (stage_of state.new) calls.new.entries }
+    ensures refused { result ≡ false → (path : Option (List ℕ)) → IsSoFar replaces path (stage_of state.old) calls.old.entries
+        → IsSoFar replaces path (stage_of state.new) calls.new.entries }
     ensures same { result ≡ false → is_settled (stage_of state.new) ≡ is_settled (stage_of state.old) }
     ensures bytes { bytes_in calls.new.entries ≡ bytes_in calls.old.entries }
     ensures same_calls { result ≡ false
@@ -197,10 +198,10 @@ fn finish<F: Files>(
 
 /// Removes the draft of an output that was not published.
 fn remove<F: Files>(files: &F, state: &mut OutState<F::File>, calls: &mut FileCalls)
-    ensures so_far { (path : Option (List ℕ)) → IsSoFar path (stage_of state.old) calls.old.entries
-        → IsSoFar path (stage_of state.new) calls.new.entries }
-    ensures removed { (path : Option (List ℕ)) → IsSoFar path (stage_of state.old) calls.old.entries
-        → IsRemoved path calls.new.entries }
+    ensures so_far { (replaces : Replaces) (path : Option (List ℕ)) → IsSoFar replaces path (stage_of state.old) calls.old.entries
+        → IsSoFar replaces path (stage_of state.new) calls.new.entries }
+    ensures removed { (replaces : Replaces) (path : Option (List ℕ)) → IsSoFar replaces path (stage_of state.old) calls.old.entries
+        → IsRemoved replaces path calls.new.entries }
     ensures bytes { bytes_in calls.new.entries ≡ bytes_in calls.old.entries }
     ensures same_calls { (is_drafted (stage_of state.old) ≡ true) ⊎ (calls.new.entries ≡ calls.old.entries) }
     ensures has_calls { has_calls (stage_of state.new) ≡ has_calls (stage_of state.old) }
@@ -217,7 +218,7 @@ impl<'a, F: Files> OutFile<'a, F> {
     /// A file without a path, which is never begun. Drafts are named for this process.
     pub fn new(alloc: Global, files: &'a F, process: u32) -> Self
         ensures path { result.path ≡ None }
-        ensures replaces { result.replaces ≡ OwnFiles }
+        ensures replaces { result.replaces ≡ ArchivesBelow }
         ensures untouched { stage_of result.state ≡ Untouched }
         ensures unfailed { result.failures ≡ 0 }
         ensures calls { result.calls.entries ≡ [] }
@@ -227,7 +228,7 @@ impl<'a, F: Files> OutFile<'a, F> {
             files,
             process,
             path: None,
-            replaces: Replaces::OwnFiles,
+            replaces: Replaces::ArchivesBelow,
             state: OutState::Untouched,
             failures: 0,
             reason: None,
@@ -329,7 +330,7 @@ impl<'a, F: Files> OutFile<'a, F> {
 
     /// Removes the draft of an output that was not published.
     pub fn discard(&mut self)
-        ensures removed { ∥ IsRemoved (option_map string_bytes self.new.path) self.new.calls.entries ∥₁ }
+        ensures removed { ∥ IsRemoved self.new.replaces (option_map string_bytes self.new.path) self.new.calls.entries ∥₁ }
         ensures path { self.new.path ≡ self.old.path }
         ensures replaces { self.new.replaces ≡ self.old.replaces }
         ensures bytes { bytes_in self.new.calls.entries ≡ bytes_in self.old.calls.entries }

@@ -59,7 +59,9 @@ impl<R: Read + Seek + Drop> Placed for PlacedFile<R> {
         }
     }
 
+    // A folder has a size too, and no byte of it can be read.
     fn size(&mut self) -> Result<u64, Failed> {
+        self.placing.take_at(0, &mut [0])?;
         self.placing.size()
     }
 }

@@ -1,19 +1,15 @@
-//! Which file at OUT's path may be replaced, and why one is not. What files hold is in no contract.
+//! Which file at OUT's path is replaced, by what it begins with, and why one is not. What files hold is in no contract.
 
-use archive_records::{Format, MAGIC_LEN};
+ghost use Rattle.std.specs.Prelude.{◌≡◌, ◌≢◌, ℕ, IsOk, List, None, Ok, OnOk, Some, false, true};
+ghost use Rattle.archive_files.specs.Replacing.{GivesWay, IsOfKind, first_bytes};
+
+use crate::opened_file::{LEADING_LEN, LeadingBytes};
+use archive_records::TextKind;
 use memory::NoMemory;
 use std::io::{self, Read};
 
-/// The formats of symarch's own files.
-const OWN: [Format; 4] = [
-    Format::Archive,
-    Format::OldArchive,
-    Format::Operations,
-    Format::Summary,
-];
-
 /// What an index begins with.
-const INDEX_MAGIC: &[u8] = b"MSYMIDX1";
+const INDEX_MAGIC: LeadingBytes = *b"MSYMIDX1";
 
 /// Why OUT takes no bytes, or was not published.
 #[derive(Clone, Copy, Debug)]
@@ -36,8 +32,8 @@ impl From<NoMemory> for OutFault {
 /// Why what is at OUT's path is not replaced.
 #[derive(Clone, Copy, Debug)]
 pub enum Obstacle {
-    /// It is none of symarch's files.
-    Foreign,
+    /// It begins so, and the command replaces no file that does.
+    OtherKind(LeadingBytes),
     /// It is an archive with so many records that the new one neither has nor covers.
     Loses(u64),
     /// It begins as an archive does, and cannot be read to its end.
@@ -51,27 +47,55 @@ pub enum Obstacle {
 /// Which files a command replaces beside empty ones.
 #[derive(Clone, Copy, Debug, PartialEq, Eq)]
 pub enum Replaces {
-    /// Each of symarch's own: what it writes is a message to another site, or an index.
-    OwnFiles,
-    /// Each of symarch's own but an archive that has a record which the new one neither has nor covers.
+    /// An archive, unless it has a record which the new one neither has nor covers.
     ArchivesBelow,
+    /// A summary.
+    Summaries,
+    /// An index.
+    Indexes,
     /// Those that have the very bytes of the new one: what it writes is a slice.
     SameBytes,
 }
 
-/// Whether a file is one of symarch's own, told by what it begins with.
-pub fn is_own<R: Read>(file: &mut R) -> bool {
-    match magic_in(file) {
-        Ok(magic) => {
-            magic.starts_with(INDEX_MAGIC) || OWN.iter().any(|format| format.magic() == magic)
+impl Replaces {
+    /// Whether a file that begins so is of the kind that the command writes; a slice may begin with any bytes.
+    fn is_of_kind(self, bytes: &LeadingBytes) -> bool
+        ensures kind { result ≡ true → IsOfKind self bytes.now }
+        ensures other { result ≡ false → IsOfKind self bytes.now → ⊥ }
+    {
+        match self {
+            Replaces::ArchivesBelow => TextKind::Archive.format_of(bytes).is_some(),
+            Replaces::Summaries => TextKind::Summary.format_of(bytes).is_some(),
+            Replaces::Indexes => *bytes == INDEX_MAGIC,
+            Replaces::SameBytes => true,
         }
-        Err(_) => false,
     }
 }
 
-/// The first bytes of a file, as many as a magic has.
-pub fn magic_in<R: Read>(file: &mut R) -> io::Result<[u8; MAGIC_LEN as usize]> {
-    let mut magic = [0; MAGIC_LEN as usize];
-    file.read_exact(&mut magic)?;
-    Ok(magic)
+/// The first bytes of a file of this size, with zeros after them; `None` if it is empty.
+pub fn beginning_of<R: Read>(file: &mut R, size: u64) -> io::Result<Option<LeadingBytes>>
+    ensures empty { size ≡ 0 → result ≡ Ok None }
+    ensures some { size ≢ 0 → OnOk result (result ≢ Ok None) }
+{
+    if size == 0 {
+        return Ok(None);
+    }
+    let mut bytes = [0; LEADING_LEN];
+    let count = size.min(LEADING_LEN as u64) as usize;
+    file.read_exact(&mut bytes[..count])?;
+    Ok(Some(bytes))
+}
+
+/// Tests whether a file that begins so may be replaced.
+pub fn test_kind(replaces: Replaces, beginning: &Option<LeadingBytes>) -> Result<(), OutFault>
+    ensures gives_way { OnOk result (GivesWay replaces (first_bytes beginning.now)) }
+    ensures empty { beginning.now ≡ None → IsOk result }
+    ensures kind { (bytes : List ℕ) → beginning.now ≡ Some bytes → IsOfKind replaces bytes → IsOk result }
+{
+    match beginning {
+        Some(bytes) if !replaces.is_of_kind(bytes) => Err(OutFault::NotReplaced(Obstacle::OtherKind(
+            *bytes,
+        ))),
+        _ => Ok(()),
+    }
 }

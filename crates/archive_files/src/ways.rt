@@ -1,14 +1,15 @@
 //! How OUT is written: what its path leads to, as the system says it. A call that asks is noted with its answer.
 
-ghost use Rattle.std.specs.Prelude.{◌≡◌, ◌≢◌, ◌∷◌, ◌++◌, [], IfErr, IfOk, OnErr, false, string_bytes, true};
+ghost use Rattle.std.specs.Prelude.{◌≡◌, ◌≢◌, ◌∷◌, ◌++◌, ℕ, List, [], IfErr, IfOk, OnErr, false, string_bytes, true};
+ghost use Rattle.archive_files.specs.declared.replaceable.Replaces.{Replaces};
 ghost use Rattle.std.specs.IoError.{error_kind};
-ghost use Rattle.archive_files.specs.FileCalls.{FindsFile, FindsNoLink, FindsNothing, Leads, are_probes, found};
+ghost use Rattle.archive_files.specs.FileCalls.{Begins, FindsFile, FindsNoLink, FindsNothing, Leads, are_probes, found};
 ghost use Rattle.archive_files.specs.OutFiles.{IsWayTo};
-ghost use Rattle.archive_files.specs.Publishing.{IsTargetOf};
+ghost use Rattle.archive_files.specs.Publishing.{FindsReplaced, IsTargetOf};
 
 use crate::descriptors::is_descriptor;
 use crate::file_calls::FileCalls;
-use crate::replaceable::{Obstacle, OutFault, Replaces, is_own};
+use crate::replaceable::{Obstacle, OutFault, Replaces, beginning_of, test_kind};
 use std::alloc::Global;
 use std::fs::{self, Metadata, OpenOptions};
 use std::io::{self, ErrorKind};
@@ -105,7 +106,7 @@ pub fn way_to<F: Files>(
     replaces: Replaces,
     calls: &mut FileCalls,
 ) -> Result<Way, OutFault>
-    ensures way { calls.old.entries ≡ [] → IfOk result (λ way. IsWayTo path.now way calls.new.entries) }
+    ensures way { calls.old.entries ≡ [] → IfOk result (λ way. IsWayTo replaces path.now way calls.new.entries) }
     ensures refused { calls.old.entries ≡ [] → OnErr result (are_probes calls.new.entries ≡ true) }
 {
     if is_descriptor(path) {
@@ -132,7 +133,7 @@ fn absent<F: Files>(
     calls: &mut FileCalls,
 ) -> Result<Way, OutFault>
     ensures way { calls.old.entries ≡ FindsNothing path.now ∷ []
-        → IfOk result (λ way. IsWayTo path.now way calls.new.entries) }
+        → IfOk result (λ way. (replaces : Replaces) → IsWayTo replaces path.now way calls.new.entries) }
     ensures refused { calls.old.entries ≡ FindsNothing path.now ∷ []
         → OnErr result (are_probes calls.new.entries ≡ true) }
 {
@@ -143,7 +144,7 @@ fn absent<F: Files>(
     Ok(Way::Beside(String::from_str(alloc, path)?, None))
 }
 
-/// The way to a regular file, which has to be one that may be written and is replaced, as far as its first bytes tell.
+/// The way to a regular file, which has to be one that may be written and that is replaced, by its first bytes.
 fn replaced<F: Files>(
     alloc: Global,
     files: &F,
@@ -153,7 +154,7 @@ fn replaced<F: Files>(
     calls: &mut FileCalls,
 ) -> Result<Way, OutFault>
     ensures way { calls.old.entries ≡ FindsFile path.now ∷ []
-        → IfOk result (λ way. IsWayTo path.now way calls.new.entries) }
+        → IfOk result (λ way. IsWayTo replaces path.now way calls.new.entries) }
     ensures refused { calls.old.entries ≡ FindsFile path.now ∷ []
         → OnErr result (are_probes calls.new.entries ≡ true) }
 {
@@ -161,10 +162,12 @@ fn replaced<F: Files>(
         Ok(file) => file,
         Err(error) => return Err(OutFault::NotCreated(Some(error))),
     };
-    let is_foreign = metadata.len() > 0 && replaces != Replaces::SameBytes && !is_own(&mut file);
-    if is_foreign {
-        return Err(OutFault::NotReplaced(Obstacle::Foreign));
-    }
+    let beginning = match beginning_of(&mut file, metadata.len()) {
+        Ok(beginning) => beginning,
+        Err(error) => return Err(OutFault::NotReplaced(Obstacle::Refused(Some(error)))),
+    };
+    calls.begins(path, &beginning);
+    test_kind(replaces, &beginning)?;
     let target = target_of(alloc, files, path, calls)?;
     Ok(Way::Beside(target, Some(Access::of(metadata))))
 }
@@ -176,9 +179,9 @@ fn target_of<F: Files>(
     path: &str,
     calls: &mut FileCalls,
 ) -> Result<String, OutFault>
-    ensures target { calls.old.entries ≡ FindsFile path.now ∷ []
-        → IfOk result (λ target. IsTargetOf path.now (string_bytes target) calls.new.entries) }
-    ensures refused { calls.old.entries ≡ FindsFile path.now ∷ []
+    ensures target { (replaces : Replaces) → FindsReplaced replaces path.now calls.old.entries
+        → IfOk result (λ target. IsTargetOf replaces path.now (string_bytes target) calls.new.entries) }
+    ensures refused { (bytes : List ℕ) → calls.old.entries ≡ FindsFile path.now ∷ Begins path.now bytes ∷ []
         → OnErr result (are_probes calls.new.entries ≡ true) }
 {
     if !is_link(files, path, calls) {

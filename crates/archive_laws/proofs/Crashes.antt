@@ -128,7 +128,7 @@ module _ (draft target : List ℕ) (other : draft ≢ target) (probes : List Fil
 
 module _ (path text : List ℕ) (replaces : Replaces) (calls : List FileCall) (is : IsReplaced path replaces text calls) where
   asked_first : are_probes is.probes ≡ true
-  asked_first = target_probes path is.target is.probes is.target_is
+  asked_first = target_probes replaces path is.target is.probes is.target_is
 
   are_tested : are_probes is.tests ≡ true
   are_tested = tested_probes replaces is.draft is.target is.tests is.tested
@@ -166,23 +166,24 @@ module _ (path text : List ℕ) (replaces : Replaces) (calls : List FileCall) (i
   pub place_is : (is.target ≡ path) ⊎ Contains calls (Leads path is.target)
   place_is = by_case is.target_is
     where
-      by_case : IsTargetOf path is.target is.probes → (is.target ≡ path) ⊎ Contains calls (Leads path is.target)
+      by_case : IsTargetOf replaces path is.target is.probes → (is.target ≡ path) ⊎ Contains calls (Leads path is.target)
       by_case (inl none) = inl none.0
-      by_case (inr (inl file)) = inl file.0
-      by_case (inr (inr link)) =
+      by_case (inr (found, replaced, inl file)) = inl file.0
+      by_case (inr (found, (bytes, gives, is_found), inr link)) =
+          let last = drafting is.draft is.pieces ++ is.tests ++ publishing is.draft is.target (folder_of is.target) in
           inr (subst (λ cs. Contains cs (Leads path is.target))
-          (sym (is.calls_are ∙ ap (λ probes. probes ++ drafting is.draft is.pieces ++ is.tests ++ publishing is.draft is.target (folder_of is.target)) link))
-          (1, grind arith, refl))
+          (sym (is.calls_are ∙ ap (λ probes. probes ++ last) (link ∙ ap (λ f. f ++ Leads path is.target ∷ []) is_found)))
+          (2, grind arith, refl))
 
-pub removed_leaves : (path : List ℕ) (calls : List FileCall) (before left : Option (List ℕ)) (done : ℕ)
-    (is : IsDraftRemoved path calls) → MayBeAt before (replay is.target (take done calls)) left → left ≡ before
-removed_leaves path calls before left done is may =
+pub removed_leaves : (replaces : Replaces) (path : List ℕ) (calls : List FileCall) (before left : Option (List ℕ)) (done : ℕ)
+    (is : IsDraftRemoved replaces path calls) → MayBeAt before (replay is.target (take done calls)) left → left ≡ before
+removed_leaves replaces path calls before left done is may =
     elim is.calls_are [
       | inl at_once ↦ leaves left _ (still_at (Removes is.draft ∷ []) at_once (apart, tt)) may
       | inr synced ↦ leaves left _ (still_at (Syncs ∷ Removes is.draft ∷ []) synced ((λ d still. still), (apart, tt))) may
     ]
   where
-    drafted : IsDrafted path is.draft is.target is.drafted
+    drafted : IsDrafted replaces path is.draft is.target is.drafted
     drafted = is.is_drafted
 
     apart : (d : DraftState) → IsStill d → IsStill (behind is.target d (Removes is.draft))
@@ -193,7 +194,7 @@ removed_leaves path calls before left done is may =
     still_at rest are off =
         subst (λ cs. IsStill (replay is.target (take done cs))) (sym (are ∙ ap (λ cs. cs ++ is.tests ++ rest) drafted.calls_are))
         (removed is.draft is.target drafted.beside.apart drafted.probes drafted.pieces is.tests
-        (target_probes path is.target drafted.probes drafted.target_is) is.are_tests rest done off)
+        (target_probes replaces path is.target drafted.probes drafted.target_is) is.are_tests rest done off)
 
     leaves : (left : Option (List ℕ)) (d : DraftState) → IsStill d → MayBeAt before d left → left ≡ before
     leaves _ d still (Old unkept) = refl

@@ -3,7 +3,7 @@
 use Rattle.std.specs.Prelude.{◌≡◌, ℕ, Bool, true, false, ◌||◌, List, [], ◌++◌, fold, Option, Some}
 use Rattle.std.specs.Str.{bytes_eq}
 use Rattle.archive_files.specs.FileCalls.{FileCall, Creates, Opens, Writes, Syncs, Renames, SyncsFolder, Removes}
-use Rattle.archive_files.specs.FileCalls.{FindsFile, FindsOther, FindsNothing, FindsNoLink, Leads, FindsNoArchive}
+use Rattle.archive_files.specs.FileCalls.{FindsFile, FindsOther, FindsNothing, FindsNoLink, Leads, Begins}
 use Rattle.archive_files.specs.FileCalls.{Agrees, Covers, Loses}
 
 -- The draft behind some calls: its bytes, whether they are on the disk, whether it was renamed to the target, whether
@@ -26,7 +26,7 @@ behind target d (FindsOther path) = d
 behind target d (FindsNothing path) = d
 behind target d (FindsNoLink path) = d
 behind target d (Leads path to) = d
-behind target d (FindsNoArchive path) = d
+behind target d (Begins path bytes) = d
 behind target d (Covers draft to) = d
 behind target d (Agrees draft to) = d
 behind target d (Loses draft to) = d

@@ -25,8 +25,8 @@ pub fn whole_or_as_before()
 
 /// A draft is removed: a crash behind any of the calls leaves what was at the place of OUT's path.
 pub fn removed_leaves_it()
-    ensures { (path : List ℕ) (calls : List FileCall) (before left : Option (List ℕ)) (done : ℕ)
-        (is : IsDraftRemoved path calls)
+    ensures { (replaces : Replaces) (path : List ℕ) (calls : List FileCall) (before left : Option (List ℕ)) (done : ℕ)
+        (is : IsDraftRemoved replaces path calls)
         → MayBeAt before (replay is.target (take done calls)) left
         → left ≡ before }
 {}

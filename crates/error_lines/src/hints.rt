@@ -125,7 +125,7 @@ impl Display for Subject {
 #[derive(Clone, Copy)]
 enum Hint {
     SameFile,
-    Foreign,
+    OtherKind(Option<FileKind>),
     Damaged,
     Differs,
     Loses(u64),
@@ -140,7 +140,7 @@ impl Hint {
     /// What is known where this is why OUT was not replaced; what the system said stands at the end of the line.
     fn of(obstacle: Obstacle) -> Option<Hint> {
         match obstacle {
-            Obstacle::Foreign => Some(Hint::Foreign),
+            Obstacle::OtherKind(bytes) => Some(Hint::OtherKind(FileKind::of(&bytes))),
             Obstacle::Damaged => Some(Hint::Damaged),
             Obstacle::Differs => Some(Hint::Differs),
             Obstacle::Loses(lost) => Some(Hint::Loses(lost)),
@@ -164,7 +164,13 @@ impl Display for Hint {
             Hint::Changed => f.write_str(
                 "of an archive in which a slice changed since it came in: run `symarch-keep check` first",
             ),
-            Hint::Foreign => f.write_str("there, and neither empty nor one of symarch's files"),
+            Hint::OtherKind(kind) => f.write_str(match kind {
+                Some(FileKind::Archive) => "there, and an archive",
+                Some(FileKind::Operations) => "there, and an operations file",
+                Some(FileKind::Summary) => "there, and a summary",
+                Some(FileKind::Index) => "there, and an index",
+                _ => "there, and neither empty nor one of symarch's files",
+            }),
             Hint::Damaged => f.write_str("there, and an archive that is damaged"),
             Hint::Differs => f.write_str("there, and neither empty nor the same slice"),
             Hint::Loses(1) => {

@@ -54,13 +54,13 @@ settled_of false path replaces calls none =
 pub settled_without_calls : (stage : Stage) → is_settled stage ≡ true → has_calls stage ≡ false
 settled_without_calls stage settled = grind arith
 
--- a draft that took bytes has its path, and the bytes were written
+-- a draft that took bytes has its path and its rule, and the bytes were written
 pub draft_took : (settled : Bool) (p q : Option (List ℕ)) (r s : Replaces) (calls : List FileCall) (bytes : List ℕ)
     → Appends (Some (account p r [])) (Some (draft_account settled q s calls)) bytes
-    → (q ≡ p) × (bytes_in calls ≡ bytes)
+    → (q ≡ p) × (s ≡ r) × (bytes_in calls ≡ bytes)
 draft_took true p q r s calls bytes took =
     absurd (some_known p (number_of r ∷ bytes) (sym (took ∙ append_assoc (place p) (number_of r ∷ []) bytes)))
-draft_took false p q r s calls bytes took = let is = known p q r s (bytes_in calls) bytes took in (is.0, is.2)
+draft_took false p q r s calls bytes took = known p q r s (bytes_in calls) bytes took
 
 -- what was put in place is the text, at the path
 pub published_there : (p : Option (List ℕ)) (r : Replaces) (published : Option Published) (text : List ℕ)
@@ -93,11 +93,12 @@ path_from r a b xs ys others same path asked inputs is =
     rw (← asked, ← inputs) is
 
 -- without a path nothing was called
-pub called_nowhere : (path : Option (List ℕ)) (calls : List FileCall) → path ≡ None → ∥ IsRemoved path calls ∥₁ → calls ≡ []
-called_nowhere path [] none removed = refl
-called_nowhere path (call ∷ calls) none removed = absurd (not_there removed by_case)
+pub called_nowhere : (replaces : Replaces) (path : Option (List ℕ)) (calls : List FileCall) → path ≡ None
+    → ∥ IsRemoved replaces path calls ∥₁ → calls ≡ []
+called_nowhere replaces path [] none removed = refl
+called_nowhere replaces path (call ∷ calls) none removed = absurd (not_there removed by_case)
   where
-    by_case : IsRemoved path (call ∷ calls) → ⊥
+    by_case : IsRemoved replaces path (call ∷ calls) → ⊥
     by_case (inl empty) = cc
     by_case (inr (inl asked)) = cc asked.1
     by_case (inr (inr (inl drafted))) = cc drafted.1

@@ -31,7 +31,7 @@ module _ {S D T : Type 0} (calls : Calls S D T) (line : Line) (report : Writer) 
   put (inr same) = is.untouched (kept_same out same)
 
   not_put : (r : Result Status CommandFault) → is.ended ≡ r → IsNotPut out r → calls.called ≡ []
-  not_put r same not = called_nowhere is.path calls.called none (is.removed (subst (IsNotPut out) (sym same) not)).0
+  not_put r same not = called_nowhere is.replaces is.path calls.called none (is.removed (subst (IsNotPut out) (sym same) not)).0
 
   by_end : (r : Result Status CommandFault) → is.ended ≡ r → IsOutcome out r → calls.called ≡ []
   by_end (Err (Input at why)) same o = not_put (Err (Input at why)) same o

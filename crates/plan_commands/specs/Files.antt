@@ -124,7 +124,7 @@ pub record IsCarriedOut {S D T : Type 0} (calls : Calls S D T) (line : Line) (re
   pub published : (text : List ℕ) → IsOutPublished (known_of (outs_in calls begun done)) text
       → (p : List ℕ) × (path ≡ Some p) × ∥ IsPublished p replaces text calls.called ∥₁
   pub removed : (not_put : IsNotPut (outs_in calls begun done) ended)
-      → ∥ IsRemoved path calls.called ∥₁ × (bytes_in calls.called ≡ not_put.bytes)
+      → ∥ IsRemoved replaces path calls.called ∥₁ × (bytes_in calls.called ≡ not_put.bytes)
   pub untouched : IsKept (known_of (outs_in calls begun done)) → calls.called ≡ []
   pub told_is : told ≡ command_fault_of calls.fault ended
 

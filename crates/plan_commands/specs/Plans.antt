@@ -8,7 +8,7 @@ use Rattle.command_core.specs.{declared.faults.CommandFault.CommandFault, declar
 use Rattle.command_core.specs.Ends.{Command, Ends, EndsReport, EndsStreamed, Query, Streamed}
 use Rattle.command_core.specs.Outputs.{Outs, Publishes, Writer, draft_of, out_of, report_of}
 use Rattle.archive_files.specs.declared.replaceable.Replaces.{Replaces}
-use Rattle.archive_files.specs.declared.replaceable.Replaces.TheVariants.{OwnFiles, ArchivesBelow, SameBytes}
+use Rattle.archive_files.specs.declared.replaceable.Replaces.TheVariants.{ArchivesBelow, Summaries, Indexes, SameBytes}
 use Rattle.archive_writing.specs.{Admit.admit_as_it_comes, Apply.apply_as_it_comes, Delta.delta_as_it_comes}
 use Rattle.archive_writing.specs.{Summary.summary, Notes.NotesMissing, Notes.NotesRetired, Retire.retire_as_it_comes}
 use Rattle.archive_writing.specs.{MergeStreams.merge_as_it_comes, Migrate.migrate_as_it_comes, declared.notes.Note.Note}
@@ -19,12 +19,11 @@ use Rattle.archive_exchange.specs.Rehearse.{rehearse}
 use Rattle.index_writing.specs.Index.{index}
 use Rattle.slice_extraction.specs.Extract.{Extraction, Extracts}
 
--- which files the OUT of a plan replaces: a message or an index each of symarch's own, a slice its own, and an archive
+-- which files the OUT of a plan replaces: a summary and an index their own kind, a slice its own bytes, and an archive
 -- those below it
 abbrev pub replaces_of : Plan → Replaces
-replaces_of plan.Summary = OwnFiles
-replaces_of plan.Index = OwnFiles
-replaces_of plan.Delta = OwnFiles
+replaces_of plan.Summary = Summaries
+replaces_of plan.Index = Indexes
 replaces_of (plan.Extract _ _ _) = SameBytes
 replaces_of _ = ArchivesBelow
 

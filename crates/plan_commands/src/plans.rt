@@ -18,13 +18,14 @@ use command_line::Plan;
 use index_writing::run_index;
 use memory::Heap;
 
-/// Which files the OUT of a plan replaces: a message to another site or an index each of symarch's own, a slice its
-/// own, an archive those below it.
+/// Which files the OUT of a plan replaces: a summary and an index their own kind, a slice its own bytes, an archive those
+/// below it.
 pub fn replaces(plan: &Plan) -> Replaces
     ensures { result ≡ replaces_of plan.now }
 {
     match plan {
-        Plan::Summary | Plan::Index | Plan::Delta => Replaces::OwnFiles,
+        Plan::Summary => Replaces::Summaries,
+        Plan::Index => Replaces::Indexes,
         Plan::Extract { .. } => Replaces::SameBytes,
         _ => Replaces::ArchivesBelow,
     }

@@ -5,12 +5,12 @@ use Rattle.archive_files.proofs.out_file.finish.Goals as goal
 
 pub returns-in-Through-clause-published : goal.returns-in-Through-clause-published
 returns-in-Through-clause-published g c = λ _ path so. hands_on_through path c.args.replaces c.args.calls.now.entries
-    (subst (λ state. IsSoFar path (stage_of state) c.args.calls.now.entries)
+    (subst (λ state. IsSoFar c.args.replaces path (stage_of state) c.args.calls.now.entries)
     (sym c.replace.ensures.value ∙ c.in-Through.is) so)
 
 pub returns-in-Ok-clause-published : goal.returns-in-Ok-clause-published
 returns-in-Ok-clause-published g c = λ _ path so. hands_on_draft path _ _ _ c.args.calls.now.entries _
-    (subst (λ state. IsSoFar path (stage_of state) c.args.calls.now.entries)
+    (subst (λ state. IsSoFar c.args.replaces path (stage_of state) c.args.calls.now.entries)
     (sym c.replace.ensures.value ∙ c.in-Drafted.is) so)
     c.in-Ok.ensures.published
 

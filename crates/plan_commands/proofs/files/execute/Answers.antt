@@ -47,7 +47,7 @@ returns g c =
     let took : (bytes : List ℕ)
     → Appends (Some (draft_account (is_settled (stage_of before.draft.state)) path rule before.draft.calls.entries))
     (Some (draft_account settled after done.draft.replaces done.draft.calls.entries)) bytes
-    → (after ≡ path) × (bytes_in done.draft.calls.entries ≡ bytes) =
+    → (after ≡ path) × (done.draft.replaces ≡ rule) × (bytes_in done.draft.calls.entries ≡ bytes) =
     λ bytes is. draft_took settled path after rule done.draft.replaces done.draft.calls.entries bytes
     (subst (λ held. Appends held (Some (draft_account settled after done.draft.replaces done.draft.calls.entries)) bytes)
     begun is) in
@@ -99,12 +99,14 @@ returns g c =
           nothing_there done.target.published (not.kept ∙ none_before) in
           let called : publishing_calls done.target.published ++ last.calls.entries ≡ last.calls.entries =
           ap (λ calls. calls ++ last.calls.entries) gone in (
-            ∥∥₁_map c.discard.ensures.removed (λ removed. subst (λ calls. IsRemoved path calls) (sym called)
-                (subst (λ p. IsRemoved p last.calls.entries)
-                (ap (option_map string_bytes) c.discard.ensures.path ∙ is.0) removed)),
-            ap bytes_in called ∙ c.discard.ensures.bytes ∙ is.1,
+            ∥∥₁_map c.discard.ensures.removed (λ removed. subst (λ calls. IsRemoved rule path calls) (sym called)
+                (subst (λ p. IsRemoved rule p last.calls.entries)
+                (ap (option_map string_bytes) c.discard.ensures.path ∙ is.0)
+                (subst (λ r. IsRemoved r (option_map string_bytes last.path) last.calls.entries)
+                (c.discard.ensures.replaces ∙ is.1) removed))),
+            ap bytes_in called ∙ c.discard.ensures.bytes ∙ is.2,
           );
       untouched = λ kept.
-          let is = took [] kept.0.0 in none_called is.1 kept.0.1 kept.1.0;
+          let is = took [] kept.0.0 in none_called is.2 kept.0.1 kept.1.0;
       told_is = same_told ∙ ap (λ fault. command_fault_of fault c.execute_on-ended.result) c.fault.ensures;
     })

@@ -9,13 +9,13 @@ invariant_of-self g c =
     let old = c.args.self.now in
     let is = c.remove.ensures in
     record {
-      so_far = ∥∥₁_map old.so_far (λ so. is.so_far (option_map string_bytes old.path) so);
+      so_far = ∥∥₁_map old.so_far (λ so. is.so_far old.replaces (option_map string_bytes old.path) so);
       empty = kept_empty (stage_of old.state) (stage_of c.remove.new.state) old.calls.entries c.remove.new.calls.entries
           old.empty is.has_calls is.same_calls;
-      first = kept_first (option_map string_bytes old.path) (stage_of old.state) old.calls.entries
+      first = kept_first old.replaces (option_map string_bytes old.path) (stage_of old.state) old.calls.entries
           c.remove.new.calls.entries old.failures old.so_far old.first is.bytes is.same_calls;
     }
 
 pub returns-clause-removed : goal.returns-clause-removed
 returns-clause-removed g c = ∥∥₁_map c.args.self.now.so_far
-    (λ so. c.remove.ensures.removed (option_map string_bytes c.args.self.now.path) so)
+    (λ so. c.remove.ensures.removed c.args.self.now.replaces (option_map string_bytes c.args.self.now.path) so)

@@ -15,7 +15,7 @@ invariant_of-self g c =
       so_far = ∥∥₁_map old.so_far (λ so. is.refused refl (option_map string_bytes old.path) so);
       empty = kept_empty (stage_of old.state) (stage_of c.finish.new.state) old.calls.entries c.finish.new.calls.entries
           old.empty (is.has_calls refl) (is.same_calls refl);
-      first = kept_first (option_map string_bytes old.path) (stage_of old.state) old.calls.entries
+      first = kept_first old.replaces (option_map string_bytes old.path) (stage_of old.state) old.calls.entries
           c.finish.new.calls.entries old.failures old.so_far old.first is.bytes (is.same_calls refl);
     }
 

@@ -12,9 +12,9 @@ invariant_of-self g c =
     let begun = c.begin.new.calls.entries in
     let bytes = take c.in-Ok.n c.args.bytes.now in
     record {
-      so_far = ∥∥₁_map old.so_far (λ so. subst (λ calls. IsSoFar path stage calls) (sym c.writes.ensures)
-          (more_so_far path stage begun bytes c.in-Ok.ensures.takes
-          (subst (λ s. IsSoFar path s begun) (sym c.write.ensures.stage) (c.begin.ensures.so_far so))));
+      so_far = ∥∥₁_map old.so_far (λ so. subst (λ calls. IsSoFar old.replaces path stage calls) (sym c.writes.ensures)
+          (more_so_far old.replaces path stage begun bytes c.in-Ok.ensures.takes
+          (subst (λ s. IsSoFar old.replaces path s begun) (sym c.write.ensures.stage) (c.begin.ensures.so_far so))));
       empty = λ no. absurd (takes_has_calls stage c.in-Ok.ensures.takes no);
       first = λ none. absurd (took_some begun _ c.args.bytes.now c.in-Ok.n old.failures c.writes.ensures
           c.if-n-gt0.true c.in-Ok.ensures.bound none);
@@ -25,7 +25,7 @@ invariant_of-self-in_default g c =
     let old = c.args.self.now in
     let path = option_map string_bytes old.path in
     record {
-      so_far = ∥∥₁_map old.so_far (λ so. subst (λ s. IsSoFar path s c.begin.new.calls.entries)
+      so_far = ∥∥₁_map old.so_far (λ so. subst (λ s. IsSoFar old.replaces path s c.begin.new.calls.entries)
           (sym c.write.ensures.stage) (c.begin.ensures.so_far so));
       empty = λ no. c.begin.ensures.empty old.empty (ap has_calls (sym c.write.ensures.stage) ∙ no);
       first = λ none. absurd (failed_some _ old.failures none);
