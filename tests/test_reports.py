@@ -249,17 +249,26 @@ class Architectures(ReportCase):
         self.prints([self.no_processor, "two"], "no-processor", counts, absent, status=1)
 
     def test_another_one_than_that_of_the_report(self) -> None:
-        """The UUID is right. It is said under which architecture the archive has it, also by its index."""
+        """The UUID is right, and it answers if it is there under one architecture alone. That is said, also by an
+        index."""
         change = lambda data: data.replace(b"spool arm64 <", b"spool arm64e <")
-        counts = "0 of 4 frames named, 0 named before, 4 not named"
-        other = f"under another architecture: spool {SPOOL} arm64e (the archive has arm64)"
+        counts = "4 of 4 frames named, 0 named before, 0 not named"
+        other = f"by dSYM: spool {SPOOL} arm64e (the archive has arm64)"
         path = self.file("arm64e", change(source("crash")))
         shipped = self.file("shipped.sym", (self.archives / "shipped").read_bytes())
-        self.prints([path, shipped], path.read_bytes(), counts, other, status=1)
+        self.prints([path, shipped], change(named("crash")), counts, other)
         self.assertEqual(self.call("index", shipped, f"{shipped}.idx").status, 0)
-        self.prints([path, shipped], path.read_bytes(), counts, other, status=1)
+        self.prints([path, shipped], change(named("crash")), counts, other)
         came = self.report("--missing", path, shipped)
-        self.assertEqual((came.status, came.lines), (0, [f"{SPOOL} spool"]))
+        self.assertEqual((came.status, came.out), (0, b""))
+
+    def test_two_others_than_that_of_the_report(self) -> None:
+        """None of them answers, and they are named."""
+        path = self.file("x86_64h", source("crash").replace(b"spool arm64 <", b"spool x86_64h <"))
+        counts = "0 of 4 frames named, 0 named before, 4 not named"
+        other = f"under another architecture: spool {SPOOL} x86_64h (the archive has arm64, arm64e)"
+        self.prints([path, "two"], path.read_bytes(), counts, other, status=1)
+        self.assertEqual(self.report("--missing", path, "two").lines, [f"{SPOOL} spool"])
 
     def test_another_one_that_is_retired(self) -> None:
         """The archive does not have it."""
@@ -447,8 +456,8 @@ class Refused(ReportCase):
         self.is_refused(["nowhere", "shipped"], self.unread("nowhere: No such file or directory"))
 
     def test_an_archive_that_is_not_there(self) -> None:
-        why = "  archive 0 is nowhere: No such file or directory (os error 2)"
-        self.is_refused([CRASHES / "arm64.crash", "nowhere"], "symarch: archive 0: cannot open", why)
+        why = "nowhere: No such file; symarch-keep add makes an archive"
+        self.is_refused([CRASHES / "arm64.crash", "nowhere"], self.unread(why))
 
     def test_an_image_in_the_place_of_an_archive(self) -> None:
         why = "  archive 0 is spool-1, a universal file, which `admit` takes"
@@ -456,8 +465,8 @@ class Refused(ReportCase):
 
     def test_an_archive_that_is_cut(self) -> None:
         short = self.file("short", (self.archives / "shipped").read_bytes()[:-1])
-        line = f"symarch: archive 0: Truncated at {short.stat().st_size - 8}"
-        self.is_refused([CRASHES / "arm64.crash", short], line, "  archive 0 is short")
+        line = self.unread("short is cut short: restore it from a backup or another site")
+        self.is_refused([CRASHES / "arm64.crash", short], line)
 
     def test_words(self) -> None:
         path, out = CRASHES / "arm64.crash", self.folder / "x"

@@ -111,7 +111,7 @@ class Folders(GroupCase):
         """A folder is several reports, and no archive."""
         self.file("in/a.crash", source("crash"))
         refused = (
-            (["in", "shipped"], "several reports are written by --out FOLDER"),
+            (["in", "shipped"], "in may hold several reports: add --out NEWFOLDER, or --group"),
             (["in"], "there is no archive after in"),
             (["--group", "in", "in"], "there is no archive after in"),
             (["shipped", "in"], "shipped is an archive, and stands after the reports: "
@@ -200,17 +200,20 @@ class Groups(GroupCase):
         return f"{first}\n{json.dumps(document)}"
 
     def test_other_images(self) -> None:
-        """Equal names in images of other names are other groups, also where a function was inlined."""
+        """Equal names in images of other names are other groups, also where the report alone says that a function was
+        inlined."""
         for name in ("spool", "shelf"):
             self.file(f"in/{name}.crash", source("crash").replace(b"local/bin/spool", b"local/bin/" + name.encode()))
             self.file(f"in/{name}.ips", self.inlined(name))
         shelf = COPY.replace("spool)", "shelf)")
+        self.grouped(["in", "shipped"], f"2\t{shelf}\tin/shelf.crash", f"2\t{COPY}\tin/spool.crash")
         self.grouped(
-            ["in", "shipped"],
-            f"1\t{shelf}\tin/shelf.crash",
-            f"1\t{COPY}\tin/spool.crash",
-            "1\twithin (shelf); copy_body (shelf); file_message (shelf)\tin/shelf.ips",
-            "1\twithin (spool); copy_body (spool); file_message (spool)\tin/spool.ips",
+            ["in", "empty"],
+            "1\tshelf + 1040; shelf + 1016; shelf + 1156\tin/shelf.crash",
+            "1\tspool + 1040; spool + 1016; spool + 1156\tin/spool.crash",
+            "1\twithin (shelf); shelf + 1040; shelf + 1016\tin/shelf.ips",
+            "1\twithin (spool); spool + 1040; spool + 1016\tin/spool.ips",
+            status=1,
         )
 
     @staticmethod

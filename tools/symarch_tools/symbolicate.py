@@ -150,6 +150,7 @@ from .reports.demangling import demangled, without_underscores
 from .reports.faults import Failure, NoReport, Status
 from .reports.folders import files_below, is_named_as_report
 from .reports.groups import group_lines
+from .reports.images import SIGNAL_FRAMES
 from .reports.names import Names
 from .reports.report import Count, Report
 from .reports.streams import drop, encoded, note, printing
@@ -300,6 +301,16 @@ def identity(path: str) -> Optional[Tuple[int, int]]:
 # ---- the whole
 
 
+def look_up(archives: Archives, reports: Sequence[Report]) -> None:
+    """Asks the archives for the frames of reports; and again if they name some as those of signals, outside which a
+    frame has no return address."""
+    images = [image for report in reports for image in report.images.with_frames()]
+    archives.look_up(images)
+    may_have_signals = archives.can_be_read_again and any(map(archives.names.has, SIGNAL_FRAMES))
+    if may_have_signals and any([report.find_interrupted() for report in reports]):
+        archives.look_up(images)
+
+
 def carry_out(words: Words) -> int:
     named = [path for path in words.reports if not is_folder(path)]
     refuse_clash(words, named)
@@ -314,8 +325,8 @@ def carry_out(words: Words) -> int:
             print_end(0, vars(Count()), status)
         return status
     archives = Archives(words.archives, words.has_lines(), words.has_paths)
-    archives.look_up([image for report in reports for image in report.images.with_frames()])
-    status = status or (Status.REFUSED if archives.has_changed else Status.DONE)
+    look_up(archives, reports)
+    status = status or (Status.REFUSED if archives.refused else Status.DONE)
     if words.is_missing:
         print_missing(reports)
         return status

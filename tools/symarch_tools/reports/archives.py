@@ -2,22 +2,25 @@
 by the SHA-256 that each slice came in with."""
 from __future__ import annotations
 
+import collections
+import functools
+import operator
 import os
 import shutil
 import stat
 import tempfile
 import time
 from array import array
-from typing import Dict, Iterable, List, Optional, Sequence, Tuple
+from typing import Dict, Iterable, List, Optional, Sequence, Set, Tuple
 
 from ..keeping import file_names
-from ..keeping.contents import EMPTY, KEY, MAGIC, MAGICS
+from ..keeping.contents import EMPTY, KEY, MAGIC, MAGICS, Malformed, records_in
 from .answers import Answers, Key, Origin
 from .faults import Failure, Status
 from .images import Image, unique
 from .kept import IndexFile, Kept, changed_keys, has_tables, is_of, key_in
 from .names import Names
-from .program import IndexFault, Program
+from .program import IndexFault, Program, cut_short
 from .source_lines import Chains
 from .streams import note, noted, say
 
@@ -63,12 +66,14 @@ class ArchiveFile:
                     self.take_index(index)
                     return
             time.sleep(PAUSE)
+        if is_cut(self.path):
+            raise cut_short(self.path)
         why = f"{self.path} was written since {beside(self.path, INDEX)} was, which does not vouch for it"
         self.refuse(why, f", and if that ends with 0 symarch-keep fold {self.kept}, which indexes it anew")
 
     def make_index(self, program: Program, folder: str) -> None:
         """Has the program make an index in a folder. What can be read once alone, or is of version 1, is copied."""
-        made = tempfile.mkdtemp(dir=folder)
+        made, named = tempfile.mkdtemp(dir=folder), self.path
         if not stat.S_ISREG(os.stat(self.path).st_mode):
             copy = os.path.join(made, "copy")
             with open(self.path, "rb") as file, open(copy, "wb") as written:
@@ -77,10 +82,10 @@ class ArchiveFile:
         with open(self.path, "rb") as file:
             is_of_version_1 = file.read(MAGIC) == MAGICS[1]
         if is_of_version_1:
-            program.make("migrate", self.path, os.path.join(made, "archive"))
+            program.make("migrate", self.path, os.path.join(made, "archive"), named)
             self.path = os.path.join(made, "archive")
         self.index = os.path.join(made, "index")
-        program.make("index", self.path, self.index)
+        program.make("index", self.path, self.index, named)
 
     def key_of(self, entry: int) -> Key:
         with IndexFile(self.index) as rows:
@@ -107,6 +112,29 @@ def levels_of(path: str) -> List[str]:
     return list(filter(os.path.exists, levels))
 
 
+def is_cut(path: str) -> bool:
+    """Whether a file begins as an archive, and does not end as one."""
+    with open(path, "rb") as file:
+        magic = file.read(MAGIC)
+        try:
+            collections.deque(records_in(file), maxlen=0)
+        except Malformed:
+            return any(one.startswith(magic) for one in MAGICS)
+    return False
+
+
+def refuse_missing(path: str) -> None:
+    """Refuses an archive that is not there, and beside which nothing is."""
+    try:
+        os.stat(path)
+    except FileNotFoundError:
+        if not levels_of(path) and not os.path.lexists(beside(path, TODAY)):
+            why = f"{path}: No such file; symarch-keep add makes an archive"
+            raise Failure(why, Status.REFUSED) from None
+    except OSError:
+        pass
+
+
 def is_empty_archive(path: str) -> bool:
     try:
         if os.stat(path).st_size != len(EMPTY):
@@ -126,15 +154,29 @@ def place_of(path: str) -> Tuple[str, Optional[int]]:
 
 
 class Archives:
-    """The archives of a call, by their paths. `has_changed` says whether a slice was refused by its digest."""
+    """The archives of a call, by their paths. `refused` are the keys of slices that changed, each of which is said
+    once."""
 
     def __init__(self, paths: Sequence[str], has_lines: bool, has_paths: bool) -> None:
-        self.paths, self.names, self.chains, self.has_changed = paths, Names(), Chains(has_paths), False
+        self.paths, self.names, self.chains = paths, Names(), Chains(has_paths)
+        self.refused: Set[Key] = set()
         self.files: List[ArchiveFile] = []
+        # Whether each is a file, and no pipe.
+        self.can_be_read_again = True
         self.program = Program(has_lines)
 
     def look_up(self, images: Sequence[Image]) -> None:
-        """Asks for all offsets of all images at once, for each of them once."""
+        """Asks for all offsets of all images; and of those whose UUID is there under one other architecture alone for
+        this one."""
+        for path in self.paths:
+            refuse_missing(path)
+        self.ask_for(images)
+        others = [image for image in images if image.answers is None and image.is_under_one_other()]
+        if others and self.can_be_read_again:
+            self.ask_for(others)
+
+    def ask_for(self, images: Sequence[Image]) -> None:
+        """Asks for the offsets of images at once, for each of them once."""
         wanted: Dict[Key, List[Image]] = {}
         for image in images:
             for arch in image.architectures():
@@ -142,7 +184,7 @@ class Archives:
         once: Dict[Tuple[int, ...], array[int]] = {}
         offsets = {key: offsets_of(some, once) for key, some in wanted.items()}
         for image in images:
-            image.asked = array("Q")
+            image.put_aside(next((offsets[image.uuid, arch] for arch in image.architectures()), image.asked))
         with tempfile.TemporaryDirectory(prefix="symbolicate-report.") as folder:
             for tries_left in reversed(range(TRIES)):
                 answers = {key: Answers(key, its, self.names, self.chains) for key, its in offsets.items()}
@@ -169,6 +211,9 @@ class Archives:
             reply = self.program.reply([(file.path, file.index) for file in self.files], answers)
             if places is not None and places != self.places():
                 return False
+            cut = reply.cut_archive()
+            if cut is not None and cut < len(self.files):
+                raise cut_short(self.files[cut].path)
             fault = reply.fault_of_index()
             if fault is None or fault.number >= len(self.files):
                 break
@@ -227,13 +272,15 @@ class Archives:
         """The answers but for those of slices that changed, which are said."""
         for one in answers:
             if one.key in changed:
-                uuid, arch = one.key
-                why = "changed since it came in: run symarch-keep check"
-                note(f"{uuid} {arch} {why} {changed[one.key].kept}")
+                self.note_changed(one.key, changed[one.key].kept)
                 one.origin = Origin.CHANGED
-        left = [one for one in answers if one.key not in changed]
-        self.has_changed = self.has_changed or len(left) < len(answers)
-        return left
+        return [one for one in answers if one.key not in changed]
+
+    def note_changed(self, key: Key, archive: str) -> None:
+        """Says once that a slice changed."""
+        if key not in self.refused:
+            note(f"{key[0]} {key[1]} changed since it came in: run symarch-keep check {archive}")
+        self.refused.add(key)
 
     def changed(self, answers: Iterable[Answers], is_of_tables: bool) -> Dict[Key, ArchiveFile]:
         """The keys of which a slice changed since it came in, or a table, and where."""
@@ -255,14 +302,13 @@ class Archives:
         others = kept.architectures()
         for image in absent:
             image.others = others.get(image.uuid, [])
+        self.can_be_read_again = kept.is_known
 
 
 def offsets_of(images: Sequence[Image], once: Dict[Tuple[int, ...], array[int]]) -> array[int]:
     """The offsets that images of one UUID ask for, or the first one if they ask for none."""
     key = tuple(map(id, images))
     if key not in once:
-        asked = images[0].asked
-        for image in images[1:]:
-            asked = asked + image.asked
-        once[key] = unique(asked or array("Q", [0]))
+        parts = [part for image in images for part in (image.asked, image.was_asked) if part]
+        once[key] = unique(functools.reduce(operator.add, parts) if parts else array("Q", [0]))
     return once[key]

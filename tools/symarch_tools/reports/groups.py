@@ -3,10 +3,10 @@ from __future__ import annotations
 
 import bisect
 import re
-from typing import Any, Dict, Iterable, Iterator, List, Match, NamedTuple, Optional, Pattern
+from typing import Any, Dict, Iterable, Iterator, List, Match, NamedTuple, Optional, Pattern, Sequence, Tuple
 
 from ..keeping.screen import shown
-from .images import HAD_NAME, Frames
+from .images import HAD_NAME, IS_INLINED, Frames
 from .json_report import JsonReport
 from .named_lines import INLINED
 from .readable import name_of, text_in
@@ -63,7 +63,7 @@ def exception_frames(part: Part) -> List[Frame]:
     most = TOP + len(THROWING)
     if isinstance(part, JsonReport):
         stacks = [stack for stack in part.stacks if stack.name == EXCEPTION_IN_JSON and stack.end > stack.first]
-        found = [json_frame(part, at) for one in stacks[:1] for at in range(one.first, min(one.end, one.first + most))]
+        found = json_frames(part, range(stacks[0].first, stacks[0].end), most) if stacks else []
     elif isinstance(part, TextReport):
         found = text_frames(part, EXCEPTION, most)
     is_throw = tuple(one.image for one in found[: len(THROWING)]) == THROWING and len(found) > len(THROWING)
@@ -72,7 +72,7 @@ def exception_frames(part: Part) -> List[Frame]:
 
 def crashed_frames(part: Part) -> List[Frame]:
     if isinstance(part, JsonReport):
-        return [json_frame(part, at) for at in crashed_places(part)]
+        return json_frames(part, crashed_places(part), TOP)
     return text_frames(part, CRASHED, TOP) if isinstance(part, TextReport) else []
 
 
@@ -88,6 +88,15 @@ def frame_of(frames: Frames, at: Optional[int], written: Optional[str], had: Opt
     return Frame(one_line(name) if name else None, image_name, offset)
 
 
+def with_inlined(frames: Frames, at: int, own: Frame, said: Sequence[Frame]) -> List[Frame]:
+    """A frame after the functions that were inlined there: those that the archive has, where it answers, so that a
+    report is as its copy with names; else those that the report says."""
+    if not frames.answers(at).keys() - {None}:
+        return [*said, own]
+    inlined = frames.answered_lines(at).inlined
+    return [*(Frame(one_line(one.name) if one.name else None, own.image, None) for one in inlined), own]
+
+
 def one_line(text: str) -> str:
     return " ".join(text.split())
 
@@ -96,15 +105,31 @@ def one_line(text: str) -> str:
 
 
 def crashed_places(document: JsonReport) -> range:
-    """The numbers of the top frames of the thread that crashed."""
+    """The numbers of the frames of the thread that crashed."""
     for stack in document.stacks:
         if document.is_crashed(stack):
-            return range(stack.first, min(stack.end, stack.first + TOP))
+            return range(stack.first, stack.end)
     for calls in document.calls:
         for owner, first, end in calls.stacks:
             if calls.is_thread and owner.value("threadAttributed"):
-                return range(first, min(end, first + TOP))
+                return range(first, end)
     return range(0)
+
+
+def json_frames(document: JsonReport, places: range, most: int) -> List[Frame]:
+    """The first frames of a list."""
+    found: List[Frame] = []
+    inlined: List[Frame] = []
+    for at in places:
+        if len(found) >= most:
+            break
+        frame = json_frame(document, at)
+        if document.frames.kinds[at] & IS_INLINED:
+            inlined.append(frame)
+        else:
+            found += with_inlined(document.frames, at, frame, inlined)
+            inlined = []
+    return [*found, *inlined][:most]
 
 
 def json_frame(document: JsonReport, at: int) -> Frame:
@@ -125,6 +150,7 @@ def text_frames(part: TextReport, heading: Pattern[bytes], most: int) -> List[Fr
     """The first frames below a heading: numbered, or as a line of addresses."""
     begins = heading.search(part.data, part.begin, part.end)
     found: List[Frame] = []
+    inlined: List[Frame] = []
     place = begins.end() if begins else part.end
     while place < part.end and len(found) < most:
         line = part.line_at(place)
@@ -133,23 +159,32 @@ def text_frames(part: TextReport, heading: Pattern[bytes], most: int) -> List[Fr
             return addressed_frames(part, place, most)
         if frame is None or form is not CRASH:
             break
-        found.append(text_frame(part, place, frame))
+        at, one = text_frame(part, place, frame)
+        if at is None:
+            inlined.append(one)
+        else:
+            found += with_inlined(part.frames, at, one, inlined)
+            inlined = []
         place = line.end()
-    return found
+    return [*found, *inlined][:most]
 
 
 def addressed_frames(part: TextReport, place: int, most: int) -> List[Frame]:
     """The first frames of a line of addresses."""
     first = bisect.bisect_left(part.frames.places, place)
     end = bisect.bisect_right(part.frames.places, place)
-    return [frame_of(part.frames, at, None, None) for at in range(first, min(end, first + most))]
+    found: List[Frame] = []
+    for at in range(first, min(end, first + most)):
+        found += with_inlined(part.frames, at, frame_of(part.frames, at, None, None), [])
+    return found[:most]
 
 
-def text_frame(part: TextReport, place: int, found: Match[bytes]) -> Frame:
+def text_frame(part: TextReport, place: int, found: Match[bytes]) -> Tuple[Optional[int], Frame]:
+    """The frame of a line, after its number, which one that was inlined has not."""
     places = part.frames.places
     number = bisect.bisect_left(places, place)
     at = number if number < len(places) and places[number] == place else None
     is_inlined = INLINED in found.string and not NO_NAME.fullmatch(found["said"])
     has_name = is_inlined if at is None else part.frames.kinds[at] & HAD_NAME
     had = AFTER_NAME.sub(b"", found["said"], count=1).decode(errors="surrogateescape") if has_name else None
-    return frame_of(part.frames, at, found["image"].decode(errors="surrogateescape"), had)
+    return at, frame_of(part.frames, at, found["image"].decode(errors="surrogateescape"), had)

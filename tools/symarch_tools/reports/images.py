@@ -7,7 +7,7 @@ import itertools
 import re
 import uuid
 from array import array
-from typing import Dict, Hashable, List, Mapping, Optional, Sequence, Tuple, TypeVar
+from typing import Callable, Dict, Hashable, List, Mapping, Optional, Sequence, Set, Tuple, TypeVar
 
 from .answers import Answers, Origin, Symbol
 from .source_lines import NOTHING, Lines
@@ -22,6 +22,8 @@ MOST_SORTED = 200_000
 MOST_KNOWN = 20_000
 # The number of no image.
 NO_IMAGE = -1
+# What calls a handler of a signal, as reports and as symbol tables name it.
+SIGNAL_FRAMES = "_sigtramp", "__sigtramp"
 
 
 class Kind(enum.IntFlag):
@@ -59,8 +61,9 @@ class Image:
         # Whether the report lacks the name of one of its frames.
         self.lacks_names = False
         self.asked: array[int] = array("Q")
+        self.was_asked: array[int] = array("Q")
         self.answers: Optional[Answers] = None
-        # The architectures under which the archive has its UUID, if it does not answer.
+        # The architectures under which the archive has its UUID, if it does not answer by that of the report.
         self.others: List[str] = []
 
     def origin(self) -> Origin:
@@ -78,11 +81,21 @@ class Image:
 
     def architectures(self) -> Sequence[str]:
         """Those under which the archive is asked for the image."""
+        if self.is_under_one_other():
+            return self.others
         return [self.arch] if self.arch in ARCHITECTURES else [] if self.arch else ARCHITECTURES
+
+    def put_aside(self, asked: array[int]) -> None:
+        """Keeps what is asked for in this call of the program, which another call may ask for again."""
+        self.asked, self.was_asked = array("Q"), asked
+
+    def is_under_one_other(self) -> bool:
+        """Whether the archive has its UUID under another architecture, and no third one."""
+        return len(self.others) == 1
 
     def take(self, answers: Mapping[str, Answers]) -> None:
         """Takes the answers under its architecture, among those under each that the archive has of its UUID."""
-        arch = self.arch or (min(answers) if len(answers) == 1 else self.processor)
+        arch = self.others[0] if self.is_under_one_other() else self.arch or (min(answers) if len(answers) == 1 else self.processor)
         self.answers = answers.get(arch) if arch else None
 
     def symbols(self, asked: int) -> Dict[str, Optional[Symbol]]:
@@ -134,6 +147,12 @@ class Frames:
     def __init__(self, images: Images) -> None:
         self.images = images
         self.places, self.numbers, self.asked, self.kinds = array("Q"), array("i"), array("Q"), bytearray()
+        # Frames beside one another in a stack, one that is called or that a signal put there, and the one outside it;
+        # and the frames that the report names as that of a signal.
+        self.inner, self.outer = array("I"), array("I")
+        self.of_signals: Set[int] = set()
+        # How many frames one line of a tree has, if these are several, by the first of them.
+        self.beside: Dict[int, int] = {}
         self.known: Dict[Tuple[int, int, int], Dict[Optional[Symbol], List[str]]] = {}
         self.known_lines: Dict[Tuple[int, int, int], Lines] = {}
 
@@ -163,6 +182,53 @@ class Frames:
             image.lacks_names |= not self.kinds[at] & HAD_NAME
             if not self.kinds[at] & CANNOT_BE_ASKED:
                 image.asked.append(asked)
+
+    def pair(self, inner: int, outer: int) -> None:
+        self.inner.append(inner)
+        self.outer.append(outer)
+
+    def interrupt_said(self) -> None:
+        """Asks for frames that a signal interrupted, by the names that the report has."""
+        if self.of_signals:
+            self.interrupt(self.of_signals.__contains__)
+
+    def interrupt_named(self) -> bool:
+        """Asks for frames that a signal interrupted, by the names of the archive. Returns whether there are more."""
+        return self.interrupt(self.is_of_signal)
+
+    def is_of_signal(self, at: int) -> bool:
+        symbol = self.name(at)
+        return symbol[0] in SIGNAL_FRAMES if symbol else at in self.of_signals
+
+    def interrupt(self, is_of_signal: Callable[[int], bool]) -> bool:
+        """Asks for each frame that is outside those of signals alone at its own address, to which nothing returns.
+        Returns whether there are more than before."""
+        found = {outer for inner, outer in zip(self.inner, self.outer) if is_of_signal(inner)}
+        found -= {outer for inner, outer in zip(self.inner, self.outer) if outer in found and not is_of_signal(inner)}
+        more = [at for first in found for at in self.of_line(first) if self.is_asked_before(at)]
+        places = {(self.numbers[at], self.offset(at)) for at in more}
+        # A list beside a tree has its addresses without their stacks.
+        listed = (at for at in range(len(self)) if places and self.kinds[at] & IS_LISTED and self.is_asked_before(at))
+        stacked = set(self.outer) if places else set()
+        more += [at for at in listed if at not in stacked and (self.numbers[at], self.offset(at)) in places]
+        for at in more:
+            self.ask_at_its_address(at)
+        return bool(more)
+
+    def of_line(self, first: int) -> range:
+        """The frames of a line of a tree, or another one alone."""
+        return range(first, first + self.beside.get(first, 1))
+
+    def is_asked_before(self, at: int) -> bool:
+        """Whether the address before its own is asked for."""
+        return self.kinds[at] & (IS_RETURN | CANNOT_BE_ASKED) == IS_RETURN
+
+    def ask_at_its_address(self, at: int) -> None:
+        self.kinds[at] &= ~IS_RETURN
+        self.asked[at] += 1
+        image = self.image(at)
+        if image:
+            image.asked.append(self.asked[at])
 
     def image(self, at: int) -> Optional[Image]:
         return self.images.listed[self.numbers[at]] if self.numbers[at] != NO_IMAGE else None
@@ -198,12 +264,16 @@ class Frames:
         key = self.numbers[at], self.asked[at], self.kinds[at]
         found = self.known_lines.get(key)
         if found is None:
-            image = self.image(at)
-            found = image.lines(self.asked[at]) if image and self.name(at) else NOTHING
+            found = self.answered_lines(at)
             found = found._replace(inlined=()) if self.kinds[at] & HAS_INLINED else found
             if len(self.known_lines) < MOST_KNOWN:
                 self.known_lines[key] = found
         return found
+
+    def answered_lines(self, at: int) -> Lines:
+        """Where a frame that has one name is in the source, by the archive."""
+        image = self.image(at)
+        return image.lines(self.asked[at]) if image and self.name(at) else NOTHING
 
 
 Answer = TypeVar("Answer", bound=Hashable)

@@ -5,7 +5,7 @@ from array import array
 from typing import Any, Dict, Iterator, List, Optional, Tuple
 
 from .images import HAD_NAME, HAS_BELOW, HAS_INLINED, IS_BELOW, IS_INLINED, IS_RETURN, NO_IMAGE, PROCESSORS, Frames
-from .images import Images
+from .images import SIGNAL_FRAMES, Images
 from .json_edits import Change, Members, changes
 from .json_walk import FLAT, Broken, Node, Walker, loaded
 
@@ -55,7 +55,7 @@ class JsonReport:
         self.stacks: List[Stack] = []
         self.calls: List[Calls] = []
         self.call_stacks: List[CallStack] = []
-        self.depths = array("L")
+        self.depths = array("I")
         # Whether it stands after the heading of a full report, and what is wrong with its bytes.
         self.is_full = False
         self.broken: Optional[Broken] = None
@@ -65,6 +65,7 @@ class JsonReport:
             self.broken = broken
             self.end = len(data) if broken.is_cut else broken.place
         self.place_frames(0, [], None)
+        self.frames.interrupt_said()
 
     # ---- what the walker tells
 
@@ -114,8 +115,7 @@ class JsonReport:
 
     def add(self, begin: int, number: int, offset: int, kind: int, depth: int = 0) -> None:
         self.frames.add(begin, number, offset, kind)
-        if self.is_kept:
-            self.depths.append(depth)
+        self.depths.append(depth)
 
     # ---- frames of .ips
 
@@ -130,14 +130,23 @@ class JsonReport:
         index, offset = numbers
         if type(index) is not int or type(offset) is not int:
             return False
-        kind = HAD_NAME if isinstance(name, str) and name else 0
+        kind, at = HAD_NAME if isinstance(name, str) and name else 0, len(self.frames)
+        # The last frame of the list that was not inlined, if it has one.
+        before: Optional[int] = node.kept[-1] if node.kept else None
         if is_inlined:
             kind |= IS_INLINED
         else:
-            kind |= IS_RETURN * bool(node.kept) | HAS_INLINED * self.is_inlined_before(index, offset)
-        node.kept = bool(node.kept) or not is_inlined
+            kind |= IS_RETURN * (before is not None) | HAS_INLINED * self.is_inlined_before(index, offset)
+            self.note_signal(at, name)
+            if before is not None:
+                self.frames.pair(before, at)
+        node.kept = (node.kept or []) if is_inlined else [at]
         self.add(begin, NOT_PLACED - (index if 0 <= index < MOST_INDEX else MOST_INDEX), offset, kind)
         return True
+
+    def note_signal(self, at: int, name: object) -> None:
+        if name in SIGNAL_FRAMES:
+            self.frames.of_signals.add(at)
 
     def is_inlined_before(self, index: int, offset: int) -> bool:
         """Whether the last frame is of a function that was inlined at this place."""
@@ -180,6 +189,7 @@ class JsonReport:
         self.frames.numbers[at], self.frames.asked[at] = number, offset
         if isinstance(said.get("symbol"), str) and said["symbol"]:
             self.frames.kinds[at] |= HAD_NAME
+            self.note_signal(at, said["symbol"])
 
     def close_call(self, node: Node) -> None:
         self.set_call(node.first, node.values())
@@ -198,9 +208,19 @@ class JsonReport:
             if frames.kinds[at] & return_kind:
                 frames.kinds[at] |= IS_RETURN
             frames.put(at, frames.numbers[at], frames.asked[at])
+        self.pair_calls(stacks.first, is_thread)
         if self.is_kept:
             self.calls.append(Calls(node, is_thread, self.call_stacks))
             self.call_stacks = []
+
+    def pair_calls(self, first: int, is_thread: bool) -> None:
+        """Pairs each frame with the one that it stands below."""
+        open_frames: List[int] = []
+        for at in range(first, len(self.frames)):
+            del open_frames[self.depths[at] :]
+            if open_frames:
+                self.frames.pair(*((open_frames[-1], at) if is_thread else (at, open_frames[-1])))
+            open_frames.append(at)
 
     # ---- both
 

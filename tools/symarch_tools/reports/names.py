@@ -11,6 +11,9 @@ class Names:
         self.places: Dict[bytes, int] = {}
         self.shown: List[str] = []
 
+    def has(self, name: str) -> bool:
+        return name.encode() in self.places
+
     def place(self, name: bytes) -> int:
         if name not in self.places:
             self.places[name] = len(self.shown)

@@ -22,6 +22,7 @@ MOST_SAID = 100_000
 # What it says of an index; and of an entry of one, whose table is damaged or has no lines, or at whose place the
 # archive has something else.
 OF_AN_INDEX = re.compile(rb"symarch: index ([0-9]{1,9}): ([^\n]*)")
+TRUNCATED = re.compile(rb"symarch: archive ([0-9]{1,9}): Truncated at ")
 AT_ENTRY = re.compile("(?:Stale|Damaged|NoLines) at entry ([0-9]{1,18})")
 
 
@@ -60,9 +61,18 @@ class Reply(NamedTuple):
         entry = AT_ENTRY.fullmatch(text)
         return IndexFault(int(found[1]), text, int(entry[1]) if entry else None)
 
+    def cut_archive(self) -> Optional[int]:
+        """Which archive ends early, if one does."""
+        found = TRUNCATED.match(self.said) if self.status == Status.REFUSED else None
+        return int(found[1]) if found else None
+
     def is_good(self) -> bool:
         """Whether it is all answers."""
         return bool(self.is_answered) and 0 <= self.status <= Status.NONE_NAMED
+
+
+def cut_short(archive: str) -> Failure:
+    return Failure(f"{archive} is cut short: restore it from a backup or another site", Status.REFUSED)
 
 
 class Program:
@@ -106,8 +116,9 @@ class Program:
         except OSError as error:
             raise self.not_started(error) from None
 
-    def make(self, command: str, archive: str, out: str) -> None:
-        """Has a command make a file of an archive. Its refusal is that of the archive."""
+    def make(self, command: str, archive: str, out: str, named: str) -> None:
+        """Has a command make a file of an archive, or of a copy of the one that is named. Its refusal is that of the
+        archive."""
         with tempfile.TemporaryFile() as errors, contextlib.ExitStack() as ends:
             with signals.later():
                 run = ends.enter_context(self.start([self.path, command, archive, out], errors))
@@ -115,6 +126,8 @@ class Program:
             run.communicate()
             errors.seek(0)
             reply = Reply(errors.read(MOST_SAID), run.returncode, None if run.returncode else True)
+        if reply.cut_archive() is not None:
+            raise cut_short(named)
         if reply.status:
             said = reply.said.decode(errors="surrogateescape")
             noted.extend(line.strip() for line in said.splitlines())

@@ -8,7 +8,7 @@ from .images import IS_INLINED
 from .json_report import Calls, JsonReport, Stack
 from .json_walk import MOST_FLAT, NESTED, SPACE, Node, loaded
 from .named_lines import INLINED, NO_NAME, LineAnswers, inlined_lines, named_line, numbered, source_after
-from .readable_header import header_lines, labelled, of, state_lines
+from .readable_header import backtraces_in, header_lines, labelled, of, state_lines
 from .source_lines import Inlined, Source
 from .streams import encoded
 from .text_report import TextReport
@@ -67,6 +67,17 @@ class ReadableReport:
         self.document, self.header = document, header
         self.data, self.frames, self.end = document.data, document.frames, document.end
         self.bases: Dict[uuid.UUID, Tuple[int, Optional[str]]] = {}
+        node = document.report or document.root
+        self.top = values_of(self.data, node) if node and document.stacks else {}
+        self.backtraces = {number: self.backtrace(lines) for number, lines in backtraces_in(self.top).items()}
+
+    def backtrace(self, lines: Sequence[str]) -> TextReport:
+        """A backtrace that is a text, with the images of the document."""
+        text = encoded("".join(f"{line}\n" for line in lines))
+        listed = encoded("".join(f"{line}\n" for line in self.image_lines()))
+        made = TextReport(text + b"\n" + listed, 0, len(text) + 1 + len(listed), self.document.images)
+        made.end = len(text)
+        return made
 
     def pieces(self) -> Iterator[bytes]:
         """The bytes of the report."""
@@ -83,9 +94,10 @@ class ReadableReport:
     # ---- .ips
 
     def crash(self) -> Iterator[Union[str, bytes]]:
-        node = self.document.report or self.document.root
-        top = values_of(self.data, node) if node else {}
-        yield from header_lines(self.header, top)
+        yield from header_lines(self.header, self.top)
+        for number, backtrace in self.backtraces.items():
+            yield f"Application Specific Backtrace {number}:"
+            yield b"".join(backtrace.pieces())
         stacks = self.document.stacks
         for stack in sorted(stacks, key=lambda stack: stack.name != EXCEPTION):
             yield self.heading(stack)

@@ -15,6 +15,13 @@ STATES = {
     "x86_THREAD_STATE64": "X86 Thread State (64-bit)",
 }
 REGISTERS_IN_LINE = 4
+# Registers in the order of crash reports, in blocks that begin a line; those of 32 bits; and what JSON calls otherwise.
+ARM = ((*(f"x{number}" for number in range(29)), "fp", "lr"), ("sp", "pc", "cpsr"), ("far", "esr"))
+X86 = (("rax", "rbx", "rcx", "rdx", "rdi", "rsi", "rbp", "rsp", *(f"r{number}" for number in range(8, 16)), "rip",
+        "rflags", "cr2"),)  # fmt: skip
+OF_32_BITS, SHORT_NAMES = ("cpsr", "esr"), {"rflags": "rfl"}
+# What stands below the registers of X86.
+PROCESSOR, ERROR, TRAP = "cpu", "err", "trap"
 
 
 def line_of(label: str, *values: object) -> List[str]:
@@ -42,7 +49,7 @@ def texts_in(value: object) -> List[str]:
 def header_lines(header: Dict[str, Any], top: Dict[str, Any]) -> Iterator[str]:
     """The lines above the threads of an .ips: those of its first line, and of the document."""
     blocks = [process_lines(header, top), system_lines(header, top), exception_lines(top), region_lines(top)]
-    blocks += [triage_lines(top), information_lines(top), *backtrace_blocks(top)]
+    blocks += [triage_lines(top), information_lines(top)]
     for block in blocks:
         if block:
             yield from block
@@ -79,6 +86,14 @@ def system_lines(header: Dict[str, Any], top: Dict[str, Any]) -> List[str]:
     ]
 
 
+def reason_lines(top: Dict[str, Any]) -> List[str]:
+    """The exception of the language that nothing caught, and its message."""
+    reason = top.get("exceptionReason")
+    name, lines = of(reason, "name"), texts_in(of(reason, "composed_message") or of(reason, "format_string"))
+    first = line_of("Exception Reason", inside("", name, ":" if lines else ""), *lines[:1])
+    return [*first, *lines[1:]]
+
+
 def exception_lines(top: Dict[str, Any]) -> List[str]:
     exception, end = top.get("exception"), top.get("termination")
     reasons = [*texts_in(end.get("reasons")), *texts_in(end.get("details"))] if isinstance(end, dict) else []
@@ -88,6 +103,7 @@ def exception_lines(top: Dict[str, Any]) -> List[str]:
         *line_of("Exception Type", of(exception, "type"), inside("(", of(exception, "signal"), ")")),
         *line_of("Exception Subtype", of(exception, "subtype")),
         *line_of("Exception Codes", of(exception, "codes")),
+        *reason_lines(top),
         *line_of("Termination Reason", *reason, of(end, "indicator")),
         *reasons,
         *line_of("Terminating Process", of(end, "byProc"), inside("[", of(end, "byPid"), "]")),
@@ -115,25 +131,61 @@ def information_lines(top: Dict[str, Any]) -> List[str]:
     return ["Application Specific Information:", *found] if found else []
 
 
-def backtrace_blocks(top: Dict[str, Any]) -> List[List[str]]:
-    """The backtraces that the process left, each of which is a text."""
+def backtraces_in(top: Dict[str, Any]) -> Dict[int, List[str]]:
+    """The lines of the backtraces that the process left, each of which is a text, by their numbers."""
     listed = top.get("asiBacktraces")
     found = [texts_in(one) for one in listed] if isinstance(listed, list) else []
-    return [[f"Application Specific Backtrace {number}:", *lines] for number, lines in enumerate(found) if lines]
+    return {number: lines for number, lines in enumerate(found) if lines}
 
 
 def state_lines(number: int, state: Dict[str, Any]) -> Iterator[str]:
     """The registers of the thread that crashed."""
     listed = state.get("x")
-    registers = [(f"x{place}", one) for place, one in enumerate(listed if isinstance(listed, list) else [])]
-    registers += [(name, one) for name, one in state.items() if name != "x"]
-    values = [(name, of(one, "value")) for name, one in registers if isinstance(one, dict)]
-    said = [f"{name:>6}: 0x{value:016x}" for name, value in values if type(value) is int and value >= 0]
+    registers = {f"x{place}": one for place, one in enumerate(listed if isinstance(listed, list) else [])}
+    registers.update((name, one) for name, one in state.items() if name != "x")
+    values = {name: one for name, one in registers.items() if type(of(one, "value")) is int and one["value"] >= 0}
     flavor = of(state, "flavor")
     yield f"Thread {number} crashed with {STATES.get(flavor, flavor or 'Thread State')}:"
-    for place in range(0, len(said), REGISTERS_IN_LINE):
-        yield "".join(said[place : place + REGISTERS_IN_LINE])
+    yield from register_lines(values)
     yield ""
+    processor = processor_lines(values)
+    if processor:
+        yield from [*processor, ""]
+
+
+def register_lines(values: Dict[str, Any]) -> Iterator[str]:
+    """The registers in the order of crash reports, and those that these do not have after them."""
+    is_x86 = "rip" in values
+    blocks, before = (X86, "") if is_x86 else (ARM, " ")
+    known = {name for block in blocks for name in block} | ({PROCESSOR, ERROR, TRAP} if is_x86 else set())
+    for block in (*blocks, tuple(name for name in values if name not in known)):
+        said = [register_text(name, values[name]) for name in block if name in values]
+        yield from (before + "".join(said[at : at + REGISTERS_IN_LINE]) for at in range(0, len(said), REGISTERS_IN_LINE))
+
+
+def register_text(name: str, register: Dict[str, Any]) -> str:
+    digits = 8 if name in OF_32_BITS else 16
+    return f"{SHORT_NAMES.get(name, name):>5}: 0x{register['value']:0{digits}x}{described(register)}"
+
+
+def described(register: Optional[Dict[str, Any]]) -> str:
+    """What the system says of a register, on the same line."""
+    said = of(register, "description")
+    return f" {' '.join(said.splitlines())}" if isinstance(said, str) and said else ""
+
+
+def processor_lines(values: Dict[str, Any]) -> List[str]:
+    """What stands below the registers of X86. What a trap is said to be stands after the code of the error."""
+    if "rip" not in values or ERROR not in values:
+        return []
+    processor, error, trap = (of(values.get(name), "value") for name in (PROCESSOR, ERROR, TRAP))
+    why = described(values[ERROR]) or described(values.get(TRAP))
+    return [*number_line("Logical CPU", processor), f"Error Code:      0x{error:08x}{why}",
+            *number_line("Trap Number", trap)]  # fmt: skip
+
+
+def number_line(label: str, value: Optional[int]) -> List[str]:
+    return [f"{label + ':':<16} {value}"] if value is not None else []
 
 
 def label_of(name: str) -> str:

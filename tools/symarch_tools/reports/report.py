@@ -6,13 +6,13 @@ import re
 import shlex
 from typing import Iterator, List, Optional, Union
 
-from . import readable
 from .encodings import decoded
 from .faults import Failure, NoReport, Status
 from .images import HAD_NAME, IS_INLINED, Frames, Images, one_of
 from .json_report import JsonReport
 from .json_walk import Broken
 from .pasted import FIRST_WORDS, MOST_OF_BEGINNING, unpasted
+from .readable import ReadableReport, parts
 from .streams import standard_input
 from .text_report import TextReport
 
@@ -30,7 +30,7 @@ FULL = re.compile(rb"^-+[ \t]*\r?\nFull Report[ \t]*\r?\n-+[ \t]*\r?\n\s*(?=[{\[
 
 
 # What a report is made of.
-Part = Union[JsonReport, TextReport, readable.ReadableReport]
+Part = Union[JsonReport, TextReport, ReadableReport]
 
 
 class Count:
@@ -79,7 +79,7 @@ class Report:
         self.images = Images()
         self.notes: List[str] = []
         found = list(self.read())
-        self.parts: List[Part] = [*readable.parts(found, self.notes)] if is_text else [*found]
+        self.parts: List[Part] = [*parts(found, self.notes)] if is_text else [*found]
         if not any(len(part.frames) for part in self.parts):
             if FRAMES.match(self.data):
                 typed = f"symarch frames {shlex.quote(self.path)} ARCHIVE"
@@ -165,9 +165,20 @@ class Report:
 
     def count(self) -> Count:
         count = Count()
-        for part in self.parts:
-            count.add(part.frames)
+        for frames in self.frames():
+            count.add(frames)
         return count
+
+    def frames(self) -> Iterator[Frames]:
+        """The frames of each part, and those of its backtraces."""
+        for part in self.parts:
+            yield part.frames
+            yield from (one.frames for one in part.backtraces.values()) if isinstance(part, ReadableReport) else ()
+
+    def find_interrupted(self) -> bool:
+        """Whether there are frames that a signal interrupted, as the names of the archive say, which have to be asked
+        for otherwise."""
+        return any([frames.interrupt_named() for frames in self.frames()])
 
 
 def bytes_of(path: str) -> bytes:

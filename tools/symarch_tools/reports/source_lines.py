@@ -66,7 +66,7 @@ class Chains:
             raise ValueError
         name, path, number = found[1], found[2], int(found[3])
         source = None
-        if path != UNKNOWN and number:
+        if path != UNKNOWN:
             text = unescaped(path.decode())
             source = Source(text if self.has_paths else text.rpartition("/")[2] or text, number)
         return -1 if name == UNKNOWN else self.names.place(unescaped(name.decode()).encode()), source

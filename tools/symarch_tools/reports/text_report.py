@@ -31,6 +31,9 @@ OFFSET = re.compile(rb" \+ [0-9]")
 # What stands in the place of a name that is not known, but for the name of the image itself and an offset.
 NO_NAME = re.compile(rb"\s*(?:\?\?\?.*|0x[0-9a-fA-F]+ \+ [0-9]+.*|[0-9]{5,20} \+ [0-9]+.*|)")
 
+# The name of what calls a handler of a signal, before an offset or the end.
+SIGNAL_SAID = re.compile(rb"__?sigtramp(?:\s|\Z)")
+
 # As `(0x104d38410 0x104d383f8)`, after this heading.
 EXCEPTION = b"Last Exception Backtrace"
 IN_BACKTRACE = rb"(?:0x[0-9a-fA-F]{1,16}|[0-9]{5,20})"
@@ -125,6 +128,8 @@ class Part:
         self.has_inlined = -1
         self.callers: Set[int] = set()
         self.leaves: Set[int] = set()
+        # The columns of the frames of a tree that are not closed, and the first frame of each line.
+        self.open: List[Tuple[int, int]] = []
         self.listed: List[Dict[str, bytes]] = []
         # The lines of the list without a UUID, and whether it has begun.
         self.without_uuid = 0
@@ -149,15 +154,15 @@ class Part:
     def take(self, place: int, line: bytes, column: Optional[int], below: Optional[int]) -> None:
         """Takes the frames of a line, if it has any. The columns are those of the tree's numbers in it and in the next
         line, which are None where there are none."""
-        if not line.strip():
-            self.heading = b""
-        elif line.strip().startswith(HEADINGS):
+        if not line.strip() or line.strip().startswith(HEADINGS):
             self.heading = line.strip()
+            self.open.clear()
         kind, found = frames_in(line)
         if found is None:
             return
         if kind == BACKTRACE and self.heading.startswith(EXCEPTION):
             for number, address in enumerate(found["addresses"].split()):
+                self.pair_with_last(bool(number))
                 self.add(place, address_of(address), NOT_SAID, IS_RETURN if number else 0)
         elif kind == CRASH:
             self.take_crash(place, found)
@@ -172,9 +177,30 @@ class Part:
             return
         self.is_after_first = True
         said = found["said"]
+        self.pair_with_last(is_return)
+        self.note_signal(said)
         has_name = not NO_NAME.fullmatch(said) and not said.startswith(found["image"].strip() + b" + ")
         kind = is_return * IS_RETURN | has_name * HAD_NAME | (inlined_at == found["addresses"]) * HAS_INLINED
         self.add(place, address_of(found["addresses"]), NOT_SAID, kind)
+
+    def pair_with_last(self, is_return: bool) -> None:
+        """Pairs the next frame of a list with the one before it, which it called or which a signal put there."""
+        if is_return:
+            self.frames.pair(len(self.frames) - 1, len(self.frames))
+
+    def note_signal(self, said: bytes) -> None:
+        if SIGNAL_SAID.match(said):
+            self.frames.of_signals.add(len(self.frames))
+
+    def pair_in_tree(self, column: Optional[int]) -> None:
+        """Pairs the next frame of a tree, or of its heaviest stack, with the one that it stands below."""
+        if column is None or self.heading.startswith(LISTS):
+            return
+        while self.open and self.open[-1][0] >= column and not self.heading.startswith(HEAVIEST):
+            self.open.pop()
+        if self.open:
+            self.frames.pair(len(self.frames), self.open[-1][1])
+        self.open.append((column, len(self.frames)))
 
     def take_tree(self, place: int, found: Found, column: Optional[int], below: Optional[int]) -> None:
         addresses = addresses_of(found["addresses"])
@@ -182,6 +208,10 @@ class Part:
         kind |= self.heading.startswith((HEAVIEST, *LISTS)) * IS_LISTED
         if not NO_NAME.fullmatch(found["said"]):
             kind |= HAD_NAME
+        self.pair_in_tree(column)
+        self.note_signal(found["said"])
+        if len(addresses) > 1:
+            self.frames.beside[len(self.frames)] = len(addresses)
         for address in addresses:
             uuid = re.fullmatch(rb"<(.*)>", found.get("image") or b"")
             if uuid:
@@ -305,6 +335,7 @@ class TextReport:
             is_cut_line = not self.data.endswith((b"\n", b"\r"))
             self.is_whole = bool(part.listed) or part.without_uuid > is_cut_line
         part.end()
+        self.frames.interrupt_said()
 
     def pieces(self) -> Iterator[bytes]:
         """The bytes of the report with names in it."""

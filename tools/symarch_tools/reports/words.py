@@ -21,6 +21,8 @@ USAGE = f"{NAME} {OPTIONS} REPORT... ARCHIVE..."
 MAGICS = (b"MSYMARC1", b"MSYMARC2")
 # What is said of a report that is printed.
 OF_REPORTS = ("--text", "--json", "--no-lines", "--paths")
+# What a dSYM is called, and where its debug information is.
+DSYM, INSIDE_DSYM = ".dSYM", ("Contents", "Resources", "DWARF")
 # The commands of the program that a report might be given to.
 ANSWERING = ("frames", "symbolicate")
 
@@ -115,8 +117,8 @@ class Words:
         self.archives = archives
 
     def has_lines(self) -> bool:
-        """Whether a report is printed that has lines of the source."""
-        is_counted = self.is_missing or self.is_group or (self.is_json and self.out is None)
+        """Whether a report is printed that has lines of the source, or counted by inlined functions."""
+        is_counted = self.is_missing or (self.is_json and self.out is None)
         return not (is_counted or self.has_no_lines)
 
     def given(self) -> Dict[str, bool]:
@@ -147,6 +149,11 @@ class Words:
             return "--no-lines prints no paths, so --paths does not stand beside it"
         if self.is_mangled and self.is_demangled:
             return "--demangle and --no-demangle: name one of them"
+        if self.out is not None and os.path.exists(self.out) and not os.path.isdir(self.out):
+            return f"--out needs a folder, and {self.out} is a file"
+        folder = next(filter(is_folder, self.reports), None)
+        if folder and self.need_out(self.reports):
+            return f"{folder} may hold several reports: add --out NEWFOLDER, or --group"
         if self.need_out(self.reports):
             return "several reports are written by --out FOLDER"
         if STANDARD_INPUT in self.reports and self.out is not None:
@@ -160,6 +167,9 @@ class Words:
 
     def fault_of_names(self, names: Sequence[str]) -> Optional[str]:
         """What is wrong with the reports and archives, and what to type, if something is."""
+        if names and is_dsym(names[-1]):
+            path = names[-1].rstrip("/")
+            return f"{path} is a dSYM: run symarch-keep add builds.sym {shlex.quote(path)}, then name builds.sym"
         if len(names) < 2:
             is_lacking = names and not is_archive(names[0])
             return f"there is no archive after {names[0]}" if is_lacking else "there is no report before the archive"
@@ -193,6 +203,13 @@ class Words:
 
 def is_folder(path: str) -> bool:
     return path != STANDARD_INPUT and os.path.isdir(path)
+
+
+def is_dsym(path: str) -> bool:
+    """Whether a bundle of debug information is named, or a file that is called as one and is no archive."""
+    if is_folder(path):
+        return path.rstrip("/").endswith(DSYM) or os.path.isdir(os.path.join(path, *INSIDE_DSYM))
+    return path.endswith(DSYM) and os.path.isfile(path) and not is_archive(path)
 
 
 def beginning(path: str, size: int) -> bytes:
