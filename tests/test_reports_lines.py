@@ -4,7 +4,7 @@ import json
 import re
 import uuid
 from pathlib import Path
-from typing import Any, Dict, List, Set
+from typing import Any, Dict, List, Set, Tuple
 
 from .model.indexes import entries_in
 from .support import kept_lines
@@ -318,10 +318,11 @@ class Words(LinesCase):
     def test_what_is_not_known(self) -> None:
         """A line of no file is none; a file whose line is not known has the line 0, as the system prints it."""
         frame = {"imageOffset": 828, "imageIndex": 0, "symbol": "clamp_low", "inline": True}
-        for change, text, members in (
+        several: List[Tuple[str, str, Dict[str, Any]]] = [
             (r"s,/src/shared.h:3:,/src/shared.h:0:,", r" \(shared\.h:0\)", {"sourceFile": "shared.h", "sourceLine": 0}),
             (r"s,/src/shared.h:,?:,", "", {}),
-        ):
+        ]
+        for change, text, members in several:
             path = self.script("less", f"\"$symarch\" \"$@\" | sed '{change}'")
             printed = self.printed(fixture("crash"), environment={"SYMARCH": path})
             self.assertRegex(printed, rf"0x104d3833c clamp_low{text} \[inlined\]\n")

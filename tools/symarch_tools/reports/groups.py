@@ -20,6 +20,8 @@ EXCEPTION_IN_JSON = "lastExceptionBacktrace"
 NO_THREAD = "no crashed thread"
 CRASHED = re.compile(rb"(?<![^\r\n])Thread [0-9]+ Crashed:[^\r\n]*(?:\r\n|\r|\n|\Z)")
 EXCEPTION = re.compile(rb"(?<![^\r\n])[ \t]*Last Exception Backtrace[^\r\n]*(?:\r\n|\r|\n|\Z)")
+# The answer of a slice, below a frame that has several.
+CONFLICTING = re.compile(rb"  [0-9a-f]{64} ")
 # What stands after a name in a line of a crash.
 AFTER_NAME = re.compile(rb"(?: \+ [0-9]+)?(?: \[inlined\])?(?: \([^()]*:[0-9]+\))?(?: \[inlined\])?\s*\Z")
 
@@ -156,16 +158,18 @@ def text_frames(part: TextReport, heading: Pattern[bytes], most: int) -> List[Fr
         line = part.line_at(place)
         form, frame = frames_in(line[1])
         if form is BACKTRACE and not found:
-            return addressed_frames(part, place, most)
+            return addressed_frames(part, line.start(), most)
+        place = line.end()
+        if CONFLICTING.match(line[1]):
+            continue
         if frame is None or form is not CRASH:
             break
-        at, one = text_frame(part, place, frame)
+        at, one = text_frame(part, line.start(), frame)
         if at is None:
             inlined.append(one)
         else:
             found += with_inlined(part.frames, at, one, inlined)
             inlined = []
-        place = line.end()
     return [*found, *inlined][:most]
 
 

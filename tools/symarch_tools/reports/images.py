@@ -95,7 +95,8 @@ class Image:
 
     def take(self, answers: Mapping[str, Answers]) -> None:
         """Takes the answers under its architecture, among those under each that the archive has of its UUID."""
-        arch = self.others[0] if self.is_under_one_other() else self.arch or (min(answers) if len(answers) == 1 else self.processor)
+        arch = self.others[0] if self.is_under_one_other() else self.arch
+        arch = arch or (min(answers) if len(answers) == 1 else self.processor)
         self.answers = answers.get(arch) if arch else None
 
     def symbols(self, asked: int) -> Dict[str, Optional[Symbol]]:
@@ -194,7 +195,10 @@ class Frames:
 
     def interrupt_named(self) -> bool:
         """Asks for frames that a signal interrupted, by the names of the archive. Returns whether there are more."""
-        return self.interrupt(self.is_of_signal)
+        are_more = self.interrupt(self.is_of_signal)
+        # These names are those of the symbol tables.
+        self.known.clear()
+        return are_more
 
     def is_of_signal(self, at: int) -> bool:
         symbol = self.name(at)

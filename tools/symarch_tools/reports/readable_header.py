@@ -160,7 +160,8 @@ def register_lines(values: Dict[str, Any]) -> Iterator[str]:
     known = {name for block in blocks for name in block} | ({PROCESSOR, ERROR, TRAP} if is_x86 else set())
     for block in (*blocks, tuple(name for name in values if name not in known)):
         said = [register_text(name, values[name]) for name in block if name in values]
-        yield from (before + "".join(said[at : at + REGISTERS_IN_LINE]) for at in range(0, len(said), REGISTERS_IN_LINE))
+        lines = (said[at : at + REGISTERS_IN_LINE] for at in range(0, len(said), REGISTERS_IN_LINE))
+        yield from (before + "".join(line) for line in lines)
 
 
 def register_text(name: str, register: Dict[str, Any]) -> str:
