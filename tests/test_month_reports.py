@@ -412,7 +412,7 @@ class Words(ReportCase):
 
     def test_a_file_in_the_place_of_a_folder(self) -> None:
         path = self.file("r.ips", source("ips"))
-        self.is_told(["--out", "r.ips", "r.ips", "shipped"], "--out needs a folder, and r.ips is a file", 3)
+        self.is_told(["--out", "r.ips", "r.ips", "shipped"], "--out needs a folder, and r.ips is a file", 2)
         self.assertEqual(path.read_bytes(), source("ips"))
 
     def test_a_folder_of_reports(self) -> None:

@@ -47,9 +47,12 @@ class Json(ReportCase):
         for archive, word, status in (("alike", "image", 0), ("empty", "absent", 1)):
             found, _, _ = self.objects(crash, archive, status=status)
             self.assertEqual(found[0]["images"][0]["answered_by"], word)
-        path = self.file("x.crash", source("crash").replace(b"spool arm64 <", b"spool arm64e <"))
-        found, _, _ = self.objects(path, "shipped", status=1)
-        self.assertEqual(found[0]["images"], [self.image("spool", SPOOL, "arm64e", "other_architecture", "arm64")])
+        both = ["arm64", "arm64e"]
+        several = ("arm64e", "shipped", 0, "dsym", both[:1]), ("x86_64h", "two", 1, "other_architecture", both)
+        for arch, archive, status, word, others in several:
+            path = self.file("x.crash", source("crash").replace(b"spool arm64 <", b"spool %b <" % arch.encode()))
+            found, _, _ = self.objects(path, archive, status=status)
+            self.assertEqual(found[0]["images"], [self.image("spool", SPOOL, arch, word, *others)])
         pipe = self.folder / "archive.pipe"
         os.mkfifo(pipe)
         with subprocess.Popen(["cp", self.archives / "shipped", pipe]):
@@ -82,9 +85,9 @@ class Json(ReportCase):
     def test_what_fails(self) -> None:
         crash = CRASHES / "arm64.crash"
         failing: List[Tuple[List[Any], int, str]] = [
-            ([crash, "gone.sym"], 2, "symarch: archive 0: cannot open"),
+            ([crash, "gone.sym"], 2, "gone.sym: No such file; symarch-keep add makes an archive"),
             (["gone.ips", "shipped"], 2, "gone.ips: No such file or directory"),
-            (["--out", "/dev/null", crash, "shipped"], 2, "/dev/null: File exists"),
+            (["--out", "/dev/null", crash, "shipped"], 2, "--out needs a folder, and /dev/null is a file"),
         ]
         for words, status, fault in failing:
             found, end, _ = self.objects(*words, status=status)

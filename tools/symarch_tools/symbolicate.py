@@ -34,7 +34,8 @@ All is printed as it stands, byte for byte, but for
   `symbolLocation`, or after the two numbers. Slices that answer alike are one answer;
 - the file and the line of such a frame, by the DWARF of its dSYM, where they are known and all slices say the same:
   ` (spool.c:41)` after a name of a crash, `  spool.c:41` at the end of a line of `sample`, in one of a spindump
-  `(spool.c:41 in spool + 1040)`, in JSON `sourceFile` and `sourceLine`, or after the name and its offset;
+  `(spool.c:41 in spool + 1040)`, in JSON `sourceFile` and `sourceLine`, or after the name and its offset. The line is 0
+  if the compiler names the file alone;
 - functions that were inlined there, the innermost first, unless the report has them: in a crash each is a numbered line
   `clamp (shared.h:6) [inlined]` before that of its frame, and in an .ips a frame with `inline` before it. In a call
   tree they stand below their frame, the innermost last, and what the frame called below them. In MetricKit the frame
@@ -45,7 +46,7 @@ All is printed as it stands, byte for byte, but for
 
 Frames that stay as they are: those that the report says were inlined, but for their numbers, of images that the archive
 does not have, and where it has no symbol, so that the names that Apple wrote stay; and backtraces that are strings in
-JSON.
+JSON, which `--text` names and counts as `asiBacktraces`.
 
 If a report is cut, standard error says where it ends, by line and byte: within its JSON or a line, before its first
 frame, or before its images. The frames before that place are named. A text that is cut after a line of its images looks
@@ -60,7 +61,8 @@ it, its architecture:
 - `by dSYM`: its dSYM;
 - `without dSYM`: the image alone. If that was stripped, its frames may have the names of exported neighbours;
 - `changed since it came in`: nothing, since its slice has not the SHA-256 that the index has of it;
-- `under another architecture`: nothing, since the archive has its UUID under others, which are named;
+- `under another architecture`: nothing, since the archive has its UUID under several others, which are named. If it is
+  there under one other alone, this one answers, and stands after the image, as `(the archive has arm64)`;
 - `not in the archive`: nothing;
 - `with or without dSYM`: an archive that is no file, as a pipe, which cannot be read twice to find that out.
 - `without lines, too many for the index`, after one of these: no files and lines of the source are printed for it,
@@ -75,17 +77,20 @@ that is no UTF-8 `path_hex`, else null, has the bytes. By `type` they are
   report     path, path_hex, frames, images, and faults, which says where it is cut. The frames are counted as named,
              named_before, not_named, several and not_listed. Each image with frames has name, uuid, arch, answered_by,
              `dsym`, `image`, `dsym_or_image`, `changed`, `other_architecture` or `absent`, and others: architectures
+             under which the archive has it, if not under that of the report; a single one answers
   refused    path, path_hex, why
   end        the last one, without which some are missing: reports, how many they are, frames, counted of all, faults,
              which is what standard error says is wrong, and status. If nothing could be asked, the first two are null
 
 With --group two reports are of one group if the top three frames of their crashed threads are the same: each has the
 same name and an image of the same name or, where it has not one name, the same offset in an image of that name. UUIDs
-are not compared, so builds of one program are counted together. A frame that was inlined is one of the three. The
-crashed thread is the one that the report says crashed, of a payload the first. If the report has the backtrace of an
-exception that nothing caught, this stands in its place, without its first two frames if they are of CoreFoundation and
-libobjc.A.dylib, which throw. The frames stand as `NAME (IMAGE)` or `IMAGE + OFFSET`, by `; `. Reports without either,
-as hangs and samples, are the group `no crashed thread`. Lines with equal counts are in order of their text.
+are not compared, so builds of one program are counted together. A function that was inlined is one of the three: where
+the archive answers, those that it has there, whatever the report says, so that a report and its copy with names are one
+group. The crashed thread is the one that the report says crashed, of a payload the first. If the report has the
+backtrace of an exception that nothing caught, this stands in its place, without its first two frames if they are of
+CoreFoundation and libobjc.A.dylib, which throw. The frames stand as `NAME (IMAGE)` or `IMAGE + OFFSET`, by `; `. Reports
+without either, as hangs and samples, are the group `no crashed thread`. Lines with equal counts are in order of their
+text.
 
 A return address may lie after its function's end, so the address before it is asked for; the offset printed is that of
 the frame. Return addresses are:
@@ -96,6 +101,9 @@ the frame. Return addresses are:
   trees of MetricKit where `callStackPerThread` is false;
 - in the `Heaviest stack` of a spindump each frame but the last. In the lists after the tree of `sample` an address
   that the tree has with frames below it, and never without.
+
+A frame that `_sigtramp` stands in called nothing: a signal interrupted it. By this name, which the report or the archive
+has, the frame is looked up at its own address, as the innermost one is.
 
 Where the report does not state the architecture of an image, it is the one of x86_64, x86_64h, arm64 and arm64e under
 which the archive has its UUID; where there are several, that of the report's processor.
@@ -127,7 +135,8 @@ in a folder for temporary files, as TMPDIR names it. The program needs about 200
 image. Both need four times that if the report does not state the image's architecture.
 
 The status is 0; 1 where no frame has one name (with --missing: never); 2 where a REPORT cannot be read or is none of
-these, which prints nothing of it, where a folder has none, where a slice changed, or a file cannot be written; 3 where
+these, which prints nothing of it, where a folder has none, where a slice changed, where an archive is not there or is
+cut short, or a file cannot be written; 3 where
 the words are others; 126 where there is no program, or it does not answer as `symarch`; or that of `symarch` where it
 refuses the archive, with its line on standard error. If nobody reads standard output, SIGPIPE ends the tool. Names are
 those of the symbol tables, without the underscore that these put before a name of C, as Apple's reports have them, and
@@ -282,6 +291,11 @@ def clash(reports: Sequence[str], archives: Iterable[str], out: str) -> Optional
     return None
 
 
+def refuse_file(out: Optional[str]) -> None:
+    if out is not None and os.path.exists(out) and not os.path.isdir(out):
+        raise Failure(f"--out needs a folder, and {out} is a file", Status.REFUSED)
+
+
 def refuse_clash(words: Words, reports: Sequence[str]) -> None:
     archives = [file.path for file in with_levels(words.archives)] if words.out is not None else []
     fault = clash(reports, archives, words.out) if words.out is not None else None
@@ -313,6 +327,7 @@ def look_up(archives: Archives, reports: Sequence[Report]) -> None:
 
 def carry_out(words: Words) -> int:
     named = [path for path in words.reports if not is_folder(path)]
+    refuse_file(words.out)
     refuse_clash(words, named)
     reader = Reader(words)
     reader.read_all()

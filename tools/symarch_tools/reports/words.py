@@ -75,8 +75,8 @@ GROUP = """print in place of the reports a line for each group of them, those of
 the top three frames of the crashed thread, and the path of the first report, between tabs"""
 JSON = """print in place of the report what standard error says of it and of its images, as an object a line; with
 --out the reports are written too"""
-TEXT = """print a JSON report as people read a crash: its header, what the system said of its end, the threads with
-names and offsets, the images. It leaves out a `Full Report` that repeats the text before it"""
+TEXT = """print a JSON report as people read a crash: its header, what the system said of its end, the threads and other
+backtraces with names and offsets, the registers, the images. It leaves out a `Full Report` that repeats the text before it"""
 NO_LINES = """print names alone, without files, lines and inlined functions, as for an archive without dSYMs"""
 PATHS = """print the paths of source files as the compilers wrote them, and not their last names"""
 NO_DEMANGLE = """leave names of C++, Rust and Swift as they are. Otherwise `swift demangle` makes them readable, and the
@@ -149,8 +149,6 @@ class Words:
             return "--no-lines prints no paths, so --paths does not stand beside it"
         if self.is_mangled and self.is_demangled:
             return "--demangle and --no-demangle: name one of them"
-        if self.out is not None and os.path.exists(self.out) and not os.path.isdir(self.out):
-            return f"--out needs a folder, and {self.out} is a file"
         folder = next(filter(is_folder, self.reports), None)
         if folder and self.need_out(self.reports):
             return f"{folder} may hold several reports: add --out NEWFOLDER, or --group"
