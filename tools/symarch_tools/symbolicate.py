@@ -88,9 +88,9 @@ are not compared, so builds of one program are counted together. A function that
 the archive answers, those that it has there, whatever the report says, so that a report and its copy with names are one
 group. The crashed thread is the one that the report says crashed, of a payload the first. If the report has the
 backtrace of an exception that nothing caught, this stands in its place, without its first two frames if they are of
-CoreFoundation and libobjc.A.dylib, which throw. The frames stand as `NAME (IMAGE)` or `IMAGE + OFFSET`, by `; `. Reports
-without either, as hangs and samples, are the group `no crashed thread`. Lines with equal counts are in order of their
-text.
+CoreFoundation and libobjc.A.dylib, which throw. The frames stand as `NAME (IMAGE)` or `IMAGE + OFFSET`, by `; `.
+Reports without either, as hangs and samples, are the group `no crashed thread`. Lines with equal counts are in order of
+their text.
 
 A return address may lie after its function's end, so the address before it is asked for; the offset printed is that of
 the frame. Return addresses are:
@@ -102,8 +102,8 @@ the frame. Return addresses are:
 - in the `Heaviest stack` of a spindump each frame but the last. In the lists after the tree of `sample` an address
   that the tree has with frames below it, and never without.
 
-A frame that `_sigtramp` stands in called nothing: a signal interrupted it. By this name, which the report or the archive
-has, the frame is looked up at its own address, as the innermost one is.
+A frame outside `_sigtramp` called nothing: a signal interrupted it. By this name, which the report or the archive has,
+it is looked up at its own address, as the innermost frame is.
 
 Where the report does not state the architecture of an image, it is the one of x86_64, x86_64h, arm64 and arm64e under
 which the archive has its UUID; where there are several, that of the report's processor.

@@ -76,7 +76,8 @@ the top three frames of the crashed thread, and the path of the first report, be
 JSON = """print in place of the report what standard error says of it and of its images, as an object a line; with
 --out the reports are written too"""
 TEXT = """print a JSON report as people read a crash: its header, what the system said of its end, the threads and other
-backtraces with names and offsets, the registers, the images. It leaves out a `Full Report` that repeats the text before it"""
+backtraces with names and offsets, the registers, the images. It leaves out a `Full Report` that repeats the text before
+it"""
 NO_LINES = """print names alone, without files, lines and inlined functions, as for an archive without dSYMs"""
 PATHS = """print the paths of source files as the compilers wrote them, and not their last names"""
 NO_DEMANGLE = """leave names of C++, Rust and Swift as they are. Otherwise `swift demangle` makes them readable, and the
