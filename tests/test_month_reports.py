@@ -359,13 +359,6 @@ class Architectures(ReportCase):
         came = self.report(CRASHES / "arm64.crash", self.folder / "watch.sym")
         self.assertRegex(came.error_lines[-1], r"^4 of 4 .*\(the archive has cpu:0200000c/00000001\)$")
 
-    def test_several_others_do_not(self) -> None:
-        path = self.file("x.crash", source("crash").replace(b"spool arm64 <", b"spool x86_64h <"))
-        came = self.report(path, "two")
-        said = f"under another architecture: spool {SPOOL} x86_64h (the archive has arm64, arm64e)"
-        self.assertEqual((came.status, came.out), (1, path.read_bytes()))
-        self.assertTrue(came.error_lines[-1].endswith(said), came.errors)
-
 
 class Words(ReportCase):
     """The last days: somebody new names something else, and is told what to do."""

@@ -148,8 +148,8 @@ class Frames:
     def __init__(self, images: Images) -> None:
         self.images = images
         self.places, self.numbers, self.asked, self.kinds = array("Q"), array("i"), array("Q"), bytearray()
-        # Frames beside one another in a stack, one that is called or that a signal put there, and the one outside it;
-        # and the frames that the report names as that of a signal.
+        # Pairs of frames that follow one another in a stack, the inner and the outer one of each; and the frames that
+        # the report names as those of signals.
         self.inner, self.outer = array("I"), array("I")
         self.of_signals: Set[int] = set()
         # How many frames one line of a tree has, if these are several, by the first of them.
@@ -210,14 +210,18 @@ class Frames:
         found = {outer for inner, outer in zip(self.inner, self.outer) if is_of_signal(inner)}
         found -= {outer for inner, outer in zip(self.inner, self.outer) if outer in found and not is_of_signal(inner)}
         more = [at for first in found for at in self.of_line(first) if self.is_asked_before(at)]
-        places = {(self.numbers[at], self.offset(at)) for at in more}
-        # A list beside a tree has its addresses without their stacks.
-        listed = (at for at in range(len(self)) if places and self.kinds[at] & IS_LISTED and self.is_asked_before(at))
-        stacked = set(self.outer) if places else set()
-        more += [at for at in listed if at not in stacked and (self.numbers[at], self.offset(at)) in places]
-        for at in more:
+        listed = self.listed_at({(self.numbers[at], self.offset(at)) for at in more})
+        for at in dict.fromkeys([*more, *listed]):
             self.ask_at_its_address(at)
         return bool(more)
+
+    def listed_at(self, places: Set[Tuple[int, int]]) -> List[int]:
+        """The frames of lists beside a tree, which have its addresses without their stacks, at some of its places."""
+        if not places:
+            return []
+        stacked = {outer for outer in self.outer if self.kinds[outer] & IS_LISTED}
+        listed = (at for at in range(len(self)) if self.kinds[at] & IS_LISTED and self.is_asked_before(at))
+        return [at for at in listed if at not in stacked and (self.numbers[at], self.offset(at)) in places]
 
     def of_line(self, first: int) -> range:
         """The frames of a line of a tree, or another one alone."""

@@ -321,6 +321,7 @@ class TextReport:
             self.take(part, held, column)
             held = None if part.is_list else (place, line, column)
         self.end_part(part, held)
+        self.frames.interrupt_said()
 
     @staticmethod
     def take(part: Part, held: Optional[Held], below: Optional[int]) -> None:
@@ -335,7 +336,6 @@ class TextReport:
             is_cut_line = not self.data.endswith((b"\n", b"\r"))
             self.is_whole = bool(part.listed) or part.without_uuid > is_cut_line
         part.end()
-        self.frames.interrupt_said()
 
     def pieces(self) -> Iterator[bytes]:
         """The bytes of the report with names in it."""
