@@ -13,6 +13,7 @@ from .support.kills import Left, status_where_killed
 from .support.made_images import EMPTY, archive, image, slice_words
 from .support.program import Word, symarch
 from .support.rooms import BESIDE, RoomCase, bytes_of, kept_index, today_of
+from .support.signers import LATER
 from .support.sites import Site, folded, until_same
 
 Backup = Dict[pathlib.Path, bytes]
@@ -237,7 +238,6 @@ class Folder(RoomCase):
 
     def test_other_files_are_left(self) -> None:
         others = {"notes.txt": b"text", "east.asks.sum": b"", "EAST.asks.x": b"", ".hidden": b"", "east.is.x.site": b""}
-        others[f"north.asks.20269999T999999Z.{'0' * 64}.sum"] = b"of no day"
         for name, data in others.items():
             (self.east.folder / name).write_bytes(data)
         until_same([self.east, self.west], archive([image(1), image(2)]))
@@ -273,7 +273,7 @@ class Folder(RoomCase):
         """So are half of the names of builds. The site asks again."""
         until_same([self.east, self.west], archive([image(1), image(2)]))
         halves = [path for path in self.east.folder.iterdir() if path.name.startswith("east.asks.")]
-        halves.append(self.east.folder / f"east.builds.20991231T000000Z.{'1' * 64}.txt")
+        halves.append(self.east.folder / f"east.builds.{LATER}.{'1' * 64}.txt")
         for half in halves:
             half.write_bytes(b"half")
         for is_there in (True, False):

@@ -6,6 +6,7 @@ import pathlib
 import re
 import shutil
 import subprocess
+import time
 from typing import Dict, List, Optional, Sequence
 
 from .cases import Without, same
@@ -14,8 +15,8 @@ from .program import is_done
 from .rooms import Room, RoomCase
 from .sites import Site, until_same
 
-# A time after that of any question.
-LATER = "20991231T000000Z"
+# A time after that of any question, and not more than a day ahead.
+LATER = time.strftime("%Y%m%dT%H%M%SZ", time.gmtime(time.time() + 12 * 60 * 60))
 FIELDS = ("sender", "receiver", "kind", "folder", "file", "length", "sha256")
 
 

@@ -56,6 +56,13 @@ class Content:
     def joined(self, other: "Content") -> "Content":
         return join_of([self, other])
 
+    def take(self, other: "Content") -> None:
+        """Becomes the join with another one, at the cost of that alone."""
+        self.retired |= other.retired
+        self.held.update(other.held)
+        for entry in other.retired.union(other.held).intersection(self.retired):
+            self.held.pop(entry, None)
+
     def beyond(self, other: "Content") -> "Content":
         """What `other` has neither as it is here nor withdrawn."""
         held = {
@@ -188,15 +195,18 @@ def digest_in(file: BinaryIO, at: int, length: int, moved: Moved = unmoved) -> b
     return digest.digest()
 
 
-def content_in(file: BinaryIO, moved: Moved = unmoved) -> Content:
-    """The content of an archive, which is read to its end."""
+def content_in(file: BinaryIO, moved: Moved = unmoved, places: Optional[Dict[bytes, int]] = None) -> Content:
+    """The content of an archive, which is read to its end. Where each slice begins is noted, if that is wanted."""
     content = Content()
     for head, at in records_in(file):
         if head[:1] == RETIREMENT:
             content.retired.add(head[1:])
         else:
             length = record_size(head) - len(head)
-            content.held[head[1 : 1 + KEY] + digest_in(file, at, length, moved)] = length
+            entry = head[1 : 1 + KEY] + digest_in(file, at, length, moved)
+            content.held[entry] = length
+            if places is not None:
+                places[entry] = at
     return Content().joined(content)
 
 

@@ -70,27 +70,26 @@ import time
 import uuid
 from typing import BinaryIO, Callable, Dict, Iterator, List, Optional, Sequence, Set, Tuple
 
-from .archive import ASKED, Archive, News, watched
-from .archive_file import size_of
+from .archive import Archive, watched
 from .contents import ADMISSION, Content, Malformed, chunks_in
-from .contents import content_in, content_of, digest_in, entries_in, kept_text, summary_of, words_of
+from .contents import content_in, content_of, digest_in, entries_in, summary_of
+from .exchanged import NOTHING, Exchanged, Lacks
 from .forms import size_in
-from .log import DATE
+from .joining import Joining
 from .losing import counted, lost_lines
 from .program import Program
 from .screen import Failed, Screen, about, screen_of, shown, system_text
 from .senders import SIGNERS, Keys, Older, Senders, Unfit
-from .shared_folder import MARK, SHORT, SITE, TIME, Answer, Mark, Question, SharedFolder
-from .shared_folder import digest_of, latest_first, mark_name, question_name, time_after
+from .shared_folder import MARK, SHORT, SITE, Answer, Mark, Question, Sent, SharedFolder
+from .shared_folder import answer_name, digest_of, latest_first, mark_name, question_name
 from .telling import Telling
+from .times import TIME, fault_of_time, time_after, time_now
 
 USAGE = """symarch-keep exchange [--quiet] [--take-name] [--most BYTES] ARCHIVE FOLDER NAME
     symarch-keep exchange [--quiet] [--take-name] [--most BYTES] ARCHIVE FOLDER NAME --key FILE --signers FILE"""
 ABOUT = "exchange with other sites over a folder"
 # What tells this site from another one of the same name.
 IDENTITY = b".site"
-# So many questions of this site may be answered late.
-MOST_ASKED = 1000
 # A longer question is refused. One of 18 million slices and retirements is as long.
 MOST_OF_QUESTION = 1 << 30
 
@@ -103,55 +102,6 @@ def define(parser: argparse.ArgumentParser) -> None:
     parser.add_argument("archive", metavar="ARCHIVE")
     parser.add_argument("folder", metavar="FOLDER")
     parser.add_argument("name", metavar="NAME")
-
-
-class Asked:
-    """What this site asked: the times and digests of its questions, of which the last one has this content and all of
-    the others; and the dates of what was done with each other site."""
-
-    def __init__(self, archive: Archive) -> None:
-        self.archive, self.kept = archive, archive.main.kept(ASKED)
-        self.last: Optional[Content] = None
-        notes = self.kept.notes if self.kept else []
-        self.questions: List[Tuple[str, str]] = []
-        self.sites: Dict[str, Dict[str, str]] = {}
-        for note in notes:
-            kind, first, *words = note.split(" ")
-            if kind == "asked":
-                self.questions.append((first, words[0]))
-            elif kind == "site":
-                self.sites[first] = dict(zip(words[::2], words[1::2]))
-        self.written = self.notes()
-
-    def content(self) -> Content:
-        """What the last question had."""
-        if self.last is None:
-            self.last = self.kept.content() if self.kept else Content()
-        return self.last
-
-    def lacking_in(self, content: Content) -> Content:
-        """What was asked with and a content lacks."""
-        if self.questions and self.questions[-1][1] == digest_of(content.summary()):
-            self.last = content
-        return self.content().beyond(content)
-
-    def ask(self, question: Tuple[str, str], content: Content) -> None:
-        self.questions.append(question)
-        self.last = content
-
-    def notes(self) -> List[str]:
-        notes = [f"asked {at} {digest}" for at, digest in self.questions[-MOST_ASKED:]]
-        for site, dates in sorted(self.sites.items()):
-            notes.append(" ".join(["site", site, *(word for one in sorted(dates.items()) for word in one)]))
-        return notes
-
-    def note(self, site: str, word: str, date: time.struct_time) -> None:
-        self.sites.setdefault(site, {})[word] = time.strftime(DATE, date)
-
-    def save(self, room: bytes) -> None:
-        if self.notes() != self.written:
-            self.written = self.notes()
-            self.archive.lay(room, self.archive.beside(ASKED), kept_text(self.content(), self.written))
 
 
 class Identity:
@@ -181,18 +131,23 @@ class Exchange:
         self, archive: Archive, folder: SharedFolder, program: Program, screen: Screen, room: bytes
     ) -> None:
         self.archive, self.folder, self.program, self.screen, self.room = archive, folder, program, screen, room
-        self.content, self.asked = archive.content(program, screen), Asked(archive)
-        self.telling = Telling(archive, folder, screen, room)
+        self.content, self.asked = archive.content(program, screen), Exchanged(archive)
+        self.telling = Telling(archive, folder, screen, room, self.asked)
         # Names that stay in the folder, and those that are done with; sites of which no answer is removed.
         self.kept: Set[str] = set()
         self.done: Set[str] = set()
         self.unsure: Set[str] = set()
-        # What is in the folder of this site at the end.
+        # What is in the folder of this site at the end; and its answers there, by the sites that they are to.
         self.stays: Set[str] = set()
+        self.answers: Dict[str, List[Answer]] = {}
+        for answer in folder.answers:
+            if answer.site == folder.site:
+                self.answers.setdefault(answer.to, []).append(answer)
         self.lines: List[str] = []
         # The marks and the questions of this site in the folder.
         self.marks = own_marks(folder, screen)
         self.questions: List[Question] = []
+        folder.pass_over_untimely(screen)
         archive.lose(self.lacking(), screen)
 
     def lacking(self) -> Content:
@@ -226,69 +181,19 @@ class Exchange:
 
     def join(self) -> None:
         """Joins the answers that are there, whatever this site asked since."""
-        room = self.room
-        origins: Dict[bytes, str] = {}
-        mine = [answer for answer in self.folder.answers if answer.to == self.folder.site]
-        for number, answer in enumerate(mine, 1):
-            # It is copied, and read for what it has.
-            self.screen.begin(f"fetching: {number} of {len(mine)} answers", 2 * (self.folder.size(answer.name) or 0))
-            try:
-                self.folder.fetch(answer, os.path.join(room, b"answer"), self.screen.moved)
-            except Unfit as unfit:
-                self.folder.pass_over(answer, unfit, self.screen, unfit.is_half and not self.may_be_wanted(answer))
-            else:
-                self.take(room, answer, origins)
-        if not self.archive.main.exists():
-            self.make_total(room)
-        if os.path.exists(os.path.join(room, b"total")):
-            self.put(room, origins)
+        joining = Joining(self.archive, self.folder, self.program, self.screen, self.room, self.content)
+        joining.fetch([one for one in self.folder.answers if one.to == self.folder.site], self.may_be_wanted)
+        self.lines += joining.put()
+        self.content = joining.content
+        for answer in joining.done:
+            self.asked.note(answer.site, "joined", time.gmtime())
+            self.done.add(answer.name)
         self.archive.settle()
 
     def may_be_wanted(self, answer: Answer) -> bool:
         """Whether half an answer may be waited for."""
         prefixes = {digest[:SHORT] for _, digest in self.asked.questions}
         return answer.question in prefixes or len(self.archive.lost.content) > 0
-
-    def make_total(self, room: bytes) -> None:
-        if not os.path.exists(os.path.join(room, b"total")):
-            self.program.run(["new", "total"], folder=room)
-
-    def take(self, room: bytes, answer: Answer, origins: Dict[bytes, str]) -> None:
-        """Joins one answer with those before it, and notes of each entry from where it came."""
-        try:
-            with open(os.path.join(room, b"answer"), "rb") as file:
-                came = content_in(file, self.screen.moved)
-            self.make_total(room)
-            names = {"answer": shown(self.folder.at(answer.name))}
-            self.screen.begin("joining", sum(size_of(os.path.join(room, name)) for name in (b"total", b"answer")))
-            words, moved = ["merge", "total", "joined", "answer"], watched(self.screen, room)
-            self.program.run(words, folder=room, moved=moved, names=names)
-        except (Failed, Malformed) as fault:
-            self.screen.refuse(self.folder.at(answer.name), fault)
-            return
-        os.replace(os.path.join(room, b"joined"), os.path.join(room, b"total"))
-        self.asked.note(answer.site, "joined", time.gmtime())
-        self.done.add(answer.name)
-        for entry in [*came.retired, *came.held]:
-            origins.setdefault(entry, answer.site)
-
-    def put(self, room: bytes, origins: Dict[bytes, str]) -> None:
-        """Puts what the archive lacks of the answers into it. What it retires it does not lack."""
-        write_file(room, b"ours", summary_with_retired(self.content))
-        self.screen.begin("comparing")
-        self.program.run(["delta", "total", "ours", "missing"], folder=room, moved=watched(self.screen, room))
-        with open(os.path.join(room, b"missing"), "rb") as file:
-            self.screen.begin("reading what came", os.fstat(file.fileno()).st_size)
-            missing = content_in(file, self.screen.moved)
-        content = self.content.joined(missing)
-        news = content.beyond(self.content)
-        lines = [f"added {words_of(entry)} {origins[entry]}" for entry in sorted(news.held)]
-        lines += [f"retired {words_of(entry)} {origins[entry]}" for entry in sorted(news.retired)]
-        if lines or not self.archive.main.exists():
-            more = os.path.join(room, b"missing")
-            self.archive.put(room, self.program, News(missing, (), more), lines, self.screen)
-            self.content = content
-            self.lines += lines
 
     # ---- what it is called
 
@@ -298,6 +203,7 @@ class Exchange:
         if last == identity.digest() and self.folder.has_own(max(own, key=when_marked)):
             self.kept.add(max(own, key=when_marked).name)
             return
+        # The last mark of a name is the one that counts.
         name = mark_name(self.folder.site, time_after(one.time for one in self.marks), identity.digest())
         identity.keep(self.room)
         self.folder.put([identity.text], name, len(identity.text))
@@ -309,11 +215,11 @@ class Exchange:
     def ask(self) -> None:
         """Asks with what the archive has, unless the last question in the folder has that."""
         summary = self.content.summary()
-        digest, times = digest_of(summary), [one.time for one in self.questions]
-        times += [at for at, _ in self.asked.questions]
-        last = self.asked.questions[-1] if self.asked.questions else ("", "")
-        if last[1] != digest or last[0] < max(times):
-            last = (time_after(times), digest)
+        digest, last = digest_of(summary), self.asked.questions[-1] if self.asked.questions else ("", "")
+        self.asked.has_content(digest)
+        self.asked.lacks[digest] = Lacks(len(summary))
+        if last[1] != digest or self.is_behind(last):
+            last = (self.asked.next_time(self.signed_times()), digest)
             self.asked.ask(last, self.content)
         # What is asked with is kept before it is asked.
         self.asked.save(self.room)
@@ -322,6 +228,17 @@ class Exchange:
             self.folder.put([summary], name, len(summary))
             self.lines.append(f"asked {name}")
         self.kept.add(name)
+
+    def is_behind(self, last: Tuple[str, str]) -> bool:
+        """Whether a later question of this site may be taken for the last one, or that has a time that does not count.
+        Anyone may have written one where files are not signed, so that a time of the future is waited for."""
+        now, signed = time_now(), self.signed_times()
+        others = [(one.time, one.digest) for one in self.questions if one.time < now or one.time in signed]
+        return bool(fault_of_time(last[0])) or last < max([*self.asked.asked_in_time(), *others], default=last)
+
+    def signed_times(self) -> List[str]:
+        """The times of the questions in the folder that this site signed."""
+        return [one.time for one in self.questions] if self.folder.senders else []
 
     def is_asked(self, question: Question) -> bool:
         """Whether a question of this site is in the folder as it put it there, and whole."""
@@ -332,26 +249,37 @@ class Exchange:
     # ---- what others ask
 
     def answer(self) -> None:
-        """Answers the last question of each site that is whole."""
+        """Answers the last question of each site that is whole: first those that lack the least, so that one that lacks
+        all keeps none of them waiting."""
+        found: List[Tuple[Question, Lacks]] = []
         others = (one for one in self.folder.questions if one.site != self.folder.site)
         for site, questions in latest_first(others):
-            found = self.last_question(questions)
+            last = self.last_question(questions)
             self.folder.look_at(questions, self.screen)
-            if found:
-                self.answer_if_possible(self.room, *found)
+            if last:
+                found.append(last)
             else:
                 self.unsure.add(site)
+        left = self.folder.most
+        for question, lacks in sorted(found, key=lambda one: (one[1].length, one[0].name)):
+            if left is None or lacks.length <= left:
+                self.answer_if_possible(question, lacks)
+                left = None if left is None else left - lacks.length
+            else:
+                self.screen.fail(f"{shown(self.folder.at(question.name))}: {self.too_long(lacks.length, left)}")
 
-    def last_question(self, questions: Sequence[Question]) -> Optional[Tuple[Question, Content]]:
-        """The last one of some questions of a site that counts, and what that site has."""
+    def too_long(self, length: int, left: int) -> str:
+        others = "" if left == self.folder.most else f", of which other answers leave {left}"
+        return f"its answer has {length} bytes, and --most is {self.folder.most}{others}"
+
+    def last_question(self, questions: Sequence[Question]) -> Optional[Tuple[Question, Lacks]]:
+        """The last one of some questions of a site that counts, and what that site lacks."""
         for question in questions:
             try:
-                data = self.folder.read(question, self.room, MOST_OF_QUESTION)
-                if not is_summary(data):
-                    raise Unfit("is no summary")
+                lacks = self.lacks(question)
                 if self.folder.senders:
                     self.folder.senders.refuse_older(question.site, question.time)
-                return question, content_of(entries_in(data))
+                return question, lacks
             except Older as older:
                 # So are the others.
                 self.folder.pass_over(question, older, self.screen)
@@ -362,35 +290,59 @@ class Exchange:
                 self.unsure.add(question.site)
         return None
 
-    def answer_if_possible(self, room: bytes, question: Question, theirs: Content) -> None:
+    def lacks(self, question: Question) -> Lacks:
+        """What a question lacks, which is read if that is not known."""
+        known = self.asked.lacks.get(question.digest) or self.asked.lacks_before.get(question.digest)
+        if known is None or self.folder.check_size(question, MOST_OF_QUESTION) != known.size:
+            lacking, size = self.content.beyond(self.theirs(question)), self.folder.check(question)
+            has = digest_of(lacking.summary())[:SHORT] if len(lacking) else NOTHING
+            known = Lacks(size, has, lacking.size() if len(lacking) else 0)
+        self.asked.lacks[question.digest] = known
+        return known
+
+    def theirs(self, question: Question) -> Content:
+        """What the site of a question has."""
+        data = self.folder.read(question, self.room, MOST_OF_QUESTION)
+        try:
+            return content_of(entries_in(data))
+        except Malformed as malformed:
+            raise Unfit(malformed.reason) from None
+
+    def answer_if_possible(self, question: Question, lacks: Lacks) -> None:
         """Answers, or says why that failed. The question is not to blame."""
         try:
-            self.answer_one(room, question, theirs)
+            self.answer_one(question, lacks)
         except OSError as error:
             self.unsure.add(question.site)
             self.screen.fail(system_text(error, self.folder.path))
         except Failed as failed:
             self.unsure.add(question.site)
             self.screen.fail(failed.text, failed.more)
+        except Unfit as unfit:
+            self.unsure.add(question.site)
+            self.folder.pass_over(question, unfit, self.screen)
 
-    def answer_one(self, room: bytes, question: Question, theirs: Content) -> None:
-        """Answers with what the site lacks, unless the folder has this answer."""
-        lacking = self.content.beyond(theirs)
+    def answer_one(self, question: Question, lacks: Lacks) -> None:
+        """Answers with what the site lacks, unless the folder has this answer. No other one to it stays there."""
         self.asked.note(question.site, "asked", time.strptime(question.time, TIME))
-        if not len(lacking):
+        if lacks.has == NOTHING:
             return
-        has = digest_of(lacking.summary())[:SHORT]
-        for answer in self.folder.answers:
-            is_this = (self.folder.site, question.site, question.digest[:SHORT], has) == answer[1:5]
-            if is_this and self.folder.has_own(answer) and self.folder.size(answer.name) == lacking.size():
+        before = self.answers.get(question.site, [])
+        for answer in before:
+            is_this = (answer.question, answer.has) == (question.digest[:SHORT], lacks.has)
+            if is_this and self.folder.size(answer.name) == lacks.length and self.folder.has_own(answer):
                 self.kept.add(answer.name)
                 return
+        theirs = self.theirs(question)
+        lacking = self.content.beyond(theirs)
         # The answer is written, read for what it has and for its digest, and copied.
         self.screen.begin(f"answering {question.site}", 4 * lacking.size())
-        self.make_answer(room, theirs, lacking)
-        with open(os.path.join(room, b"answer"), "rb") as file:
+        self.make_answer(self.room, theirs, lacking)
+        for answer in before:
+            self.folder.remove(answer.name, self.screen)
+        with open(os.path.join(self.room, b"answer"), "rb") as file:
             digest = digest_in(file, 0, lacking.size(), self.screen.moved).hex()
-            name = f"{self.folder.site}.answers.{question.site}.{question.digest[:SHORT]}.{has}.{digest}.sym"
+            name = answer_name(self.folder.site, question, lacks.has, digest)
             file.seek(0)
             self.folder.put(self.moved_chunks(file), name, lacking.size())
         self.kept.add(name)
@@ -429,19 +381,21 @@ class Exchange:
         """Removes answers that were joined or are late, what was not whole for a day, this site's files that are no
         longer right, and what a kill left."""
         site = self.folder.site
-        own = [one for one in self.folder.answers if one.site == site]
+        own = [one for answers in self.answers.values() for one in answers]
         self.stays = self.kept | self.telling.kept | {one.name for one in own if one.to in self.unsure}
         self.folder.look_at((one for one in own if one.name not in self.stays), self.screen)
         going = {*self.done, *self.telling.own, *self.folder.done, *(one.name for one in own)}
-        going.update(one.name for one in self.folder.questions if one.site == site)
-        going.update(one.name for one in self.folder.every_mark if one.site == site)
+        timed: List[Sent] = [*self.folder.questions, *self.folder.every_mark]
+        timed += [one for one, _ in self.folder.untimely]
+        going.update(one.name for one in timed if one.site == site)
         signatures = self.folder.own_signatures - self.folder.signatures_that_stay(self.stays)
         for name in [*sorted(going - self.stays), *sorted(signatures)]:
             self.folder.remove(name, self.screen)
         self.folder.remove_part()
 
     def save(self) -> None:
-        """Keeps what was asked and sent."""
+        """Keeps what was asked, read and sent."""
+        self.asked.forget_others()
         self.asked.save(self.room)
         if self.folder.senders:
             self.folder.senders.end(self.room, self.stays)
@@ -489,7 +443,7 @@ def own_marks(folder: SharedFolder, screen: Optional[Screen] = None) -> List[Mar
                     folder.pass_over(mark, unfit, screen)
     # One that was before the mark that this site signed last comes back where files are copied.
     signed = [MARK.fullmatch(name) for name in (folder.senders.own if folder.senders else ())]
-    began = max((found["time"] for found in signed if found), default="")
+    began = max((found["time"] for found in signed if found and not fault_of_time(found["time"])), default="")
     return [mark for mark in marks if mark.time >= began]
 
 

@@ -26,6 +26,7 @@ from .contents import Content, Kept, Malformed, kept_text
 from .placing import Placing
 from .program import Word
 from .screen import Failed, shown
+from .times import fault_of_time
 
 SIGNERS = b".signers"
 NAMESPACE = "symarch"
@@ -205,9 +206,9 @@ class Senders(Remembered):
         return note in self.digests
 
     def refuse_older(self, site: str, at: str) -> None:
-        """Raises Older if a question is older than the last one of its site."""
+        """Raises Older if a question is older than the last one of its site, whose clock was right then."""
         last = self.last.get(site, "")
-        if at < last:
+        if at < last and not fault_of_time(last):
             raise Older(f"is older than the last question of {site}, of {last}")
         self.last[site] = at
 

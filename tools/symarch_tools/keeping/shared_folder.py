@@ -7,14 +7,14 @@
 
 DIGEST is the SHA-256 of the file's bytes, so a file that is not whole is told by its name. QUESTION begins the digest
 of the question, and HAS that of the answer's summary. No file is rewritten, and a new one is renamed into place. Of the
-marks of a name the last one counts, and of names of builds the last file of a site that is whole.
+marks of a name the last one counts, and of names of builds the last file of a site that is whole. A file whose TIME is
+no date, or more than a day ahead of the clock, does not count.
 
     SITE.KIND. .. .DIGEST.SUM.sig                 a signature of a file, of which SUM begins the SHA-256
 
 Who signs puts a signature before its file, so that it also comes first where files are copied in the order of their
 names. A file may have several, as when a key is changed, of which one has to be right. Others may write to the folder:
 nothing is read but a copy, and no link is followed."""
-import calendar
 import contextlib
 import hashlib
 import itertools
@@ -29,6 +29,7 @@ from .archive_file import sync_folder, write_to_disk
 from .contents import CHUNK, Moved, unmoved
 from .screen import Screen, about, shown, system_text
 from .senders import MOST_OF_SIGNATURE, Senders, Statement, Unfit, folder_in
+from .times import DAY, fault_of_time
 
 SITE = "[a-z0-9][a-z0-9_-]{0,31}"
 QUESTION = re.compile(rf"(?P<site>{SITE})\.asks\.(?P<time>[0-9]{{8}}T[0-9]{{6}}Z)\.(?P<digest>[0-9a-f]{{64}})\.sum")
@@ -42,8 +43,6 @@ SIGNATURE = re.compile(
     rf"(?P<of>(?P<site>{SITE})\.(?:asks|answers|is|builds)\.[a-zA-Z0-9._-]*)\.(?P<digest>[0-9a-f]{{16}})\.sig"
 )
 SHORT = 16
-TIME = "%Y%m%dT%H%M%SZ"
-DAY = 24 * 60 * 60
 
 
 class Question(NamedTuple):
@@ -77,7 +76,7 @@ class BuildsFile(NamedTuple):
 
 
 Sent = Union[Question, Answer, Mark, BuildsFile]
-Timed = TypeVar("Timed", Question, BuildsFile)
+Timed = TypeVar("Timed", Question, Mark, BuildsFile)
 
 
 class Gone(Unfit):
@@ -93,6 +92,10 @@ def digest_of(data: bytes) -> str:
 
 def question_name(site: str, at: str, digest: str) -> str:
     return f"{site}.asks.{at}.{digest}.sum"
+
+
+def answer_name(site: str, question: Question, has: str, digest: str) -> str:
+    return f"{site}.answers.{question.site}.{question.digest[:SHORT]}.{has}.{digest}.sym"
 
 
 def mark_name(site: str, at: str, digest: str) -> str:
@@ -111,18 +114,6 @@ def signature_name(name: str, signature: bytes) -> str:
     return f"{without_ending(name)}.{digest_of(signature)[:SHORT]}.sig"
 
 
-def is_time(text: str) -> bool:
-    with contextlib.suppress(ValueError):
-        return bool(time.strptime(text, TIME))
-    return False
-
-
-def time_after(times: Iterable[str]) -> str:
-    """Now, or a second after the last of some times, if that is later."""
-    last = max((calendar.timegm(time.strptime(one, TIME)) for one in times), default=0)
-    return time.strftime(TIME, time.gmtime(max(int(time.time()), last + 1)))
-
-
 def latest_first(files: Iterable[Timed]) -> Iterator[Tuple[str, List[Timed]]]:
     """The files of each site, of which the last one comes first."""
     ordered = sorted(files, key=lambda it: (it.site, it.time, it.digest), reverse=True)
@@ -139,12 +130,14 @@ class SharedFolder:
     ) -> None:
         self.path, self.site, self.senders, self.most = path, site, senders, most
         names = sorted(os.listdir(os.fsdecode(path)))
+        # Files whose times do not count, and why.
+        self.untimely: List[Tuple[Sent, str]] = []
         questions = [Question(name, **found.groupdict()) for name in names if (found := QUESTION.fullmatch(name))]
-        self.questions = [one for one in questions if is_time(one.time)]
+        self.questions = self.timely(questions)
         marks = [Mark(name, **found.groupdict()) for name in names if (found := MARK.fullmatch(name))]
-        self.every_mark = [one for one in marks if is_time(one.time)]
+        self.every_mark = self.timely(marks)
         builds = [BuildsFile(name, **found.groupdict()) for name in names if (found := BUILDS.fullmatch(name))]
-        self.builds = [one for one in builds if is_time(one.time)]
+        self.builds = self.timely(builds)
         self.answers = [Answer(name, **found.groupdict()) for name in names if (found := ANSWER.fullmatch(name))]
         # The signatures of each file, by its name without the ending; those of this site; and the right one of a file.
         self.signatures: Dict[str, List[str]] = {}
@@ -159,6 +152,17 @@ class SharedFolder:
         self.unfit: Set[str] = set()
         if senders and not senders.last:
             senders.go_to(self.first_folder(senders))
+
+    def timely(self, files: Iterable[Timed]) -> List[Timed]:
+        """The files whose times count. The others are noted."""
+        found: List[Timed] = []
+        for one in files:
+            fault = fault_of_time(one.time)
+            if fault:
+                self.untimely.append((one, fault))
+            else:
+                found.append(one)
+        return found
 
     def at(self, name: str) -> bytes:
         return os.path.join(self.path, os.fsencode(name))
@@ -215,13 +219,17 @@ class SharedFolder:
         regular_size(self.at(name))
         raise unfit
 
-    def fetch(self, one: Sent, path: bytes, moved: Moved = unmoved, most: Optional[int] = None) -> None:
-        """Copies a file that its site sent. Raises Unfit if it is another one, is not whole, or is too long."""
+    def check_size(self, one: Sent, most: Optional[int] = None) -> int:
+        """Raises Unfit unless a file is one that its site sent here, and not too long. Returns its length."""
         others = self.most if one.site != self.site else None
         limit = min((it for it in (most, others) if it is not None), default=None)
         if limit is not None and regular_size(self.at(one.name)) > limit:
             raise Unfit(f"has more than {limit} bytes")
-        size = self.check(one)
+        return self.check(one)
+
+    def fetch(self, one: Sent, path: bytes, moved: Moved = unmoved, most: Optional[int] = None) -> None:
+        """Copies a file that its site sent. Raises Unfit if it is another one, is not whole, or is too long."""
+        size = self.check_size(one, most)
         with regular_file(self.at(one.name)) as source, about(path), open(path, "wb") as file:
             digest = copied(source, file, size, moved)
         if digest != one.digest:
@@ -271,6 +279,16 @@ class SharedFolder:
             screen.refuse(self.at(one.name), unfit.reason)
         elif self.senders and not isinstance(unfit, Gone):
             screen.fail(f"{shown(self.at(one.name))}: {unfit.reason}")
+
+    def pass_over_untimely(self, screen: Screen) -> None:
+        """Names the files whose times do not count, or, where files are signed, what else is wrong with them."""
+        for one, fault in self.untimely:
+            unfit = Unfit(fault)
+            try:
+                self.check(one)
+            except Unfit as other:
+                unfit = other
+            self.pass_over(one, unfit, screen)
 
     def look_at(self, files: Iterable[Sent], screen: Screen) -> None:
         """Names those of some files that their sites did not send. Of the others nothing is read."""

@@ -40,7 +40,7 @@ from .archive import Archive
 from .archive_file import ArchiveFile
 from .builds import NEXT_BUILDS
 from .contents import DIGEST, KEY, RETIREMENT, Content, Malformed, digest_in, head_of, record_size, records_in
-from .exchanging import Asked
+from .exchanged import Exchanged
 from .file_names import NEXT_INDEX
 from .indexes import HEAD, is_companion
 from .json_lines import Line, Members, path_members
@@ -72,7 +72,7 @@ def carry_out(words: argparse.Namespace) -> int:
         if archive.lost.fault:
             screen.fail(f"{shown(archive.lost.path)}: {archive.lost.fault}, so what is lost is not known")
     # A word that writes meanwhile has what was asked before, and ARCHIVE and levels have what ARCHIVE.today had before.
-    asked = Asked(archive)
+    asked = Exchanged(archive)
     seen = [see(archive.today, screen)]
     archive.find_levels()
     seen += [see(file, screen) for file in (*reversed(archive.levels), archive.main)]
@@ -109,7 +109,7 @@ def members_of_lost(line: str) -> Members:
 
 def accept(archive: Archive, content: Content, screen: Screen) -> None:
     """Takes as lost what an archive of a content lacks. Its lines are kept in the log."""
-    archive.lost.add(Asked(archive).lacking_in(content))
+    archive.lost.add(Exchanged(archive).lacking_in(content))
     lines = archive.lost.accept()
     archive.keep_lost()
     archive.log.note([f"accepted {line}" for line in lines], screen)
@@ -178,7 +178,7 @@ def found_in(records: Sequence[Record], had: Content) -> Content:
     return found
 
 
-def lost_of(archive: Archive, asked: Asked, seen: Sequence[Seen]) -> Content:
+def lost_of(archive: Archive, asked: Exchanged, seen: Sequence[Seen]) -> Content:
     """What the archive had and lacks, but for what is taken as lost."""
     if all(one.is_same for one in seen):
         content = archive.joined()
@@ -227,7 +227,7 @@ def numbers_of(records: Sequence[Record]) -> Dict[str, int]:
     return {**counts, "conflicts": conflicts}
 
 
-def sites_of(asked: Asked) -> List[str]:
+def sites_of(asked: Exchanged) -> List[str]:
     """What `exchange` noted of each site."""
     return [note for note in asked.kept.notes if note.startswith("site ")] if asked.kept else []
 

@@ -1,12 +1,13 @@
 """How sites tell each other the names of builds: each puts its ARCHIVE.builds into the shared folder, and joins those
-of the others. A file is read only if it has other bytes than ARCHIVE.builds, so none is once all know the same."""
+of the others. A file is read only if it has other bytes than ARCHIVE.builds, and than those that were joined before."""
 from typing import List, Set
 
 from .archive import Archive
 from .builds import MOST_OF_LINE, Days, add_line, earliest, is_framed, line_in, lines_of
+from .exchanged import Exchanged
 from .screen import Screen
 from .senders import Unfit
-from .shared_folder import BuildsFile, SharedFolder, builds_name, digest_of, latest_first, time_after
+from .shared_folder import BuildsFile, SharedFolder, builds_name, digest_of, latest_first
 
 # Longer files are refused. One of a million slices is as long.
 MOST = 1 << 28
@@ -15,8 +16,10 @@ MOST = 1 << 28
 class Telling:
     """What one call joins and puts into the folder."""
 
-    def __init__(self, archive: Archive, folder: SharedFolder, screen: Screen, room: bytes) -> None:
-        self.archive, self.folder, self.screen, self.room = archive, folder, screen, room
+    def __init__(
+        self, archive: Archive, folder: SharedFolder, screen: Screen, room: bytes, asked: Exchanged
+    ) -> None:
+        self.archive, self.folder, self.screen, self.room, self.asked = archive, folder, screen, room, asked
         self.own = {one.name for one in folder.builds if one.site == folder.site}
         # The lines that are printed, and the files of this site that stay.
         self.lines: List[str] = []
@@ -25,6 +28,7 @@ class Telling:
     def join(self) -> None:
         """Joins what each site told last: also this one, which may have lost its file since."""
         builds, digest = self.archive.builds, digest_of(self.archive.builds.text)
+        self.asked.has_builds(digest)
         came: Days = {}
         for site, its in latest_first(self.folder.builds):
             more = self.names_in(its, digest)
@@ -34,12 +38,16 @@ class Telling:
             came = earliest(came, more)
         builds.news = came
         self.archive.keep_builds(self.screen)
+        self.asked.builds = digest_of(self.archive.builds.text)
+        if self.archive.builds.is_changed():
+            # They could not be kept.
+            self.asked.joined = {}
 
     def names_in(self, files: List[BuildsFile], digest: str) -> Days:
         """The lines of the last file of a site that is whole, if that has another digest than ARCHIVE.builds."""
         for one in files:
             try:
-                if one.digest != digest:
+                if one.digest != digest and not self.is_joined(one):
                     return self.lines_in(one, self.folder.read(one, self.room, MOST))
                 if one.site != self.folder.site:
                     self.folder.check(one)
@@ -47,6 +55,14 @@ class Telling:
             except Unfit as unfit:
                 self.folder.pass_over(one, unfit, self.screen)
         return {}
+
+    def is_joined(self, one: BuildsFile) -> bool:
+        """Whether a call before joined a file of these bytes, by its digest and its length."""
+        size = self.asked.joined_before.get(one.digest)
+        if size is None or size != self.folder.size(one.name):
+            return False
+        self.asked.joined[one.digest] = size
+        return True
 
     def lines_in(self, one: BuildsFile, text: bytes) -> Days:
         """The lines of a file that are not known, of which those that are none are refused."""
@@ -67,6 +83,8 @@ class Telling:
         if count:
             others = f", and {count - 1} others are none" * (count > 1)
             self.screen.refuse(self.folder.at(one.name), f"{first}{others}; the rest is taken")
+        else:
+            self.asked.joined[one.digest] = len(text)
         return found
 
     def tell(self) -> None:
@@ -76,7 +94,7 @@ class Telling:
         own = [one for one in folder.builds if one.site == folder.site and folder.has_own(one)]
         there = [it.name for it in own if it.digest == digest and folder.size(it.name) == len(text)]
         if text and not there:
-            there = [builds_name(self.folder.site, time_after(one.time for one in own), digest)]
+            there = [builds_name(self.folder.site, self.asked.next_time(), digest)]
             self.folder.put([text], there[0], len(text))
             self.lines.append(f"told {there[0]}")
         self.kept = set(there[:1])
