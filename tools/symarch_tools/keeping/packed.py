@@ -22,6 +22,9 @@ BLOCK, MAGIC_AT, TAR = 512, 257, b"ustar"
 NAMES_OF_PACKED = (b".zip", b".tar.gz", b".tgz")
 # How many bytes a member may unpack to, and the headers of a tar file that have long names.
 MOST, MOST_OF_NAMES = TOO_LARGE - 1, 1 << 20
+# All members together may unpack to so many times the bytes of their file, and these. Images pack to a third or a
+# tenth; deflate alone packs to a thousandth, and members of a zip file may even have the same packed bytes.
+MOST_TIMES, MOST_OF_ALL = 100, 64 << 20
 NAMES = (tarfile.GNUTYPE_LONGNAME, tarfile.GNUTYPE_LONGLINK, tarfile.XHDTYPE, tarfile.XGLTYPE, tarfile.SOLARIS_XHDTYPE)
 # Deflate alone unpacks in small pieces whatever it has.
 METHODS, IS_ENCRYPTED = (zipfile.ZIP_STORED, zipfile.ZIP_DEFLATED), 1
@@ -34,6 +37,23 @@ FAULTS = (
 
 class Damaged(Exception):
     """Why a member, or the file that has it, is not read."""
+
+
+class TooMuch(Damaged):
+    """Why no more members of a file are read."""
+
+
+class Allowance:
+    """How many bytes the members of a file may still unpack to, when it is read once."""
+
+    def __init__(self, path: bytes) -> None:
+        self.most = MOST_TIMES * os.stat(path).st_size + MOST_OF_ALL
+        self.left = self.most
+
+    def take(self, size: int) -> None:
+        self.left -= size
+        if self.left < 0:
+            raise TooMuch(f"unpacks, with what comes before it, to more than {self.most} bytes")
 
 
 @contextlib.contextmanager
@@ -65,13 +85,16 @@ class Member(NamedTuple):
     name: bytes
     size: int
     stream: Optional[IO[bytes]]
+    allowance: Allowance
     fault: str = ""
 
     def read(self, size: int) -> bytes:
         if self.stream is None:
             raise Damaged(self.fault)
         with faults_of(""):
-            return self.stream.read(size)
+            chunk = self.stream.read(size)
+        self.allowance.take(len(chunk))
+        return chunk
 
     def unpack(self, file: BinaryIO, front: bytes) -> None:
         """Writes its bytes, of which the first were read. What comes is counted, whatever was promised."""
@@ -128,15 +151,16 @@ class Packed:
             yield from self.zip_members(first) if self.is_zip else self.tar_members(first)
 
     def zip_members(self, first: int) -> Iterator[Member]:
+        allowance = Allowance(self.path)
         with open(self.path, "rb") as file, zipfile.ZipFile(file) as packed:
             for number, entry in enumerate(packed.infolist()[first:], first):
                 name = entry.filename.encode(errors="surrogateescape")
                 if entry.is_dir():
                     continue
                 if entry.flag_bits & IS_ENCRYPTED:
-                    yield Member(number, name, 0, None, "encrypted")
+                    yield Member(number, name, 0, None, allowance, "encrypted")
                 elif entry.compress_type not in METHODS:
-                    yield Member(number, name, 0, None, "packed by another method than deflate")
+                    yield Member(number, name, 0, None, allowance, "packed by another method than deflate")
                 else:
                     # It is read to its end or past the limit, however few bytes its entry promises.
                     whole = copy.copy(entry)
@@ -144,12 +168,13 @@ class Packed:
                     try:
                         stream = packed.open(whole)
                     except FAULTS:
-                        yield Member(number, name, 0, None, "cut or damaged")
+                        yield Member(number, name, 0, None, allowance, "cut or damaged")
                         continue
                     with stream:
-                        yield Member(number, name, entry.file_size, stream)
+                        yield Member(number, name, entry.file_size, stream, allowance)
 
     def tar_members(self, first: int) -> Iterator[Member]:
+        allowance = Allowance(self.path)
         with gzip.open(self.path, "rb") as stream:
             whole, number = cast(IO[bytes], stream), -1
             with tarfile.open(fileobj=whole, mode="r|", tarinfo=TarHeader, errors="surrogateescape") as packed:
@@ -159,7 +184,7 @@ class Packed:
                     packed.members = []  # type: ignore[attr-defined]
                     if number >= first and entry.isreg():
                         name = entry.name.encode(errors="surrogateescape")
-                        yield Member(number, name, entry.size, packed.extractfile(entry))
+                        yield Member(number, name, entry.size, packed.extractfile(entry), allowance)
             # What is wrong with the whole is known at its end.
             while stream.read(CHUNK):
                 pass

@@ -14,7 +14,7 @@ from .bundles import MOST_OF_LIST, Bundles
 from .contents import CHUNK, KEY, TOO_LARGE, head_of, words_of
 from .json_lines import line_of, path_members, record_members
 from .looks import MOST_LOOKED_AT, ONE, look_of
-from .packed import Damaged, Member, Packed, Unpacker, is_named_as_packed, is_of_dsym, packed_at
+from .packed import Damaged, Member, Packed, TooMuch, Unpacker, is_named_as_packed, is_of_dsym, packed_at
 from .screen import Screen, SliceRefused, shown
 
 # mach-o/fat.h: an entry of each table, of which offset and size count. mach-o/loader.h: the header and its commands.
@@ -173,7 +173,7 @@ class Finder:
             try:
                 self.take_member(member)
             except (Damaged, SliceRefused, OSError) as fault:
-                is_end = not packed.is_zip and not isinstance(fault, SliceRefused)
+                is_end = isinstance(fault, TooMuch) or not packed.is_zip and not isinstance(fault, SliceRefused)
                 told = fault.strerror if isinstance(fault, OSError) else fault
                 self.screen.refuse(self.name, f"{told}; what comes after it was not read" if is_end else told)
                 if is_end:
