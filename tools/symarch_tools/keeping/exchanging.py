@@ -294,19 +294,33 @@ class Exchange:
         """What a question lacks, which is read if that is not known."""
         known = self.asked.lacks.get(question.digest) or self.asked.lacks_before.get(question.digest)
         if known is None or self.folder.check_size(question, MOST_OF_QUESTION) != known.size:
-            lacking, size = self.content.beyond(self.theirs(question)), self.folder.check(question)
-            has = digest_of(lacking.summary())[:SHORT] if len(lacking) else NOTHING
-            known = Lacks(size, has, lacking.size() if len(lacking) else 0)
+            data = self.copied(question)
+            if not is_summary(data):
+                raise Unfit("is no summary")
+            known = Lacks(len(data))
+            lacking = self.content.beyond(content_of(entries_in(data)))
+            if len(lacking):
+                known = Lacks(len(data), digest_of(lacking.summary())[:SHORT], lacking.size())
+            else:
+                os.unlink(self.copy_of(question))
         self.asked.lacks[question.digest] = known
         return known
 
-    def theirs(self, question: Question) -> Content:
-        """What the site of a question has."""
+    def copy_of(self, question: Question) -> bytes:
+        return os.path.join(self.room, b"question-" + question.digest.encode())
+
+    def copied(self, question: Question) -> bytes:
+        """The bytes of a question, which is copied: others may write to the folder meanwhile."""
         data = self.folder.read(question, self.room, MOST_OF_QUESTION)
-        try:
-            return content_of(entries_in(data))
-        except Malformed as malformed:
-            raise Unfit(malformed.reason) from None
+        write_file(self.room, os.path.basename(self.copy_of(question)), data)
+        return data
+
+    def theirs(self, question: Question) -> Content:
+        """What the site of a question has that was read by this call or another one."""
+        if os.path.exists(self.copy_of(question)):
+            with open(self.copy_of(question), "rb") as file:
+                return content_of(entries_in(file.read()))
+        return content_of(entries_in(self.copied(question)))
 
     def answer_if_possible(self, question: Question, lacks: Lacks) -> None:
         """Answers, or says why that failed. The question is not to blame."""
@@ -338,7 +352,8 @@ class Exchange:
         # The answer is written, read for what it has and for its digest, and copied.
         self.screen.begin(f"answering {question.site}", 4 * lacking.size())
         self.make_answer(self.room, theirs, lacking)
-        for answer in before:
+        self.folder.look_at(before, self.screen)
+        for answer in self.answers.pop(question.site, []):
             self.folder.remove(answer.name, self.screen)
         with open(os.path.join(self.room, b"answer"), "rb") as file:
             digest = digest_in(file, 0, lacking.size(), self.screen.moved).hex()
