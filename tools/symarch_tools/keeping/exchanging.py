@@ -42,7 +42,13 @@ which is that of the site whose signed mark is the earliest, and stays once a qu
 let that mark reach all copies of FOLDER before the others begin. A site that has another ID removes its
 ARCHIVE.signers, and begins again.
 
-No link, pipe or device in FOLDER is opened, with keys or without. --most says how long a file there may be, as 50G.
+No link, pipe or device in FOLDER is opened, with keys or without. --most says how long a file of another site may be, as
+50G, and how many bytes the answers of this one may have there together: those to sites that lack the least come first,
+and each other one is named. To one site there is one answer at a time.
+
+A file is passed over and named, as long as it is there, if the time in its name is no date, or more than a day ahead of
+the clock of this site. One in the name of this site is removed. This site asks by its clock, whatever is there: if that
+was wrong, the next call after it is right goes on.
 
 The lines, which are kept in ARCHIVE.log with the date:
 
@@ -56,8 +62,8 @@ The lines, which are kept in ARCHIVE.log with the date:
 
 Status:
   0    done, also if nothing was to do
-  2    some answer, question or name was refused, some file of FOLDER not signed, read, written or removed, a slice
-       changed, something is lost, or some line not printed or kept; the rest is done
+  2    some answer, question or name was refused, some answer longer than --most, some file of FOLDER not signed, read,
+       written or removed, a slice changed, something is lost, or some line not printed or kept; the rest is done
   3    the words have another form
   4    ARCHIVE could not be read or written, there is no FOLDER, NAME is another site's, the key does not sign for it,
        the site signed before and has no keys now, or memory ran out: ARCHIVE is as it was
@@ -98,7 +104,7 @@ def define(parser: argparse.ArgumentParser) -> None:
     parser.add_argument("--take-name", action="store_true", help="take NAME, which another site has or had")
     parser.add_argument("--key", metavar="FILE", help="sign by this key, whose private half may be in an agent")
     parser.add_argument("--signers", metavar="FILE", help="take only what a key of these sites signed")
-    parser.add_argument("--most", metavar="BYTES", help="take no file of FOLDER that is longer")
+    parser.add_argument("--most", metavar="BYTES", help="take no file of FOLDER that is longer, and send no more")
     parser.add_argument("archive", metavar="ARCHIVE")
     parser.add_argument("folder", metavar="FOLDER")
     parser.add_argument("name", metavar="NAME")
@@ -249,8 +255,18 @@ class Exchange:
     # ---- what others ask
 
     def answer(self) -> None:
-        """Answers the last question of each site that is whole: first those that lack the least, so that one that lacks
-        all keeps none of them waiting."""
+        """Answers the last question of each site: first those that lack the least, so that one that lacks all keeps
+        none of them waiting."""
+        left = self.folder.most
+        for question, lacks in sorted(self.last_questions(), key=lambda one: (one[1].length, one[0].name)):
+            if left is None or lacks.length <= left:
+                self.answer_if_possible(question, lacks)
+                left = None if left is None else left - lacks.length
+            else:
+                self.screen.fail(f"{shown(self.folder.at(question.name))}: {self.too_long(lacks.length, left)}")
+
+    def last_questions(self) -> List[Tuple[Question, Lacks]]:
+        """The last question of each site that is whole, and what that site lacks."""
         found: List[Tuple[Question, Lacks]] = []
         others = (one for one in self.folder.questions if one.site != self.folder.site)
         for site, questions in latest_first(others):
@@ -260,13 +276,7 @@ class Exchange:
                 found.append(last)
             else:
                 self.unsure.add(site)
-        left = self.folder.most
-        for question, lacks in sorted(found, key=lambda one: (one[1].length, one[0].name)):
-            if left is None or lacks.length <= left:
-                self.answer_if_possible(question, lacks)
-                left = None if left is None else left - lacks.length
-            else:
-                self.screen.fail(f"{shown(self.folder.at(question.name))}: {self.too_long(lacks.length, left)}")
+        return found
 
     def too_long(self, length: int, left: int) -> str:
         others = "" if left == self.folder.most else f", of which other answers leave {left}"
@@ -337,24 +347,18 @@ class Exchange:
             self.folder.pass_over(question, unfit, self.screen)
 
     def answer_one(self, question: Question, lacks: Lacks) -> None:
-        """Answers with what the site lacks, unless the folder has this answer. No other one to it stays there."""
+        """Answers with what the site lacks, unless the folder has this answer."""
         self.asked.note(question.site, "asked", time.strptime(question.time, TIME))
-        if lacks.has == NOTHING:
+        there = [one.name for one in self.answers.get(question.site, []) if self.is_answer(one, question, lacks)]
+        self.kept.update(there[:1])
+        if lacks.has == NOTHING or there:
             return
-        before = self.answers.get(question.site, [])
-        for answer in before:
-            is_this = (answer.question, answer.has) == (question.digest[:SHORT], lacks.has)
-            if is_this and self.folder.size(answer.name) == lacks.length and self.folder.has_own(answer):
-                self.kept.add(answer.name)
-                return
         theirs = self.theirs(question)
         lacking = self.content.beyond(theirs)
         # The answer is written, read for what it has and for its digest, and copied.
         self.screen.begin(f"answering {question.site}", 4 * lacking.size())
         self.make_answer(self.room, theirs, lacking)
-        self.folder.look_at(before, self.screen)
-        for answer in self.answers.pop(question.site, []):
-            self.folder.remove(answer.name, self.screen)
+        self.remove_answers(question.site)
         with open(os.path.join(self.room, b"answer"), "rb") as file:
             digest = digest_in(file, 0, lacking.size(), self.screen.moved).hex()
             name = answer_name(self.folder.site, question, lacks.has, digest)
@@ -363,6 +367,18 @@ class Exchange:
         self.kept.add(name)
         self.asked.note(question.site, "answered", time.gmtime())
         self.lines.append(f"answered {question.site} {name}")
+
+    def is_answer(self, answer: Answer, question: Question, lacks: Lacks) -> bool:
+        """Whether an answer of this site is whole, and has what a question lacks."""
+        is_this = (answer.question, answer.has) == (question.digest[:SHORT], lacks.has)
+        return is_this and self.folder.size(answer.name) == lacks.length and self.folder.has_own(answer)
+
+    def remove_answers(self, site: str) -> None:
+        """Removes answers to a site before another one takes their place."""
+        answers = self.answers.pop(site, [])
+        self.folder.look_at(answers, self.screen)
+        for answer in answers:
+            self.folder.remove(answer.name, self.screen)
 
     def moved_chunks(self, file: BinaryIO) -> Iterator[bytes]:
         for chunk in chunks_in(file):
