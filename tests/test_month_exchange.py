@@ -152,8 +152,8 @@ class Month(RoomCase):
     def step_times_that_do_not_count_are_named_by_all(self) -> None:
         data = summary([])
         for at, reason in ((FAR, AHEAD), (time_at(2 * DAY), AHEAD), (NO_DATE, NONE)):
-            for name in (question_name("north", data, at), builds_name("north", data, at), mark_name("north", data, at)):
-                path = self.put(name, data)
+            for name_of in (question_name, builds_name, mark_name):
+                path = self.put(name_of("north", data, at), data)
                 _, errors = self.west.exchange(status=2)
                 same("named", (named(errors, path), path.exists()), ([reason], True))
                 same("answers", [it for it in os.listdir(self.shared) if ".answers." in it], [])

@@ -4,8 +4,8 @@
     gave TIME                    the last time that it gave a file
     site SITE ...                the dates of what was done with SITE
     ours DIGEST                  the summary of what this site had in the call before
-    lacks DIGEST N HAS M         what a question of N bytes lacked of that: M bytes, whose summary begins so; HAS is - if
-                                 it lacked nothing
+    lacks DIGEST N HAS M         what a question of N bytes lacked of that: an archive of M bytes, and how the digest of
+                                 its summary begins; - and 0 if it lacked nothing
     builds DIGEST                ARCHIVE.builds after the call before
     joined DIGEST N              names of builds of N bytes that are all in it
 
@@ -94,7 +94,7 @@ class Exchanged:
         return [one for one in self.questions if not fault_of_time(one[0])]
 
     def next_time(self, others: Iterable[str] = ()) -> str:
-        """The time of a file that this site makes: now, or a second after the last one that it gave, and some others."""
+        """The time of a file that this site makes: now, or a second after the last one that it gave and some others."""
         self.gave = time_after([*(at for at, _ in self.questions), self.gave, *others])
         return self.gave
 

@@ -42,9 +42,9 @@ which is that of the site whose signed mark is the earliest, and stays once a qu
 let that mark reach all copies of FOLDER before the others begin. A site that has another ID removes its
 ARCHIVE.signers, and begins again.
 
-No link, pipe or device in FOLDER is opened, with keys or without. --most says how long a file of another site may be, as
-50G, and how many bytes the answers of this one may have there together: those to sites that lack the least come first,
-and each other one is named. To one site there is one answer at a time.
+No link, pipe or device in FOLDER is opened, with keys or without. --most says how long a file of another site may be,
+as 50G, and how many bytes the answers of this one may have there together: those to sites that lack the least come
+first, and each other one is named. To one site there is one answer at a time.
 
 A file is passed over and named, as long as it is there, if the time in its name is no date, or more than a day ahead of
 the clock of this site. One in the name of this site is removed. This site asks by its clock, whatever is there: if that
