@@ -13,9 +13,9 @@ file go in one by one, so a part that stays out keeps no other part out. The PAT
 A PATH that is a zip file, or a tar file packed by gzip, is read as a folder of its members, printed as ZIP: MEMBER.
 So is one in a folder that is called NAME.zip, NAME.tar.gz or NAME.tgz. Members are unpacked into files without names,
 all images at once if they do not stand in the order of their UUIDs; one of more than 4294967295 bytes is refused, as is
-one that is encrypted, cut or damaged. The others go in, but for those after a fault in a tar file. All that are read may
-unpack to a hundred times the length of their file and 64 MiB: the one that has more is refused, and what comes after it
-is not read. What is packed within such a file is passed over.
+one that is encrypted, cut or damaged. The others go in, but for those after a fault in a tar file. Together they unpack
+to at most a hundred times the length of their file and 64 MiB: the one that has more is refused, and what comes after
+it is not read. What is packed within such a file is passed over.
 
 These are passed over: object files and images without a UUID, static libraries, 32-bit and big-endian images, all
 other files, links to folders, links that lead nowhere. The last line on standard error counts them; --verbose names
