@@ -106,9 +106,11 @@ class Month(RoomCase):
         return path
 
     def asks_in_time(self) -> None:
-        """Fails unless each question there is of this day."""
+        """Fails unless each question there is of this day, and east remembers none of a later one."""
         times = [name.split(".")[2] for name in os.listdir(self.shared) if ".asks." in name]
         same("times of other days", [at for at in times if not time_at(-DAY) < at < time_at(DAY)], [])
+        kept = [line.split(" ") for line in lines_of(pathlib.Path(f"{self.east.archive}.asked"))]
+        same("times to come", [it for it in kept if it[0] in ("asked", "gave") and it[1] > time_at(DAY // 2)], [])
 
     def goes_on(self) -> None:
         """The sites come to have what each of them adds."""

@@ -86,7 +86,9 @@ class Exchanged:
         return self.content().beyond(content)
 
     def ask(self, question: Tuple[str, str], content: Content) -> None:
-        self.questions.append(question)
+        """Notes a question. A time of a clock that was wrong is forgotten, which would count a day before it comes."""
+        in_time = ((question[0] if fault_of_time(at) else at, digest) for at, digest in self.questions)
+        self.questions = [*in_time, question]
         self.last = content
 
     def asked_in_time(self) -> List[Tuple[str, str]]:
