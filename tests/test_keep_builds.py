@@ -537,7 +537,6 @@ class Exchanged(BuildsCase):
         for ending in (".sum", ".sym", ".site"):
             self.assertFalse(name.endswith(ending))
         later = {f"south.later.20260101T000000Z.{'0' * 64}.txt": b"x", "east.builds.none.txt": b"y"}
-        later[f"south.builds.20269999T000000Z.{hashlib.sha256(b'').hexdigest()}.txt"] = b""
         for it, data in later.items():
             (folder / it).write_bytes(data)
         self.until_same([known(image(1), "Shop", "com.example.shop", "2.1", "210")])
