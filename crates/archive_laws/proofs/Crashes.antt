@@ -170,9 +170,10 @@ module _ (path text : List ℕ) (replaces : Replaces) (calls : List FileCall) (i
       by_case (inl none) = inl none.0
       by_case (inr (found, replaced, inl file)) = inl file.0
       by_case (inr (found, (bytes, gives, is_found), inr link)) =
-          let last = drafting is.draft is.pieces ++ is.tests ++ publishing is.draft is.target (folder_of is.target) in
           inr (subst (λ cs. Contains cs (Leads path is.target))
-          (sym (is.calls_are ∙ ap (λ probes. probes ++ last) (link ∙ ap (λ f. f ++ Leads path is.target ∷ []) is_found)))
+          (sym (is.calls_are
+          ∙ ap (λ probes. probes ++ drafting is.draft is.pieces ++ is.tests ++ publishing is.draft is.target (folder_of is.target))
+          (link ∙ ap (λ f. f ++ Leads path is.target ∷ []) is_found)))
           (2, grind arith, refl))
 
 pub removed_leaves : (replaces : Replaces) (path : List ℕ) (calls : List FileCall) (before left : Option (List ℕ)) (done : ℕ)
