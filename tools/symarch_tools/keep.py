@@ -62,10 +62,12 @@ from typing import Any, Dict, List, NoReturn, Optional, Sequence, Set
 
 from .keeping import adding, checking, exchanging, finding, folding, getting, listing, naming, repairing, retiring
 from .keeping import stating, symbolicating
-from .keeping.ordering import refuse_order
+from .keeping.forms import seconds_in
+from .keeping.ordering import is_archive, refuse_order
 from .keeping.progress import progress
-from .keeping.screen import Failed, Screen, shown, system_text
+from .keeping.screen import CutShort, Failed, Screen, shown, system_text
 from .signals import Stopped, signals
+from .unforeseen import DEBUG, HELP, Unforeseen, debugging, guarded
 from .version import PrintVersion
 
 WORDS = {
@@ -89,6 +91,7 @@ ASKING = ("find", "symbolicate", "name", "list", "get")
 # Words that may print JSON. Each has the keys of its last object, whose values are null if it fails.
 WITH_JSON = (adding, listing, stating, checking)
 QUIET = "print nothing if nothing is wrong, as cron mails what is printed"
+WAIT = "wait at most so long for another word that writes"
 JSON = "print an object of JSON for each line, as `symarch-keep --help` describes them"
 
 
@@ -147,6 +150,8 @@ def parse(words: Sequence[str]) -> argparse.Namespace:
     shape = argparse.RawDescriptionHelpFormatter
     parser = Parser("symarch-keep", description=__doc__, formatter_class=shape, allow_abbrev=False)
     parser.add_argument("--version", action=PrintVersion, nargs=0, help="print the version and exit")
+    # It is taken out before, since it may be anywhere.
+    parser.add_argument(DEBUG, action="store_true", help=HELP)
     commands = parser.add_subparsers(metavar="WORD", required=True)
     parsers: Dict[str, Parser] = {}
     for name, module in WORDS.items():
@@ -160,6 +165,7 @@ def parse(words: Sequence[str]) -> argparse.Namespace:
         )
         if name not in ASKING:
             its.add_argument("--quiet", action="store_true", help=QUIET)
+            its.add_argument("--wait", metavar="SECONDS", help=WAIT)
         if module in WITH_JSON:
             its.add_argument("--json", action="store_true", help=JSON)
         module.define(its)
@@ -193,16 +199,27 @@ def open_standard_streams() -> None:
 
 def carry_out(words: argparse.Namespace) -> int:
     """Carries out a word, and says why it failed."""
+    failed = Failed("out of memory")
     try:
+        wait = vars(words).get("wait")
+        words.wait = None if wait is None else seconds_in(wait)
         words.refuse_order()
         return words.carry_out(words)
+    except CutShort as fault:
+        fault.name_as(words.archive)
+        failed = fault
     except Failed as fault:
         failed = fault
     except OSError as error:
         failed = Failed(system_text(error))
+    except MemoryError:
+        pass
+    except Exception as error:
+        failed = Unforeseen(error)
     screen: Screen = vars(words).get("screen") or Screen()
     screen.release()
-    screen.fault(f"{failed.text}; the archive is as it was" if failed.status == 4 else failed.text, failed.more)
+    is_kept = failed.status == 4 and failed.leaves_archive and is_archive(words.archive)
+    screen.fault(f"{failed.text}; the archive is as it was" if is_kept else failed.text, failed.more)
     if screen.is_json and failed.status != 3:
         screen.refused, screen.has_failed = 0, False
         screen.end(failed.status, dict.fromkeys(words.keys))
@@ -211,7 +228,12 @@ def carry_out(words: argparse.Namespace) -> int:
 
 def main(given: Optional[Sequence[str]] = None) -> int:
     open_standard_streams()
-    words = parse(sys.argv[1:] if given is None else given)
+    words = debugging.taken_from(sys.argv[1:] if given is None else given)
+    return guarded("symarch-keep", lambda: ended(parse(words[1:] + ["--help"] if words[:1] == ["help"] else words)))
+
+
+def ended(words: argparse.Namespace) -> int:
+    """The status of a word, which a signal may end."""
     status = 4
     try:
         signals.answer()

@@ -165,6 +165,7 @@ from .reports.report import Count, Report
 from .reports.streams import drop, encoded, note, printing
 from .reports.words import NAME, Words, is_folder
 from .signals import Stopped, signals
+from .unforeseen import debugging, guarded
 
 
 # ---- what is printed
@@ -405,9 +406,10 @@ def carry_out_words(words: Sequence[str]) -> int:
 
 def main(words: Optional[Sequence[str]] = None) -> int:
     """Carries out the words. A signal ends the tool, unless it is ignored, once its files are removed."""
+    given = debugging.taken_from(sys.argv[1:] if words is None else words)
     try:
         signals.answer()
-        status = carry_out_words(sys.argv[1:] if words is None else words)
+        status = guarded(NAME, lambda: carry_out_words(given))
         signals.leave()
         return status
     except Stopped as stopped:

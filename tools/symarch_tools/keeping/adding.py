@@ -31,6 +31,8 @@ For each slice a line is printed after ARCHIVE is in place, in the order in whic
   known UUID ARCH DIGEST PATH      it was there, or was found before
   retired UUID ARCH DIGEST PATH    it is withdrawn, so it stays out
 
+What is retired is printed by --quiet too, since it stays out.
+
 DIGEST is the SHA-256 that `symarch-keep find` prints. PATH is printed as UTF-8; the backslash, each byte that is no
 UTF-8 and each byte of a character that does not print, as a newline, stand as \x and two hex digits.
 
@@ -69,7 +71,7 @@ from .program import DESCRIPTORS, Program
 from .screen import Screen, SliceRefused, screen_of, shown
 from .slices import Finder, Slice, compared, promised
 
-USAGE = "symarch-keep add [--quiet] [--json] [--verbose] [--dry-run] [--dsyms-only] ARCHIVE PATH..."
+USAGE = "symarch-keep add [--quiet] [--wait SECONDS] [--json] [--verbose] [--dry-run] [--dsyms-only] ARCHIVE PATH..."
 ABOUT = "put images and dSYMs into it"
 STANDARD_INPUT = b"-"
 WORDS = ("added", "known", "retired")
@@ -202,7 +204,7 @@ def carry_out(words: argparse.Namespace) -> int:
         # Where nothing was found nothing is made beside an archive that is not there.
         is_writing = not words.dry_run and (archive.main.exists() or bool(readable))
         archive = Archive(os.fsencode(words.archive), is_made=True, writes=is_writing)
-        archive.take_lock(screen)
+        archive.take_lock(screen, words.wait)
         is_there = archive.main.exists()
         slices = put(archive, program, readable, screen, words.dry_run)
     screen.show([one.line() for one in slices])
@@ -213,7 +215,9 @@ def carry_out(words: argparse.Namespace) -> int:
     counts = {**{word: count[word] for word in WORDS}, "refused": screen.refused}
     say_counts(counts, screen, words.dry_run)
     flags = {"passed_over": dict(sorted(screen.passed_over.items())), "made": is_made, "dry_run": words.dry_run}
-    return screen.end(0 if slices else 1, {**counts, **flags})
+    status = screen.end(0 if slices else 1, {**counts, **flags})
+    screen.insist([one.line() for one in slices if one.word == "retired"])
+    return status
 
 
 def say_counts(counts: Dict[str, int], screen: Screen, is_dry_run: bool) -> None:

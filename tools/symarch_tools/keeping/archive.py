@@ -1,6 +1,8 @@
 """An archive: ARCHIVE, its levels and ARCHIVE.today, which are asked as their join; what they have, and what is lost;
 and how more comes in, by the rules of `levels`."""
 import os
+import shlex
+import stat
 import tempfile
 from typing import Callable, List, Optional, Sequence, Tuple
 
@@ -9,8 +11,8 @@ from . import upgrading
 from .archive_file import ArchiveFile
 from .archive_file import size_of, write_synced
 from .builds import Builds
-from .contents import EMPTY, Content, archive_of_retirements, heads_in, join_of
-from .file_names import INDEX, INDEX_SUM, NEXT_INDEX, archive_of_level
+from .contents import EMPTY, MAGICS, Content, archive_of_retirements, heads_in, join_of
+from .file_names import INDEX, INDEX_SUM, NEXT_INDEX, archive_of_level, archive_of_today
 from .indexes import Index, Row, held_against, index_at, index_by, index_of
 from .json_lines import line_of, path_members, record_members
 from .levels import Files, joined_by_fold
@@ -18,8 +20,8 @@ from .lock import Lock
 from .looks import MOST_LOOKED_AT, look_of
 from .losing import LOST, Lost, counted, lost_lines
 from .program import Program
-from .screen import Failed, Screen, shown
-from .slices import Slice
+from .screen import CutShort, Failed, Screen, shown
+from .slices import Slice, is_dsym
 from .tables import Tables, write_index
 
 ASKED = b".asked"
@@ -64,28 +66,27 @@ class Archive(Files):
     ) -> None:
         super().__init__(os.path.realpath(path))
         self.writes = writes
-        if not is_made:
-            os.stat(self.path)
-        if os.path.isdir(self.path):
-            raise Failed(f"{shown(path)} is a folder, and no archive")
-        whole = archive_of_level(self.path) if writes else None
-        if whole is not None:
-            # A lock beside it would make it an archive of its own.
-            raise Failed(f"{shown(path)} is a level of {shown(whole)}: name that", 3)
+        refuse_other(path, self.path, is_made)
+        if writes or is_made:
+            refuse_part(path, self.path)
         for file in self.files:
+            named = path + file.path[len(self.path) :]
+            refuse_other(named, file.path, is_made=True)
             if not may_be_damaged and not file.begins_as_archive():
                 with open(file.path, "rb") as opened:
-                    look = look_of(opened.read(MOST_LOOKED_AT))
-                named = path + file.path[len(self.path) :]
+                    front = opened.read(MOST_LOOKED_AT)
+                if front and any(magic.startswith(front) for magic in MAGICS):
+                    raise CutShort(shown(named))
+                look = look_of(front)
                 raise Failed(f"{shown(named)} is no archive{f', but {look}' if look else ''}")
         self.lock = Lock(self.path, writes)
         self.lost = Lost(self.beside(LOST))
         # Whether names of builds were damaged as the word began.
         self.had_damaged_builds = False
 
-    def take_lock(self, screen: Screen) -> None:
-        """Waits until no other call has the lock, and goes on where one was killed."""
-        self.lock.take(screen)
+    def take_lock(self, screen: Screen, wait: Optional[float] = None) -> None:
+        """Waits until no other call has the lock, at most so many seconds, and goes on where one was killed."""
+        self.lock.take(screen, wait)
         # Another call may have folded meanwhile.
         self.find_levels()
         if self.writes:
@@ -386,6 +387,35 @@ class Archive(Files):
             self.forget(level)
         for file in self.files:
             upgrading.drop_sums(file)
+
+
+def refuse_part(path: bytes, place: bytes) -> None:
+    """Fails if a path, which leads to a place, names a file that an archive has beside it. A lock beside that would
+    make it an archive of its own, and what it has would be lost with the next fold of the other one."""
+    level_of, today_of = archive_of_level(place), archive_of_today(place)
+    if level_of is not None:
+        raise Failed(f"{shown(path)} is a level of {shown(level_of)}: name that", 3)
+    if today_of is not None:
+        raise Failed(f"{shown(path)} is the file for what comes in to {shown(today_of)}: name that", 3)
+
+
+def refuse_other(path: bytes, place: bytes, is_made: bool) -> None:
+    """Fails if a path, which leads to a place, names what is no file; and if nothing is there, unless that is made."""
+    try:
+        mode = os.stat(place).st_mode
+    except FileNotFoundError:
+        if is_made:
+            return
+        was_there = os.path.exists(place + INDEX)
+        how = "restore it from a backup or another site" if was_there else "symarch-keep add makes an archive"
+        raise Failed(f"{shown(path)}: No such file; {how}") from None
+    if is_dsym(path) or is_dsym(place):
+        name = path.rstrip(b"/")
+        typed = shown(shlex.quote(os.fsdecode(name)))
+        raise Failed(f"{shown(name)} is a dSYM: run symarch-keep add builds.sym {typed}, then name builds.sym")
+    if not stat.S_ISREG(mode):
+        kind = "a folder" if stat.S_ISDIR(mode) else "a pipe, a socket or a device"
+        raise Failed(f"{shown(path)} is {kind}, and no archive")
 
 
 def is_to_be_indexed(file: ArchiveFile) -> bool:

@@ -7,7 +7,7 @@ import os
 from typing import Iterable, List, Optional, Tuple
 
 from . import upgrading
-from .contents import MAGIC, MAGICS, RETIREMENT, Content, Kept, Malformed, content_in, heads_in
+from .contents import MAGIC, MAGICS, RETIREMENT, Content, EndsEarly, Kept, Malformed, content_in, heads_in, records_in
 from .file_names import INDEX, NEXT_INDEX
 from .indexes import Index, changes, index_at
 from .program import Program
@@ -58,6 +58,18 @@ class ArchiveFile:
                 return heads_in(file)
         except FileNotFoundError:
             return []
+
+    def is_cut(self) -> bool:
+        """Whether it ends before its records do."""
+        try:
+            with open(self.path, "rb") as file:
+                for _ in records_in(file):
+                    pass
+        except EndsEarly:
+            return True
+        except (FileNotFoundError, Malformed):
+            return False
+        return False
 
     # ---- what is known of it
 

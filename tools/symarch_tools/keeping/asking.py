@@ -15,7 +15,7 @@ from .file_names import INDEX
 from .forms import HELP
 from .indexes import HEAD, Index
 from .program import DESCRIPTORS, Moved, Program, not_moved
-from .screen import Failed, Screen, shown, system_text
+from .screen import CutShort, Failed, Screen, shown, system_text
 
 # How often a file is looked at again that a word of symarch-keep may just be replacing, and after how many seconds.
 TRIES, PAUSE = 10, 0.05
@@ -44,6 +44,8 @@ class Asked:
 
     def __init__(self, path: bytes, ends: contextlib.ExitStack) -> None:
         self.archive, self.ends, self.program = Archive(path, writes=False), ends, Program()
+        # What the program noted of its last answer.
+        self.notes: List[str] = []
         # A fold removes a file once one that stands before it has all of it, so who opens the last one first misses
         # nothing.
         files = [self.opened(self.archive.today)] if self.archive.today.size() > len(EMPTY) else []
@@ -82,6 +84,8 @@ class Asked:
 
     def unvouched(self, file: ArchiveFile) -> Failed:
         """Why nothing is said by a file."""
+        if file.is_cut():
+            return CutShort(shown(file.path))
         index = file.known()[0]
         fault = file.fault_of_index() if index is None else None
         if index is not None and index.size() != file.size():
@@ -131,7 +135,7 @@ class Asked:
     ) -> Tuple[List[str], int]:
         descriptors = [int(path.rpartition("/")[2]) for path in names]
         try:
-            printed, status = self.program.answer(
+            printed, status, noted = self.program.answer(
                 words, folder=folder, open_files=descriptors, moved=moved, names=names
             )
         except Failed as failed:
@@ -141,6 +145,7 @@ class Asked:
                 slice_words = index.row(int(found[3])).words()
                 raise (NoLines if found[2] == "NoLines" else self.changed)(slice_words) from None
             raise
+        self.notes = noted.decode(errors="replace").splitlines()
         return printed.decode().splitlines(), status
 
     def changed(self, words: str) -> Failed:

@@ -42,11 +42,11 @@ from .file_names import INDEX, strangers_beside
 from .indexes import HEAD, TAIL, Index, Row, held_against, index_by, index_of, is_companion
 from .losing import lost_lines
 from .program import Program
-from .screen import Failed, Screen, screen_of, shown
+from .screen import CutShort, Failed, Screen, screen_of, shown
 from .senders import SIGNERS, Remembered
 from .tables import changed_in
 
-USAGE = "symarch-keep check [--quiet] [--json] ARCHIVE"
+USAGE = "symarch-keep check [--quiet] [--wait SECONDS] [--json] ARCHIVE"
 ABOUT = "find each byte that changed"
 KEYS = ("slices", "retirements", "wrong")
 
@@ -108,6 +108,8 @@ def is_damaged(file: ArchiveFile, index: Index, program: Program) -> bool:
     """Whether an archive with other heads than its index has is damaged. Else somebody put it there."""
     try:
         file.look_through(program)
+    except CutShort:
+        return True
     except Failed as failed:
         if not failed.text.startswith("symarch: archive 0: ") or "cannot open" in failed.text:
             raise
@@ -230,7 +232,7 @@ def carry_out(words: argparse.Namespace) -> int:
     screen = screen_of(words)
     program = Program()
     archive = Archive(os.fsencode(words.archive), writes=False, may_be_damaged=True)
-    archive.take_lock(screen)
+    archive.take_lock(screen, words.wait)
     same, others = told_apart(archive, program, screen)
     more, lost = damaged_lines(archive), archive.lost.content
     for file in others:

@@ -36,6 +36,13 @@ class Malformed(Exception):
         self.reason = reason
 
 
+class EndsEarly(Malformed):
+    """What is cut short."""
+
+    def __init__(self) -> None:
+        super().__init__("ends early")
+
+
 def unmoved(_size: int) -> None:
     """For a file of which nobody watches how far it is read."""
 
@@ -146,7 +153,7 @@ def content_of(entries: Iterable[bytes]) -> Content:
 def exactly(file: BinaryIO, size: int) -> bytes:
     data = file.read(size)
     if len(data) < size:
-        raise Malformed("ends early")
+        raise EndsEarly
     return data
 
 
@@ -162,7 +169,7 @@ def records_in(file: BinaryIO) -> Iterator[Tuple[bytes, int]]:
         yield head, at + len(head)
         at, count = at + record_size(head), count + 1
         if at > size:
-            raise Malformed("ends early")
+            raise EndsEarly
         file.seek(at)
     if tag != END or int.from_bytes(exactly(file, LENGTH), "big") != count or file.read(1):
         raise Malformed("has no right end")

@@ -91,8 +91,9 @@ from .shared_folder import answer_name, digest_of, latest_first, mark_name, ques
 from .telling import Telling
 from .times import TIME, fault_of_time, time_after, time_now
 
-USAGE = """symarch-keep exchange [--quiet] [--take-name] [--most BYTES] ARCHIVE FOLDER NAME
-    symarch-keep exchange [--quiet] [--take-name] [--most BYTES] ARCHIVE FOLDER NAME --key FILE --signers FILE"""
+CALL = "symarch-keep exchange [--quiet] [--wait SECONDS] [--take-name] [--most BYTES] ARCHIVE FOLDER NAME"
+USAGE = f"""{CALL}
+    {CALL} --key FILE --signers FILE"""
 ABOUT = "exchange with other sites over a folder"
 # What tells this site from another one of the same name.
 IDENTITY = b".site"
@@ -522,7 +523,7 @@ def carry_out(words: argparse.Namespace) -> int:
     archive = Archive(os.fsencode(words.archive), is_made=True)
     # Where the folder or the name is wrong nothing is made. Another call may have changed both since.
     met(archive, words, keys, most)
-    archive.take_lock(screen)
+    archive.take_lock(screen, words.wait)
     folder, identity = met(archive, words, keys, most)
     with archive.room() as room:
         if folder.senders:

@@ -27,6 +27,13 @@ def numbers_beside(path: bytes) -> List[int]:
     return [number for ending, number in NUMBERS.items() if has_mark[number] and ending + LOCK not in found]
 
 
+def archive_of_today(path: bytes) -> Optional[bytes]:
+    """The path of the archive for which what comes in goes into a file, if it is called so: the archive may be made
+    later."""
+    whole = path[: -len(TODAY)]
+    return whole if path.endswith(TODAY) and os.path.basename(whole) else None
+
+
 def archive_of_level(path: bytes) -> Optional[bytes]:
     """The path of the archive of which a file is a level, if it is one."""
     number = NUMBERS.get(b"." + path.rpartition(b".")[2])

@@ -15,7 +15,7 @@ and nothing is written.
 
 Status:
   0    it is printed
-  1    none has anything of UUID
+  1    none has anything of UUID, which is said on standard error
   2    an archive, or what is beside it, could not be read or vouched for, or a line not be printed
   3    the words have another form
   126  there is no program"""
@@ -36,7 +36,9 @@ def define(parser: argparse.ArgumentParser) -> None:
 
 
 def carry_out(words: argparse.Namespace) -> int:
-    uuid = str(uuid_of(words.uuid))
+    uuid, screen = str(uuid_of(words.uuid)), screen_of(words)
     with opened_archive(os.fsencode(words.archive)) as asked:
         lines, status = asked.answer("find", [uuid])
-    return show(lines, screen_of(words), status)
+    if status == 1:
+        screen.line(f"nothing is held of {uuid}")
+    return show(lines, screen, status)

@@ -31,7 +31,7 @@ from .archive import Archive
 from .program import Program
 from .screen import screen_of, shown
 
-USAGE = "symarch-keep fold [--quiet] [--all] [--purge] ARCHIVE"
+USAGE = "symarch-keep fold [--quiet] [--wait SECONDS] [--all] [--purge] ARCHIVE"
 ABOUT = "join what came in lately into it"
 
 
@@ -45,7 +45,7 @@ def carry_out(words: argparse.Namespace) -> int:
     screen = screen_of(words)
     program = Program()
     archive = Archive(os.fsencode(words.archive))
-    archive.take_lock(screen)
+    archive.take_lock(screen, words.wait)
     archive.content(program, screen)
     came, waited = archive.today.content, archive.bytes_waiting()
     with archive.room() as room:

@@ -49,6 +49,13 @@ def size_in(word: str) -> int:
     return int(found[1]) * 1000 ** " kMGT".index(found[2] or " ")
 
 
+def seconds_in(word: str) -> float:
+    """A number of seconds."""
+    if not re.fullmatch(r"[0-9]{1,9}(\.[0-9]{1,9})?", word, re.ASCII):
+        raise other_form("SECONDS", word, "a number of seconds")
+    return float(word)
+
+
 def hex_of(name: str, word: str) -> str:
     """A number in hex digits, as the program takes it."""
     if not re.fullmatch("(0x)?[0-9a-fA-F]{1,16}", word):

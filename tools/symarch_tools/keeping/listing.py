@@ -10,6 +10,8 @@ Each UUID and architecture has a line for each version of an app that it is of, 
   DAY APP VERSION BUILD UUID ARCH BYTES dsym NAME     its dSYM is there
   DAY APP VERSION BUILD UUID ARCH BYTES image NAME    it is there without a dSYM
 
+and `!N` after `dsym` or `image`, as `dsym!2`, if N slices answer for its UUID and ARCH, a conflict.
+
 DAY is the first one on which it came in at a site, in UTC; BYTES counts its slices together; NAME is that of its file.
 APP, VERSION and BUILD are of the Info.plist of its bundle. ? stands for what nothing says, as of slices that came in
 before names were kept: `add` of their files names them. A slice without an app is of those of its UUID and
@@ -26,11 +28,12 @@ Status:
   3    the words have another form
   126  there is no program"""
 import argparse
+import difflib
 import os
-from typing import Dict, List, NamedTuple, Optional, Tuple
+from typing import Dict, List, NamedTuple, Optional, Set, Tuple
 
 from .asking import Asked, opened_archive
-from .builds import Build, Builds, Named, field_shown
+from .builds import UNKNOWN, Build, Builds, Named, field_shown
 from .checking import index_read
 from .contents import KEY, words_of
 from .forms import app_of, day_of
@@ -47,7 +50,8 @@ NO_DAY = ""
 
 class Listed(NamedTuple):
     """A build of an app for one architecture: the first day on which it came in, what Info.plist and the path say, how
-    many bytes its slices take together, and whether one is of a dSYM. Texts are as they are printed; ? is none."""
+    many bytes its slices take together, whether one is of a dSYM, and how many answer. Texts are as they are printed; ?
+    is none."""
 
     day: str
     app: str
@@ -58,18 +62,20 @@ class Listed(NamedTuple):
     arch: str
     size: int
     has_dsym: bool
+    answering: int
 
     def line(self) -> str:
         """The line that is printed. In it a name alone has spaces."""
         app, version, build = (text.replace(" ", r"\x20") for text in (self.app, self.version, self.build))
-        kind = "dsym" if self.has_dsym else "image"
+        kind = ("dsym" if self.has_dsym else "image") + f"!{self.answering}" * (self.answering > 1)
         text = f"{self.day} {app} {version} {build} {self.uuid} {self.arch} {self.size} {kind} {self.name}"
         return line_of(text, "build", **self.members())
 
     def members(self) -> Members:
         """What it is as JSON: texts as they were, and null for what nothing says."""
         said = {name: None if text == "?" else unshown(text) for name, text in zip(self._fields, self[:5])}
-        return {**said, "uuid": self.uuid, "arch": self.arch, "bytes": self.size, "dsym": self.has_dsym}
+        slices = {"bytes": self.size, "dsym": self.has_dsym, "answering": self.answering}
+        return {**said, "uuid": self.uuid, "arch": self.arch, **slices}
 
 
 def define(parser: argparse.ArgumentParser) -> None:
@@ -95,10 +101,11 @@ def listed(asked: Asked, builds: Builds, screen: Screen) -> List[Listed]:
     lines, found = builds.of(held), []
     for key, rows in of_keys.items():
         uuid, arch, _ = words_of(key).split(" ")
-        size, has_dsym = sum(row.length - HEAD for row in rows), any(row.is_companion for row in rows)
+        size, companions = sum(row.length - HEAD for row in rows), sum(row.is_companion for row in rows)
         for day, build in first_of(lines.of_keys[key]):
             app, version, number, name = map(field_shown, build)
-            found.append(Listed(day, app, version, number, name, uuid, arch, size, has_dsym))
+            answering = companions or len(rows)
+            found.append(Listed(day, app, version, number, name, uuid, arch, size, companions > 0, answering))
     return [one if one.day else one._replace(day="?") for one in sorted(found)]
 
 
@@ -114,11 +121,28 @@ def fits(one: Listed, app: Optional[str], since: str) -> bool:
     return app in (None, one.app) and (not since or one.day != "?" and one.day >= since)
 
 
+def say_app(app: Optional[str], apps: Set[str], screen: Screen) -> None:
+    """Says of an app that has no build, if one was named, which ones are called alike."""
+    if app is None or app in apps:
+        return
+    alike = alike_of(app, apps)
+    screen.fault(f"no app {app}{f'; did you mean {alike}?' if alike else ''}")
+
+
+def alike_of(app: str, apps: Set[str]) -> str:
+    """Which app is called most like a name, by all of its identifier or by the last part of that; none if none is."""
+    names = {part: one for one in sorted(apps - {UNKNOWN}) for part in (one.rpartition(".")[2].lower(), one.lower())}
+    found = difflib.get_close_matches(app.lower(), names, 1)
+    return names[found[0]] if found else ""
+
+
 def carry_out(words: argparse.Namespace) -> int:
     since, screen = day_of(words.since) if words.since is not None else "", screen_of(words)
     app = None if words.app is None else field_shown(app_of(words.app))
     with opened_archive(os.fsencode(words.archive)) as asked:
         asked.archive.say_damaged_builds(screen)
-        lines = [one.line() for one in listed(asked, asked.archive.builds, screen) if fits(one, app, since)]
+        every = listed(asked, asked.archive.builds, screen)
+        lines = [one.line() for one in every if fits(one, app, since)]
+    say_app(app, {one.app for one in every}, screen)
     screen.show(lines)
     return screen.end(0 if lines else 1, {"builds": len(lines)})

@@ -1,31 +1,61 @@
 """The lock on the file ARCHIVE.lock. Who writes has it alone, and who reads shares it: by the file that is there, or
 not at all, so that nothing is made."""
+import contextlib
 import fcntl
 import os
-from typing import Optional
+import pwd
+import time
+from typing import List, Optional
 
 from .file_names import LOCK
-from .screen import Screen, shown
+from .screen import Failed, Screen, shown
+
+# Who waits says so after so many seconds, and looks at the lock as often until then.
+PATIENCE, PAUSE = 5.0, 0.05
+# The rights of a new one: who may not write to the archive cannot keep others waiting.
+RIGHTS = 0o660
+# Where Linux has the locks of all processes, and so many of those that have this one are named.
+LOCKS, MOST_NAMED = "/proc/locks", 3
+# Of what was called so many bytes are named.
+MOST_OF_CALL = 200
 
 
 class Lock:
     """The lock of an archive of a path."""
 
     def __init__(self, archive: bytes, writes: bool) -> None:
-        self.archive, self.writes, self.how = archive, writes, fcntl.LOCK_EX if writes else fcntl.LOCK_SH
+        self.path, self.writes, self.how = archive + LOCK, writes, fcntl.LOCK_EX if writes else fcntl.LOCK_SH
         # Of the file, which is opened, and made, once the lock is wanted. Nobody removes it, since others may wait.
         self.descriptor: Optional[int] = None
 
-    def take(self, screen: Screen) -> None:
-        """Waits until no other call has the lock."""
-        if not self.is_free() and self.descriptor is not None:
-            screen.line(f"waiting for another symarch-keep at {shown(self.archive)}")
-            fcntl.flock(self.descriptor, self.how)
+    def take(self, screen: Screen, most: Optional[float] = None) -> None:
+        """Waits until no other call has the lock, at most so many seconds if that is said."""
+        if self.is_free() or self.descriptor is None:
+            return
+        limit = float("inf") if most is None else most
+        if self.is_free_within(min(PATIENCE, limit)):
+            return
+        if limit > PATIENCE:
+            screen.line(f"waiting for {self.told()}")
+            if most is None:
+                fcntl.flock(self.descriptor, self.how)
+                return
+        if not self.is_free_within(limit - PATIENCE):
+            raise Failed(f"waited {limit:g} s for {self.told()}")
+
+    def is_free_within(self, seconds: float) -> bool:
+        """Whether the lock is taken before so many seconds have passed."""
+        end = time.monotonic() + seconds
+        while not self.is_free():
+            if time.monotonic() >= end:
+                return False
+            time.sleep(PAUSE)
+        return True
 
     def is_free(self) -> bool:
         """Whether nobody else has the lock. It is taken then."""
         if self.descriptor is None:
-            self.descriptor = opened(self.archive + LOCK, self.writes)
+            self.descriptor = opened(self.path, self.writes)
         if self.descriptor is None:
             return False
         try:
@@ -34,6 +64,13 @@ class Lock:
         except BlockingIOError:
             return False
 
+    def told(self) -> str:
+        """The lock, and who has it, if that is known."""
+        found = [process_text(it) for it in holders_of(self.descriptor)] if self.descriptor is not None else []
+        named = ", ".join(found[:MOST_NAMED])
+        others = f" and {len(found) - MOST_NAMED} others" * (len(found) > MOST_NAMED)
+        return f"the lock {shown(self.path)}{', which is held by ' * bool(found)}{named}{others}"
+
     def release(self) -> None:
         if self.descriptor is not None:
             fcntl.flock(self.descriptor, fcntl.LOCK_UN)
@@ -41,11 +78,43 @@ class Lock:
 
 def opened(path: bytes, writes: bool) -> Optional[int]:
     try:
-        return os.open(path, os.O_RDWR | os.O_CREAT if writes else os.O_RDONLY, 0o666)
+        # A pipe of that name is not waited for.
+        return os.open(path, (os.O_RDWR if writes else os.O_RDONLY) | os.O_NONBLOCK)
     except PermissionError:
-        # Another user made it.
-        return os.open(path, os.O_RDONLY) if writes else None
+        # Another user made it. An earlier symarch-keep made those that all may read.
+        return os.open(path, os.O_RDONLY | os.O_NONBLOCK) if writes else None
     except FileNotFoundError:
-        if writes:
-            raise
-        return None
+        return made(path) if writes else None
+
+
+def made(path: bytes) -> int:
+    """A lock that is not there yet, unless another call makes it meanwhile."""
+    try:
+        descriptor = os.open(path, os.O_RDWR | os.O_CREAT | os.O_EXCL, RIGHTS)
+    except FileExistsError:
+        return os.open(path, os.O_RDWR | os.O_CREAT, RIGHTS)
+    # Some file systems have no rights.
+    with contextlib.suppress(OSError):
+        os.fchmod(descriptor, RIGHTS)
+    return descriptor
+
+
+def holders_of(descriptor: int) -> List[int]:
+    """The processes that hold a lock on an open file, if the system says which."""
+    its = os.fstat(descriptor)
+    place = f"{os.major(its.st_dev):02x}:{os.minor(its.st_dev):02x}:{its.st_ino}"
+    with contextlib.suppress(OSError), open(LOCKS, encoding="ascii", errors="replace") as file:
+        # A line is `NUMBER: KIND HOW MODE PROCESS PLACE FIRST LAST`. One that waits has -> before its kind.
+        found = [words for words in map(str.split, file) if words[5:6] == [place] and words[4].isdigit()]
+        return sorted({int(words[4]) for words in found} - {0})
+    return []
+
+
+def process_text(number: int) -> str:
+    """A process, its user and what was called, if that may be read."""
+    user, words = "", b""
+    with contextlib.suppress(OSError, KeyError):
+        user = pwd.getpwuid(os.stat(f"/proc/{number}").st_uid).pw_name
+    with contextlib.suppress(OSError), open(f"/proc/{number}/cmdline", "rb") as file:
+        words = b" ".join(file.read(MOST_OF_CALL).split(b"\0")).strip()
+    return f"process {number}{f' of {shown(user)}' if user else ''}{f' ({shown(words)})' if words else ''}"

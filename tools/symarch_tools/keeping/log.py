@@ -1,10 +1,11 @@
 """ARCHIVE.log, the lines of the words with their dates; and ARCHIVE.log.next, the lines of a new archive that is being
 put in place, which are added to it once that is there."""
 import contextlib
+import functools
 import os
 import shutil
 import time
-from typing import Callable, Collection, ContextManager, Dict, Iterable
+from typing import Callable, Collection, ContextManager, Dict, Iterable, List, Sequence
 
 from .archive_file import append_synced, size_of
 from .contents import words_of
@@ -50,12 +51,10 @@ class Log:
         try:
             with open(self.path, "rb") as file:
                 file.seek(max(size_of(self.path) - len(text), 0))
-                end, at = file.read(), 0
+                end = file.read()
         except FileNotFoundError:
             return text
-        while not text.startswith(end[at:]):
-            at = end.find(b"\n", at) + 1 or len(end)
-        return text[len(end) - at :]
+        return text[begun_at_end(end, text) :]
 
     def append(self, text: bytes) -> None:
         if not text:
@@ -93,6 +92,39 @@ class Log:
             self.append(dated(lines))
         except OSError as error:
             screen.fail(system_text(error, self.path))
+
+
+def begun_at_end(end: bytes, text: bytes) -> int:
+    """How many bytes of a text stand at the end of another one, from the beginning of a line there. The last line may
+    be cut. By the rule of Knuth, Morris and Pratt, over lines."""
+    *whole, cut = end.split(b"\n")
+    lines = text.split(b"\n")[:-1]
+    shorter = borders(lines)
+    count = functools.reduce(functools.partial(extended, lines, shorter), whole, 0)
+    while count and not is_begun(lines, count, cut):
+        count = shorter[count]
+    begun = len(cut) if is_begun(lines, count, cut) else 0
+    return sum(len(line) + 1 for line in lines[:count]) + begun
+
+
+def is_begun(lines: Sequence[bytes], count: int, cut: bytes) -> bool:
+    """Whether the line after so many begins so."""
+    return not cut or count < len(lines) and lines[count].startswith(cut)
+
+
+def borders(lines: Sequence[bytes]) -> List[int]:
+    """For each number of lines how many of them, but not all, stand both first and last among so many."""
+    found = [0, 0]
+    for line in lines[1:]:
+        found.append(extended(lines, found, found[-1], line))
+    return found
+
+
+def extended(lines: Sequence[bytes], shorter: Sequence[int], count: int, line: bytes) -> int:
+    """How many of the first lines end with one more line, where so many did before it."""
+    while count and (count == len(lines) or lines[count] != line):
+        count = shorter[count]
+    return count + 1 if count < len(lines) and lines[count] == line else 0
 
 
 def dated_at(seconds: float) -> str:

@@ -6,6 +6,8 @@ For example, which builds have a function, and at which address:
   symarch-keep name builds.sym _copy_body
   symarch-keep name builds.sym -- '-[Spool copyBody:]'
 
+If none has it, but one with a `_` before it, as Mach-O has the names of C, a line on standard error says so.
+
 All slices are read. If each archive has an index, a slice that has such a symbol and another SHA-256 than it came in
 with gets no line, and is said on standard error. No lock is taken, and nothing is written.
 
@@ -36,5 +38,7 @@ def carry_out(words: argparse.Namespace) -> int:
     name, screen = name_of(words.name), screen_of(words)
     with opened_archive(os.fsencode(words.archive)) as asked:
         lines, status = asked.answer("name", [name], is_by_index=False)
-        lines = asked.vouched(lines, screen)
+        lines, notes = asked.vouched(lines, screen), asked.notes
+    for note in notes:
+        screen.line(note)
     return show(lines, screen, status)

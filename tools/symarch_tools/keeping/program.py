@@ -9,11 +9,12 @@ from ..program import candidates, named
 from ..signals import signals
 from .contents import END, LENGTH, MAGIC, MAGICS
 from .packed import DESCRIPTORS
-from .screen import Failed, SliceRefused, shown, write
+from .screen import CutShort, Failed, SliceRefused, shown, write
 from .slices import Slice
 
 Word = Union[str, bytes]
 Moved = Callable[[int], None]
+CUT_SHORT = re.compile("symarch: archive [0-9]+: Truncated at [0-9]+")
 
 
 def not_moved(_done: int) -> None:
@@ -48,9 +49,9 @@ class Program:
         open_files: Iterable[int] = (),
         moved: Moved = not_moved,
         names: Optional[Dict[str, str]] = None,
-    ) -> Tuple[bytes, int]:
+    ) -> Tuple[bytes, int, bytes]:
         """Runs words, in a folder if there is one, with the archive of some slices on standard input, and returns what
-        is printed, and the status, 0 or 1. A fault names a path of `names` by what that has for it."""
+        is printed, the status, 0 or 1, and what is noted. A fault names a path of `names` by what that has for it."""
         with contextlib.ExitStack() as ends:
             # A signal waits until what ends the program is on the stack: one that goes on writes into a folder that is
             # being removed.
@@ -79,7 +80,7 @@ class Program:
             places = {**in_folder(words, folder), **(names or {})}
             told = said.decode(errors="replace").strip()
             raise fault(os.fsdecode(words[0]), told, process.returncode, slices, places)
-        return printed or b"", process.returncode
+        return printed or b"", process.returncode, said
 
     def merge(
         self, paths: Sequence[bytes], new: bytes, slices: Sequence[Slice], held: Sequence[int], moved: Moved
@@ -204,6 +205,8 @@ def fault(command: str, said: str, status: int, slices: Sequence[Slice], names: 
     where, _, path = more.partition(" is ")
     for name in names:
         if re.match(f"{re.escape(name)}([:,]|$)", path):
+            if CUT_SHORT.fullmatch(line):
+                return CutShort(names[name])
             more = f"{where} is {names[name]}{path[len(name):]}"
             break
     return Failed(line, 4, more) if status > 0 else Failed(f"symarch ended by signal {-status}")

@@ -24,7 +24,7 @@ import hashlib
 import os
 from typing import Dict, Iterable, List, NamedTuple, Optional, Sequence
 
-from .archive import Archive, index_made, is_to_be_indexed
+from .archive import Archive, index_made, is_to_be_indexed, refuse_other
 from .archive_file import ArchiveFile, size_of
 from .changing import Found, forget_changed
 from .checking import Findings, told_apart
@@ -37,7 +37,7 @@ from .screen import Failed, Screen, SliceRefused, about, screen_of, shown, syste
 from .slices import Slice, compared
 from .tables import Tables, write_index
 
-USAGE = "symarch-keep repair [--quiet] ARCHIVE FROM"
+USAGE = "symarch-keep repair [--quiet] [--wait SECONDS] ARCHIVE FROM"
 ABOUT = "mend what changed, out of another archive"
 # So many bytes the system copies at once.
 MOST_COPIED = 1 << 24
@@ -268,8 +268,8 @@ def carry_out(words: argparse.Namespace) -> int:
     screen = screen_of(words)
     program = Program()
     archive, other = Archive(os.fsencode(words.archive), may_be_damaged=True), os.fsencode(words.other)
-    os.stat(other)
-    archive.take_lock(screen)
+    refuse_other(other, os.path.realpath(other), is_made=False)
+    archive.take_lock(screen, words.wait)
     same, others = told_apart(archive, program, screen)
     if archive.main in others and not archive.main.is_known:
         index = archive.main.beside(INDEX)

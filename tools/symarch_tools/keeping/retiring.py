@@ -42,8 +42,8 @@ from .forms import app_of, arch_of, day_of, digest_of, other_form, uuid_of
 from .program import Program
 from .screen import Failed, Screen, screen_of, shown
 
-USAGE = """symarch-keep retire [--quiet] [--dry-run] [--before-it-comes] ARCHIVE UUID ARCH DIGEST
-    symarch-keep retire [--quiet] [--dry-run] --app ID --before DATE ARCHIVE"""
+USAGE = """symarch-keep retire [--quiet] [--wait SECONDS] [--dry-run] [--before-it-comes] ARCHIVE UUID ARCH DIGEST
+    symarch-keep retire [--quiet] [--wait SECONDS] [--dry-run] --app ID --before DATE ARCHIVE"""
 OF_SLICE = ("UUID", "ARCH", "DIGEST")
 ABOUT = "withdraw a slice, or builds of an app, for good"
 
@@ -85,7 +85,7 @@ def carry_out(words: argparse.Namespace) -> int:
     app = App(app_of(words.app), day_of(words.before)) if is_of_app else None
     program = Program()
     archive = Archive(os.fsencode(words.archive), writes=not words.dry_run)
-    archive.take_lock(screen)
+    archive.take_lock(screen, words.wait)
     content = archive.content(program, screen)
     if app:
         return retire_of_app(archive, program, content, app, screen, words.dry_run)

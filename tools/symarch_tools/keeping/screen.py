@@ -5,7 +5,7 @@ import contextlib
 import os
 import re
 import sys
-from typing import Any, Callable, Counter, Iterable, Iterator, List, Optional, Tuple, Union
+from typing import Any, Callable, Counter, Iterable, Iterator, List, Optional, Sequence, Tuple, Union
 
 from .json_lines import Line, Members, encoded, line_of, path_members
 from .progress import progress
@@ -18,9 +18,27 @@ class Failed(Exception):
     """What keeps a word from being carried out: the text that says it, the status of the word, and the second line of
     the program, if there is one."""
 
+    # Whether the archive is said to be as it was, if the status is 4.
+    leaves_archive = True
+
     def __init__(self, text: str, status: int = 4, more: str = "") -> None:
         super().__init__(text)
         self.text, self.status, self.more = text, status, more
+
+
+class CutShort(Failed):
+    """An archive that ends before its records do."""
+
+    leaves_archive = False
+
+    def __init__(self, path: str) -> None:
+        super().__init__(f"{path} is cut short: restore it from a backup or another site")
+
+    def name_as(self, typed: str) -> None:
+        """Says it by the path that was typed, if that leads to the archive, or to the one that it is of."""
+        place = shown(os.path.realpath(typed))
+        if self.text.startswith(place):
+            self.text = shown(typed) + self.text[len(place) :]
 
 
 class SliceRefused(Exception):
@@ -92,7 +110,7 @@ class Screen:
             return
         progress.wipe()
         with contextlib.suppress(OSError, AttributeError):
-            sys.stderr.buffer.write(text.encode())
+            sys.stderr.buffer.write(text.encode(errors="backslashreplace"))
             sys.stderr.flush()
 
     def line(self, text: str) -> None:
@@ -141,6 +159,16 @@ class Screen:
             self.is_unread = True
             self.fail(f"standard output: {error.strerror}")
         return not self.is_unread
+
+    def insist(self, lines: Sequence[str]) -> None:
+        """Prints lines that a quiet one prints too, once nothing is wrong: an object of JSON with all others."""
+        if self.held is None or not lines:
+            return
+        if self.is_json:
+            self.release()
+        else:
+            self.held = None
+            self.show(lines)
 
     def status(self, otherwise: int = 0) -> int:
         """The status of the word, after which nothing is said. Nothing is wrong if that is 0."""

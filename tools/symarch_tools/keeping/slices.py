@@ -24,7 +24,7 @@ FAT_HEADER, MOST_PARTS = 8, 32
 JAVA, LEAST_OF_JAVA = bytes.fromhex("cafebabe"), 45
 THIN = bytes.fromhex("cffaedfe")
 HEADER, COMMAND, SYMTAB = struct.Struct("<4x5I8x"), struct.Struct("<II"), struct.Struct("<8x4I")
-MH_OBJECT, LC_SYMTAB, LC_UUID = 1, 2, 0x1B
+MH_OBJECT, MH_DSYM, LC_SYMTAB, LC_UUID = 1, 10, 2, 0x1B
 # mach-o/nlist.h: how long an entry of a symbol table is.
 NLIST = 16
 # Commands after these bytes are not looked at here.
@@ -278,6 +278,17 @@ class Finder:
             self.pass_over(f"{'object files' if front[12] == MH_OBJECT else 'images'} without a UUID", part)
         else:
             self.pass_over(KINDS.get(front[:4], "other files" if part is None else "other parts"), part)
+
+
+def is_dsym(path: bytes) -> bool:
+    """Whether a path is a dSYM bundle, or the file in it that has the slices."""
+    if os.path.isdir(path):
+        return path.rstrip(b"/").endswith(b".dSYM")
+    if not os.path.isfile(path):
+        return False
+    with open(path, "rb") as file:
+        front = file.read(HEADER.size)
+    return front[:4] in UNIVERSAL and is_of_dsym(path) or front[:4] == THIN and front[12:13] == bytes([MH_DSYM])
 
 
 def is_java(first: bytes) -> bool:

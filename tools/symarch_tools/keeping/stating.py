@@ -11,6 +11,7 @@ is not the one of its index it reads the heads of the slices, and few of their b
   levels N            bytes of ARCHIVE.1, ARCHIVE.2 and so on together, if there are such
   waiting N           bytes of retired slices that stand in a file yet, until it is folded, or `fold --purge` is called
   site NAME ...       when that site last asked, by its clock; when it was last answered, and its answer last joined
+  conflict ...        UUID and ARCH of each conflict, and how many slices answer
   lost ...            UUID, ARCH and DIGEST of a slice that was there and is not, or the same after `retired`
   left PATH           what a kill left, which the next word that writes removes
 
@@ -40,6 +41,7 @@ from .archive import Archive
 from .archive_file import ArchiveFile
 from .builds import NEXT_BUILDS
 from .contents import DIGEST, KEY, RETIREMENT, Content, Malformed, digest_in, head_of, record_size, records_in
+from .contents import words_of
 from .exchanged import Exchanged
 from .file_names import NEXT_INDEX
 from .indexes import HEAD, is_companion
@@ -49,10 +51,10 @@ from .losing import counted, lost_lines
 from .program import Program
 from .screen import Failed, Screen, screen_of, shown
 
-USAGE = "symarch-keep status [--quiet] [--json] [--accept] ARCHIVE"
+USAGE = "symarch-keep status [--quiet] [--wait SECONDS] [--json] [--accept] ARCHIVE"
 ABOUT = "print what it has, in numbers"
 NUMBERS = ("images", "companions", "retirements", "conflicts", "bytes", "today", "levels", "waiting")
-KEYS = (*NUMBERS, "sites", "lost", "left")
+KEYS = (*NUMBERS, "sites", "conflicting", "lost", "left")
 DATES = ("asked", "answered", "joined")
 
 
@@ -65,7 +67,7 @@ def carry_out(words: argparse.Namespace) -> int:
     screen = screen_of(words)
     archive = Archive(os.fsencode(words.archive), writes=words.accept)
     if words.accept:
-        archive.take_lock(screen)
+        archive.take_lock(screen, words.wait)
         accept(archive, archive.content(Program(), screen), screen)
     else:
         archive.say_damaged_builds(screen)
@@ -76,17 +78,19 @@ def carry_out(words: argparse.Namespace) -> int:
     seen = [see(archive.today, screen)]
     archive.find_levels()
     seen += [see(file, screen) for file in (*reversed(archive.levels), archive.main)]
-    numbers = numbers_of([record for one in seen for record in one.records])
+    counts = Counts([record for one in seen for record in one.records])
+    numbers, conflicts = counts.numbers(), counts.conflicts()
     numbers.update({"bytes": archive.main.size(), "today": archive.today.size(), **numbers_of_levels(archive)})
     lost, sites, left = lost_lines(lost_of(archive, asked, seen)), sites_of(asked), left_of(archive)
     if screen.is_json:
-        found = [site_members(note) for note in sites], [members_of_lost(line) for line in lost]
+        found = [site_members(note) for note in sites], conflicts, [members_of_lost(line) for line in lost]
         lists = [*found, [path_members(path) for path in left]]
         screen.faults += [str(line) for line in lost]
         return screen.end(2 if lost else 0, {**numbers, **dict(zip(KEYS[len(numbers):], lists))})
     is_there = {"today": archive.today.exists(), "levels": bool(archive.levels), "waiting": numbers["waiting"] > 0}
     lines = [f"{name} {number}" for name, number in numbers.items() if is_there.get(name, True)]
-    screen.show([*lines, *sites, *lost, *(f"left {shown(path)}" for path in left)])
+    lines += [*sites, *("conflict {uuid} {arch} {answering}".format(**it) for it in conflicts), *lost]
+    screen.show([*lines, *(f"left {shown(path)}" for path in left)])
     return screen.status(2 if lost else 0)
 
 
@@ -206,25 +210,35 @@ def read(archive_file: ArchiveFile) -> List[Record]:
     return records
 
 
-def numbers_of(records: Sequence[Record]) -> Dict[str, int]:
-    """The numbers. Of slices that may be retired, or may be one, the bytes are read."""
-    retired = {one.head[1:] for one in records if one.head[:1] == RETIREMENT}
-    slices = [one for one in records if one.head[:1] != RETIREMENT]
-    retired_keys, heads = {entry[:KEY] for entry in retired}, collections.Counter(one.head for one in slices)
-    images: Counter[bytes] = collections.Counter()
-    companions: Counter[bytes] = collections.Counter()
-    seen = set(retired)
-    for one in slices:
-        if one.key() in retired_keys or heads[one.head] > 1:
-            entry = one.entry()
-            if entry in seen:
-                continue
-            seen.add(entry)
-        (companions if one.is_companion else images)[one.key()] += 1
-    answering = {**images, **companions}
-    conflicts = sum(count > 1 for count in answering.values())
-    counts = {"images": sum(images.values()), "companions": sum(companions.values()), "retirements": len(retired)}
-    return {**counts, "conflicts": conflicts}
+class Counts:
+    """How many slices of each kind records have by their keys, and retirements. Of slices that may be retired, or may
+    be one, the bytes are read."""
+
+    def __init__(self, records: Sequence[Record]) -> None:
+        retired = {one.head[1:] for one in records if one.head[:1] == RETIREMENT}
+        slices = [one for one in records if one.head[:1] != RETIREMENT]
+        retired_keys, heads = {entry[:KEY] for entry in retired}, collections.Counter(one.head for one in slices)
+        self.retirements = len(retired)
+        self.images: Counter[bytes] = collections.Counter()
+        self.companions: Counter[bytes] = collections.Counter()
+        seen = set(retired)
+        for one in slices:
+            if one.key() in retired_keys or heads[one.head] > 1:
+                entry = one.entry()
+                if entry in seen:
+                    continue
+                seen.add(entry)
+            (self.companions if one.is_companion else self.images)[one.key()] += 1
+
+    def conflicts(self) -> List[Members]:
+        """The keys for which several slices answer, and how many."""
+        answering = {**self.images, **self.companions}
+        found = [(words_of(key).split(" "), count) for key, count in sorted(answering.items()) if count > 1]
+        return [{"uuid": uuid, "arch": arch, "answering": count} for (uuid, arch, _), count in found]
+
+    def numbers(self) -> Dict[str, int]:
+        kinds = {"images": sum(self.images.values()), "companions": sum(self.companions.values())}
+        return {**kinds, "retirements": self.retirements, "conflicts": len(self.conflicts())}
 
 
 def sites_of(asked: Exchanged) -> List[str]:

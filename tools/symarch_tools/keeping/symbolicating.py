@@ -9,7 +9,7 @@ Each ADDRESS gets a line: the address, and
 
   NAME + OFFSET (SEG,SECT)    the symbol nearest to it
   -     it has none: it lies in no section, or below the section's first symbol
-  ?     no slice answers for UUID and ARCH
+  ?     no slice answers for UUID and ARCH; if one does under others, a line on standard error says under which
   !N    N slices answer, of which each gets a line below
 
 With --lines the answer of a slice has the source lines below it, as `symarch symbolicate --lines` prints them.
@@ -33,7 +33,7 @@ import sys
 from typing import List
 
 from . import asking
-from .asking import NoLines, opened_archive, show
+from .asking import Asked, NoLines, opened_archive, show
 from .contents import arch_in
 from .forms import arch_of, hex_of, uuid_of
 from .screen import Failed, screen_of
@@ -71,4 +71,13 @@ def carry_out(words: argparse.Namespace) -> int:
             screen.line(f"{fault.words} has too many lines for its table, so none are printed")
             options.remove("--lines")
             lines, status = asked.answer("symbolicate", [*key, *addresses], options)
+        others = architectures(asked, key[0]) if any(line.endswith(" ?") for line in lines) else []
+    if others and key[1] not in others:
+        screen.line(f"{key[0]} is held under {', '.join(others)}, and not under {key[1]}")
     return show(lines, screen, status)
+
+
+def architectures(asked: Asked, uuid: str) -> List[str]:
+    """Those under which a slice of a UUID answers."""
+    rows = [line.split(" ") for line in asked.answer("find", [uuid])[0]]
+    return list(dict.fromkeys(arch for arch, kind, *_ in rows if kind in ("image", "dsym")))

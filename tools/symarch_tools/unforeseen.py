@@ -1,0 +1,63 @@
+"""What no part of a tool foresaw: one line in the place of a traceback, for both tools, and after it that by --debug."""
+from __future__ import annotations
+
+import os
+import traceback
+from typing import Callable, List, Sequence
+
+from .keeping.screen import Failed, Screen, shown
+
+DEBUG = "--debug"
+HELP = "print where in this tool, if it meets what it did not foresee"
+# More characters of an exception are not printed.
+MOST_OF_TEXT = 300
+
+
+class Debugging:
+    """Whether it is printed where a tool ended by what it did not foresee."""
+
+    def __init__(self) -> None:
+        self.is_on = False
+
+    def taken_from(self, words: Sequence[str]) -> List[str]:
+        """The words of a call without --debug, which may be anywhere before the word --."""
+        end = words.index("--") if "--" in words else len(words)
+        self.is_on = DEBUG in words[:end]
+        return [*(word for word in words[:end] if word != DEBUG), *words[end:]]
+
+
+# That of the process.
+debugging = Debugging()
+
+
+class Unforeseen(Failed):
+    """What no part of a tool foresaw."""
+
+    leaves_archive = False
+
+    def __init__(self, error: Exception) -> None:
+        super().__init__(line_of(error), 4, "".join(traceback_of(error)).rstrip() if debugging.is_on else "")
+
+
+def traceback_of(error: Exception) -> List[str]:
+    return traceback.format_exception(type(error), error, error.__traceback__)
+
+
+def line_of(error: Exception) -> str:
+    """What an exception is, and which line raised it."""
+    if isinstance(error, MemoryError):
+        return "out of memory"
+    last = traceback.extract_tb(error.__traceback__)[-1]
+    text = str(error)[:MOST_OF_TEXT].encode(errors="backslashreplace")
+    what = f"{type(error).__name__}{': ' if text else ''}{shown(text)}"
+    return f"not foreseen: {what}, at line {last.lineno} of {os.path.basename(last.filename)}; {DEBUG} says more"
+
+
+def guarded(tool: str, work: Callable[[], int]) -> int:
+    """The status of a work, or of what it did not foresee, which is said."""
+    try:
+        return work()
+    except Exception as error:
+        fault = Unforeseen(error)
+    Screen().write("".join(f"{line}\n" for line in (f"{tool}: {fault.text}", fault.more) if line))
+    return fault.status
