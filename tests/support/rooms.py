@@ -25,15 +25,13 @@ def compiled() -> str:
     return os.environ.setdefault("KEEP", str(folder / "tools" / "symarch-keep"))
 
 
-# Calls symarch-keep for archives of which no size is too small for levels.
-LEVELLED = """
+# Calls a tool once something of its modules is another thing.
+CHANGED = """
 import sys
 
 sys.path.insert(0, {folder})
-from symarch_tools.keeping import levels
-
-levels.LEAST = 0
-from symarch_tools.keep import main
+{statements}
+from symarch_tools.{module} import main
 
 sys.exit(main())
 """
@@ -47,8 +45,14 @@ LEVEL = re.compile(r"\.[1-9][0-9]?(\.idx)?")
 
 def levelled(folder: pathlib.Path) -> str:
     """A tool in a folder that is symarch-keep, for archives of which no size is too small for levels."""
-    tool = folder / "levelled-keep"
-    lines = LEVELLED.replace("{folder}", repr(os.path.dirname(os.path.realpath(keep))))
+    return changed_tool(folder, "from symarch_tools.keeping import levels", "levels.LEAST = 0")
+
+
+def changed_tool(folder: pathlib.Path, *statements: str, module: str = "keep") -> str:
+    """A tool in a folder that is the one of a module, after these statements."""
+    tool = folder / f"changed-{module}-{len(os.listdir(folder))}"
+    lines = CHANGED.replace("{folder}", repr(os.path.dirname(os.path.realpath(keep))))
+    lines = lines.replace("{statements}", "\n".join(statements)).replace("{module}", module)
     tool.write_text(f"#!/usr/bin/env -S python3 -BIS{lines}")
     tool.chmod(0o755)
     return str(tool)

@@ -36,11 +36,16 @@ class Unforeseen(Failed):
     leaves_archive = False
 
     def __init__(self, error: Exception) -> None:
-        super().__init__(line_of(error), 4, "".join(traceback_of(error)).rstrip() if debugging.is_on else "")
+        super().__init__(line_of(error), 4, traceback_of(error) if debugging.is_on else "")
 
 
-def traceback_of(error: Exception) -> List[str]:
-    return traceback.format_exception(type(error), error, error.__traceback__)
+def traceback_of(error: Exception) -> str:
+    lines = "".join(traceback.format_exception(type(error), error, error.__traceback__)).splitlines()
+    return "\n".join(map(printed, lines))
+
+
+def printed(text: str) -> str:
+    return shown(text.encode(errors="backslashreplace"))
 
 
 def line_of(error: Exception) -> str:
@@ -48,8 +53,8 @@ def line_of(error: Exception) -> str:
     if isinstance(error, MemoryError):
         return "out of memory"
     last = traceback.extract_tb(error.__traceback__)[-1]
-    text = str(error)[:MOST_OF_TEXT].encode(errors="backslashreplace")
-    what = f"{type(error).__name__}{': ' if text else ''}{shown(text)}"
+    text = printed(str(error)[:MOST_OF_TEXT])
+    what = f"{type(error).__name__}{': ' if text else ''}{text}"
     return f"not foreseen: {what}, at line {last.lineno} of {os.path.basename(last.filename)}; {DEBUG} says more"
 
 

@@ -7,6 +7,7 @@ import shlex
 import stat
 from typing import Any, Dict, List, NoReturn, Optional, Sequence, Tuple
 
+from ..unforeseen import DEBUG, HELP
 from ..version import PrintVersion
 from .encodings import decoded
 from .faults import Failure, Status
@@ -65,6 +66,8 @@ def parser_of_words(description: Optional[str]) -> Parser:
     parser.add_argument("--raw", help=RAW, **flag)
     parser.add_argument("--out", metavar="FOLDER", action=Once, help=OUT)
     parser.add_argument("--version", action=PrintVersion, nargs=0, help="print the version and exit")
+    # It is taken out before, since it may be anywhere.
+    parser.add_argument(DEBUG, action="store_true", help=HELP)
     return parser
 
 
