@@ -19,7 +19,7 @@ ENDS = {
     "list": ["builds"],
     "check": ["slices", "retirements", "wrong"],
     "status": ["images", "companions", "retirements", "conflicts", "bytes", "today", "levels", "waiting"]
-    + ["sites", "lost", "left"],
+    + ["sites", "conflicting", "lost", "left"],
 }
 
 
@@ -179,7 +179,7 @@ class Stated(JsonCase):
             day, app, version, build, uuid, arch, size, kind, name = line.split(" ")
             texts = [None if it == "?" else it for it in (day, app, version, build, name)]
             members = dict(zip(("type", "day", "app", "version", "build", "name"), ["build", *texts]))
-            whole = {**members, "uuid": uuid, "arch": arch, "bytes": int(size), "dsym": kind == "dsym"}
+            whole = {**members, "uuid": uuid, "arch": arch, "bytes": int(size), "dsym": kind == "dsym", "answering": 1}
             same("object", one, whole)
         same("end", (len(found), end["builds"]), (2, 2))
         same("none", self.objects("list", "--app", "no", self.room.archive, status=1)[0], [])

@@ -183,7 +183,7 @@ class Order(RoomCase):
         """It is no archive if what stands before it is none of the files that go in."""
         self.room.file("new.sym", b"")
         _, errors = self.room.call("add", "new.sym", "nowhere", status=4)
-        same("errors", errors, ["symarch-keep: new.sym is no archive, but an empty file; the archive is as it was"])
+        same("errors", errors, ["symarch-keep: new.sym is no archive, but an empty file"])
 
     def test_of_an_exchange(self) -> None:
         self.room.archive.write_bytes(archive([image(3)]))
@@ -234,7 +234,7 @@ class Order(RoomCase):
         _, errors = self.room.call("repair", "nowhere", "site.sym", status=4)
         self.assertIn("nowhere: No such file", errors[0])
         _, errors = self.room.call("repair", "shared", "site.sym", status=4)
-        same("a folder", errors, ["symarch-keep: shared is a folder, and no archive; the archive is as it was"])
+        same("a folder", errors, ["symarch-keep: shared is a folder, and no archive"])
 
     def test_what_is_said_may_be_typed(self) -> None:
         self.room.file("dSYMs/one", (TOP / "examples/crash/spool-1").read_bytes())

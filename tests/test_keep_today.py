@@ -192,7 +192,7 @@ class Fold(TodayCase):
         same("files", self.files(), before)
         self.both(archive(made[1:] + new, retired=made[:1]), EMPTY)
         _, errors = self.room.call("fold", self.folder / "none.sym", status=4)
-        told = f"{self.folder}/none.sym: No such file or directory; the archive is as it was"
+        told = f"{self.folder}/none.sym: No such file; symarch-keep add makes an archive"
         same("errors", errors, [f"symarch-keep: {told}"])
 
     def test_left_before_its_last_step(self) -> None:

@@ -30,7 +30,7 @@ import os, sys, time
 sys.path.insert(0, {folder})
 from symarch_tools.keeping.log import Log
 
-for count in (4000, 8000):
+for count in (8000, 16000):
     lines = [b"2026-11-03T08:00:00Z added 4c4c4419-5555-3144-a1d2-4341c97782f0 arm64 %064x many/%d\\n" % (at, at)
              for at in range(2 * count)]
     took = []
@@ -84,27 +84,27 @@ class Month(RoomCase):
     # ---- the first days
 
     def step_01_help_is_a_word(self) -> None:
-        for words, wanted in ((["help", "add"], ["add", "--help"]), (["help"], ["--help"])):
-            came = self.ends(*words)
+        for words in ([], ["add"], ["list"]):
+            came = self.ends("help", *words)
             same("status", came[0], 0)
-            same(f"{words}", came, self.ends(*wanted))
+            same(f"{words}", came, self.ends(*words, "--help"))
         self.assertIn("`ad` is no word of symarch-keep", self.ends("help", "ad")[2][-1])
 
     def step_02_no_archive_is_there_yet(self) -> None:
         """No word says of an archive that is not there that it is as it was."""
         told = "nofile.sym: No such file; symarch-keep add makes an archive"
         uuid = slice_words(image(1))[0]
-        for word, more, status in (
-            ("find", [uuid], 2),
-            ("list", [], 2),
-            ("name", ["_a"], 2),
-            ("get", [uuid, "--to", "out"], 2),
-            ("fold", [], 4),
-            ("status", [], 4),
-            ("check", [], 4),
-            ("retire", slice_words(image(1)), 4),
+        for words, status in (
+            (["find", "nofile.sym", uuid], 2),
+            (["list", "nofile.sym"], 2),
+            (["name", "nofile.sym", "_a"], 2),
+            (["get", "nofile.sym", uuid, "--to", "out"], 2),
+            (["fold", "nofile.sym"], 4),
+            (["status", "nofile.sym"], 4),
+            (["check", "nofile.sym"], 4),
+            (["retire", "nofile.sym", *slice_words(image(1))], 4),
         ):
-            self.fails([word, "nofile.sym", *more], told, status)
+            self.fails(words, told, status)
         self.fails(["exchange", "nofile.sym", "nowhere", "east"], "nowhere: No such file or directory", 4)
         same("made", [it for it in os.listdir(self.folder) if it.startswith("nofile")], [])
 
@@ -158,7 +158,6 @@ class Month(RoomCase):
         (self.folder / "link.sym").symlink_to("site.sym.today")
         (self.folder / "elsewhere").symlink_to(".")
         self.room.call("add", self.room.archive, "builds/2")
-        added = [image(2)]
         for name, place in (
             ("site.sym.today", "site.sym"),
             ("link.sym", "site.sym"),
@@ -166,12 +165,11 @@ class Month(RoomCase):
             ("other.sym.today", "other.sym"),
         ):
             told = f"{name} is the file for what comes in to {self.folder / place}: name that"
-            for words in (["add", name, "builds"], ["add", "--dry-run", name, "builds"], ["exchange", name, ".", "east"]):
-                self.fails(words, told, 3)
-        for word in (["fold"], ["status", "--accept"], ["retire"]):
-            if word != ["fold"] or today_of(self.room.archive).exists():
-                more = slice_words(image(2)) if word == ["retire"] else []
-                same(f"{word}", self.ends(*word, "site.sym.today", *more)[0], 3)
+            for words in (["add", name], ["add", "--dry-run", name], ["exchange", name, "."]):
+                self.fails([*words, "builds"], told, 3)
+        self.assertTrue(today_of(self.room.archive).exists())
+        for word, *more in (["fold"], ["status", "--accept"], ["retire", *slice_words(image(2))], ["repair", "site.sym"]):
+            same(word, self.ends(word, *more[: word == "status"], "site.sym.today", *more[word == "status" :])[0], 3)
         self.room.call("add", self.room.archive, "builds")
         added = [image(number) for number in (2, 3, 4, 5)]
         self.room.call("fold", self.room.archive)
@@ -238,16 +236,17 @@ class Month(RoomCase):
         """Then it ends with 4, and says who has the lock; the archive and the lock stay."""
         before = bytes_of(self.room.archive)
         self.room.file("later/6", image(6))
+        calls: List[List[Any]] = [["add", "later"], ["fold"], ["retire", *slice_words(image(1))], ["check"]]
+        calls += [["exchange", ".", "east"], ["repair", self.room.archive], ["status"]]
         with open(self.path(".lock"), "r+b") as lock:
             fcntl.flock(lock, fcntl.LOCK_EX)
-            for seconds in ("0", "0.3"):
-                for words in (["add"], ["fold"], ["retire"], ["exchange"], ["check"], ["repair"], ["status", "--accept"]):
-                    more = {"add": ["later"], "retire": slice_words(image(1)), "exchange": [".", "east"]}
-                    rest = [self.room.archive, *more.get(words[0], [self.room.archive] * (words[0] == "repair"))]
-                    status, out, errors = self.ends(*words, "--wait", seconds, *rest)
-                    told = f"symarch-keep: waited {seconds} s for the lock {self.path('.lock')}, which is held by"
-                    same(f"{words}", (status, out, len(errors)), (4, [], 1))
-                    self.assertTrue(errors[0].startswith(f"{told} process {os.getpid()} "), errors)
+            for number, (word, *more) in enumerate(calls):
+                seconds = "0.3" if number == 0 else "0"
+                options = ["--wait", seconds, *["--accept"] * (word == "status")]
+                status, out, errors = self.ends(word, *options, self.room.archive, *more)
+                told = f"symarch-keep: waited {seconds} s for the lock {self.path('.lock')}, which is held by"
+                same(word, (status, out, len(errors)), (4, [], 1))
+                self.assertTrue(errors[0].startswith(f"{told} process {os.getpid()} "), errors)
         same("bytes", bytes_of(self.room.archive), before)
         status, _, errors = self.ends("fold", "--wait", "soon", self.room.archive)
         same("status", status, 3)
@@ -333,8 +332,9 @@ class Month(RoomCase):
         told = "is cut short: restore it from a backup or another site"
         (self.folder / "cut.sym").write_bytes(text)
         self.room.call("fold", "cut.sym")
-        words = [(["find", "cut.sym", slice_words(image(1))[0]], 2), (["name", "cut.sym", "_a"], 2), (["list", "cut.sym"], 2)]
-        words += [(["fold", "cut.sym"], 4), (["status", "cut.sym"], 4), (["add", "cut.sym", "builds/2"], 4)]
+        words = [(["find", "cut.sym", slice_words(image(1))[0]], 2), (["name", "cut.sym", "_a"], 2)]
+        words += [(["list", "cut.sym"], 2), (["fold", "cut.sym"], 4), (["status", "cut.sym"], 4)]
+        words += [(["add", "cut.sym", "builds/2"], 4)]
         for size in (len(text) - 1, len(text) - 400, 60, 5):
             os.truncate(self.folder / "cut.sym", size)
             for one, status in words:
@@ -372,11 +372,12 @@ class Month(RoomCase):
             module="symbolicate",
         )
         parsing = changed_tool(self.folder, *statements, "from symarch_tools import keep", "keep.parse = fault")
-        for tool, name, words in (
+        calls: List[Tuple[str, str, List[Any]]] = [
             (keeping, "symarch-keep", ["fold", self.room.archive]),
             (parsing, "symarch-keep", ["fold", self.room.archive]),
             (reading, "symbolicate-report", [report, self.room.archive]),
-        ):
+        ]
+        for tool, name, words in calls:
             status, out, errors = self.ends(*words, tool=tool)
             same(f"{name}: status", (status, out, len(errors)), (4, [], 1))
             self.assertTrue(errors[0].startswith(f"{name}: not foreseen: ValueError: two\\x0alines \\x1b[31m"), errors)
@@ -415,8 +416,8 @@ class Names(BuildsCase):
             out, errors = self.room.call("list", "--app", name, self.room.archive, status=1)
             asked = f"; did you mean {alike}?" if alike else ""
             same(name, (out, errors), ([], [f"symarch-keep: no app {name}{asked}"]))
-        late = self.room.call("list", "--app", "com.example.spool", "--since", "2999-01-01", self.room.archive, status=1)
-        same("an app without such a build", late, ([], []))
+        words = ["list", "--app", "com.example.spool", "--since", "2999-01-01", self.room.archive]
+        same("an app without such a build", self.room.call(*words, status=1), ([], []))
 
 
 class Restored(RoomCase):

@@ -18,8 +18,10 @@ What comes in goes into ARCHIVE.today, a small archive beside ARCHIVE. `fold` jo
 large, with archives that stand between the two, its levels: ARCHIVE.1, ARCHIVE.2 and so on. What a site has is what all
 of them have together: `find`, `symbolicate`, `name`, `list` and `get` ask all, as does `symbolicate-report`.
 
-A word that is called with --quiet, and ends with 0, prints nothing; one that ends otherwise prints what it would print
-without it. So cron, which mails what is printed, mails what is wrong.
+`symarch-keep help WORD` prints what a word does, as `symarch-keep WORD --help`.
+
+A word that is called with --quiet, and ends with 0, prints nothing, but for what `add` finds retired; one that ends
+otherwise prints what it would print without it. So cron, which mails what is printed, mails what is wrong.
 
 On a terminal, work that takes more than two seconds has a line that says how far it is, which is gone at its end.
 
@@ -30,7 +32,8 @@ and `path_hex`, which is null otherwise, has all of them in hex digits. The line
   added, known, retired           of `add`: record, uuid, arch, digest, bytes, path, path_hex
   refused                         of `add`: path, path_hex, why
   passed_over                     of `add`, as standard error names it: path, path_hex, part, why
-  build                           of `list`: day, app, version, build, name, uuid, arch, bytes, dsym
+  build                           of `list`: day, app, version, build, name, uuid, arch, bytes, dsym, and answering,
+                                  which is how many slices answer for its UUID and ARCH
   changed, lost, damaged, unknown
                                   of `check`: record, uuid, arch, digest, at, path, path_hex. The record is `slice`,
                                   `retirement` or `table`, or null, as of a file or of its first and last bytes
@@ -38,16 +41,21 @@ and `path_hex`, which is null otherwise, has all of them in hex digits. The line
                                   error says is wrong, and of `add` added, known, retired, refused, passed_over, which
                                   has the number of each kind, made, dry_run; of `list` builds; of `check` slices,
                                   retirements, wrong; of `status` images, companions, retirements, conflicts, bytes,
-                                  today, levels, waiting, sites, with name, asked, answered, joined, lost, with
-                                  record, uuid, arch, digest, and left, with path, path_hex
+                                  today, levels, waiting, sites, with name, asked, answered, joined, conflicting, with
+                                  uuid, arch, answering, lost, with record, uuid, arch, digest, and left, with path,
+                                  path_hex
 
 The first column is `type`, which each object has. If a word fails, the others of its end are null. A command line that
 is wrong, which ends with 3, prints none.
 
 Each word that writes replaces one of these by a new file that is synced and then renamed. Killed at any moment, it
 leaves the old one or the new one. One of them works at a time, by a lock on the file ARCHIVE.lock, which stays; others
-wait, but for those that ask. The new file is written in a folder ARCHIVE.making-*, so the disk needs room for it. What
-a kill leaves the next call removes.
+wait, but for those that ask, and after five seconds say which process has it, if the system knows. With --wait they
+end with 4 after so many seconds. A new ARCHIVE.lock is for its owner and its group alone. The new file is written in a
+folder ARCHIVE.making-*, so the disk needs room for it. What a kill leaves the next call removes.
+
+If a tool meets what it did not foresee, it says so in one line, and ends with 4; --debug, before or after the word,
+prints where that was.
 
 Beside each stands its index, as ARCHIVE.idx and ARCHIVE.today.idx, with the SHA-256 of each slice as it came in, where
 it stands, and the table by which its symbols are found. There are also ARCHIVE.builds, the names of builds;

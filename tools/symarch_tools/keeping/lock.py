@@ -93,9 +93,10 @@ def made(path: bytes) -> int:
         descriptor = os.open(path, os.O_RDWR | os.O_CREAT | os.O_EXCL, RIGHTS)
     except FileExistsError:
         return os.open(path, os.O_RDWR | os.O_CREAT, RIGHTS)
-    # Some file systems have no rights.
+    # Some file systems have no rights, and an archive may have a group that its folder does not have.
     with contextlib.suppress(OSError):
         os.fchmod(descriptor, RIGHTS)
+        os.chown(descriptor, -1, os.stat(path[: -len(LOCK)]).st_gid)
     return descriptor
 
 
