@@ -168,4 +168,5 @@ class Unvouched(AskCase):
     def test_no_archive(self) -> None:
         for words in (["find", UUID], ["symbolicate", *slice_words(image(1))[:2], "0"], ["name", "_a"]):
             _, errors = self.room.call(*self.placed(words, self.folder / "none.sym"), status=2)
-            same("errors", errors, [f"symarch-keep: {self.folder}/none.sym: No such file; symarch-keep add makes an archive"])
+            told = f"{self.folder}/none.sym: No such file; symarch-keep add makes an archive"
+            same("errors", errors, [f"symarch-keep: {told}"])

@@ -84,7 +84,8 @@ class Month(RoomCase):
     # ---- the first days
 
     def step_01_help_is_a_word(self) -> None:
-        for words in ([], ["add"], ["list"]):
+        of_words: List[List[str]] = [[], ["add"], ["list"]]
+        for words in of_words:
             came = self.ends("help", *words)
             same("status", came[0], 0)
             same(f"{words}", came, self.ends(*words, "--help"))
@@ -168,8 +169,10 @@ class Month(RoomCase):
             for words in (["add", name], ["add", "--dry-run", name], ["exchange", name, "."]):
                 self.fails([*words, "builds"], told, 3)
         self.assertTrue(today_of(self.room.archive).exists())
-        for word, *more in (["fold"], ["status", "--accept"], ["retire", *slice_words(image(2))], ["repair", "site.sym"]):
-            same(word, self.ends(word, *more[: word == "status"], "site.sym.today", *more[word == "status" :])[0], 3)
+        today = "site.sym.today"
+        more = (["fold", today], ["status", "--accept", today], ["repair", today, "site.sym"])
+        for words in (*more, ["retire", today, *slice_words(image(2))]):
+            same(f"{words}", self.ends(*words)[0], 3)
         self.room.call("add", self.room.archive, "builds")
         added = [image(number) for number in (2, 3, 4, 5)]
         self.room.call("fold", self.room.archive)
