@@ -131,6 +131,12 @@ class Month(RoomCase):
         path = "App.dSYM/Contents/Resources/DWARF/App"
         told = f"{path} is a dSYM: run symarch-keep add builds.sym {path}, then name builds.sym"
         self.fails(["find", path, uuid], told, 2)
+        shutil.copy(CRASH / "spool-1.dSYM", self.folder / "spool.dSYM")
+        told = "spool.dSYM is a dSYM: run symarch-keep add builds.sym spool.dSYM, then name builds.sym"
+        self.fails(["find", "spool.dSYM", uuid], told, 2)
+        for name in ("App.dSYM", "spool.dSYM"):
+            told = f"{name} is a dSYM, and ARCHIVE comes first: symarch-keep add new.sym {name}"
+            self.fails(["add", name, "new.sym"], told, 3)
 
     def step_04_the_archive_is_made_and_its_lock_is_of_the_group(self) -> None:
         """Whatever rights other new files have. A lock that is there stays as it is."""

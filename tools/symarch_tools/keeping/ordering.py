@@ -7,7 +7,7 @@ from typing import List, NoReturn, Optional, Sequence
 from .contents import MAGIC, MAGICS
 from .packed import ZIP
 from .screen import Failed, shown
-from .slices import THIN, UNIVERSAL
+from .slices import THIN, UNIVERSAL, is_dsym
 
 # In a call a word for standard input; and in the place of ARCHIVE, if no word may be that.
 STANDARD_INPUT, ARCHIVE = "-", "ARCHIVE"
@@ -56,7 +56,8 @@ def refuse_order(word: str, options: Sequence[str], names: Sequence[str]) -> Non
     archive = archive_in(word, names) if word != "repair" and len(names) > 1 else None
     is_standard_input = first == STANDARD_INPUT and not os.path.exists(first)
     if archive is not None and (word != "add" or is_input(first) or os.path.exists(first)):
-        kind = "standard input" if is_standard_input else "a folder" if os.path.isdir(first) else "no archive"
+        kind = "a dSYM" if is_dsym(os.fsencode(first)) else "a folder" if os.path.isdir(first) else "no archive"
+        kind = "standard input" if is_standard_input else kind
         refuse(f"{shown(first)} is {kind}, and ARCHIVE comes first", word, options, names, archive)
     if is_standard_input:
         raise Failed("- is standard input, and ARCHIVE is a file", 3)

@@ -20,6 +20,7 @@ from .screen import Screen, SliceRefused, shown
 # mach-o/fat.h: an entry of each table, of which offset and size count. mach-o/loader.h: the header and its commands.
 UNIVERSAL = {bytes.fromhex("cafebabe"): struct.Struct(">8xII4x"), bytes.fromhex("cafebabf"): struct.Struct(">8xQQ8x")}
 FAT_HEADER, MOST_PARTS = 8, 32
+WIDEST = max(layout.size for layout in UNIVERSAL.values())
 # A Java class file begins as a universal file, and has its version in the place of the number of parts.
 JAVA, LEAST_OF_JAVA = bytes.fromhex("cafebabe"), 45
 THIN = bytes.fromhex("cffaedfe")
@@ -281,14 +282,19 @@ class Finder:
 
 
 def is_dsym(path: bytes) -> bool:
-    """Whether a path is a dSYM bundle, or the file in it that has the slices."""
+    """Whether a path is a dSYM bundle, or a file whose first slice is a companion's."""
     if os.path.isdir(path):
         return path.rstrip(b"/").endswith(b".dSYM")
     if not os.path.isfile(path):
         return False
     with open(path, "rb") as file:
-        front = file.read(HEADER.size)
-    return front[:4] in UNIVERSAL and is_of_dsym(path) or front[:4] == THIN and front[12:13] == bytes([MH_DSYM])
+        front = file.read(FAT_HEADER + WIDEST)
+        layout = UNIVERSAL.get(front[:4])
+        if layout and FAT_HEADER + layout.size <= len(front):
+            offset, _ = layout.unpack_from(front, FAT_HEADER)
+            file.seek(min(offset, os.fstat(file.fileno()).st_size))
+            front = file.read(HEADER.size)
+    return front[:4] == THIN and front[12:16] == MH_DSYM.to_bytes(4, "little")
 
 
 def is_java(first: bytes) -> bool:
