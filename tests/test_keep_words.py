@@ -93,7 +93,8 @@ class Status(RoomCase):
             same("numbers of `symarch list`", counts, [7, 1, 2, 1])
             said, errors = self.room.call("status", self.room.archive)
             words = ("images", "companions", "retirements", "conflicts", "bytes")
-            same("lines", said, [f"{word} {count}" for word, count in zip(words, [*counts, len(text)])])
+            lines = [f"{word} {count}" for word, count in zip(words, [*counts, len(text)])]
+            same("lines", said, [*lines, f"conflict {' '.join(slice_words(image(8))[:2])} 2"])
             same("made", (errors, sorted(os.listdir(self.folder))), ([], ["site.sym"]))
 
     def test_what_a_kill_left(self) -> None:
@@ -101,12 +102,13 @@ class Status(RoomCase):
         for name in ("lock", "making-killed/new", "idx.next"):
             self.room.file(f"site.sym.{name}", b"half")
         left = [f"left {self.room.archive}.{name}" for name in ("idx.next", "making-killed")]
-        same("left", self.room.call("status", self.room.archive)[0][5:], left)
+        same("left", self.room.call("status", self.room.archive)[0][6:], left)
 
     def test_an_archive_that_was_cut(self) -> None:
         self.room.archive.write_bytes(archive(self.made)[:-1])
         _, errors = self.room.call("status", self.room.archive, status=4)
-        self.assertTrue(errors[0].startswith("symarch-keep: symarch: archive 0: Truncated at"), errors)
+        told = "is cut short: restore it from a backup or another site"
+        same("errors", errors, [f"symarch-keep: {self.room.archive} {told}"])
 
 
 class DryRun(RoomCase):
