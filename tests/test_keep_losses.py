@@ -513,11 +513,12 @@ class Names(LossCase):
     def refused(self, site: Site) -> None:
         """Another site has the name: nothing is done, and the line names both."""
         before = state_of(self.folder)
+        kept = "; the archive is as it was" * site.archive.exists()
         _, errors = site.exchange(status=4)
         (mark,) = self.marks(site.folder)[-1:]
         where = f"{site.folder}/{mark}: another site is called east since {mark.split('.')[2]}"
         how = "choose another NAME, or take this one by --take-name if the other is gone"
-        self.assertEqual(errors, [f"symarch-keep: {where}; {how}; the archive is as it was"])
+        self.assertEqual(errors, [f"symarch-keep: {where}; {how}{kept}"])
         after = {path: it for path, it in state_of(self.folder).items() if not path.endswith(".lock")}
         self.assertEqual(after, {path: it for path, it in before.items() if not path.endswith(".lock")})
 
