@@ -449,7 +449,7 @@ class Absent(GetCase):
         _, errors = self.room.call("get", "site.sym", name, status=3)
         self.assertIn("--to", errors[-1])
         _, errors = self.room.call("get", "none.sym", name, "--to", "out", status=2)
-        told = f"{self.folder}/none.sym: No such file; symarch-keep add makes an archive"
+        told = "none.sym: No such file; symarch-keep add makes an archive"
         same("errors", errors, [f"symarch-keep: {told}"])
         same("folder", self.out.exists(), False)
 

@@ -125,6 +125,7 @@ class Today(TodayCase):
             counts.update({"bytes": self.room.archive.stat().st_size, "today": len(EMPTY) if is_folded else today})
             counts.update({} if is_folded else {"waiting": len(self.made[1])})
             lines = [f"{name} {count}" for name, count in counts.items()]
+            lines.append(f"conflict {' '.join(slice_words(more[0])[:2])} 2")
             same("lines", self.room.call("status", self.room.archive)[0], lines)
             self.room.call("fold", self.room.archive)
         # The same slices in both, as where somebody copied them.
