@@ -251,6 +251,7 @@ class Ways(InputsCase):
             part = archive([one for one in made[:5] if one not in retired], retired=retired)
             self.put("part.sym", part)
             same("summary", self.call("summary", "part.sym", "part.sum").status, 0)
+            (self.folder / "delta.sym").unlink(missing_ok=True)
             same("delta", self.call("delta", "all.sym", "part.sum", "delta.sym").status, 0)
             self.writes(wanted, "merge", "part.sym", "out.sym", "delta.sym")
             missing = [one for one in records_in(wanted) if one not in records_in(part)]
