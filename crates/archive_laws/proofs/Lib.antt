@@ -11,3 +11,4 @@ pub mod Viewed
 pub mod FramesTold
 pub mod OneRehearsal
 pub mod Crashes
+pub mod GivingWay

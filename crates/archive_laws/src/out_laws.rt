@@ -1,10 +1,13 @@
 //! What a crash leaves at the path of an output, whatever call it is stopped behind. Each law speaks of the calls that
 //! a command makes for its output.
 ghost use Rattle.std.specs.Prelude.{◌≡◌, ◌⊎◌, ℕ, Contains, List, Option, Some, take};
-ghost use Rattle.archive_files.specs.FileCalls.{FileCall, FindsOther, Leads};
+ghost use Rattle.archive_files.specs.FileCalls.{Begins, Covers, FileCall, FindsOther, Leads};
 ghost use Rattle.archive_files.specs.Publishing.{IsDescriptor, IsDraftRemoved, IsReplaced, IsWrittenThrough};
+ghost use Rattle.archive_files.specs.Replacing.{GivesWay, IsMagicOf};
 ghost use Rattle.archive_files.specs.declared.replaceable.Replaces.{Replaces};
+ghost use Rattle.archive_files.specs.declared.replaceable.Replaces.TheVariants.{SameBytes};
 ghost use Rattle.archive_laws.specs.Crashes.{MayBeAt, replay};
+ghost use Rattle.archive_records.specs.declared.kind.TextKind.TheVariants.{Archive};
 
 /// A text is put in the place of what OUT's path leads to: a crash behind any of the calls leaves what was there, or
 /// the whole text; and behind the last one the text. That place is the path itself, or the system said that the path
@@ -35,4 +38,17 @@ pub fn removed_leaves_it()
 pub fn never_written_through()
     ensures { (path text : List ℕ) (calls : List FileCall) (is : IsWrittenThrough path text calls)
         → Contains calls (FindsOther path) ⊎ IsDescriptor path }
+{}
+
+/// What is at the place of OUT's path gives way, whatever the command: what begins as an archive to an archive that has
+/// or covers each of its records; and a file of another kind than the draft to none, but to a slice that it is.
+pub fn archives_give_way_to_those_above()
+    ensures archives { (path text bytes : List ℕ) (replaces : Replaces) (calls : List FileCall)
+        (is : IsReplaced path replaces text calls)
+        → Contains is.tests (Begins is.target bytes) → IsMagicOf Archive bytes
+        → Contains is.tests (Covers is.draft is.target) }
+    ensures kinds { (path text : List ℕ) (replaces : Replaces) (calls : List FileCall)
+        (is : IsReplaced path replaces text calls)
+        → (replaces ≡ SameBytes)
+        ⊎ ((bytes : List ℕ) × GivesWay replaces bytes × Contains is.tests (Begins is.target bytes)) }
 {}
