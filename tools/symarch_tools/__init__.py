@@ -3,6 +3,7 @@
 - program           where the program symarch is
 - version           the version of both tools
 - signals           the signals that end a tool
+- escaping          texts in a line of a terminal
 - keep              symarch-keep: its words
 - keeping           what its words do
 - symbolicate       symbolicate-report: its words

@@ -22,11 +22,15 @@ What is read, whatever the file is called, and of standard input if it is called
   `offsetIntoBinaryTextSegment`.
 
 Each of them may begin with a byte-order mark, may be UTF-8 or UTF-16, and is printed in the encoding that it has. It
-may have been pasted, with the same spaces or `> ` before its lines, and is printed so.
+may have been pasted, with the same spaces or `> ` before its lines, and is printed so. No-break spaces are read as
+spaces, and a line of a crash that was wrapped after an address or its `+` is read with the next one; once it has a
+name, both are one line.
 
 A folder stands for the reports below it, in order of their paths; links in it are not followed. Files are read there
 that are called .ips, .crash or .txt or begin as a report. One that is no report is passed over, unless it is called
 .ips or .crash or begins as one: that is refused, and so is a folder without a report. A file is read once.
+Reports without stacks, as those of jetsam and analytics, are passed over, and a line on standard error counts them; one
+that is named is refused, and so is a packed one.
 
 All is printed as it stands, byte for byte, but for
 
@@ -51,7 +55,8 @@ JSON, which `--text` names and counts as `asiBacktraces`.
 If a report is cut, standard error says where it ends, by line and byte: within its JSON or a line, before its first
 frame, or before its images. The frames before that place are named. A text that is cut after a line of its images looks
 whole, and the frames of the others are counted as of images that it does not list. JSON that goes wrong is named up to
-there, and the rest stays as it is.
+there, and the rest stays as it is; so is JSON that is nested more than 500 deep, but for calls, of which 10,000 may
+stand in one another. Of a report 10,000 parts and 20,000 images are read, and ten faults are printed.
 
 The last line on standard error counts the frames: those that have one name now, those that were named before and keep
 that name, those without a name, and those with several answers. Then it counts the frames of images that the report
@@ -68,8 +73,9 @@ it, its architecture:
 - `without lines, too many for the index`, after one of these: no files and lines of the source are printed for it,
   since the table of its slice has no room for them.
 
-Inlined functions do not count as frames. With --out each report has such a line after its path, and the last line is
-for all reports.
+What is not printable in a name stands there, and in what --text, --missing and --group print, as `\\x` and two hex
+digits for each byte. Inlined functions do not count as frames. With --out each report has such a line after its path,
+and the last line is for all reports.
 
 With --json standard output has an object of JSON a line in the place of a report. What is not known is null; of a path
 that is no UTF-8 `path_hex`, else null, has the bytes. By `type` they are
@@ -130,9 +136,9 @@ The program is called by `frames`, once for all reports unless a slice changed. 
 variable SYMARCH names; else the one that ./symarch built, or that was installed with this tool; else `symarch` in PATH.
 None is built here: if SYMARCH names the script ./symarch, the program that it built is called.
 
-This tool needs two to four times the size of a large report as memory, and room for 60 bytes for each different offset
-in a folder for temporary files, as TMPDIR names it. The program needs about 200 bytes for each different offset in an
-image. Both need four times that if the report does not state the image's architecture.
+This tool needs two to four times the size of a large report as memory, five times and 64 MB at most, and room for 60
+bytes for each different offset in a folder for temporary files, as TMPDIR names it. The program needs about 200 bytes
+for each different offset in an image. Both need four times that if the report does not state the image's architecture.
 
 The status is 0; 1 where no frame has one name (with --missing: never); 2 where a REPORT cannot be read or is none of
 these, which prints nothing of it, where a folder has none, where a slice changed, where an archive is not there or is
@@ -150,19 +156,20 @@ import tempfile
 import uuid
 from typing import Dict, Iterable, List, Optional, Sequence, Tuple
 
+from .escaping import line_shown
 from .keeping.screen import about, shown, system_text
 from .keeping.json_lines import Members, path_members
 from .reports.account import Account, print_end, print_objects
 from .reports.answers import Origin
 from .reports.archives import Archives, with_levels
 from .reports.demangling import demangled, without_underscores
-from .reports.faults import Failure, NoReport, Status
+from .reports.faults import Failure, NoReport, NoStacks, Status
 from .reports.folders import files_below, is_named_as_report
 from .reports.groups import group_lines
 from .reports.images import SIGNAL_FRAMES
 from .reports.names import Names
 from .reports.report import Count, Report
-from .reports.streams import drop, encoded, note, printing
+from .reports.streams import drop, encoded, note, printing, say
 from .reports.words import NAME, Words, is_folder
 from .signals import Stopped, signals
 from .unforeseen import debugging, guarded
@@ -177,6 +184,8 @@ class Reader:
     def __init__(self, words: Words) -> None:
         self.words, self.status = words, int(Status.DONE)
         self.found: List[Report] = []
+        # Those of a folder that have no stacks.
+        self.passed_over = 0
         self.refused: List[Members] = []
         # What a folder need not have again.
         self.seen = {os.path.realpath(path) for path in words.reports if not is_folder(path)}
@@ -192,6 +201,11 @@ class Reader:
         """Whether a file is a report, also one that is refused. One that was found in a folder may be none."""
         try:
             self.found.append(Report(path, self.words.is_text, self.words.is_group))
+        except NoStacks as failure:
+            if is_found:
+                self.passed_over += 1
+                return True
+            self.refuse(path, failure.reason, failure.status)
         except NoReport as failure:
             if is_found and not is_named_as_report(path):
                 return False
@@ -206,11 +220,14 @@ class Reader:
         paths, errors = files_below(folder)
         for error in errors:
             self.refuse(folder, system_text(error, os.fsencode(folder)))
-        has_report = False
+        has_report, passed_over = False, self.passed_over
         for path in paths:
             real = os.path.realpath(path)
             has_report |= real in self.seen or self.read(path, is_found=True)
             self.seen.add(real)
+        passed_over = self.passed_over - passed_over
+        if passed_over:
+            say(f"{shown(folder)}: reports without stacks, which are passed over: {passed_over}\n")
         if not has_report and not errors:
             self.refuse(folder, f"{shown(folder)}: no report in this folder")
 
@@ -225,7 +242,7 @@ def print_missing(reports: Iterable[Report]) -> None:
     names: Dict[uuid.UUID, str] = {}
     for image in (image for report in reports for image in report.images.with_frames()):
         if image.lacks_names and image.origin() in (Origin.IMAGE, Origin.OTHERS, Origin.ABSENT):
-            names[image.uuid] = names.get(image.uuid) or " ".join((image.name or "").split())
+            names[image.uuid] = names.get(image.uuid) or line_shown(" ".join((image.name or "").split()))
     with printing() as stream:
         stream.write(encoded("".join(f"{number} {name}".rstrip() + "\n" for number, name in names.items())))
 
@@ -283,18 +300,18 @@ def clash(reports: Sequence[str], archives: Iterable[str], out: str) -> Optional
         name = os.path.basename(path)
         target = os.path.join(out, name)
         if not name:
-            return f"{path}: no file"
+            return f"{shown(path)}: no file"
         if name in seen:
-            return f"{seen[name]} and {path} would both be written to {target}"
+            return f"{shown(seen[name])} and {shown(path)} would both be written to {shown(target)}"
         if identity(target) in read_files:
-            return f"{path} would be written over {read_files[identity(target)]}, which is read"
+            return f"{shown(path)} would be written over {shown(read_files[identity(target)])}, which is read"
         seen[name] = path
     return None
 
 
 def refuse_file(out: Optional[str]) -> None:
     if out is not None and os.path.exists(out) and not os.path.isdir(out):
-        raise Failure(f"--out needs a folder, and {out} is a file", Status.REFUSED)
+        raise Failure(f"--out needs a folder, and {shown(out)} is a file", Status.REFUSED)
 
 
 def refuse_clash(words: Words, reports: Sequence[str]) -> None:

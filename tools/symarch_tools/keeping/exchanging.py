@@ -71,7 +71,6 @@ Status:
 import argparse
 import contextlib
 import os
-import re
 import time
 import uuid
 from typing import BinaryIO, Callable, Dict, Iterator, List, Optional, Sequence, Set, Tuple
@@ -86,7 +85,7 @@ from .losing import counted, lost_lines
 from .program import Program
 from .screen import Failed, Screen, about, screen_of, shown, system_text
 from .senders import SIGNERS, Keys, Older, Senders, Unfit
-from .shared_folder import MARK, SHORT, SITE, Answer, Mark, Question, Sent, SharedFolder
+from .shared_folder import MARK, NAME_OF_SITE, SHORT, Answer, Mark, Question, Sent, SharedFolder
 from .shared_folder import answer_name, digest_of, latest_first, mark_name, question_name
 from .telling import Telling
 from .times import TIME, fault_of_time, time_after, time_now
@@ -515,7 +514,7 @@ def keys_of(words: argparse.Namespace) -> Optional[Keys]:
 
 
 def carry_out(words: argparse.Namespace) -> int:
-    if not re.fullmatch(SITE, words.name):
+    if not NAME_OF_SITE.fullmatch(words.name):
         raise Failed(f"NAME is {shown(os.fsencode(words.name))}, and has other letters than a-z, 0-9, - and _", 3)
     most = None if words.most is None else size_in(words.most)
     screen, keys = screen_of(words), keys_of(words)

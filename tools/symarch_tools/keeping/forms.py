@@ -10,6 +10,9 @@ from .screen import Failed, shown
 ARCHITECTURES = "x86_64, x86_64h, arm64, arm64e or cpu:CCCCCCCC/00SSSSSS"
 # The help of words, of which those after a colon are completed.
 HELP = {"ARCH": f"the architecture: {ARCHITECTURES}"}
+DIGEST, SIZE = re.compile("[0-9a-fA-F]{64}"), re.compile("([0-9]{1,15})([kMGT]?)")
+HEX, DAY = re.compile("(0x)?[0-9a-fA-F]{1,16}"), re.compile("[0-9]{4}-[0-9]{2}-[0-9]{2}", re.ASCII)
+SECONDS = re.compile(r"[0-9]{1,9}(\.[0-9]{1,9})?")
 # Where the high byte of the cpusubtype stands in what an ARCH means. No slice has a bit in it.
 HIGH_BYTE = 4
 
@@ -36,14 +39,14 @@ def arch_of(word: str) -> bytes:
 
 
 def digest_of(word: str) -> bytes:
-    if not re.fullmatch("[0-9a-fA-F]{64}", word):
+    if not DIGEST.fullmatch(word):
         raise other_form("DIGEST", word, "64 hex digits")
     return bytes.fromhex(word)
 
 
 def size_in(word: str) -> int:
     """A number of bytes."""
-    found = re.fullmatch("([0-9]{1,15})([kMGT]?)", word)
+    found = SIZE.fullmatch(word)
     if not found:
         raise other_form("BYTES", word, "a number of bytes, which may end in k, M, G or T")
     return int(found[1]) * 1000 ** " kMGT".index(found[2] or " ")
@@ -51,14 +54,14 @@ def size_in(word: str) -> int:
 
 def seconds_in(word: str) -> float:
     """A number of seconds."""
-    if not re.fullmatch(r"[0-9]{1,9}(\.[0-9]{1,9})?", word, re.ASCII):
+    if not SECONDS.fullmatch(word):
         raise other_form("SECONDS", word, "a number of seconds")
     return float(word)
 
 
 def hex_of(name: str, word: str) -> str:
     """A number in hex digits, as the program takes it."""
-    if not re.fullmatch("(0x)?[0-9a-fA-F]{1,16}", word):
+    if not HEX.fullmatch(word):
         raise other_form(name, word, "1 to 16 hex digits, with or without 0x")
     return word
 
@@ -82,6 +85,6 @@ def app_of(word: str) -> str:
 
 def day_of(word: str) -> str:
     """A day of UTC, as it is kept."""
-    if not re.fullmatch("[0-9]{4}-[0-9]{2}-[0-9]{2}", word, re.ASCII) or not is_day(os.fsencode(word)):
+    if not DAY.fullmatch(word) or not is_day(os.fsencode(word)):
         raise other_form("DATE", word, "a day as YYYY-MM-DD")
     return word

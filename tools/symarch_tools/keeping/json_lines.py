@@ -6,6 +6,7 @@ import re
 import uuid
 from typing import Any, Dict, Optional, Union
 
+from ..escaping import json_shown
 from .contents import KEY, arch_in
 
 Members = Dict[str, Any]
@@ -47,4 +48,4 @@ def record_members(entry: Optional[bytes], is_retirement: bool = False) -> Membe
 
 
 def encoded(members: Members) -> str:
-    return SURROGATE.sub("\ufffd", json.dumps(members, ensure_ascii=False))
+    return json_shown(SURROGATE.sub("\ufffd", json.dumps(members, ensure_ascii=False)))

@@ -32,6 +32,7 @@ import difflib
 import os
 from typing import Dict, List, NamedTuple, Optional, Set, Tuple
 
+from ..escaping import unshown
 from .asking import Asked, opened_archive
 from .builds import UNKNOWN, Build, Builds, Named, field_shown
 from .checking import index_read
@@ -39,7 +40,7 @@ from .contents import KEY, words_of
 from .forms import app_of, day_of
 from .indexes import HEAD, Row
 from .json_lines import Members, line_of
-from .screen import Screen, screen_of, unshown
+from .screen import Screen, screen_of
 
 USAGE = "symarch-keep list [--json] [--app ID] [--since DATE] ARCHIVE"
 ABOUT = "print its builds by their names"

@@ -39,7 +39,8 @@ ONE = {
     "other files": "neither a Mach-O file nor a universal one",
     "other parts": "no image",
 }
-HTML = re.compile(rb"(\xef\xbb\xbf)?\s*(<!--.*?-->\s*)*<(!doctype html|html|head|body)\b", re.I | re.S)
+HTML, SPACE = re.compile(rb"<(!doctype html|html|head|body)\b", re.I), re.compile(rb"\s*")
+MARK, COMMENT, END_OF_COMMENT = b"\xef\xbb\xbf", b"<!--", b"-->"
 REPORT = re.compile(rb"(\xef\xbb\xbf)?\s*(\{|Incident Identifier:|Process:|Analysis of sampling|Date/Time:)")
 
 
@@ -49,8 +50,23 @@ def look_of(front: bytes) -> Optional[str]:
         return "an empty file"
     if front[TAR_MAGIC : TAR_MAGIC + 5] == b"ustar":
         return f"a tar file, {UNPACKED}"
-    if HTML.match(front):
+    if is_html(front):
         return f"a page of HTML, {NO_WORD}"
     if REPORT.match(front):
         return "a text as a report begins, which `symbolicate-report` reads"
     return next((look for begins, look in BEGINNINGS if front.startswith(begins)), None)
+
+
+def is_html(front: bytes) -> bool:
+    """Whether these bytes begin as a page, after comments."""
+    end = len(MARK) if front.startswith(MARK) else 0
+    begin = after_space(front, end)
+    while end >= 0 and front.startswith(COMMENT, begin):
+        end = front.find(END_OF_COMMENT, begin + len(COMMENT))
+        begin = after_space(front, end + len(END_OF_COMMENT))
+    return end >= 0 and bool(HTML.match(front, begin))
+
+
+def after_space(front: bytes, at: int) -> int:
+    found = SPACE.match(front, at)
+    return found.end() if found else at

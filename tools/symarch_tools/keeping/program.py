@@ -14,7 +14,10 @@ from .slices import Slice
 
 Word = Union[str, bytes]
 Moved = Callable[[int], None]
-CUT_SHORT = re.compile("symarch: archive [0-9]+: Truncated at [0-9]+")
+# A fault of a record, that of a slice, which has its own in parentheses, and that of an archive that ends early.
+AT_RECORD = re.compile("symarch: archive ([01]): (.*) at ([0-9]{1,20})")
+BAD_SLICE = "BadSlice("
+CUT_SHORT = re.compile("symarch: archive [0-9]{1,9}: Truncated at [0-9]{1,20}")
 
 
 def not_moved(_done: int) -> None:
@@ -195,16 +198,18 @@ def give(descriptor: int, slices: Sequence[Slice], moved: Moved) -> None:
 def fault(command: str, said: str, status: int, slices: Sequence[Slice], names: Dict[str, str]) -> Exception:
     """What the program says of a slice that it was given, or else of the whole: its line, and the one for people."""
     line, _, more = said.partition("\n")
-    found = re.fullmatch("symarch: archive ([01]): (.*) at ([0-9]+)", line)
+    found = AT_RECORD.fullmatch(line)
     if found and found[1] == ("1" if command == "merge" else "0"):
         at = MAGIC
         for one in slices:
             if at == int(found[3]):
-                return SliceRefused(re.sub(r"BadSlice\((.*)\)", r"\1", found[2]), one, True)
+                reason = found[2]
+                is_bad = reason.startswith(BAD_SLICE) and reason.endswith(")")
+                return SliceRefused(reason[len(BAD_SLICE) : -1] if is_bad else reason, one, True)
             at += len(one.head) + one.length
     where, _, path = more.partition(" is ")
     for name in names:
-        if re.match(f"{re.escape(name)}([:,]|$)", path):
+        if path.startswith(name) and path[len(name) :][:1] in ("", ":", ","):
             if CUT_SHORT.fullmatch(line):
                 return CutShort(names[name])
             more = f"{where} is {names[name]}{path[len(name):]}"

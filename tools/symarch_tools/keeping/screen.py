@@ -3,15 +3,12 @@ import argparse
 import collections
 import contextlib
 import os
-import re
 import sys
 from typing import Any, Callable, Counter, Iterable, Iterator, List, Optional, Sequence, Tuple, Union
 
+from ..escaping import shown as shown
 from .json_lines import Line, Members, encoded, line_of, path_members
 from .progress import progress
-
-
-ESCAPED = re.compile(rb"\\x([0-9a-f]{2})")
 
 
 class Failed(Exception):
@@ -48,22 +45,6 @@ class SliceRefused(Exception):
     def __init__(self, reason: str, one: Any = None, is_of_bytes: bool = False) -> None:
         super().__init__(reason)
         self.reason, self.one, self.is_of_bytes = reason, one, is_of_bytes
-
-
-def shown(path: Union[bytes, str]) -> str:
-    """The text of a path in a line, from which its bytes can be told."""
-    return "".join(map(shown_character, os.fsencode(path).decode(errors="surrogateescape")))
-
-
-def shown_character(character: str) -> str:
-    if character.isprintable() and character != "\\":
-        return character
-    return "".join(f"\\x{byte:02x}" for byte in character.encode(errors="surrogateescape"))
-
-
-def unshown(text: str) -> str:
-    """What a text was before it was shown."""
-    return os.fsdecode(ESCAPED.sub(lambda found: bytes([int(found[1], 16)]), os.fsencode(text)))
 
 
 def system_text(error: OSError, path: Optional[bytes] = None) -> str:

@@ -32,6 +32,7 @@ from .senders import MOST_OF_SIGNATURE, Senders, Statement, Unfit, folder_in
 from .times import DAY, fault_of_time
 
 SITE = "[a-z0-9][a-z0-9_-]{0,31}"
+NAME_OF_SITE = re.compile(SITE)
 QUESTION = re.compile(rf"(?P<site>{SITE})\.asks\.(?P<time>[0-9]{{8}}T[0-9]{{6}}Z)\.(?P<digest>[0-9a-f]{{64}})\.sum")
 ANSWER = re.compile(
     rf"(?P<site>{SITE})\.answers\.(?P<to>{SITE})\.(?P<question>[0-9a-f]{{16}})"

@@ -18,8 +18,8 @@ Symbol = Tuple[str, int]
 # What a slice answers, by the places of its name and of its frames, and the offset.
 Places = Tuple[int, int, int]
 
-# What a slice answers, `NAME + OFFSET (SEG,SECT)`; and the line before the answers of several.
-ANSWER = re.compile(rb"(.*) \+ ([0-9]{1,20}) \(.*\)")
+# What a slice answers, `NAME + OFFSET (SEG,SECT)`, up to the section; and the line before the answers of several.
+ANSWER = re.compile(rb"(.*) \+ ([0-9]{1,20}) \(")
 SEVERAL = re.compile(rb"!([0-9]{1,9})")
 NO_SYMBOL, NOT_THERE = b"-", b"0x%016x ?\n"
 # What the lines of frames begin with.
@@ -128,7 +128,7 @@ class Answers:
 
     def answer(self, said: bytes, lines: Said) -> Places:
         """What a slice answers: its name and offset, and below that its frames."""
-        found = ANSWER.fullmatch(said)
+        found = ANSWER.match(said) if said.endswith(b")") else None
         if not found and said != NO_SYMBOL:
             raise ValueError
         symbol = (self.names.place(found[1]), int(found[2])) if found else (NONE, 0)

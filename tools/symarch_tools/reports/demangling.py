@@ -18,9 +18,10 @@ OF_SWIFT, OF_CXX = re.compile(r"_*\$[sSe]|_+T"), re.compile("_+[ZR]")
 BLOCK = re.compile(r"__(_Z[\w$]+?)_block_invoke(?:_?[0-9]+)?(?:\..*)?")
 BLOCK_WORDS = "invocation function for block in "
 # What GNU spells otherwise than LLVM: types without a name, copies of a function, crates of Rust.
-UNNAMED = re.compile(r"\{(?:lambda(\([^{}]*\))|unnamed type)#([0-9]+)\}")
-COPIES = re.compile(r"(?: \[clone [^]]*\])+$")
-COPY = re.compile(r"\[clone ([^]]*)\]")
+UNNAMED = re.compile(r"\{(?:lambda(\([^{}]*\))|unnamed type)#([0-9]{1,9})\}")
+COPY, END_OF_COPY = " [clone ", "]"
+# So many types without a name are spelled that stand within another one.
+MOST_WITHIN = 20
 CRATE = re.compile(r"(?<=\w)\[[0-9a-f]+\]")
 WORDS = (("decltype(nullptr)", "std::nullptr_t"), ("operator<< <", "operator<<<"))
 # Where templates end. LLVM writes the space up to version 14.
@@ -69,14 +70,29 @@ def cxx_demangled(command: str, names: List[str]) -> List[str]:
 
 def spelled(name: str, made: str) -> str:
     """What a command made of a name, as LLVM spells it."""
-    count = 1
+    count, within = 1, 0
     # One may stand within another one.
-    while count:
+    while count and within < MOST_WITHIN:
         made, count = UNNAMED.subn(unnamed, made)
-    made = COPIES.sub(lambda found: f" ({''.join(COPY.findall(found[0]))})", made)
+        within += 1
+    made = with_copies(made)
     for gnu, llvm in WORDS:
         made = made.replace(gnu, llvm)
     return CRATE.sub("", made) if name.startswith("_R") else ENDS.sub(">", made)
+
+
+def with_copies(made: str) -> str:
+    """A name whose copies, of which each ends it, are in parentheses together."""
+    copies: List[str] = []
+    end = len(made)
+    while made.endswith(END_OF_COPY, 0, end):
+        begin = made.rfind(COPY, 0, end)
+        copy = made[begin + len(COPY) : end - 1]
+        if begin < 0 or END_OF_COPY in copy:
+            break
+        copies.append(copy)
+        end = begin
+    return f"{made[:end]} ({''.join(reversed(copies))})" if copies else made
 
 
 def unnamed(found: Match[str]) -> str:

@@ -24,3 +24,7 @@ class Failure(Exception):
 
 class NoReport(Failure):
     """What keeps a file out that does not begin as a report."""
+
+
+class NoStacks(NoReport):
+    """What keeps a report out that has no stacks, as its type says."""

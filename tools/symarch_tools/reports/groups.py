@@ -5,10 +5,10 @@ import bisect
 import re
 from typing import Any, Dict, Iterable, Iterator, List, Match, NamedTuple, Optional, Pattern, Sequence, Tuple
 
-from ..keeping.screen import shown
+from ..escaping import line_shown
 from .images import HAD_NAME, IS_INLINED, Frames
 from .json_report import JsonReport
-from .named_lines import INLINED
+from .named_lines import INLINED, SOURCE
 from .readable import name_of, text_in
 from .report import Part, Report
 from .text_report import BACKTRACE, CRASH, NO_NAME, TextReport, frames_in
@@ -22,8 +22,6 @@ CRASHED = re.compile(rb"(?<![^\r\n])Thread [0-9]+ Crashed:[^\r\n]*(?:\r\n|\r|\n|
 EXCEPTION = re.compile(rb"(?<![^\r\n])[ \t]*Last Exception Backtrace[^\r\n]*(?:\r\n|\r|\n|\Z)")
 # The answer of a slice, below a frame that has several.
 CONFLICTING = re.compile(rb"  [0-9a-f]{64} ")
-# What stands after a name in a line of a crash.
-AFTER_NAME = re.compile(rb"(?: \+ [0-9]+)?(?: \[inlined\])?(?: \([^()]*:[0-9]+\))?(?: \[inlined\])?\s*\Z")
 
 
 def group_lines(reports: Iterable[Report]) -> Iterator[str]:
@@ -32,7 +30,7 @@ def group_lines(reports: Iterable[Report]) -> Iterator[str]:
     for report in reports:
         groups.setdefault(group_of(report), []).append(report.label)
     for text, labels in sorted(groups.items(), key=lambda group: (-len(group[1]), group[0])):
-        yield f"{len(labels)}\t{text}\t{shown(labels[0])}\n"
+        yield f"{len(labels)}\t{line_shown(text)}\t{labels[0]}\n"
 
 
 def group_of(report: Report) -> str:
@@ -183,6 +181,19 @@ def addressed_frames(part: TextReport, place: int, most: int) -> List[Frame]:
     return found[:most]
 
 
+def name_in(said: bytes) -> bytes:
+    """A name of a line of a crash without what stands after it: an offset, a source, and that it was inlined."""
+    said = without_inlined(said.rstrip())
+    source = SOURCE.search(said)
+    said = without_inlined(said[: source.start()] if source else said)
+    name, plus, offset = said.rpartition(b" + ")
+    return name if plus and offset.isdigit() else said
+
+
+def without_inlined(said: bytes) -> bytes:
+    return said[: -len(INLINED)].rstrip(b" ") if said.endswith(b" " + INLINED) else said
+
+
 def text_frame(part: TextReport, place: int, found: Match[bytes]) -> Tuple[Optional[int], Frame]:
     """The frame of a line, after its number, which one that was inlined has not."""
     places = part.frames.places
@@ -190,5 +201,5 @@ def text_frame(part: TextReport, place: int, found: Match[bytes]) -> Tuple[Optio
     at = number if number < len(places) and places[number] == place else None
     is_inlined = INLINED in found.string and not NO_NAME.fullmatch(found["said"])
     has_name = is_inlined if at is None else part.frames.kinds[at] & HAD_NAME
-    had = AFTER_NAME.sub(b"", found["said"], count=1).decode(errors="surrogateescape") if has_name else None
+    had = name_in(found["said"]).decode(errors="surrogateescape") if has_name else None
     return at, frame_of(part.frames, at, found["image"].decode(errors="surrogateescape"), had)

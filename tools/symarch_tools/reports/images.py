@@ -9,6 +9,7 @@ import uuid
 from array import array
 from typing import Callable, Dict, Hashable, List, Mapping, Optional, Sequence, Set, Tuple, TypeVar
 
+from ..escaping import line_shown
 from .answers import Answers, Origin, Symbol
 from .source_lines import NOTHING, Lines
 
@@ -20,6 +21,8 @@ DIGITS = re.compile("[0-9a-f]{32}")
 MOST_SORTED = 200_000
 # The answers of so many frames are kept.
 MOST_KNOWN = 20_000
+# So many images of a report are known.
+MOST_IMAGES = 20_000
 # The number of no image.
 NO_IMAGE = -1
 # What calls a handler of a signal, as reports and as symbol tables name it.
@@ -77,7 +80,7 @@ class Image:
 
     def label(self) -> str:
         others = f"(the archive has {', '.join(self.others)})" if self.others else None
-        return " ".join(filter(None, [self.name, str(self.uuid), self.arch, others]))
+        return line_shown(" ".join(filter(None, [self.name, str(self.uuid), self.arch, others])))
 
     def architectures(self) -> Sequence[str]:
         """Those under which the archive is asked for the image."""
@@ -123,6 +126,8 @@ class Images:
     def __init__(self) -> None:
         self.listed: List[Image] = []
         self.numbers: Dict[Tuple[str, Optional[str]], int] = {}
+        # Whether the report lists more.
+        self.has_more = False
 
     def number(self, told: object, arch: object, name: object, processor: Optional[str] = None) -> int:
         """The number of the image of a UUID; NO_IMAGE where there is none. Reports write one of zeros for what lies in
@@ -132,6 +137,9 @@ class Images:
             return NO_IMAGE
         key = digits, arch if isinstance(arch, str) else None
         if key not in self.numbers:
+            if len(self.listed) == MOST_IMAGES:
+                self.has_more = True
+                return NO_IMAGE
             self.numbers[key] = len(self.listed)
             name = name if isinstance(name, str) else None
             self.listed.append(Image(uuid.UUID(digits), key[1], name, processor))

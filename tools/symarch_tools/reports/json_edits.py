@@ -7,7 +7,7 @@ from array import array
 from typing import Any, Dict, List, Mapping, Match, Optional, Sequence, Set, Tuple
 
 from .answers import Symbol
-from .json_walk import FLAT, KEY, SPACE, STRING, Member, loaded
+from .json_walk import FLAT, SPACE, STRING, Member, key_at, loaded
 from .source_lines import Inlined, Lines, Source
 
 # The different answers to a frame, each with the digests of its slices; and a change: where it begins and ends, and
@@ -15,9 +15,9 @@ from .source_lines import Inlined, Lines, Source
 FrameAnswers = Mapping[Optional[Symbol], List[str]]
 Change = Tuple[int, int, bytes]
 
-# The members of an object without others in it; and the first two numbers of an array, with what is between them.
-VALUE = STRING.pattern + rb"|[^\s,}]+"
-MEMBER = re.compile(rb"(?P<name>" + STRING.pattern + rb")\s*:\s*(?P<value>" + VALUE + rb")", re.DOTALL)
+# The value of a member of an object without others in it, and what stands before the next one; and the first two
+# numbers of an array, with what is between them.
+VALUE = re.compile(rb"(" + STRING + rb"|[^\s,}]+)[\s,]*", re.DOTALL)
 ARRAY = re.compile(rb"\[\s*[^\s,]+(\s*,\s*)[^\s,\]]+")
 # A value of more bytes is not read, and the space before the first member is not looked for further back.
 MOST_OF_VALUE, MOST_SPACE = 10_000, 1_000
@@ -140,10 +140,18 @@ def inlined_frames(layout: Layout, place: int, found: Sequence[Place], inlined: 
 
 
 def places_in(flat: Match[bytes]) -> List[Place]:
-    found = []
-    for member in MEMBER.finditer(flat[0]):
-        begin, end = (flat.start() + at for at in member.span("value"))
-        found.append(Place(loaded(member["name"]), flat.start() + member.start(), begin, end))
+    """The members of an object without others in it."""
+    data, found = flat.string, []
+    space = SPACE.match(data, flat.start() + 1)
+    assert space is not None
+    begin = space.end()
+    while begin < flat.end() - 1:
+        key = key_at(data, begin)
+        assert key is not None
+        value = VALUE.match(data, key[1], flat.end())
+        assert value is not None
+        found.append(Place(loaded(data[begin : key[0]]), begin, *value.span(1)))
+        begin = value.end()
     return found
 
 
@@ -159,9 +167,9 @@ class Layout:
         end = SPACE.match(data, found[-1].end)
         if end and data[end.end() : end.end() + 1] == b"}":
             self.last = end[0]
-        key = KEY.match(data, first.key_begin)
+        key = key_at(data, first.key_begin)
         assert key is not None
-        self.colon = data[key.end(1) : first.begin]
+        self.colon = data[key[0] : first.begin]
 
     def space_before(self, place: int) -> bytes:
         before = self.data[max(place - MOST_SPACE, 0) : place]

@@ -4,8 +4,8 @@ from __future__ import annotations
 from array import array
 from typing import Any, Dict, Iterator, List, Optional, Tuple
 
-from .images import HAD_NAME, HAS_BELOW, HAS_INLINED, IS_BELOW, IS_INLINED, IS_RETURN, NO_IMAGE, PROCESSORS, Frames
-from .images import SIGNAL_FRAMES, Images
+from .images import HAD_NAME, HAS_BELOW, HAS_INLINED, IS_BELOW, IS_INLINED, IS_RETURN, MOST_IMAGES, NO_IMAGE, PROCESSORS
+from .images import SIGNAL_FRAMES, Frames, Images
 from .json_edits import Change, Members, changes
 from .json_walk import FLAT, Broken, Node, Walker, loaded
 
@@ -13,11 +13,15 @@ from .json_walk import FLAT, Broken, Node, Walker, loaded
 # lists of stacks of MetricKit with all that is in them, but for lists of calls and calls, which are its frames.
 IMAGES, IMAGE, STACK, FRAME, STACKS, CALLS, CALL = range(1, 8)
 IMAGE_LISTS = ("usedImages", "binaryImages")
+KEPT_LISTS = (*IMAGE_LISTS, "callStacks")
 # The lists whose frames are arrays of two numbers.
 ARRAYS = ("userFrames", "kernelFrames")
 # The number of a frame whose list of images stands after it, at which its index in this list is taken off.
 NOT_PLACED = -2
 MOST_INDEX = 2**30
+# What is known of an image of a list. Of so many lists of frames it is known whose they are, and calls go no deeper.
+OF_IMAGE = ("uuid", "arch", "name", "path", "base", "size")
+MOST_STACKS, MOST_CALLS = 20_000, 10_000
 
 
 # An object that has a stack of calls, and its frames from one number to another.
@@ -80,13 +84,25 @@ class JsonReport:
             node.kept = [] if node.role == IMAGES else None
             if node.role == CALLS:
                 node.kept = parent.parent.kept + 1 if parent.role == CALL and parent.parent else 0
-            if node.role in (IMAGES, STACKS):
-                parent.kept = {**(parent.kept or {}), node.key: node}
+            if node.key in KEPT_LISTS and node.role in (IMAGES, STACKS):
+                parent.kept = parent.kept or {}
+                parent.kept[node.key] = node
         elif parent.role == CALLS and not node.is_list:
             node.role = CALL
             self.add_call(parent, node.begin)
         else:
             node.role = {IMAGES: IMAGE, STACK: FRAME, STACKS: STACKS}.get(parent.role or 0)
+        self.limit(node, parent)
+
+    def limit(self, node: Node, parent: Node) -> None:
+        """Ends the document where a stack of calls is too deep, which may be deeper than what else it has, and where
+        too much would be kept of it."""
+        if node.role in (CALLS, CALL):
+            node.depth = parent.depth
+            if node.role == CALLS and node.kept > MOST_CALLS:
+                raise Broken(node.begin, limit=f"has more than {MOST_CALLS} calls in one another")
+        if len(self.stacks) + len(self.call_stacks) > MOST_STACKS:
+            raise Broken(node.begin, limit=f"has more than {MOST_STACKS} lists of frames")
 
     def leaf(self, node: Optional[Node], value: Any, begin: int) -> None:
         if node is None:
@@ -94,14 +110,14 @@ class JsonReport:
         elif node.role == STACK:
             self.take_frame(node, begin, value)
         elif node.role == IMAGES:
-            node.kept.append(value)
+            self.list_image(node, value)
         elif node.role == CALLS and isinstance(value, dict):
             self.add_call(node, begin)
             self.set_call(len(self.frames) - 1, value)
 
     def closed(self, node: Node) -> None:
         if node.role == IMAGE and node.parent:
-            node.parent.kept.append(node.values())
+            self.list_image(node.parent, node.values())
         elif node.role == FRAME:
             self.close_frame(node)
         elif node.role == CALL:
@@ -112,6 +128,15 @@ class JsonReport:
             self.call_stacks.append((node, node.first, len(self.frames)))
         if not node.is_list:
             self.close_object(node)
+
+    def list_image(self, node: Node, value: Any) -> None:
+        """Keeps what is known of an image in its list."""
+        if len(node.kept) == MOST_IMAGES:
+            self.images.has_more = True
+        elif isinstance(value, dict):
+            node.kept.append({name: value[name] for name in OF_IMAGE if name in value})
+        else:
+            node.kept.append(value[:2] if isinstance(value, list) else None)
 
     def add(self, begin: int, number: int, offset: int, kind: int, depth: int = 0) -> None:
         self.frames.add(begin, number, offset, kind)

@@ -57,9 +57,8 @@ def inlined_text(inlined: Inlined) -> bytes:
 
 def numbered(head: bytes, more: int) -> bytes:
     """What stands before a name, with a greater number of the frame, in the columns that it has."""
-    if not more:
-        return head
-    return NUMBER.sub(lambda found: greater(found, more), head, count=1)
+    found = NUMBER.match(head) if more else None
+    return greater(found, more) + head[found.end() :] if found else head
 
 
 def greater(found: Match[bytes], more: int) -> bytes:

@@ -13,9 +13,23 @@ HEADING = b"Binary Images"
 # What a line begins with, once what was before it is gone, if only spaces follow, which need no space before them; and
 # if nothing was before it. Both are spaces to those who read the report.
 EMPTY, OUTSIDE = b"\x0b", b"\x0c"
-BEGIN = re.compile(rb"\n(?:(\x0b)|(\x0c)|(?=[\s\S]))")
-# Lines that had nothing before them, and empty ones among these.
-LINES_OUTSIDE = re.compile(rb"(?:(?:\x0c[^\n]*|\x0b?\r?)\n)*")
+# The ends of lines.
+ENDS = (b"\n", b"\r\n")
+
+
+def lines_in(data: bytes, begin: int = 0) -> Iterator[bytes]:
+    """The lines from a place on, each with its end: a list of them all would need many times the memory."""
+    while begin < len(data):
+        end = data.find(b"\n", begin) + 1 or len(data)
+        yield data[begin:end]
+        begin = end
+
+
+def joined(lines: Iterable[bytes]) -> bytes:
+    made = bytearray()
+    for line in lines:
+        made += line
+    return bytes(made)
 
 
 class Pasted:
@@ -26,34 +40,50 @@ class Pasted:
 
     def removed(self, data: bytes) -> bytes:
         """The report alone."""
-        before = re.escape(self.prefix), re.escape(self.bare)
-        begin = re.compile(rb"^(?:(%b)|(%b)(?=\r?\n)|(?=[\s\S]))" % before, re.MULTILINE)
-        return begin.sub(lambda found: (OUTSIDE, b"", EMPTY)[found.lastindex or 0], data)
+        made = bytearray()
+        for line in lines_in(data):
+            if line.startswith(self.prefix):
+                made += line[len(self.prefix) :]
+            elif line.startswith(self.bare) and line[len(self.bare) :] in ENDS:
+                made += EMPTY + line[len(self.bare) :]
+            else:
+                made += OUTSIDE + line
+        return bytes(made)
 
     def restored(self, pieces: Iterable[bytes]) -> Iterator[bytes]:
         """The pieces of a report as they stand in its file. New lines begin as the others do."""
         is_begin = True
         for piece in pieces:
             if self.prefix and piece:
-                made = BEGIN.sub(self.begin, b"\n" + piece if is_begin else piece)
-                yield made[1:] if is_begin else made
+                yield joined(self.lines(piece, is_begin))
                 is_begin = piece.endswith(b"\n")
             else:
                 yield piece
 
-    def begin(self, found: Match[bytes]) -> bytes:
-        return b"\n" + (self.bare if found[1] else b"" if found[2] else self.prefix)
+    def lines(self, piece: bytes, is_begin: bool) -> Iterator[bytes]:
+        """The lines of a piece as they stand in the file. The first one may be the rest of a line."""
+        for line in lines_in(piece):
+            if not is_begin:
+                yield line
+            elif line.startswith(EMPTY):
+                yield self.bare + line[1:]
+            else:
+                yield line[1:] if line.startswith(OUTSIDE) else self.prefix + line
+            is_begin = True
 
     def outside(self, data: bytes, place: int) -> int:
-        """Where the lines end, from a place on, that had nothing before them."""
-        found = LINES_OUTSIDE.match(data, place) if self.prefix else None
-        return found.end() if found else place
+        """Where the lines end, from a place on, that had nothing before them, and empty ones among these."""
+        for line in lines_in(data, place) if self.prefix else ():
+            if not line.endswith(b"\n") or not (line.startswith(OUTSIDE) or line.lstrip(EMPTY) in ENDS):
+                break
+            place += len(line)
+        return place
 
     def before(self, data: bytes, place: int) -> Tuple[bytes, int]:
         """The text as it stands in its file, up to a place of it at least, and this place there."""
         if not self.prefix:
             return data, place
-        made = b"".join(self.restored([data[:place]]))
+        made = joined(self.lines(data[:place], is_begin=True))
         is_line = place < len(data) and (place == 0 or data[place - 1 : place] == b"\n")
         return (made + self.prefix, len(made) + len(self.prefix)) if is_line else (made, len(made))
 
@@ -83,7 +113,7 @@ def is_after_text(found: Match[bytes], heading: Optional[bytes]) -> bool:
 
 def is_before_all(prefix: bytes, data: bytes) -> bool:
     """Whether each line that is not empty begins so."""
-    return not prefix or all(line.startswith(prefix) or not line.strip() for line in data.split(b"\n"))
+    return not prefix or all(line.startswith(prefix) or not line.strip() for line in lines_in(data))
 
 
 def unpasted(data: bytes) -> Tuple[bytes, Pasted]:
@@ -92,6 +122,16 @@ def unpasted(data: bytes) -> Tuple[bytes, Pasted]:
     if prefix:
         pasted = Pasted(prefix)
         alone = pasted.removed(data)
-        if b"".join(pasted.restored([alone])) == data:
+        if is_made_of(data, pasted.lines(alone, is_begin=True)):
             return alone, pasted
     return data, Pasted(b"")
+
+
+def is_made_of(data: bytes, pieces: Iterable[bytes]) -> bool:
+    """Whether the pieces one after another are these bytes."""
+    at = 0
+    for piece in pieces:
+        if not data.startswith(piece, at):
+            return False
+        at += len(piece)
+    return at == len(data)

@@ -4,6 +4,7 @@ from __future__ import annotations
 import uuid
 from typing import Any, Dict, Iterable, Iterator, List, Optional, Sequence, Tuple, Union
 
+from ..escaping import line_shown
 from .images import IS_INLINED
 from .json_report import Calls, JsonReport, Stack
 from .json_walk import MOST_FLAT, NESTED, SPACE, Node, loaded
@@ -82,7 +83,9 @@ class ReadableReport:
     def pieces(self) -> Iterator[bytes]:
         """The bytes of the report."""
         for line in self.lines():
-            yield (encoded(line) if isinstance(line, str) else line) + b"\n"
+            # The answers of several slices are lines below that of their frame.
+            lines = [line] if isinstance(line, str) else line.decode(errors="surrogateescape").split("\n")
+            yield encoded("\n".join(map(line_shown, lines))) + b"\n"
 
     def lines(self) -> Iterator[Union[str, bytes]]:
         if self.document.stacks:
@@ -145,6 +148,7 @@ class ReadableReport:
         said = f"0x{base:x} + {offset}" if base is not None and self.frames.image(at) else "???"
         if symbol and symbol[0]:
             said = f"{symbol[0]} + {symbol[1]}" if len(symbol) > 1 and symbol[1] is not None else f"{symbol[0]}"
+            said = line_shown(said)
         lines = self.frames.lines(at)
         made = list(inlined_lines(lines, head, 0))
         tail = source_after(lines.source, encoded(f" ({source})" if source else ""))
@@ -194,7 +198,7 @@ class ReadableReport:
         """Where the image of a frame was loaded, its name, the offset in it, and the name that the report has."""
         said = self.document.said(at)
         address, offset = number_in(said.get("address")), number_in(said.get("offsetIntoBinaryTextSegment"))
-        image, name = self.frames.image(at), text_in(said.get("binaryName"))
+        image, name = self.frames.image(at), line_shown(text_in(said.get("binaryName")) or "") or None
         is_placed = address is not None and offset is not None
         base = address - offset if address is not None and offset is not None else address
         if image and is_placed and base is not None:
@@ -212,7 +216,7 @@ class ReadableReport:
         tail = encoded(f"{place} [0x{(base or 0) + (offset or 0):x}]")
         if inlined:
             return head + encoded(inlined.name or NO_NAME) + tail + b" " + INLINED
-        before = f"{symbol[0]} + {symbol[1]}" if symbol[0] else "???"
+        before = line_shown(f"{symbol[0]} + {symbol[1]}") if symbol[0] else "???"
         return named_line(self.answers(at), head, b"", tail, b"") or head + encoded(before) + tail
 
     # ---- images
@@ -242,7 +246,8 @@ def base_of(listed: Any) -> Optional[int]:
 
 
 def name_of(listed: Any) -> Optional[str]:
-    return text_in(of(listed, "name")) or (text_in(of(listed, "path")) or "").rpartition("/")[2] or None
+    name = text_in(of(listed, "name")) or (text_in(of(listed, "path")) or "").rpartition("/")[2]
+    return line_shown(name) or None
 
 
 def text_in(value: object) -> Optional[str]:
@@ -260,7 +265,7 @@ def source_of(said: Any) -> str:
         file, line = said[4:6] if len(said) > 5 else (None, None)
     else:
         file, line = said.get("sourceFile"), said.get("sourceLine", 0)
-    return f"{file}:{line}" if file else ""
+    return line_shown(f"{file}:{line}") if file else ""
 
 
 def process_of(node: Optional[Node]) -> Optional[str]:

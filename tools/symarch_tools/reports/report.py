@@ -4,14 +4,15 @@ from __future__ import annotations
 import pathlib
 import re
 import shlex
-from typing import Iterator, List, Optional, Union
+from typing import Iterator, List, Optional, Sequence, Tuple, Union
 
+from ..escaping import line_shown, shown
 from .encodings import decoded
-from .faults import Failure, NoReport, Status
-from .images import HAD_NAME, IS_INLINED, Frames, Images, one_of
+from .faults import Failure, NoReport, NoStacks, Status
+from .images import HAD_NAME, IS_INLINED, MOST_IMAGES, Frames, Images, one_of
 from .json_report import JsonReport
-from .json_walk import Broken
-from .pasted import FIRST_WORDS, MOST_OF_BEGINNING, unpasted
+from .json_walk import Broken, flat_at
+from .pasted import FIRST_WORDS, MOST_OF_BEGINNING, lines_in, unpasted
 from .readable import ReadableReport, parts
 from .streams import standard_input
 from .text_report import TextReport
@@ -23,11 +24,26 @@ STANDARD_INPUT = "-"
 BEGINNING = re.compile(rb"^" + FIRST_WORDS + rb'|"(?:bug_type|app_name|timeStampBegin)" *:', re.MULTILINE)
 # What stands after the frames of a text.
 LISTING = re.compile(rb"^[ \t]*Binary Images\b", re.MULTILINE)
-# What `symarch frames` reads: after lines that it passes over UUID, ARCH, LOAD and ADDRESS.
-FRAMES = re.compile(rb"(?:(?:#[^\n]*)?\n)*[0-9a-fA-F-]{32,36} \w+ (?:0x)?[0-9a-fA-F-]+ (?:0x)?[0-9a-fA-F]+(?:\n|\Z)")
+# What `symarch frames` reads: UUID, ARCH, LOAD and ADDRESS, after lines that it passes over.
+FRAMES = re.compile(rb"[0-9a-fA-F-]{32,36} \w+ (?:0x)?[0-9a-fA-F-]+ (?:0x)?[0-9a-fA-F]+(?:\n|\Z)")
+PASSED_OVER = (b"#", b"\n")
 # A heading between lines of hyphens, after which the same report stands as JSON.
 FULL = re.compile(rb"^-+[ \t]*\r?\nFull Report[ \t]*\r?\n-+[ \t]*\r?\n\s*(?=[{\[])", re.MULTILINE)
 
+
+# What is packed, by its first bytes.
+PACKED: Tuple[Tuple[bytes, str], ...] = (
+    (b"PK\3\4", "a zip file"),
+    (b"\x1f\x8b", "a gzip file"),
+    (b"BZh", "a bzip2 file"),
+    (b"\xfd7zXZ\0", "an xz file"),
+    (b"\x28\xb5\x2f\xfd", "a zstd file"),
+    (b"7z\xbc\xaf\x27\x1c", "a 7z file"),
+)
+# What is called otherwise than by the number of its type.
+KINDS = {"211": "an analytics report", "298": "a jetsam report"}
+# Of so many parts a report is made, and so many of its faults are said.
+MOST_PARTS, MOST_NOTES = 10_000, 10
 
 # What a report is made of.
 Part = Union[JsonReport, TextReport, ReadableReport]
@@ -73,57 +89,88 @@ class Report:
 
     def __init__(self, path: str, is_text: bool = False, is_kept: bool = False) -> None:
         self.path, self.is_kept = path, is_text or is_kept
-        self.label = "standard input" if path == STANDARD_INPUT else path
-        data, self.encoding = decoded(bytes_of(path))
+        self.label = "standard input" if path == STANDARD_INPUT else shown(path)
+        raw = bytes_of(path)
+        packed = next((what for begins, what in PACKED if raw.startswith(begins)), None)
+        if packed:
+            raise NoReport(f"{self.label}: {packed}: unpack it first", Status.REFUSED)
+        data, self.encoding = decoded(raw)
         self.data, self.pasted = unpasted(data)
         self.images = Images()
         self.notes: List[str] = []
-        found = list(self.read())
-        self.parts: List[Part] = [*parts(found, self.notes)] if is_text else [*found]
-        if not any(len(part.frames) for part in self.parts):
-            if FRAMES.match(self.data):
-                typed = f"symarch frames {shlex.quote(self.path)} ARCHIVE"
-                raise NoReport(f"{self.label}: no report, but frames for the program: {typed}", Status.REFUSED)
-            has_images = "images, but " if self.images.listed else ""
-            has_images = has_images or ("a list of images, but " if LISTING.search(self.data) else "")
-            if not self.notes and not has_images and BEGINNING.search(self.data, 0, MOST_OF_BEGINNING):
-                self.notes.append(f"it ends at {self.last()}, before its first frame")
-            raise self.refusal(f"no report that is read here: {has_images}no stack frames")
+        self.faults = 0
+        found = self.read()
+        if not any(len(part.frames) for part in found):
+            raise self.without_frames(found)
         if not self.images.listed:
             raise self.refusal("frames, but no binary images with UUIDs")
+        if self.images.has_more:
+            self.note(f"it lists more than {MOST_IMAGES} images, and the others are left out")
+        if self.faults > len(self.notes):
+            self.notes.append(f"it has {self.faults - len(self.notes)} faults more")
+        self.parts: List[Part] = [*parts(found, self.notes)] if is_text else [*found]
+
+    def without_frames(self, found: Sequence[Union[JsonReport, TextReport]]) -> Failure:
+        """Why a file is refused that has no frames in its parts."""
+        if is_for_program(self.data):
+            typed = line_shown(f"symarch frames {shlex.quote(self.path)} ARCHIVE")
+            return NoReport(f"{self.label}: no report, but frames for the program: {typed}", Status.REFUSED)
+        kind = kind_of(self.data, found)
+        if kind and not self.notes:
+            return NoStacks(f"{self.label}: {kind}, which has no stacks", Status.REFUSED)
+        has_images = "images, but " if self.images.listed else ""
+        has_images = has_images or ("a list of images, but " if LISTING.search(self.data) else "")
+        if not self.notes and not has_images and BEGINNING.search(self.data, 0, MOST_OF_BEGINNING):
+            self.note(f"it ends at {self.last()}, before its first frame")
+        return self.refusal(f"no report that is read here: {has_images}no stack frames")
+
+    def note(self, said: str, place: Optional[int] = None) -> None:
+        """Says what is wrong, at a place that stands for {} there. Of many faults the first are said."""
+        self.faults += 1
+        if len(self.notes) < MOST_NOTES:
+            self.notes.append(said if place is None else said.format(self.place(place)))
 
     def refusal(self, why: str) -> Failure:
         kind = Failure if BEGINNING.search(self.data, 0, MOST_OF_BEGINNING) else NoReport
         return kind("; ".join([f"{self.label}: {why}", *self.notes]), Status.REFUSED)
 
-    def read(self) -> Iterator[Union[JsonReport, TextReport]]:
-        """The parts of the report. JSON without frames that ends within a document is text."""
+    def read(self) -> List[Union[JsonReport, TextReport]]:
+        """The parts of the report. JSON without frames that ends within a document is text. Documents without frames
+        that follow one another are one part, of which the last says what the others might have said."""
         begin, is_full = 0, False
+        found: List[Union[JsonReport, TextReport]] = []
         while begin < len(self.data):
-            part: Union[JsonReport, TextReport, None] = self.read_json(begin, is_full)
+            part: Union[JsonReport, TextReport, None] = self.read_json(begin, is_full, len(found))
             if part is None:
-                part = self.read_text(begin)
+                part = self.read_text(begin, len(found))
                 is_full = part.heading < part.end
-            yield part
             begin = part.end
+            if found and is_plain(found[-1]) and is_plain(part):
+                part.begin = found.pop().begin
+            found.append(part)
+        return found
 
-    def read_json(self, begin: int, is_full: bool) -> Optional[JsonReport]:
-        """The JSON document that begins at a place, if one does."""
-        found = DOCUMENT.match(self.data, begin)
+    def read_json(self, begin: int, is_full: bool, count: int) -> Optional[JsonReport]:
+        """The JSON document that begins at a place, if one does, after so many parts."""
+        found = DOCUMENT.match(self.data, last_flat(self.data, begin)) if count < MOST_PARTS else None
         if not found:
             return None
         part = JsonReport(self.data, found.end(), self.images, self.is_kept)
         if part.broken and not part.broken.is_cut and not len(part.frames):
-            if is_full:
-                self.notes.append(f"its Full Report is left as it is: no JSON at {self.place(part.broken.place)}")
+            if part.broken.limit:
+                self.note(f"it {part.broken.limit} at {{}}", part.broken.place)
+            elif is_full:
+                self.note("its Full Report is left as it is: no JSON at {}", part.broken.place)
             return None
         part.begin, part.is_full = begin, is_full
         self.note_broken(part.broken)
         return part
 
-    def read_text(self, begin: int) -> TextReport:
-        """The text from a place on, up to a full report, or to pasted JSON."""
-        full = FULL.search(self.data, begin)
+    def read_text(self, begin: int, count: int) -> TextReport:
+        """The text from a place on, up to a full report, or to pasted JSON; to the end after so many parts."""
+        full = FULL.search(self.data, begin) if count < MOST_PARTS else None
+        if count == MOST_PARTS:
+            self.note(f"it has more than {MOST_PARTS} parts, and is read as text from {{}} on", begin)
         heading, end = full.span() if full else (len(self.data), len(self.data))
         outside = self.pasted.outside(self.data, begin)
         if outside > begin and DOCUMENT.match(self.data, outside):
@@ -135,17 +182,19 @@ class Report:
 
     def note_broken(self, broken: Optional[Broken]) -> None:
         if broken and broken.is_cut:
-            self.notes.append(f"it ends at {self.last()}, within its JSON")
+            self.note(f"it ends at {self.last()}, within its JSON")
+        elif broken and broken.limit:
+            self.note(f"it {broken.limit} at {{}}, and the rest stays as it is", broken.place)
         elif broken:
-            self.notes.append(f"it is no JSON from {self.place(broken.place)} on")
+            self.note("it is no JSON from {} on", broken.place)
 
     def note_cut(self, part: TextReport) -> None:
         if part.end < len(self.data):
             return
         if not part.is_whole:
-            self.notes.append(f"it ends at {self.last()}, before the images of its last frames")
+            self.note(f"it ends at {self.last()}, before the images of its last frames")
         elif not self.data.endswith((b"\n", b"\r")):
-            self.notes.append(f"it ends at {self.last()}, within a line")
+            self.note(f"it ends at {self.last()}, within a line")
 
     def place(self, place: int) -> str:
         line = self.data.count(b"\n", 0, place) + 1
@@ -179,6 +228,44 @@ class Report:
         """Whether there are frames that a signal interrupted, as the names of the archive say, which have to be asked
         for otherwise."""
         return any([frames.interrupt_named() for frames in self.frames()])
+
+
+def last_flat(data: bytes, begin: int) -> int:
+    """Where the last one begins of the documents from a place on that follow one another, and have no others in them;
+    the place itself if there are none. Such have no frames."""
+    found, last = DOCUMENT.match(data, begin), begin
+    flat = flat_at(data, found.end()) if found else None
+    while found and flat:
+        last = found.start()
+        found = DOCUMENT.match(data, flat[1])
+        flat = flat_at(data, found.end()) if found else None
+    return last
+
+
+def is_plain(part: Union[JsonReport, TextReport]) -> bool:
+    """Whether a part is JSON without frames."""
+    return isinstance(part, JsonReport) and not len(part.frames) and not part.broken
+
+
+def is_for_program(data: bytes) -> bool:
+    """Whether the first line is a frame for the program, after those that it passes over."""
+    line = next((line for line in lines_in(data) if not line.startswith(PASSED_OVER)), b"")
+    return bool(FRAMES.match(line))
+
+
+def kind_of(data: bytes, found: Sequence[Union[JsonReport, TextReport]]) -> Optional[str]:
+    """What a report is by the type that its first line states, if it is one of those without stacks, or if all of its
+    JSON is there."""
+    first = DOCUMENT.match(data)
+    flat = flat_at(data, first.end()) if first else None
+    if not flat or not isinstance(flat[0], dict):
+        return None
+    number = str(flat[0].get("bug_type", ""))
+    if number in KINDS:
+        return f"{KINDS[number]} (bug_type {number})"
+    is_whole = all(is_plain(part) or not data[part.begin : part.end].strip() for part in found)
+    has_more = bool(DOCUMENT.match(data, flat[1]))
+    return f"a report of bug_type {number}" if number.isdigit() and is_whole and has_more else None
 
 
 def bytes_of(path: str) -> bytes:

@@ -7,9 +7,11 @@ from typing import Dict, List, Match, NamedTuple, Optional, Tuple
 
 from .names import Names
 
-# A frame of an address, `NAME at PATH:LINE:COLUMN`, after four spaces; and what is not known.
-FRAME = re.compile(rb"    (.*?) at (.*):([0-9]{1,20}):[0-9]{1,20}\n")
+# What is not known of a frame.
 UNKNOWN = b"?"
+# How many digits a line or a column has at most.
+MOST_DIGITS = 20
+BEFORE = b"    "
 # Bytes that the program does not print as they are.
 ESCAPED = re.compile(r"(?:\\x[0-9a-f]{2})+")
 
@@ -61,10 +63,7 @@ class Chains:
         return place
 
     def frame(self, line: bytes) -> Tuple[int, Optional[Source]]:
-        found = FRAME.fullmatch(line)
-        if not found:
-            raise ValueError
-        name, path, number = found[1], found[2], int(found[3])
+        name, path, number = frame_in(line)
         source = None
         if path != UNKNOWN:
             text = unescaped(path.decode())
@@ -75,6 +74,19 @@ class Chains:
         *inlined, own = self.found[place] or [(-1, None)]
         shown = self.names.shown
         return Lines(own[1], tuple(Inlined(shown[name] if name >= 0 else None, source) for name, source in inlined))
+
+
+def frame_in(line: bytes) -> Tuple[bytes, bytes, int]:
+    """The name, the path and the line of a frame of an address, `NAME at PATH:LINE:COLUMN`, after four spaces. The name
+    ends at the first ` at `. ValueError if a line is no frame."""
+    before, _, column = line.rpartition(b":")
+    before, _, number = before.rpartition(b":")
+    name, at, path = before[len(BEFORE) :].partition(b" at ")
+    digits = number, column[:-1]
+    are_numbers = all(one.isdigit() and len(one) <= MOST_DIGITS for one in digits)
+    if not (line.startswith(BEFORE) and line.endswith(b"\n") and at and are_numbers):
+        raise ValueError
+    return name, path, int(number)
 
 
 def unescaped(text: str) -> str:

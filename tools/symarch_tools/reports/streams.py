@@ -8,6 +8,7 @@ import re
 import sys
 from typing import BinaryIO, Iterator, List
 
+from ..escaping import line_shown
 from ..keeping.screen import about
 
 # What was said that is wrong, as --json prints it.
@@ -26,7 +27,7 @@ def say(text: str) -> None:
     if sys.stderr is None:
         return
     try:
-        sys.stderr.buffer.write(encoded(text))
+        sys.stderr.buffer.write(encoded("\n".join(map(line_shown, text.split("\n")))))
         sys.stderr.flush()
     except OSError:
         drop(2)

@@ -4,17 +4,16 @@ from __future__ import annotations
 import bisect
 import re
 from array import array
-from typing import Any, Dict, Iterator, List, Mapping, Match, Optional, Pattern, Sequence, Set, Tuple
+from typing import Dict, Iterator, List, Mapping, Match, Optional, Pattern, Sequence, Set, Tuple
 
 from .images import ARCHITECTURES, CANNOT_BE_ASKED, HAD_NAME, HAS_INLINED, IS_LISTED, IS_RETURN, NO_IMAGE, PROCESSORS
-from .images import Frames, Images, different
+from .images import MOST_IMAGES, Frames, Images, different
 from .named_lines import INLINED, SOURCE, LineAnswers, inlined_lines, named_line, numbered, source_after
 from .source_lines import NOTHING
-from .tree_lines import BARS, OfSample, OfSpindump, Tree, column_of, source_of_all
+from .tree_lines import ADDRESS, OfSample, OfSpindump, SampleLine, Tree, TreeLine, column_of
+from .tree_lines import sample_line, source_of_all, spindump_line
 
-# What was found in a line, by the names of a form; and a line of a tree that is held back: where it begins, its bytes,
-# and the column of its number.
-Found = Mapping[str, Any]
+# A line of a tree that is held back: where it begins, its bytes, and the column of its number.
 Held = Tuple[int, bytes, Optional[int]]
 
 PROCESSOR = re.compile(rb"^Code Type:\s+([\w-]+)", re.MULTILINE)
@@ -22,14 +21,18 @@ LINE = re.compile(rb"([^\r\n]*)(\r\n|\r|\n|\Z)")
 
 # As `0   spool   0x0000000104d38410 0x104d38000 + 1040`, and with a name in the place of the last words; a source file
 # and line stay after it. In some copies the address is decimal; then so is that before the offset, if no name is there.
-OF_CRASH = rb"(?P<head>(?P<number>[0-9]+)\s+(?P<image>\S.*?)\s(?P<addresses>%b) )(?P<said>.*)"
+OF_CRASH = rb"(?P<head>(?P<number>[0-9]{1,9})\s+(?P<image>\S.*?)\s(?P<addresses>%b) )(?P<said>.*)"
 CRASH = re.compile(
     OF_CRASH % rb"0x[0-9a-fA-F]{1,16}|[0-9]{5,20}(?= +[0-9]{5,20} \+ [0-9]+\s*(?:\([^()]*:[0-9]+\)\s*)?$)"
 )
 NAMED_DECIMAL = re.compile(OF_CRASH % rb"[0-9]{9,20}(?= +[^\s0-9])")
 OFFSET = re.compile(rb" \+ [0-9]")
-# What stands in the place of a name that is not known, but for the name of the image itself and an offset.
-NO_NAME = re.compile(rb"\s*(?:\?\?\?.*|0x[0-9a-fA-F]+ \+ [0-9]+.*|[0-9]{5,20} \+ [0-9]+.*|)")
+# What stands in the place of a name that is not known, but for the name of the image itself and an offset. A mail may
+# have wrapped the line before the offset or its sign, which then begins the next one.
+NO_NAME = re.compile(rb"\s*(?:\?\?\?.*|(?:0x[0-9a-fA-F]+|[0-9]{5,20})(?: \+(?: [0-9].*|\s*)|\s*)|)")
+REST_OF_LINE = re.compile(rb"[ \t]*(?P<sign>\+ )?[0-9]+[ \t]*")
+# What some editors and pages put in the place of spaces, which is read as such.
+NO_BREAK = (b"\xc2\xa0", b"\xe2\x80\xaf")
 
 # The name of what calls a handler of a signal, before an offset or the end.
 SIGNAL_SAID = re.compile(rb"__?sigtramp(?:\s|\Z)")
@@ -39,24 +42,8 @@ EXCEPTION = b"Last Exception Backtrace"
 IN_BACKTRACE = rb"(?:0x[0-9a-fA-F]{1,16}|[0-9]{5,20})"
 BACKTRACE = re.compile(rb"\((?P<addresses>" + IN_BACKTRACE + rb"(?:\s+" + IN_BACKTRACE + rb")*)\)\s*")
 
-# As `2543 ???  (in spool)  load address 0x104d38000 + 0x410  [0x104d38410]`, or `2543 main  (in spool) + 8  [0x..]`.
-# Several addresses of one function may stand in one line. Lists have such frames without a number. In some copies of
-# trees the addresses are decimal.
-ADDRESS = rb"(?:0x[0-9a-fA-F]+|[0-9]{5,20})"
+# What a line of a tree has, and one of a list of frames without numbers.
 IN_BRACKETS = re.compile(rb"\[" + ADDRESS + rb"[],]")
-SAMPLE = re.compile(
-    rb"(?P<head>" + BARS + rb"(?:[0-9]+\s+)?)(?P<said>\S.*?)(?P<middle> +\(in .+?\))"
-    rb"(?: +load address (?P<start>" + ADDRESS + rb"))?(?: \+ \S+)?"
-    rb"(?P<tail> +\[(?P<addresses>" + ADDRESS + rb"(?:, ?" + ADDRESS + rb")*)(?:,\.\.\.)?\].*)"
-)
-# As `1001  ??? (spool + 1040) [0x104d38410] 1-1001`, or `1001  main + 12 (spool.c:12 in spool + 1040) [0x..]`. An image
-# without a name has its UUID, as `(<4C4C4419-5555-3144-A1D2-4341C97782F0> + 1040)`; an address in no image has none. A
-# decimal one stands after an image, or after `???`.
-SPINDUMP = re.compile(
-    rb"(?P<head>" + BARS + rb"[0-9]+\s+)(?P<said>\?\?\?|\S.* \+ [0-9]+|\S.*?)"
-    rb"(?P<tail>(?: +\((?:.* in )?(?P<image>\S.*?) \+ (?P<offset>[0-9]+)\))?"
-    rb" +\[(?P<addresses>0x[0-9a-fA-F]+|(?:(?<=[0-9]\) \[)|(?<=\?\?\? \[))[0-9]{5,20})\].*)"
-)
 HEAVIEST = b"Heaviest stack"
 LISTS = (b"Total number in stack", b"Sort by top of stack")
 HEADINGS = (HEAVIEST, EXCEPTION, *LISTS)
@@ -65,13 +52,13 @@ HEADINGS = (HEAVIEST, EXCEPTION, *LISTS)
 # be a plus before the name and a version in parentheses after it, and no architecture; a spindump may not know the
 # end, and has a star before an image of the kernel. In some copies the addresses are decimal, or the UUIDs are gone.
 IMAGES = b"Binary Images"
-IMAGE = re.compile(
-    rb"\s*\*?(?P<start>0x[0-9a-fA-F]+|[0-9]{1,20}) - +(?:(?P<end>0x[0-9a-fA-F]+|[0-9]{1,20})|\?\?\?) +\+?"
-    rb"(?P<name>.*?) +<(?P<uuid>[0-9a-fA-F-]{32,36})>(?P<path>.*)"
+BEFORE_NAME = re.compile(
+    rb"\s*\*?(?P<start>0x[0-9a-fA-F]+|[0-9]{1,20}) - +(?:(?P<end>0x[0-9a-fA-F]+|[0-9]{1,20})|\?\?\?)(?P<space> +)\+?"
 )
+UUID = re.compile(rb"(?<! ) +<(?P<uuid>[0-9a-fA-F-]{32,36})>")
 # A line of the list, whatever stands in it.
 LISTED = re.compile(rb"\s*\*?(?:0x|[0-9]+ - )")
-# A longer line has no frame. The forms of lines take long to say so of a line without end.
+# A longer line has no frame, and no image.
 MOST_OF_LINE = 10_000
 # Where the image of a frame was loaded, if the line does not say it, and if it is no image of the list.
 NOT_SAID, NOWHERE = 2**64 - 1, 2**64 - 2
@@ -134,6 +121,8 @@ class Part:
         # The lines of the list without a UUID, and whether it has begun.
         self.without_uuid = 0
         self.is_list = False
+        # The last line of the list, if it has no UUID.
+        self.last_listed = b""
 
     def ends_before(self, line: bytes) -> bool:
         """Whether a line ends the list of the images, after which another part begins."""
@@ -142,12 +131,33 @@ class Part:
             return False
         if not self.is_list:
             return False
-        found = IMAGE.match(line)
+        found = image_in(line)
         if found:
-            self.listed.append(found.groupdict())
+            self.list_image(found)
         elif LISTED.match(line):
             self.without_uuid += 1
+        elif not self.goes_on(line):
+            return True
+        self.last_listed = b"" if found else line
+        return False
+
+    def list_image(self, found: Dict[str, bytes]) -> None:
+        if len(self.listed) == MOST_IMAGES:
+            self.images.has_more = True
         else:
+            self.listed.append(found)
+
+    def goes_on(self, line: bytes) -> bool:
+        """Whether a line is the rest of the one before it in the list, which was wrapped."""
+        rest = line.strip()
+        if rest.startswith(b"<") and self.last_listed:
+            found = image_in(self.last_listed + b" " + rest)
+            self.without_uuid -= bool(found)
+            if found:
+                self.list_image(found)
+            return bool(found)
+        if rest.startswith(b"/") and self.listed and not self.listed[-1]["path"].strip():
+            self.listed[-1]["path"] = rest
             return True
         return False
 
@@ -157,6 +167,10 @@ class Part:
         if not line.strip() or line.strip().startswith(HEADINGS):
             self.heading = line.strip()
             self.open.clear()
+        tree = tree_in(line)
+        if tree:
+            self.take_tree(place, tree, column, below)
+            return
         kind, found = frames_in(line)
         if found is None:
             return
@@ -166,8 +180,6 @@ class Part:
                 self.add(place, address_of(address), NOT_SAID, IS_RETURN if number else 0)
         elif kind == CRASH:
             self.take_crash(place, found)
-        elif kind in (SAMPLE, SPINDUMP):
-            self.take_tree(place, found.groupdict(), column, below)
 
     def take_crash(self, place: int, found: Match[bytes]) -> None:
         is_return = self.is_after_first = self.is_after_first and found["number"] != b"0"
@@ -179,7 +191,7 @@ class Part:
         said = found["said"]
         self.pair_with_last(is_return)
         self.note_signal(said)
-        has_name = not NO_NAME.fullmatch(said) and not said.startswith(found["image"].strip() + b" + ")
+        has_name = not (NO_NAME.fullmatch(said) or is_of_image(said, found["image"].strip()))
         kind = is_return * IS_RETURN | has_name * HAD_NAME | (inlined_at == found["addresses"]) * HAS_INLINED
         self.add(place, address_of(found["addresses"]), NOT_SAID, kind)
 
@@ -202,25 +214,26 @@ class Part:
             self.frames.pair(len(self.frames), self.open[-1][1])
         self.open.append((column, len(self.frames)))
 
-    def take_tree(self, place: int, found: Found, column: Optional[int], below: Optional[int]) -> None:
-        addresses = addresses_of(found["addresses"])
+    def take_tree(self, place: int, found: TreeLine, column: Optional[int], below: Optional[int]) -> None:
+        addresses = addresses_of(found.addresses)
         kind = self.is_return(addresses, column, below) * IS_RETURN | (place == self.has_inlined) * HAS_INLINED
         kind |= self.heading.startswith((HEAVIEST, *LISTS)) * IS_LISTED
-        if not NO_NAME.fullmatch(found["said"]):
+        if not NO_NAME.fullmatch(found.said):
             kind |= HAD_NAME
         self.pair_in_tree(column)
-        self.note_signal(found["said"])
+        self.note_signal(found.said)
         if len(addresses) > 1:
             self.frames.beside[len(self.frames)] = len(addresses)
         for address in addresses:
-            uuid = re.fullmatch(rb"<(.*)>", found.get("image") or b"")
-            if uuid:
-                number = self.images.number(uuid[1].decode(errors="replace"), None, "")
-                self.add_known(place, number, int(found["offset"]), kind)
-            elif found.get("offset"):
-                self.add(place, address, address - int(found["offset"]), kind)
+            if isinstance(found, SampleLine):
+                self.add(place, address, address_of(found.start) if found.start else NOT_SAID, kind)
+            elif not found.offset or not found.image:
+                self.add(place, address, NOT_SAID, kind)
+            elif found.image.startswith(b"<") and found.image.endswith(b">"):
+                number = self.images.number(found.image[1:-1].decode(errors="replace"), None, "")
+                self.add_known(place, number, int(found.offset), kind)
             else:
-                self.add(place, address, address_of(found["start"]) if found.get("start") else NOT_SAID, kind)
+                self.add(place, address, address - int(found.offset), kind)
 
     def is_return(self, addresses: Sequence[int], column: Optional[int], below: Optional[int]) -> bool:
         """Whether the addresses of a line of a tree are those that calls return to."""
@@ -253,14 +266,54 @@ class Part:
                 frames.put(at, *placed)
 
 
+def image_in(line: bytes) -> Optional[Dict[str, bytes]]:
+    """What a line of the list of images says, if it has a UUID. The name ends at the first one."""
+    found = BEFORE_NAME.match(line) if len(line) <= MOST_OF_LINE else None
+    if not found:
+        return None
+    begin = found.end()
+    uuid = UUID.search(line, found.start("space"))
+    if uuid and uuid.start() < begin and len(found["space"]) == 1:
+        uuid = UUID.search(line, begin)
+    if not uuid:
+        return None
+    name, end = line[begin : uuid.start()], found["end"] or b""
+    return {"start": found["start"], "end": end, "name": name, "uuid": uuid["uuid"], "path": line[uuid.end() :]}
+
+
+def plain(line: bytes) -> bytes:
+    """A line with spaces in the place of those that are not to be broken."""
+    for space in NO_BREAK:
+        line = line.replace(space, b" ")
+    return line
+
+
+def is_of_image(said: bytes, image: bytes) -> bool:
+    """Whether what stands after an address is its image and the offset in it, which may be wrapped."""
+    return said.startswith(image + b" + ") or said.rstrip() in (image, image + b" +")
+
+
+def rest_after(said: bytes, image: bytes, following: bytes) -> bool:
+    """Whether a line is the rest of one before it, which ends with this after an address of an image."""
+    rest, said = REST_OF_LINE.fullmatch(plain(following)), said.rstrip()
+    if not rest or OFFSET.search(said) or bool(rest["sign"]) == said.endswith(b"+"):
+        return False
+    return is_of_image(said, image) or said[:1].isdigit() and bool(NO_NAME.fullmatch(said))
+
+
+def tree_in(line: bytes) -> Optional[TreeLine]:
+    """What a line of a tree says, or of a list beside one; None if it is none."""
+    line = plain(line)
+    if len(line) > MOST_OF_LINE or not IN_BRACKETS.search(line):
+        return None
+    return sample_line(line) or spindump_line(line)
+
+
 def frames_in(line: bytes) -> Tuple[Optional[Pattern[bytes]], Optional[Match[bytes]]]:
-    """The form of a line with frames, and what was found in it; None for both where it has none."""
-    if len(line) > MOST_OF_LINE:
+    """The form of a line with frames that is in no tree, and what was found in it; None for both where it has none."""
+    line = plain(line)
+    if len(line) > MOST_OF_LINE or tree_in(line):
         return None, None
-    if IN_BRACKETS.search(line):
-        for form in (SAMPLE, SPINDUMP):
-            if found := form.fullmatch(line):
-                return form, found
     if found := BACKTRACE.fullmatch(line):
         return BACKTRACE, found
     found = CRASH.match(line) if b"0x" in line or b" + " in line else None
@@ -276,7 +329,7 @@ def address_of(text: bytes) -> int:
 
 
 def addresses_of(text: bytes) -> List[int]:
-    return [address_of(address) for address in re.split(rb", ?|\s+", text)]
+    return [address_of(address) for address in text.replace(b",", b" ").split()]
 
 
 class TextReport:
@@ -304,7 +357,7 @@ class TextReport:
         place = self.begin
         while place < self.end:
             found = self.line_at(place)
-            yield place, found[1]
+            yield place, plain(found[1])
             place = found.end()
 
     def read(self) -> None:
@@ -349,44 +402,58 @@ class TextReport:
             yield before
             made, more = self.line(range(first, at), found, more, tree)
             yield made
-            done = found.end()
+            done = self.end_of(first, found)
         yield without_frames(self.data[done : self.end], more, tree)[0]
+
+    def end_of(self, at: int, whole: Match[bytes]) -> int:
+        """Where a line with a frame ends: with its rest in the next line, if it was wrapped and has a name now."""
+        following = self.line_at(whole.end()) if whole.end() < self.end else None
+        if following and REST_OF_LINE.fullmatch(plain(following[1])) and self.frames.answers(at).keys() - {None}:
+            form, found = frames_in(whole[1])
+            if found and form == CRASH and rest_after(found["said"], found["image"].strip(), following[1]):
+                return following.end()
+        return whole.end()
 
     def line(self, places: range, whole: Match[bytes], more: int, tree: Tree) -> Tuple[bytes, int]:
         """A line with the names of its frames, or as it was. The frames of a thread have numbers that are greater by
         the inlined functions before them."""
         line, end = whole[1], whole[2]
+        in_tree = tree_in(line)
+        if in_tree:
+            following = self.line_at(whole.end())[1] if whole.end() < self.end else b""
+            return self.tree_lines(places, in_tree, whole, following, tree), 0
         form, found = frames_in(line)
         if found is None:
-            return line + end, more
+            return whole[0], more
         if form == BACKTRACE:
-            return self.backtrace(places, addresses_of(found["addresses"]), end) or line + end, 0
-        if form == CRASH:
-            return self.crash_lines(places[0], found, end, 0 if found["number"] == b"0" else more)
-        following = self.line_at(whole.end())[1] if whole.end() < self.end else b""
-        return self.tree_lines(places, found, end, following, tree), 0
+            return self.backtrace(places, addresses_of(found["addresses"]), end) or whole[0], 0
+        return self.crash_lines(places[0], found, whole, 0 if found["number"] == b"0" else more)
 
-    def tree_lines(self, places: range, found: Match[bytes], end: bytes, following: bytes, tree: Tree) -> bytes:
+    def tree_lines(
+        self, places: range, found: TreeLine, whole: Match[bytes], following: bytes, tree: Tree
+    ) -> bytes:
         """A line of a call tree, before those of inlined functions. `sample` has lists without either."""
-        is_sample, is_list = found.re == SAMPLE, bool(self.frames.kinds[places[0]] & IS_LISTED)
-        form = OfSample(found) if is_sample else OfSpindump(found)
-        every = [self.frames.lines(at) for at in places] if not (is_sample and is_list) else [NOTHING]
+        is_list, end = bool(self.frames.kinds[places[0]] & IS_LISTED), whole[2]
+        form = OfSample(found) if isinstance(found, SampleLine) else OfSpindump(found)
+        every = [self.frames.lines(at) for at in places]
+        if is_list and isinstance(found, SampleLine):
+            every = [NOTHING]
         tail = form.with_source(source_of_all(every))
         named = named_line(self.answers(places), form.head, form.middle, tail, end)
-        made = tree.moved(named or found.string + end)
+        made = tree.moved(named or whole[0])
         inlined = every[0].inlined if len(every) == 1 else ()
         below = list(tree.inlined(form, inlined, following, is_list))
         return made if not below else (end or b"\n").join([made[: len(made) - len(end)], *below]) + end
 
-    def crash_lines(self, at: int, found: Match[bytes], end: bytes, more: int) -> Tuple[bytes, int]:
+    def crash_lines(self, at: int, found: Match[bytes], whole: Match[bytes], more: int) -> Tuple[bytes, int]:
         """A line of a crash, after those of inlined functions, and by how much the number of the frame is greater."""
-        lines, line, head = self.frames.lines(at), found.string, found["head"]
+        lines, line, head, end = self.frames.lines(at), found.string, found["head"], whole[2]
         said = SOURCE.search(line)
         tail = source_after(lines.source, said[0] if said else b"")
         made = list(inlined_lines(lines, head, more))
         more += len(made)
         named = named_line(self.answers([at]), numbered(head, more), b"", tail, end)
-        return (end or b"\n").join([*made, named or numbered(line, more) + end]), more
+        return (end or b"\n").join([*made, named or numbered(line if more else whole[1], more) + end]), more
 
     def answers(self, places: Sequence[int]) -> LineAnswers:
         """The different answers to the frames of a line. Each is one for every frame."""
@@ -417,15 +484,20 @@ class TextReport:
         yield named_line(self.answers([at]), head, b"", source_after(lines.source), b"") or head + said
 
 
+def data_lines(data: bytes) -> Iterator[bytes]:
+    """Lines with their ends, after the last of which nothing stands."""
+    return (found[0] for found in LINE.finditer(data) if found[0])
+
+
 def without_frames(data: bytes, more: int, tree: Tree) -> Tuple[bytes, int]:
     """Lines between those that are asked for: of functions that the report says were inlined, whose numbers are greater
     too, of the tree, and of others, as an empty one, which ends a thread."""
     if not more and not tree.open:
         return data, more
-    made = []
-    for line in data.splitlines(keepends=True):
+    made = bytearray()
+    for line in data_lines(data):
         form, found = frames_in(line.rstrip(b"\r\n"))
         if found is None and not line.strip() or found and form == CRASH and found["number"] == b"0":
             more = 0
-        made.append(numbered(line, more) if found and form == CRASH else tree.moved(line))
-    return b"".join(made), more
+        made += numbered(line, more) if found and form == CRASH else tree.moved(line)
+    return bytes(made), more

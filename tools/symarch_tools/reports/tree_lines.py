@@ -3,7 +3,7 @@ below it, the innermost last, and below them what it called, which is set in fur
 from __future__ import annotations
 
 import re
-from typing import Dict, Iterator, List, Match, Optional, Sequence, Tuple
+from typing import Dict, Iterator, List, NamedTuple, Optional, Sequence, Tuple, Union
 
 from .named_lines import INLINED, NO_NAME, bytes_of
 from .source_lines import Inlined, Lines
@@ -15,10 +15,112 @@ NODE = re.compile(BARS + rb"(?=[0-9]+\s+\S)")
 KERNEL = b"*"
 # How much further one stands below another, and the bars of `sample`, in turn from the outermost on.
 STEP, IN_TURN = 2, b"+!:|"
-# What stands after a frame of `sample`; before the image of a frame of a spindump, and up to its address.
+# What stands after a frame of `sample`; and before the image of a frame of a spindump.
 AFTER_ADDRESSES = re.compile(rb"( +\[[^]]*\])(?:  \S.*:[0-9]+(?:,[0-9]+)*)?")
 BEFORE_IMAGE = re.compile(rb" +\(")
-TO_ADDRESS = re.compile(rb".* \[[^]]*\]")
+
+# An address, which is decimal in some copies of trees.
+ADDRESS = rb"(?:0x[0-9a-fA-F]+|[0-9]{5,20})"
+# As `2543 ???  (in spool)  load address 0x104d38000 + 0x410  [0x104d38410]`, or `2543 main  (in spool) + 8  [0x..]`.
+# Several addresses of one function may stand in one line. Lists have such frames without a number. A form of the whole
+# line would be tried at each place of each word, so its head, and what stands from the end of the image on, have one.
+SAMPLE_HEAD, IN_IMAGE = re.compile(BARS + rb"(?:[0-9]+\s+)?"), b" (in "
+AFTER_IN = re.compile(
+    rb"\)(?: +load address (?P<start>" + ADDRESS + rb"))?(?: \+ \S+)?"
+    rb"(?P<tail> +\[(?P<addresses>" + ADDRESS + rb"(?:, ?" + ADDRESS + rb")*)(?:,\.\.\.)?\])"
+)
+# As `1001  ??? (spool + 1040) [0x104d38410] 1-1001`, or `1001  main + 12 (spool.c:12 in spool + 1040) [0x..]`. An image
+# without a name has its UUID, as `(<4C4C4419-5555-3144-A1D2-4341C97782F0> + 1040)`; an address in no image has none. A
+# decimal one stands after an image, or after `???`. The forms are those of the head, of what begins the tail, after an
+# offset or not, and of the end of the image.
+SPINDUMP_HEAD, UNKNOWN = re.compile(BARS + rb"[0-9]+\s+"), b"???"
+AN_ADDRESS = rb"\[(?P<address>0x[0-9a-fA-F]+|(?:(?<=[0-9]\) \[)|(?<=\?\?\? \[))[0-9]{5,20})\]"
+TAIL = re.compile(rb"(?<! ) +(?:(?P<opened>\()|" + AN_ADDRESS + rb")")
+AFTER_OFFSET = re.compile(rb" \+ [0-9]+(?= +(?:(?P<opened>\()|" + AN_ADDRESS + rb"))")
+END_OF_IMAGE = re.compile(rb" \+ (?P<offset>[0-9]{1,20})\) +" + AN_ADDRESS)
+
+
+class SampleLine(NamedTuple):
+    """A line of `sample`: what stands before the name, the name, the image with the space before it, and all from the
+    space before the addresses on; these, and where the image was loaded, if the line says it."""
+
+    head: bytes
+    said: bytes
+    middle: bytes
+    tail: bytes
+    addresses: bytes
+    start: Optional[bytes]
+
+
+class SpindumpLine(NamedTuple):
+    """A line of a spindump: what stands before the name, the name, and what stands after it; in that the image from
+    a place on, if there is one, with the offset in it."""
+
+    head: bytes
+    said: bytes
+    tail: bytes
+    addresses: bytes
+    image: Optional[bytes]
+    image_at: int
+    offset: Optional[bytes]
+
+
+TreeLine = Union[SampleLine, SpindumpLine]
+
+
+def sample_line(line: bytes) -> Optional[SampleLine]:
+    """What stands in a line of `sample`, if it is one. The name ends at the first image, and that at the first end
+    after which an address stands."""
+    found = SAMPLE_HEAD.match(line)
+    begin = found.end() if found else 0
+    opened = line.find(IN_IMAGE, begin + 1)
+    after = AFTER_IN.search(line, opened + len(IN_IMAGE) + 1) if opened >= 0 else None
+    if not after:
+        return None
+    said = line[begin:opened].rstrip(b" ")
+    middle, tail = line[begin + len(said) : after.start() + 1], line[after.start("tail") :]
+    return SampleLine(line[:begin], said, middle, tail, after["addresses"], after["start"])
+
+
+def spindump_line(line: bytes) -> Optional[SpindumpLine]:
+    """What stands in a line of a spindump, if it is one."""
+    found = SPINDUMP_HEAD.match(line)
+    if not found or found.end() == len(line):
+        return None
+    begin = found.end()
+    ends = list(END_OF_IMAGE.finditer(line, begin))
+    # Where the image has to begin before.
+    last = ends[-1].start() if ends else 0
+    at = tail_at(line, begin, last)
+    if at is None:
+        return None
+    said, tail = line[begin:at], line[at:]
+    plain = TAIL.match(line, at)
+    if plain and plain["address"]:
+        return SpindumpLine(found[0], said, tail, plain["address"], None, 0, None)
+    opened = line.index(b"(", at) + 1
+    place = line.rfind(b" in ", opened, last - 1)
+    image_at = place + len(b" in ") if place >= 0 else opened
+    end = next(one for one in ends if one.start() > image_at)
+    image = line[image_at : end.start()]
+    if image[:1].isspace():
+        return None
+    return SpindumpLine(found[0], said, tail, end["address"], image, image_at - at, end["offset"])
+
+
+def tail_at(line: bytes, begin: int, last: int) -> Optional[int]:
+    """Where a line of a spindump goes on after a name that begins at a place: after `???`, else after the last offset,
+    else as early as it can. An image has to begin before `last`."""
+    if line.startswith(UNKNOWN, begin):
+        found = TAIL.match(line, begin + len(UNKNOWN))
+        if found and (not found["opened"] or found.end("opened") < last):
+            return found.start()
+    offsets = AFTER_OFFSET.finditer(line, begin + 1)
+    ends = [one.end() for one in offsets if not one["opened"] or one.end("opened") < last]
+    if ends:
+        return ends[-1]
+    tails = TAIL.finditer(line, begin + 1)
+    return next((one.start() for one in tails if not one["opened"] or one.end("opened") < last), None)
 
 
 def column_of(line: bytes) -> Optional[int]:
@@ -43,9 +145,10 @@ def source_of(inlined: Inlined) -> str:
 class Form:
     """What a line of a tree has after the name of its frame."""
 
-    def __init__(self, found: Match[bytes]) -> None:
-        self.found, self.head, self.tail = found, found["head"], found["tail"]
-        self.middle: bytes = found.groupdict().get("middle", b"")
+    middle = b""
+
+    def __init__(self, found: TreeLine) -> None:
+        self.head, self.tail = found.head, found.tail
 
     def with_source(self, source: str) -> bytes:
         """What stands after the name with a file and a line."""
@@ -61,6 +164,10 @@ class Form:
 
 class OfSample(Form):
     """As `1543 copy_body  (in spool) + 12  [0x104d38410]  spool.c:41`. In a list a count may stand after it."""
+
+    def __init__(self, found: SampleLine) -> None:
+        super().__init__(found)
+        self.middle = found.middle
 
     def with_source(self, source: str) -> bytes:
         found = AFTER_ADDRESSES.fullmatch(self.tail)
@@ -83,19 +190,21 @@ class OfSample(Form):
 class OfSpindump(Form):
     """As `900  copy_body + 12 (spool.c:41 in spool + 1040) [0x104d38410] (running) 1-900`."""
 
+    def __init__(self, found: SpindumpLine) -> None:
+        super().__init__(found)
+        # What stands after the name up to the image, and from the image on, if there is one.
+        before = BEFORE_IMAGE.match(found.tail) if found.image else None
+        self.before, self.from_image = before[0] if before else b"", found.tail[found.image_at :]
+
     def with_source(self, source: str) -> bytes:
-        before = BEFORE_IMAGE.match(self.tail) if self.found["image"] else None
-        if not before or not source:
+        if not self.before or not source:
             return self.tail
-        image = self.found.start("image") - self.found.start("tail")
-        return before[0] + bytes_of(f"{source} in ") + self.tail[image:]
+        return self.before + bytes_of(f"{source} in ") + self.from_image
 
     def to_address(self, source: str) -> bytes:
-        before = BEFORE_IMAGE.match(self.tail) if self.found["image"] else None
-        image = self.found.start("image") - self.found.start("tail") if before else 0
-        tail = self.with_source(source) if source or not before else before[0] + self.tail[image:]
-        found = TO_ADDRESS.match(tail)
-        return found[0] if found else tail
+        tail = self.with_source(source) if source or not self.before else self.before + self.from_image
+        last = tail.rfind(b" [", 0, tail.rfind(b"]") + 1)
+        return tail[: tail.index(b"]", last) + 1] if last >= 0 else tail
 
 
 class Tree:
