@@ -20,6 +20,7 @@ Status:
 import argparse
 import os
 
+from ..escaping import line_shown
 from . import asking
 from .asking import opened_archive, show
 from .forms import name_of
@@ -40,5 +41,5 @@ def carry_out(words: argparse.Namespace) -> int:
         lines, status = asked.answer("name", [name], is_by_index=False)
         lines, notes = asked.vouched(lines, screen), asked.notes
     for note in notes:
-        screen.line(note)
+        screen.line(line_shown(note))
     return show(lines, screen, status)

@@ -13,6 +13,7 @@ import time
 from array import array
 from typing import Dict, Iterable, List, Optional, Sequence, Set, Tuple
 
+from ..escaping import shown
 from ..keeping import file_names
 from ..keeping.contents import EMPTY, KEY, MAGIC, MAGICS, Malformed, records_in
 from .answers import Answers, Key, Origin
@@ -54,7 +55,7 @@ class ArchiveFile:
         self.index, self.old_index = (index, "") if has_tables(index) else ("", index)
 
     def refuse(self, why: str, more: str = "") -> None:
-        raise Failure(f"{why}: run symarch-keep check {self.kept}{more}", Status.REFUSED)
+        raise Failure(f"{why}: run symarch-keep check {shown(self.kept)}{more}", Status.REFUSED)
 
     def take_other_index(self) -> None:
         """Takes another index, since the archive has not the length that this one says, or it is gone. A word of
@@ -68,8 +69,8 @@ class ArchiveFile:
             time.sleep(PAUSE)
         if is_cut(self.path):
             raise cut_short(self.path)
-        why = f"{self.path} was written since {beside(self.path, INDEX)} was, which does not vouch for it"
-        self.refuse(why, f", and if that ends with 0 symarch-keep fold {self.kept}, which indexes it anew")
+        why = f"{shown(self.path)} was written since {shown(beside(self.path, INDEX))} was, which does not vouch for it"
+        self.refuse(why, f", and if that ends with 0 symarch-keep fold {shown(self.kept)}, which indexes it anew")
 
     def make_index(self, program: Program, folder: str) -> None:
         """Has the program make an index in a folder. What can be read once alone, or is of version 1, is copied."""
@@ -129,7 +130,7 @@ def refuse_missing(path: str) -> None:
         os.stat(path)
     except FileNotFoundError:
         if not levels_of(path) and not os.path.lexists(beside(path, TODAY)):
-            why = f"{path}: No such file; symarch-keep add makes an archive"
+            why = f"{shown(path)}: No such file; symarch-keep add makes an archive"
             raise Failure(why, Status.REFUSED) from None
     except OSError:
         pass
@@ -249,13 +250,13 @@ class Archives:
             file.take_other_index()
             return answers
         if fault.entry is None:
-            file.refuse(f"{file.index} is not read: {fault.text}")
+            file.refuse(f"{shown(file.index)} is not read: {fault.text}")
         if fault.is_of_lines():
             return self.without_lines(file, file.key_of(fault.entry or 0), answers)
         changed = self.changed(answers, fault.is_of_table()) or {file.key_of(fault.entry or 0): file}
         left = self.without(changed, answers)
         if len(left) == len(answers):
-            file.refuse(f"{file.path} is not that of {file.index}")
+            file.refuse(f"{shown(file.path)} is not that of {shown(file.index)}")
         return left
 
     @staticmethod
@@ -263,7 +264,7 @@ class Archives:
         """The same, of which those of a key are asked for without lines."""
         its = [one for one in answers if one.key == key and not one.has_too_many_lines]
         if not its:
-            file.refuse(f"{file.path} is not that of {file.index}")
+            file.refuse(f"{shown(file.path)} is not that of {shown(file.index)}")
         for one in its:
             one.has_too_many_lines = True
         return answers
@@ -279,7 +280,7 @@ class Archives:
     def note_changed(self, key: Key, archive: str) -> None:
         """Says once that a slice changed."""
         if key not in self.refused:
-            note(f"{key[0]} {key[1]} changed since it came in: run symarch-keep check {archive}")
+            note(f"{key[0]} {key[1]} changed since it came in: run symarch-keep check {shown(archive)}")
         self.refused.add(key)
 
     def changed(self, answers: Iterable[Answers], is_of_tables: bool) -> Dict[Key, ArchiveFile]:

@@ -7,6 +7,7 @@ import subprocess
 import tempfile
 from typing import IO, List, NamedTuple, Optional, Sequence, Tuple
 
+from ..escaping import shown
 from ..keeping.screen import about
 from ..program import found_program, named
 from ..signals import signals
@@ -72,7 +73,7 @@ class Reply(NamedTuple):
 
 
 def cut_short(archive: str) -> Failure:
-    return Failure(f"{archive} is cut short: restore it from a backup or another site", Status.REFUSED)
+    return Failure(f"{shown(archive)} is cut short: restore it from a backup or another site", Status.REFUSED)
 
 
 class Program:

@@ -7,6 +7,7 @@ import shlex
 import stat
 from typing import Any, Dict, List, NoReturn, Optional, Sequence, Tuple
 
+from ..escaping import line_shown, shown
 from ..unforeseen import DEBUG, HELP
 from ..version import PrintVersion
 from .encodings import decoded
@@ -155,7 +156,7 @@ class Words:
             return "--demangle and --no-demangle: name one of them"
         folder = next(filter(is_folder, self.reports), None)
         if folder and self.need_out(self.reports):
-            return f"{folder} may hold several reports: add --out NEWFOLDER, or --group"
+            return f"{shown(folder)} may hold several reports: add --out NEWFOLDER, or --group"
         if self.need_out(self.reports):
             return "several reports are written by --out FOLDER"
         if STANDARD_INPUT in self.reports and self.out is not None:
@@ -171,10 +172,12 @@ class Words:
         """What is wrong with the reports and archives, and what to type, if something is."""
         if names and is_dsym(names[-1]):
             path = names[-1].rstrip("/")
-            return f"{path} is a dSYM: run symarch-keep add builds.sym {shlex.quote(path)}, then name builds.sym"
+            typed = line_shown(shlex.quote(path))
+            return f"{shown(path)} is a dSYM: run symarch-keep add builds.sym {typed}, then name builds.sym"
         if len(names) < 2:
             is_lacking = names and not is_archive(names[0])
-            return f"there is no archive after {names[0]}" if is_lacking else "there is no report before the archive"
+            no_archive = f"there is no archive after {shown(names[0])}"
+            return no_archive if is_lacking else "there is no report before the archive"
         command, rest = names[0], names[1:]
         if command in ANSWERING and not os.path.lexists(command):
             last = [name for name in rest if is_archive(name)]
@@ -185,10 +188,10 @@ class Words:
             return "there is no report before the archive"
         is_report_last = is_folder(names[-1]) or begins_as_report(names[-1])
         if is_report_last and not archives:
-            return f"there is no archive after {names[-1]}"
+            return f"there is no archive after {shown(names[-1])}"
         if is_report_last or any(name in archives for name in self.reports):
             line = self.line([*others, *archives], ["--out", "FOLDER"] if self.need_out(others) else [])
-            return f"{next(iter(archives))} is an archive, and stands after the reports: {line}"
+            return f"{shown(next(iter(archives)))} is an archive, and stands after the reports: {line}"
         if names[-1] == STANDARD_INPUT:
             return "of standard input a report is read, and no archive"
         if names.count(STANDARD_INPUT) > 1:
@@ -200,7 +203,8 @@ class Words:
         options = [option for option, is_given in self.given().items() if is_given]
         options += ["--out", self.out] if self.out is not None else []
         has_hyphen = any(name.startswith("-") and name != STANDARD_INPUT for name in names)
-        return " ".join(map(shlex.quote, [NAME, *options, *more, *(["--"] if has_hyphen else []), *names]))
+        words = [NAME, *options, *more, *(["--"] if has_hyphen else []), *names]
+        return line_shown(" ".join(map(shlex.quote, words)))
 
 
 def is_folder(path: str) -> bool:
