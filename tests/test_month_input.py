@@ -35,6 +35,16 @@ def keys(size: int) -> bytes:
     return f'{{"callStacks":[{{"callStackRootFrames":[{CALL}]{made}}}]}}'.encode()
 
 
+def backtraces(size: int) -> bytes:
+    """A crash with many backtraces that are texts, and as many images."""
+    count = size // 100
+    images = [{"uuid": f"{number:032x}", "base": number << 12, "size": 4096} for number in range(1, count)]
+    used = [{"uuid": SPOOL, "base": 0, "size": 4096, "name": "spool"}, *images]
+    threads, texts = [{"frames": [{"imageIndex": 0, "imageOffset": 1132}]}], ["0   spool   0x410 x"] * count
+    document = {"usedImages": used, "threads": threads, "asiBacktraces": texts}
+    return f'{{"bug_type":"309"}}\n{json.dumps(document)}'.encode()
+
+
 # Reports that took minutes or gigabytes, of about so many bytes, and their lengths.
 HOSTILE: Dict[str, Tuple[Callable[[int], bytes], int]] = {
     "an image with spaces": (lines_of("0x1 - 0x2 ", " ", "x"), 1_000_000),
@@ -46,22 +56,25 @@ HOSTILE: Dict[str, Tuple[Callable[[int], bytes], int]] = {
     "many keys": (keys, 200_000),
     "many headings": (lambda size: CRASH + b"-----\nFull Report\n-----\n{no JSON}\n" * (size // 34), 300_000),
     "many escapes": (lambda size: b'{"a":"' + b"\\n" * (size // 2) + b'"}', 1_000_000),
+    "many backtraces": (backtraces, 50_000),
     "many images": (lambda size: CRASH + b"".join(b"0 - 1 x <%032x>\n" % it for it in range(1, size // 43)), 300_000),
 }
 # How a report may be printed.
 WAYS: Sequence[Sequence[str]] = ((), ("--text",), ("--group",), ("--missing",), ("--json",))
-# Reads a report, and prints the processor time without the start of the tool, and the most memory above that.
+# Reads a report, and prints the processor time without the start of the tool, and the most memory above that, in kB.
 MEASURE = """
-import resource, sys, time
+import sys, time
 sys.path.insert(0, {tools!r})
 from symarch_tools.reports.report import Report
 from symarch_tools.reports.faults import Failure
-before, began = resource.getrusage(resource.RUSAGE_SELF).ru_maxrss, time.process_time()
+def most():
+    return int(open("/proc/self/status").read().partition("VmHWM:")[2].split()[0])
+before, began = most(), time.process_time()
 try:
-    Report(sys.argv[1])
+    Report(sys.argv[1], is_text=True)
 except Failure:
     pass
-print(time.process_time() - began, resource.getrusage(resource.RUSAGE_SELF).ru_maxrss - before)
+print(time.process_time() - began, most() - before)
 """
 
 
@@ -93,7 +106,7 @@ class Month(ReportCase):
                 self.takes_twice(name)
 
     def test_documents_that_took_minutes(self) -> None:
-        for name in ("many documents", "many brackets", "many keys", "many headings"):
+        for name in ("many documents", "many brackets", "many keys", "many headings", "many backtraces"):
             with self.subTest(name):
                 self.takes_twice(name)
 

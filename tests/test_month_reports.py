@@ -224,6 +224,15 @@ class Copies(ReportCase):
         lines = self.report("--group", "in", self.archive).lines
         self.assertEqual(lines[0], "3\tclamp_low (lines); fail (lines); clamp_low (lines)\tin/a.crash")
 
+    def test_lines_that_a_mail_wrapped(self) -> None:
+        """The rest of a line is no end of the frames."""
+        raw = source("crash")
+        self.file("in/a.crash", raw)
+        for number, (before, after) in enumerate(((b" + ", b" +\n    "), (b" + ", b"\n+ "))):
+            self.file(f"in/b-{number}.crash", raw.replace(before, after))
+        came = self.report("--group", "in", "shipped")
+        self.assertEqual([line.partition("\t")[0] for line in came.lines], ["3"], came.lines)
+
     def test_several_answers(self) -> None:
         """The answers that stand below a frame of a copy are no frames."""
         self.file("in/a.crash", source("crash"))

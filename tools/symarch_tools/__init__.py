@@ -4,6 +4,7 @@
 - version           the version of both tools
 - signals           the signals that end a tool
 - escaping          texts in a line of a terminal
+- unforeseen        what no part of a tool foresaw, in one line
 - keep              symarch-keep: its words
 - keeping           what its words do
 - symbolicate       symbolicate-report: its words

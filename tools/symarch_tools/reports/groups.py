@@ -11,7 +11,7 @@ from .json_report import JsonReport
 from .named_lines import INLINED, SOURCE
 from .readable import name_of, text_in
 from .report import Part, Report
-from .text_report import BACKTRACE, CRASH, NO_NAME, TextReport, frames_in
+from .text_report import BACKTRACE, CRASH, NO_NAME, REST_OF_LINE, TextReport, frames_in, plain
 
 # So many frames make a group, below those that threw the exception: the images that have these.
 TOP = 3
@@ -158,7 +158,7 @@ def text_frames(part: TextReport, heading: Pattern[bytes], most: int) -> List[Fr
         if form is BACKTRACE and not found:
             return addressed_frames(part, line.start(), most)
         place = line.end()
-        if CONFLICTING.match(line[1]):
+        if is_below_frame(line[1]):
             continue
         if frame is None or form is not CRASH:
             break
@@ -169,6 +169,11 @@ def text_frames(part: TextReport, heading: Pattern[bytes], most: int) -> List[Fr
             found += with_inlined(part.frames, at, one, inlined)
             inlined = []
     return [*found, *inlined][:most]
+
+
+def is_below_frame(line: bytes) -> bool:
+    """Whether a line belongs to the frame before it: the answer of a slice, or the rest of a line that was wrapped."""
+    return bool(CONFLICTING.match(line) or REST_OF_LINE.fullmatch(plain(line)))
 
 
 def addressed_frames(part: TextReport, place: int, most: int) -> List[Frame]:

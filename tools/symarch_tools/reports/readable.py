@@ -9,7 +9,7 @@ from .images import IS_INLINED
 from .json_report import Calls, JsonReport, Stack
 from .json_walk import MOST_FLAT, NESTED, SPACE, Node, loaded
 from .named_lines import INLINED, NO_NAME, LineAnswers, inlined_lines, named_line, numbered, source_after
-from .readable_header import backtraces_in, header_lines, labelled, of, state_lines
+from .readable_header import backtrace_blocks, header_lines, labelled, of, state_lines
 from .source_lines import Inlined, Source
 from .streams import encoded
 from .text_report import TextReport
@@ -70,14 +70,15 @@ class ReadableReport:
         self.bases: Dict[uuid.UUID, Tuple[int, Optional[str]]] = {}
         node = document.report or document.root
         self.top = values_of(self.data, node) if node and document.stacks else {}
-        self.backtraces = {number: self.backtrace(lines) for number, lines in backtraces_in(self.top).items()}
+        blocks = ["\n".join(lines) for lines in backtrace_blocks(self.top)]
+        self.backtraces = self.as_text("\n\n".join(blocks)) if blocks else None
 
-    def backtrace(self, lines: Sequence[str]) -> TextReport:
-        """A backtrace that is a text, with the images of the document."""
-        text = encoded("".join(f"{line}\n" for line in lines))
-        listed = encoded("".join(f"{line}\n" for line in self.image_lines()))
-        made = TextReport(text + b"\n" + listed, 0, len(text) + 1 + len(listed), self.document.images)
-        made.end = len(text)
+    def as_text(self, text: str) -> TextReport:
+        """Backtraces that are texts, with the images of the document."""
+        own, listed = encoded(f"{text}\n"), "\n".join(map(line_shown, self.image_lines()))
+        data = own + encoded(f"\n{listed}\n")
+        made = TextReport(data, 0, len(data), self.document.images)
+        made.end = len(own)
         return made
 
     def pieces(self) -> Iterator[bytes]:
@@ -98,9 +99,8 @@ class ReadableReport:
 
     def crash(self) -> Iterator[Union[str, bytes]]:
         yield from header_lines(self.header, self.top)
-        for number, backtrace in self.backtraces.items():
-            yield f"Application Specific Backtrace {number}:"
-            yield b"".join(backtrace.pieces())
+        if self.backtraces:
+            yield b"".join(self.backtraces.pieces())
         stacks = self.document.stacks
         for stack in sorted(stacks, key=lambda stack: stack.name != EXCEPTION):
             yield self.heading(stack)

@@ -131,11 +131,11 @@ def information_lines(top: Dict[str, Any]) -> List[str]:
     return ["Application Specific Information:", *found] if found else []
 
 
-def backtraces_in(top: Dict[str, Any]) -> Dict[int, List[str]]:
-    """The lines of the backtraces that the process left, each of which is a text, by their numbers."""
+def backtrace_blocks(top: Dict[str, Any]) -> List[List[str]]:
+    """The backtraces that the process left, each of which is a text."""
     listed = top.get("asiBacktraces")
     found = [texts_in(one) for one in listed] if isinstance(listed, list) else []
-    return {number: lines for number, lines in enumerate(found) if lines}
+    return [[f"Application Specific Backtrace {number}:", *lines] for number, lines in enumerate(found) if lines]
 
 
 def state_lines(number: int, state: Dict[str, Any]) -> Iterator[str]:

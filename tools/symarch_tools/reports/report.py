@@ -222,7 +222,8 @@ class Report:
         """The frames of each part, and those of its backtraces."""
         for part in self.parts:
             yield part.frames
-            yield from (one.frames for one in part.backtraces.values()) if isinstance(part, ReadableReport) else ()
+            if isinstance(part, ReadableReport) and part.backtraces:
+                yield part.backtraces.frames
 
     def find_interrupted(self) -> bool:
         """Whether there are frames that a signal interrupted, as the names of the archive say, which have to be asked
