@@ -75,7 +75,7 @@ class Listed(BuildsCase):
     def test_what_is_retired(self) -> None:
         self.room.call("retire", self.room.archive, *slice_words(self.dsym))
         build, size = self.rows[2].split(" ")[1:4], len(self.app) + len(self.again)
-        row = self.row(self.app, "2026-03-01", size, "image", "Shop", *build)
+        row = self.row(self.app, "2026-03-01", size, "image!2", "Shop", *build)
         same("rows", self.listed("--app", "com.example.shop"), [row])
         for made in (self.app, self.again):
             self.room.call("retire", self.room.archive, *slice_words(made))

@@ -236,7 +236,7 @@ class Asked(LevelCase):
 
     def test_status(self) -> None:
         """Its first lines; and the bytes of the levels, and of what waits."""
-        came = [dict(it.split(" ") for it in room.call("status", room.archive)[0]) for room in (self.room, self.one)]
+        came = [dict(it.split(" ", 1) for it in room.call("status", room.archive)[0]) for room in (self.room, self.one)]
         for name in ("images", "companions", "retirements", "conflicts"):
             same(name, came[0][name], came[1][name])
         sizes = [path.stat().st_size for path in self.files()]

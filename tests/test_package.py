@@ -279,7 +279,9 @@ class Unpacked(PackageCase):
 
     def test_the_program_that_symarch_names(self) -> None:
         named = {**self.alone, "SYMARCH": str(self.room / "gone")}
-        done = ran(self.home / "bin/symbolicate-report", CRASHES / "arm64.crash", self.room / "x", env=named)
+        other = self.room / "x"
+        other.write_text("no archive")
+        done = ran(self.home / "bin/symbolicate-report", CRASHES / "arm64.crash", other, env=named)
         self.assertEqual((done.returncode, "gone" in done.stderr), (126, True), done.stderr)
 
     def test_version(self) -> None:

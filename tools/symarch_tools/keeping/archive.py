@@ -50,11 +50,11 @@ class News:
         if self.indexes or not self.content.held:
             return
         if self.path:
-            self.indexes.append(index_made(self.path, room, b"came", program, screen))
+            self.indexes.append(index_made(self.path, room, b"came.idx", program, screen))
             return
         screen.begin("indexing: {} slices", sum(one.length for one in self.slices))
-        program.run(["index", "/dev/stdin", "came"], self.slices, folder=room, moved=screen.progress)
-        self.indexes.append(index_at(os.path.join(room, b"came")))
+        program.run(["index", "/dev/stdin", "came.idx"], self.slices, folder=room, moved=screen.progress)
+        self.indexes.append(index_at(os.path.join(room, b"came.idx")))
 
 
 class Archive(Files):
