@@ -4,7 +4,7 @@ use Rattle.std.proofs.lemmas.Bool.{or_from, or_parts}
 use Rattle.std.specs.List.{list_any}
 use Rattle.command_core.specs.{declared.failures.Failure.Failure, Outputs.Writer, FaultTexts.failure_text}
 use Rattle.command_line.specs.Lines.{Line}
-use Rattle.error_lines.specs.StandardError.{IsSaid, SaysFailure, has_line_feed, is_control}
+use Rattle.error_lines.specs.StandardError.{SaysFailure, SaysLine, has_line_feed, is_control}
 use Rattle.byte_device.proofs.Known.{Appends-none as nothing_more}
 
 -- what has no control character has no line feed
@@ -18,7 +18,7 @@ feedless (byte ∷ text) is =
     or_from (byte == 10) (has_line_feed text) (feed byte parts.0) (feedless text parts.1)
 
 -- no help is said of a failure whose line was
-pub without_help : (standard_error : Writer) (asked : Line) (failure : Failure) → IsSaid standard_error (failure_text failure) true
+pub without_help : (standard_error : Writer) (asked : Line) (failure : Failure) → SaysLine standard_error (failure_text failure) true
     → SaysFailure standard_error asked failure
 without_help standard_error asked failure is =
     inl (standard_error.new, standard_error.failures_new, is, inl (nothing_more standard_error.new, refl))

@@ -25,9 +25,9 @@ SaysWanting standard_error whole = IsPushed standard_error (line wanting_text) w
 
 -- The line was said to its end; or the writer failed inside it, or there was no memory for it, and want of memory was
 -- said in its place.
-abbrev pub IsSaid : Writer → List ℕ → Bool → Type 0
-IsSaid standard_error text true = Takes standard_error (line text)
-IsSaid standard_error text false =
+abbrev pub SaysLine : Writer → List ℕ → Bool → Type 0
+SaysLine standard_error text true = Takes standard_error (line text)
+SaysLine standard_error text false =
     ((n : ℕ) × FailsBehind standard_error (line text) n)
     ⊎ ((whole : Bool) × SaysWanting standard_error whole)
 
@@ -67,7 +67,7 @@ SaysFailure standard_error asked failure =
     ((between : Option (List ℕ)) × (failures : ℕ)
     × Takes (record standard_error { new = between; failures_new = failures }) (line (failure_text failure))
     × SaysHelp (record standard_error { old = between; failures_old = failures }) asked failure)
-    ⊎ IsSaid standard_error (failure_text failure) false
+    ⊎ SaysLine standard_error (failure_text failure) false
 
 -- Why the report failed is said in one line.
 abbrev pub SaysReport : Writer → Type 0
@@ -111,4 +111,4 @@ reason_in text = behind_error (without_line_feed text)
 
 -- This reason is said for which words are refused.
 abbrev pub SaysRefused : Writer → Text → Type 0
-SaysRefused standard_error reason = (whole : Bool) × IsSaid standard_error (codes "symarch: " ++ reason) whole
+SaysRefused standard_error reason = (whole : Bool) × SaysLine standard_error (codes "symarch: " ++ reason) whole

@@ -6,7 +6,7 @@ ghost use Rattle.command_core.specs.declared.failures.Failure.{Failure};
 ghost use Rattle.command_line.specs.Lines.{Line};
 ghost use Rattle.report_text.specs.Report.{line};
 ghost use Rattle.error_lines.specs.Hints.{file_of, subject_of, subject_text};
-ghost use Rattle.error_lines.specs.StandardError.{IsPushed, IsSaid, SaysHelp, SaysNotes, SaysReport};
+ghost use Rattle.error_lines.specs.StandardError.{IsPushed, SaysHelp, SaysLine, SaysNotes, SaysReport};
 ghost use Rattle.error_lines.specs.StandardError.{SaysWanting, note_lines};
 
 use crate::help_lines::{help_line, report_line};
@@ -63,7 +63,7 @@ pub fn say_wanting<E: Sink>(errors: &mut E) -> bool
 /// end is handed back.
 pub fn say<E: Sink, T: Display>(alloc: Global, told: &T, errors: &mut E) -> bool
     ensures { IfSome (T.output told.now)
-        (λ text. IsSaid (writer E.held E.failures errors.old errors.new) text result) }
+        (λ text. SaysLine (writer E.held E.failures errors.old errors.new) text result) }
 {
     match line_of(alloc, told) {
         Ok(whole) => push_whole(errors, whole.as_bytes()),

@@ -2,7 +2,7 @@ use Rattle.std.proofs.Common.{◌++◌, ◌∙◌, ap, codes, refl, subst, sym}
 use Rattle.std.proofs.KnownBytes.{Appends-nil}
 use Rattle.command_core.specs.Outputs.{writer}
 use Rattle.error_lines.specs.Ending.{EndsLine}
-use Rattle.error_lines.specs.StandardError.{IsSaid, reason_in}
+use Rattle.error_lines.specs.StandardError.{SaysLine, reason_in}
 use Rattle.error_lines.proofs.ending.end_without_line.Goals as goal
 
 pub returns-in-Refused : goal.returns-in-Refused
@@ -13,7 +13,7 @@ returns-in-Refused g c =
       nothing_told = (Appends-nil _, refl);
       says = (
         c.say.result,
-        subst (λ reason. IsSaid standard_error (codes "symarch: " ++ reason) c.say.result)
+        subst (λ reason. SaysLine standard_error (codes "symarch: " ++ reason) c.say.result)
             (c.reason_in.ensures ∙ ap reason_in c.deref.ensures) c.say.ensures,
       );
       status_is = refl;
