@@ -14,7 +14,7 @@ use crate::site::Site;
 use crate::world::World;
 use archive_core::{Archive, Digest};
 use archive_records::Sizes;
-use byte_device::{CannotOpen, Sink, Source};
+use byte_device::{Sink, Source};
 use command_core::{CommandFault, Status, publish_report, read_events};
 use line_inputs::Script;
 use memory::{Heap, NoMemory};
@@ -69,7 +69,7 @@ fn lines_of<A: Archive + Drop>(heap: Heap, script: &Script) -> Result<String<Hea
 /// `Input` where the script is refused; `Report` where the report failed; `OutOfMemory`, at whatever event.
 pub fn run_rehearse<A: Archive + Drop, S: Source, P: Sink>(
     heap: Heap,
-    script: &mut Result<S, CannotOpen>,
+    script: &mut S,
     report: &mut P,
 ) -> Result<Status, CommandFault>
     ensures { EndsReport (rehearse (reader S.left S.failures script.old script.new))

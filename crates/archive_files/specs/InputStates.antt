@@ -1,11 +1,10 @@
 -- An input that is opened at its turn.
-use Rattle.std.specs.Prelude.{◌≡◌, ◌≢◌, ℕ, List, [], ◌∷◌, ◌++◌, take, Option, Some, None, Result, Ok, Err}
-use Rattle.std.specs.Prelude.{IfSome, MatchResult, ⊤}
+use Rattle.std.specs.Prelude.{◌≡◌, ◌≢◌, ℕ, List, [], ◌∷◌, ◌++◌, take, Option, Some, None, Ok, Err}
+use Rattle.std.specs.Prelude.{IfSome, ⊤}
 use Rattle.std.specs.List.{AllByRecursion, AllZip}
 use Rattle.std.specs.IoError.{error_kind}
 use Rattle.std.specs.declared.io.ErrorKind.TheVariants.{OutOfMemory}
 use Rattle.byte_device.specs.Disks.{At, FileAt, Holding, IsOpened, Missing, Path, Unknown, opened_with}
-use Rattle.byte_device.specs.declared.disks.CannotOpen.{CannotOpen}
 use Rattle.archive_files.specs.declared.input_state.InputState.{InputState}
 use Rattle.archive_files.specs.declared.input_state.InputState.TheVariants as state
 use Rattle.archive_files.specs.declared.input_state.Unopened.{Unopened as Reason}
@@ -137,12 +136,12 @@ pub record IsAtTurn {S : Type 0} (told : Told S) (input : S) : Type 0 where
   pub failed : unopened_in (told.stage input) ≢ None → told.failures input ≢ 0
 
 -- The inputs have these paths, in their order, and wait.
-abbrev pub AreWaiting : {S : Type 0} → Told S → List Path → List (Result S CannotOpen) → Type 0
-AreWaiting told paths inputs = AllZip (λ path input. MatchResult input (IsWaiting told path) (λ _. ⊥)) paths inputs
+abbrev pub AreWaiting : {S : Type 0} → Told S → List Path → List S → Type 0
+AreWaiting told paths inputs = AllZip (IsWaiting told) paths inputs
 
 -- So it is with each of these inputs.
-abbrev pub AreAtTurn : {S : Type 0} → Told S → List (Result S CannotOpen) → Type 0
-AreAtTurn told inputs = AllByRecursion (λ input. MatchResult input (IsAtTurn told) (λ _. ⊤)) inputs
+abbrev pub AreAtTurn : {S : Type 0} → Told S → List S → Type 0
+AreAtTurn told inputs = AllByRecursion (IsAtTurn told) inputs
 
 -- Inputs were made for the first of these paths, each once and in their order.
 abbrev pub AreFirstAsked : List Path → List Path → List Path → Type 0

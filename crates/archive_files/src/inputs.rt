@@ -7,13 +7,12 @@ ghost use Rattle.archive_files.specs.InputStates.{AreFirstAsked, AreWaiting};
 use crate::call_log::CallLog;
 use crate::input_state::AtTurn;
 use crate::system_disk::SystemDisk;
-use byte_device::CannotOpen;
 use memory::NoMemory;
 use std::alloc::Global;
 use std::rt::Files;
 
-/// An input of the system. It stands in a result since the commands take inputs that may be refused beforehand.
-pub type SystemInput<'l, 'a, F> = Result<AtTurn<'l, SystemDisk<'a, F>>, CannotOpen>;
+/// An input of the system.
+pub type SystemInput<'l, 'a, F> = AtTurn<'l, SystemDisk<'a, F>>;
 
 /// Makes an input for each of these paths, which is noted.
 pub fn make_inputs<'l, 'a, F: Files>(
@@ -30,7 +29,7 @@ pub fn make_inputs<'l, 'a, F: Files>(
 {
     'paths: for path in paths {
         asked.note(path.as_bytes());
-        inputs.push(Ok(AtTurn::new(SystemDisk::new(alloc, files), path)))?;
+        inputs.push(AtTurn::new(SystemDisk::new(alloc, files), path))?;
     }
     Ok(())
 }

@@ -17,7 +17,7 @@ use Rattle.archive_laws.proofs.Refusals.{text_accepted}
 text : {S : Type 0} (kind : TextKind) (input : Reader S) (m : Meaning kind) (bytes : List ℕ) (why : Why) → IsMeaning kind m → IsTextOf kind m bytes
     → IsGiven input bytes → IsTextRefused kind input why → IsDeviceFault why
 text kind input m bytes why is of given refused =
-    text_accepted kind input input why (inr (bytes, given, given)) (m, is, gives input bytes (IsTextOf kind m) given of) refused
+    text_accepted kind input input why (bytes, given, given) (m, is, gives input bytes (IsTextOf kind m) given of) refused
 
 pub archive : {R : Type 0} (input : Reader R) (o : Operations) (why : Why) → IsContent o → IsGivenArchive input o → IsArchiveRefused input why → IsDeviceFault why
 archive input o why content given refused = text ArchiveFile input o given.0 why content given.1 given.2 refused

@@ -1,28 +1,22 @@
 -- What is true of inputs whose bytes are known.
-use Rattle.std.proofs.Common.{◌≡◌, ℕ, List, [], ◌∷◌, Option, Some, Result, Ok, Err, refl, sym, ◌∙◌, subst, IfSome, MatchResult}
+use Rattle.std.proofs.Common.{◌≡◌, ℕ, List, [], ◌∷◌, Option, Some, Result, Ok, refl, sym, ◌∙◌, subst, IfSome}
 use Rattle.std.specs.List.{AllByRecursion, AllZip}
 use Rattle.std.proofs.lemmas.Option.{IfSome_then}
-use Rattle.std.proofs.lemmas.Result.{MatchResult-weaker}
 use Rattle.archive_core.specs.Content.{Operations, IsContent}
 use Rattle.archive_records.specs.Text.{IsArchiveOf}
 use Rattle.archive_records.proofs.Versions.{one_content}
-use Rattle.byte_device.specs.declared.disks.CannotOpen.{CannotOpen}
 use Rattle.command_core.specs.Inputs.{Reader, Gives, Holds, HoldsArchive, IsGiven, IsGivenArchive}
 
 -- what is true of an input's bytes is true of those that are given
 pub is_given : {S : Type 0} (input : Reader S) (bytes : List ℕ) (P : List ℕ → Type 0) → IsGiven input bytes → Gives input P → P bytes
-is_given {S = S} input bytes P = by input.old
-  where
-    by : (old : Result S CannotOpen) → MatchResult old (λ source. input.left source ≡ Some bytes) (λ _. ⊥) → MatchResult old (λ source. IfSome (input.left source) P) (λ _. ⊥) → P bytes
-    by (Ok source) is p = let q : IfSome (Some bytes) P = subst (λ (l : Option (List ℕ)). IfSome l P) is p in q
-    by (Err _) is p = absurd is
+is_given input bytes P is p = let q : IfSome (Some bytes) P = subst (λ (l : Option (List ℕ)). IfSome l P) is p in q
 
 -- and the other way round
 pub gives : {S : Type 0} (input : Reader S) (bytes : List ℕ) (P : List ℕ → Type 0) → IsGiven input bytes → P bytes → Gives input P
-gives input bytes P is p = MatchResult-weaker input.old is (λ source whole. subst (λ (l : Option (List ℕ)). IfSome l P) (sym whole) p) (λ _ none. none)
+gives input bytes P is p = subst (λ (l : Option (List ℕ)). IfSome l P) (sym is) p
 
 pub gives_then : {S : Type 0} (input : Reader S) (P Q : List ℕ → Type 0) → ((bytes : List ℕ) → P bytes → Q bytes) → Gives input P → Gives input Q
-gives_then input P Q so is = MatchResult-weaker input.old is (λ source p. IfSome_then (input.left source) p so) (λ _ none. none)
+gives_then input P Q so is = IfSome_then (input.left input.old) is so
 
 pub holds : {S : Type 0} (input : Reader S) (o : Operations) → IsGivenArchive input o → HoldsArchive input o
 holds input o given = gives input given.0 (IsArchiveOf o) given.2 given.1

@@ -1,5 +1,5 @@
 -- Two calls whose inputs hold the same refuse one of them, for one reason.
-use Rattle.std.proofs.Common.{◌≡◌, ◌≢◌, ◌⊎◌, ℕ, zero, suc, List, [], ◌∷◌, take, Option, Some, None, Result, Ok, Err, refl, sym, ap, ◌∙◌, subst, inl, inr, IfSome, MatchResult, slice_get}
+use Rattle.std.proofs.Common.{◌≡◌, ◌≢◌, ◌⊎◌, ℕ, zero, suc, List, [], ◌∷◌, take, Option, Some, None, Result, Ok, Err, refl, sym, ap, ◌∙◌, subst, inl, inr, IfSome, slice_get}
 use Rattle.std.specs.List.{AllByRecursion}
 use Rattle.std.proofs.lemmas.Option.{IfSome_then}
 use Rattle.archive_records.specs.Fault.{IsFaultOf, IsOfText}
@@ -19,14 +19,13 @@ use Rattle.line_inputs.specs.Frames.{frames_of}
 use Rattle.line_inputs.specs.ScriptFlaws.{script_flaw}
 use Rattle.line_inputs.specs.Events.{Act}
 use Rattle.line_inputs.specs.Script.{Wrong, script_of}
-use Rattle.byte_device.specs.declared.disks.CannotOpen.{CannotOpen}
 use Rattle.command_core.specs.declared.faults.InputName.{InputName}
 use Rattle.command_core.specs.declared.faults.InputName.TheVariants.{Archive}
 use Rattle.command_core.specs.declared.faults.Why.{Why}
-use Rattle.command_core.specs.declared.faults.Why.TheVariants.{Device as CannotRead, Record, Take, Script as Faulty, CannotOpen as NotOpened, BadFrame}
+use Rattle.command_core.specs.declared.faults.Why.TheVariants.{Device as CannotRead, Record, Take, Script as Faulty, BadFrame}
 use Rattle.command_core.specs.Inputs.{Reader, reader, Gives, IsDeviceFault, IsGiven, IsArchive, IsAccepted, IsArchiveRefused, IsFileRefused, IsFirstRefused, IsFrames, IsFramesRefused, IsRefusedArchive, IsRefusedInTurn, IsScriptRefused, IsTextRefused}
 use Rattle.command_core.proofs.Readers.{by_device}
-use Rattle.archive_laws.specs.Refusals.{EachHoldAlike, HoldAlike, IsUnopened, RefuseOne}
+use Rattle.archive_laws.specs.Refusals.{EachHoldAlike, HoldAlike, RefuseOne}
 use Rattle.archive_laws.proofs.Given.{gives_then, is_given}
 
 abbrev pub NoDevice : Why → Type 0
@@ -34,16 +33,8 @@ NoDevice why = IsDeviceFault why → ⊥
 
 -- ---- what one input gives the other gives
 
-unopened : {S : Type 0} (input : Reader S) (P : S → Type 0) → IsUnopened input → MatchResult input.old P (λ _. ⊥) → ⊥
-unopened {S = S} input P = by input.old
-  where
-    by : (old : Result S CannotOpen) → MatchResult old (λ _. ⊥) (λ _. Unit {0}) → MatchResult old P (λ _. ⊥) → ⊥
-    by (Ok source) un is = un
-    by (Err _) un is = is
-
 pub swapped : {R S : Type 0} (x : Reader R) (y : Reader S) → HoldAlike x y → HoldAlike y x
-swapped x y (inl p) = inl (p.1, p.0)
-swapped x y (inr p) = inr (p.0, p.2, p.1)
+swapped x y alike = (alike.0, alike.2, alike.1)
 
 pub each_swapped : {R S : Type 0} (xs : List (Reader R)) (ys : List (Reader S)) → EachHoldAlike xs ys → EachHoldAlike ys xs
 each_swapped [] [] alike = tt
@@ -51,14 +42,13 @@ each_swapped (x ∷ xs) (y ∷ ys) alike = (swapped x y alike.0, each_swapped xs
 each_swapped _ _ alike = absurd alike
 
 pub carried : {R S : Type 0} (x : Reader R) (y : Reader S) (P : List ℕ → Type 0) → HoldAlike x y → Gives x P → (bytes : List ℕ) × IsGiven x bytes × IsGiven y bytes × P bytes
-carried x y P (inl p) gives = absurd (unopened x (λ source. IfSome (x.left source) P) p.0 gives)
-carried x y P (inr p) gives = (p.0, p.1, p.2, is_given x p.0 P p.1 gives)
+carried x y P alike gives = (alike.0, alike.1, alike.2, is_given x alike.0 P alike.1 gives)
 
 -- ---- why an input is refused
 
--- its device failed, it was not opened, or this is wrong with its bytes
+-- its device failed, or this is wrong with its bytes
 abbrev IsRefusedFor : {S : Type 0} → (Why → List ℕ → Type 0) → Reader S → Why → Type 0
-IsRefusedFor IsBad input why = IsDeviceFault why ⊎ (IsUnopened input × (why ≡ NotOpened)) ⊎ Gives input (IsBad why)
+IsRefusedFor IsBad input why = IsDeviceFault why ⊎ Gives input (IsBad why)
 
 -- an input that holds the same is refused for one reason
 one_reason : {R S : Type 0} (IsBad : Why → List ℕ → Type 0)
@@ -67,21 +57,14 @@ one_reason : {R S : Type 0} (IsBad : Why → List ℕ → Type 0)
     → NoDevice why → NoDevice another → why ≡ another
 one_reason IsBad one x y why another alike (inl d) b alone alone_too = absurd (alone d)
 one_reason IsBad one x y why another alike a (inl d) alone alone_too = absurd (alone_too d)
-one_reason IsBad one x y why another alike (inr (inl p)) (inr (inl q)) alone alone_too = p.1 ∙ sym q.1
-one_reason IsBad one x y why another alike (inr (inl p)) (inr (inr b)) alone alone_too =
-    let c = carried y x (IsBad another) (swapped x y alike) b in absurd (unopened x (λ source. x.left source ≡ Some c.0) p.0 c.2)
-one_reason IsBad one x y why another alike (inr (inr a)) (inr (inl q)) alone alone_too =
-    let c = carried x y (IsBad why) alike a in absurd (unopened y (λ source. y.left source ≡ Some c.0) q.0 c.2)
-one_reason IsBad one x y why another alike (inr (inr a)) (inr (inr b)) alone alone_too =
+one_reason IsBad one x y why another alike (inr a) (inr b) alone alone_too =
     let c = carried x y (IsBad why) alike a in one c.0 why another c.3 (is_given y c.0 (IsBad another) c.2 b) alone alone_too
 
 -- and where it is good in one call, for its device alone
 for_device : {R S : Type 0} (IsBad : Why → List ℕ → Type 0) (IsGood : List ℕ → Type 0) (x : Reader R) (y : Reader S) (why : Why)
     → ((bytes : List ℕ) → IsGood bytes → IsBad why bytes → IsDeviceFault why) → HoldAlike x y → Gives x IsGood → IsRefusedFor IsBad y why → IsDeviceFault why
 for_device IsBad IsGood x y why good alike is (inl d) = d
-for_device IsBad IsGood x y why good alike is (inr (inl p)) =
-    let c = carried x y IsGood alike is in absurd (unopened y (λ source. y.left source ≡ Some c.0) p.0 c.2)
-for_device IsBad IsGood x y why good alike is (inr (inr bad)) =
+for_device IsBad IsGood x y why good alike is (inr bad) =
     let c = carried x y IsGood alike is in good c.0 c.3 (is_given y c.0 (IsBad why) c.2 bad)
 
 -- what is good in one call is refused in another for its device alone, and refusals are one
@@ -103,11 +86,10 @@ bad_text kind None fault why is other faulty alone = tt
 bad_text kind (Some text) fault why is other faulty alone =
     (fault, is, λ apart. faulty (λ d. apart (subst IsDeviceFault (sym is) d), other), λ m are of. by_device fault why is other (alone m are of))
 
-text_form : {S : Type 0} (kind : TextKind) (left : S → Option (List ℕ)) (failures : S → ℕ) (old new : Result S CannotOpen) (why : Why)
+text_form : {S : Type 0} (kind : TextKind) (left : S → Option (List ℕ)) (failures : S → ℕ) (old new : S) (why : Why)
     → IsTextRefused kind (reader left failures old new) why → IsRefusedFor (IsBadText kind) (reader left failures old new) why
-text_form kind left failures (Err _) new why refused = inr (inl (tt, refused.0))
-text_form kind left failures (Ok source) new why refused =
-    inr (inr (bad_text kind (left source) refused.2 why refused.3 refused.4 refused.5.0.faulty refused.5.1))
+text_form kind left failures old new why refused =
+    inr (bad_text kind (left old) refused.0 why refused.1 refused.2 refused.3.0.faulty refused.3.1)
 
 pub one_text : {R S : Type 0} (kind : TextKind) (x : Reader R) (y : Reader S) (why another : Why) → HoldAlike x y
     → IsTextRefused kind x why → IsTextRefused kind y another → NoDevice why → NoDevice another → why ≡ another
@@ -137,11 +119,10 @@ archives_agree = record {
 abbrev IsBadFile : Why → List ℕ → Type 0
 IsBadFile why bytes = (fault : TakeFault) × (why ≡ Take fault) × (fault ≢ TakeOutOfMemory) × IsTakeFault bytes fault
 
-file_form : {S : Type 0} (left : S → Option (List ℕ)) (failures : S → ℕ) (old new : Result S CannotOpen) (why : Why)
+file_form : {S : Type 0} (left : S → Option (List ℕ)) (failures : S → ℕ) (old new : S) (why : Why)
     → IsFileRefused (reader left failures old new) why → IsRefusedFor IsBadFile (reader left failures old new) why
-file_form left failures (Err _) new why refused = inr (inl (tt, refused.0))
-file_form left failures (Ok source) new why (inl p) = inl (subst IsDeviceFault (sym p.0) tt)
-file_form left failures (Ok source) new why (inr p) = inr (inr (IfSome_then (left source) p.4 (λ bytes is. (p.0, p.1, p.2, is))))
+file_form left failures old new why (inl p) = inl (subst IsDeviceFault (sym p.0) tt)
+file_form left failures old new why (inr p) = inr (IfSome_then (left old) p.4 (λ bytes is. (p.0, p.1, p.2, is)))
 
 pub file_accepted : ((bytes : List ℕ) (fault : TakeFault) → IsAcceptedFile bytes → IsTakeFault bytes fault → fault ≡ TakeOutOfMemory)
     → {R S : Type 0} (x : Reader R) (y : Reader S) (another : Why) → HoldAlike x y → IsAccepted x → IsFileRefused y another → IsDeviceFault another
@@ -168,14 +149,12 @@ one_wrong result v w a b = let both = sym a ∙ b in cc
 abbrev IsBadFrames : Why → List ℕ → Type 0
 IsBadFrames why bytes = (line : ℕ) × (why ≡ BadFrame line (frame_flaw (line_at bytes line))) × (frames_of bytes ≡ Err line)
 
-frames_form : {S : Type 0} (left : S → Option (List ℕ)) (failures : S → ℕ) (old new : Result S CannotOpen) (why : Why)
+frames_form : {S : Type 0} (left : S → Option (List ℕ)) (failures : S → ℕ) (old new : S) (why : Why)
     → IsFramesRefused (reader left failures old new) why → IsRefusedFor IsBadFrames (reader left failures old new) why
-frames_form left failures (Ok _) new NotOpened refused = absurd refused
-frames_form left failures (Err _) new NotOpened refused = inr (inl (tt, refl))
 frames_form left failures old new CannotRead refused = inl tt
 frames_form left failures old new (BadFrame line flaw) refused =
-    inr (inr (gives_then (reader left failures old new) (λ bytes. (frames_of bytes ≡ Err line) × (flaw ≡ frame_flaw (line_at bytes line)))
-    (IsBadFrames (BadFrame line flaw)) (λ bytes bad. (line, ap (BadFrame line) bad.1, bad.0)) refused.1))
+    inr (gives_then (reader left failures old new) (λ bytes. (frames_of bytes ≡ Err line) × (flaw ≡ frame_flaw (line_at bytes line)))
+    (IsBadFrames (BadFrame line flaw)) (λ bytes bad. (line, ap (BadFrame line) bad.1, bad.0)) refused.1)
 frames_form left failures old new _ refused = absurd refused
 
 pub one_frames : {R S : Type 0} (x : Reader R) (y : Reader S) (why another : Why) → HoldAlike x y → IsFramesRefused x why → IsFramesRefused y another → NoDevice why → NoDevice another → why ≡ another
@@ -193,14 +172,12 @@ frames_accepted x y another alike good refused =
 abbrev IsBadScript : Why → List ℕ → Type 0
 IsBadScript why bytes = (wrong : Wrong) × (why ≡ Faulty wrong.0 wrong.1 (script_flaw wrong.0 (line_at bytes wrong.1))) × (script_of bytes ≡ Err wrong)
 
-script_form : {S : Type 0} (left : S → Option (List ℕ)) (failures : S → ℕ) (old new : Result S CannotOpen) (why : Why)
+script_form : {S : Type 0} (left : S → Option (List ℕ)) (failures : S → ℕ) (old new : S) (why : Why)
     → IsScriptRefused (reader left failures old new) why → IsRefusedFor IsBadScript (reader left failures old new) why
-script_form left failures (Ok _) new NotOpened refused = absurd refused
-script_form left failures (Err _) new NotOpened refused = inr (inl (tt, refl))
 script_form left failures old new CannotRead refused = inl tt
 script_form left failures old new (Faulty fault line flaw) refused =
-    inr (inr (gives_then (reader left failures old new) (λ bytes. (script_of bytes ≡ Err (fault, line)) × (flaw ≡ script_flaw fault (line_at bytes line)))
-    (IsBadScript (Faulty fault line flaw)) (λ bytes bad. ((fault, line), ap (Faulty fault line) bad.1, bad.0)) refused.1))
+    inr (gives_then (reader left failures old new) (λ bytes. (script_of bytes ≡ Err (fault, line)) × (flaw ≡ script_flaw fault (line_at bytes line)))
+    (IsBadScript (Faulty fault line flaw)) (λ bytes bad. ((fault, line), ap (Faulty fault line) bad.1, bad.0)) refused.1)
 script_form left failures old new _ refused = absurd refused
 
 pub one_script : {R S : Type 0} (x : Reader R) (y : Reader S) (why another : Why) → HoldAlike x y → IsScriptRefused x why → IsScriptRefused y another → NoDevice why → NoDevice another → why ≡ another

@@ -1,5 +1,5 @@
 -- Two calls whose inputs hold the same: which input is refused, and how the calls end. The words of laws.
-use Rattle.std.specs.Prelude.{◌≡◌, ◌⊎◌, ℕ, List, Result, Ok, Err, MatchResult}
+use Rattle.std.specs.Prelude.{◌≡◌, ℕ, List, Result, Ok, Err}
 use Rattle.std.specs.List.{AllZip}
 use Rattle.command_core.specs.declared.faults.CommandFault.{CommandFault}
 use Rattle.command_core.specs.declared.faults.CommandFault.TheVariants.{Input, Output, Report, OutOfMemory}
@@ -10,14 +10,9 @@ use Rattle.command_core.specs.Ends.{EndsReport, Query}
 use Rattle.command_core.specs.Inputs.{IsDeviceFault, IsGiven, Reader}
 use Rattle.command_core.specs.Outputs.{Takes, Writer}
 
--- The input was not opened.
-abbrev pub IsUnopened : {S : Type 0} → Reader S → Type 0
-IsUnopened input = MatchResult input.old (λ _. ⊥) (λ _. Unit {0})
-
--- Neither input was opened; or both were, and their bytes are known and the same.
+-- The bytes of both inputs are known, and the same.
 abbrev pub HoldAlike : {R S : Type 0} → Reader R → Reader S → Type 0
-HoldAlike input other =
-    (IsUnopened input × IsUnopened other) ⊎ ((bytes : List ℕ) × IsGiven input bytes × IsGiven other bytes)
+HoldAlike input other = (bytes : List ℕ) × IsGiven input bytes × IsGiven other bytes
 
 -- There are as many inputs in one list as in the other, and each holds the same as that of its number there.
 abbrev pub EachHoldAlike : {R S : Type 0} → List (Reader R) → List (Reader S) → Type 0

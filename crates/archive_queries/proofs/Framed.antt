@@ -44,7 +44,7 @@ use Rattle.archive_queries.specs.Frames.{IsFrameAnswered, TellsFrames, RefusesFr
 use Rattle.archive_queries.specs.InnerFrames.{AreLines, AreNumbered, AreTold, IsFrameTold, asked_cmp, is_asked}
 use Rattle.command_core.proofs.Parts.{refusal_of, together_refused}
 use Rattle.command_core.specs.Archives.{AreRefused, AreUnfailed}
-use Rattle.command_core.specs.Inputs.{EachUnfailed, EachUntouched, IsFrames, Reader, IsRefusal, IsRefusedFrames, IsUntouched, Unfailed, failures_of}
+use Rattle.command_core.specs.Inputs.{EachUnfailed, EachUntouched, IsFrames, Reader, IsRefusal, IsRefusedFrames, IsUntouched, Unfailed}
 use Rattle.command_core.specs.Outputs.{Writer, Takes}
 use Rattle.archive_queries.specs.Sources.{IsSourced}
 use Rattle.archive_queries.specs.Symbolicate.{Answered, asked_of, is_symbol, answers_text}
@@ -339,7 +339,7 @@ module _ {R S T : Type 0} (Makes : Status → List ℕ → Type 0) (frames : Rea
 
   pub frames_refused : (fault : CommandFault) → IsRefusal (IsRefusedFrames frames) (Unfailed frames) fault → IsUntouched archive → EachUntouched others → EachUnfailed others → Takes report [] → EndsInOrder (Err fault)
   frames_refused fault r untouched each unfailed =
-      together_refused Makes _ _ report fault (refusal_of _ _ _ _ fault (λ at why refused. inl (refused, untouched, each)) (λ u. (u, (ap (failures_of archive.failures) untouched, unfailed))) r)
+      together_refused Makes _ _ report fault (refusal_of _ _ _ _ fault (λ at why refused. inl (refused, untouched, each)) (λ u. (u, (ap archive.failures untouched, unfailed))) r)
 
   pub archives_refused : (fault : CommandFault) → IsFrames frames → Unfailed frames → IsRefusal (AreRefused archive others) (AreUnfailed archive others) fault → Takes report [] → EndsInOrder (Err fault)
   archives_refused fault listed unfailed r = together_refused Makes _ _ report fault (refusal_of _ _ _ _ fault (λ at why refused. inr (listed, unfailed, refused)) (λ u. (unfailed, u)) r)

@@ -7,7 +7,7 @@ ghost use Rattle.command_core.specs.Outputs.{writer};
 
 use archive_core::Archive;
 use archive_reading::Under;
-use byte_device::{CannotOpen, Sink, Source};
+use byte_device::{Sink, Source};
 use command_core::{CommandFault, Status, found_status, publish_report, read_parts};
 use memory::Heap;
 use report_text::find_lines;
@@ -29,8 +29,8 @@ fn bytes_of(uuid: Uuid) -> [u8; 16]
 /// `Input` for the first archive that is refused; `Report` where the report failed; `OutOfMemory`.
 pub fn run_find<A: Archive + Drop, R: Source, P: Sink>(
     heap: Heap,
-    archive: &mut Result<R, CannotOpen>,
-    others: &mut [Result<R, CannotOpen>],
+    archive: &mut R,
+    others: &mut [R],
     uuid: &Uuid,
     report: &mut P,
 ) -> Result<Status, CommandFault>

@@ -8,7 +8,7 @@ ghost use Rattle.command_core.specs.Outputs.{writer};
 
 use crate::asked_frames::{AskedKeys, FrameQuestions, in_key_order};
 use archive_core::Archive;
-use byte_device::{CannotOpen, Sink, Source};
+use byte_device::{Sink, Source};
 use command_core::{CommandFault, Status, answer_all, answer_archives, publish_bytes, read_crash};
 use line_inputs::Frame;
 use memory::{Heap, NoMemory};
@@ -36,8 +36,8 @@ fn tell_frames<A: Archive + Drop, R: Source>(
     heap: &Heap,
     lines: bool,
     frames: &[Frame],
-    archive: &mut Result<R, CannotOpen>,
-    others: &mut [Result<R, CannotOpen>],
+    archive: &mut R,
+    others: &mut [R],
 ) -> Result<(Status, Vec<u8, Heap>), CommandFault>
     ensures { ReadsTogether (reader R.left R.failures archive.old archive.new)
         (readers R.left R.failures others.old others.new) result
@@ -71,9 +71,9 @@ fn tell_frames<A: Archive + Drop, R: Source>(
 pub fn run_frames<A: Archive + Drop, R: Source, P: Sink>(
     heap: Heap,
     lines: bool,
-    crash: &mut Result<R, CannotOpen>,
-    archive: &mut Result<R, CannotOpen>,
-    others: &mut [Result<R, CannotOpen>],
+    crash: &mut R,
+    archive: &mut R,
+    others: &mut [R],
     report: &mut P,
 ) -> Result<Status, CommandFault>
     ensures { EndsReport

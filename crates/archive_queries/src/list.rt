@@ -4,7 +4,7 @@ ghost use Rattle.command_core.specs.Inputs.{reader};
 ghost use Rattle.archive_queries.specs.List.{list};
 ghost use Rattle.command_core.specs.Outputs.{writer};
 
-use byte_device::{CannotOpen, Sink, Source};
+use byte_device::{Sink, Source};
 use command_core::{CommandFault, Status, found_status, publish_report, read_rows};
 use memory::Heap;
 use report_text::list_lines;
@@ -19,7 +19,7 @@ use report_text::list_lines;
 /// `Input` where the archive is refused; `Report` where the report failed; `OutOfMemory`.
 pub fn run_list<R: Source, P: Sink>(
     heap: Heap,
-    archive: &mut Result<R, CannotOpen>,
+    archive: &mut R,
     report: &mut P,
 ) -> Result<Status, CommandFault>
     ensures { EndsReport (list (reader R.left R.failures archive.old archive.new))

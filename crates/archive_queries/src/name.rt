@@ -9,8 +9,8 @@ ghost use Rattle.archive_queries.specs.InnerNames.{HaveAdded};
 ghost use Rattle.archive_queries.specs.Name.{Answers, underscored};
 
 use archive_reading::{NamesFound, NamesTold, SoughtNames, gather_names, live_names, read_names};
-use byte_device::{CannotOpen, Source};
-use command_core::{CommandFault, InputName, Status, found_status, opened, refusal};
+use byte_device::Source;
+use command_core::{CommandFault, InputName, Status, found_status, refusal};
 use memory::{Heap, NoMemory};
 use report_text::name_lines;
 
@@ -27,7 +27,7 @@ fn no_rows(heap: &Heap) -> NamesTold
 fn read_name_rows<R: Source>(
     heap: Heap,
     sought: SoughtNames<'_>,
-    input: &mut Result<R, CannotOpen>,
+    input: &mut R,
 ) -> Result<NamesTold, CommandFault>
     ensures { ReadsInput (reader R.left R.failures input.old input.new) result
         (λ input told. HoldsContent input
@@ -37,8 +37,7 @@ fn read_name_rows<R: Source>(
 {
     let at = InputName::Archive(0);
     let none = no_rows(&heap);
-    let source = opened(input, at)?;
-    match read_names(heap, none, sought, source) {
+    match read_names(heap, none, sought, input) {
         Ok(told) => Ok(told),
         Err(fault) => Err(refusal(at, fault)),
     }
@@ -50,15 +49,14 @@ fn gather_input<R: Source>(
     found: NamesFound,
     number: u64,
     sought: SoughtNames<'_>,
-    input: &mut Result<R, CannotOpen>,
+    input: &mut R,
 ) -> Result<NamesFound, CommandFault>
     ensures { ReadsInput (reader R.left R.failures input.old input.new) result
         (λ input now. HoldsContent input (λ o. AddsNames o sought.entry.name.now sought.entry.other.now found now))
         (IsRefusedArchive number) }
 {
     let at = InputName::Archive(number);
-    let source = opened(input, at)?;
-    match gather_names(heap, found, sought, source) {
+    match gather_names(heap, found, sought, input) {
         Ok(now) => Ok(now),
         Err(fault) => Err(refusal(at, fault)),
     }
@@ -70,7 +68,7 @@ fn gather_others<R: Source>(
     heap: &Heap,
     found: NamesFound,
     sought: SoughtNames<'_>,
-    others: &mut [Result<R, CannotOpen>],
+    others: &mut [R],
 ) -> Result<NamesFound, CommandFault>
     ensures { ReadsOthers (readers R.left R.failures others.old others.new) result
         (λ others now. HaveAdded others sought.entry.name.now sought.entry.other.now found now) }
@@ -87,8 +85,8 @@ fn gather_others<R: Source>(
 fn gather_rows<R: Source>(
     heap: &Heap,
     sought: SoughtNames<'_>,
-    archive: &mut Result<R, CannotOpen>,
-    others: &mut [Result<R, CannotOpen>],
+    archive: &mut R,
+    others: &mut [R],
 ) -> Result<NamesTold, CommandFault>
     ensures { ReadsTogether (reader R.left R.failures archive.old archive.new)
         (readers R.left R.failures others.old others.new) result
@@ -108,8 +106,8 @@ fn gather_rows<R: Source>(
 fn read_rows<R: Source>(
     heap: Heap,
     sought: SoughtNames<'_>,
-    archive: &mut Result<R, CannotOpen>,
-    others: &mut [Result<R, CannotOpen>],
+    archive: &mut R,
+    others: &mut [R],
 ) -> Result<NamesTold, CommandFault>
     ensures { ReadsTogether (reader R.left R.failures archive.old archive.new)
         (readers R.left R.failures others.old others.new) result
@@ -160,8 +158,8 @@ pub struct NameAnswer {
 /// `Input` for the first archive that is refused; `OutOfMemory`.
 pub fn answer_name<R: Source>(
     heap: Heap,
-    archive: &mut Result<R, CannotOpen>,
-    others: &mut [Result<R, CannotOpen>],
+    archive: &mut R,
+    others: &mut [R],
     sought: &[u8],
 ) -> Result<NameAnswer, CommandFault>
     ensures { ReadsTogether (reader R.left R.failures archive.old archive.new)

@@ -10,7 +10,7 @@ ghost use Rattle.archive_queries.specs.Symbolicate.{TellsAddresses, is_symbol, a
 use crate::sources::Sources;
 use archive_core::{Answer, Archive, SliceKey, Where};
 use archive_reading::Under;
-use byte_device::{CannotOpen, Sink, Source};
+use byte_device::{Sink, Source};
 use command_core::{CommandFault, Status, bytes_of, publish_report, read_parts};
 use memory::{Heap, NoMemory};
 use report_text::push_answer;
@@ -106,8 +106,8 @@ pub fn answer_each<A: Archive>(
 /// `Input` for the first archive that is refused; `Report` where the report failed; `OutOfMemory`.
 pub fn run_symbolicate<A: Archive + Drop, R: Source, P: Sink>(
     heap: Heap,
-    archive: &mut Result<R, CannotOpen>,
-    others: &mut [Result<R, CannotOpen>],
+    archive: &mut R,
+    others: &mut [R],
     key: &SliceKey,
     load: Option<u64>,
     lines: bool,

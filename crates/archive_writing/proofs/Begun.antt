@@ -1,6 +1,6 @@
 -- How a command ends that writes OUT as an input comes, with what its draft has where it is stopped, and how one ends
 -- that reads what is behind that input first, where that is refused or memory is wanting.
-use Rattle.std.proofs.Common.{ℕ, List, [], Option, Result, Ok, Err, refl, inl, inr, ◌≡◌, ◌⊎◌, ◌∷◌, ap}
+use Rattle.std.proofs.Common.{ℕ, List, [], Option, Result, Err, refl, inl, inr, ◌≡◌, ◌⊎◌, ◌∷◌, ap}
 use mathlib.Core.Logic.{⊎_map}
 use Rattle.std.specs.Prelude.{IfSome, ◌++◌}
 use Rattle.std.specs.Io.KnownBytes.{Appends}
@@ -15,11 +15,10 @@ use Rattle.command_core.specs.declared.faults.CommandFault.TheVariants.{Input, O
 use Rattle.command_core.specs.declared.faults.Status.{Status}
 use Rattle.command_core.specs.Ends.{Carries, EndsStreamed, IsStopped, Streamed, Command, HasFirst, MakesArchive, StopsAmidst, StopsInTurn, writes_in_turn}
 use Rattle.command_core.specs.Inputs.{Reader, EachKnown, Gives, IsKnown, IsRefusal, IsRefusedArchive, IsRefusedInTurn, IsWantedInTurn, TellsInTurn, Unfailed}
-use Rattle.command_core.specs.Inputs.{failures_of, reader}
+use Rattle.command_core.specs.Inputs.{reader}
 use Rattle.command_core.specs.Outputs.{Out, Publishes, Takes, Writer, IsKept}
 use Rattle.archive_writing.specs.Begun.{EndsBegun, HasBegun, IsUnfinished, begins_alone, begins_behind}
 use Rattle.archive_core.specs.Content.{Operations}
-use Rattle.byte_device.specs.declared.disks.CannotOpen.{CannotOpen}
 use Rattle.command_core.specs.declared.faults.InputName.{InputName}
 use Rattle.command_core.specs.declared.faults.Why.{Why}
 use Rattle.command_core.proofs.Amidst.{refused_in_turn}
@@ -101,7 +100,7 @@ module _ {R : Type 0} (Makes : Operations → List ℕ → Type 0) (input : Read
   -- what is behind it was refused, or memory wanted for it
   pub told_behind : (fault told : CommandFault) → IsRefusal IsRefusedBehind OthersUnfailed fault → TellsInTurn input fault told → IsKept out → Takes report [] → EndsSo (Err told)
   told_behind (Input at why) told r t = refused at why r told t
-  told_behind OutOfMemory told r t = rw t.0 (wanting (ap (failures_of input.failures) t.1) r)
+  told_behind OutOfMemory told r t = rw t.0 (wanting (ap input.failures t.1) r)
   told_behind fault told r t = absurd r
 
   -- what is behind it was read: as the command ends that reads the first input alone and makes the same of it
@@ -126,10 +125,9 @@ module _ {R : Type 0} (Makes : Operations → List ℕ → Type 0) (input : Read
 -- ---- inputs whose bytes are known
 
 -- bytes that are a text of one thing alone give one
-pub one_given : {S T : Type 0} (IsOf : T → List ℕ → Type 0) (left : S → Option (List ℕ)) (failures : S → ℕ) (old new : Result S CannotOpen) (x y : T) → ((text : List ℕ) → IsOf x text → IsOf y text → x ≡ y)
+pub one_given : {S T : Type 0} (IsOf : T → List ℕ → Type 0) (left : S → Option (List ℕ)) (failures : S → ℕ) (old new : S) (x y : T) → ((text : List ℕ) → IsOf x text → IsOf y text → x ≡ y)
     → IsKnown (reader left failures old new) → Gives (reader left failures old new) (IsOf x) → Gives (reader left failures old new) (IsOf y) → x ≡ y
-one_given IsOf left failures (Ok source) new x y one known h k = one known.0 (rw known.1 at h) (rw known.1 at k)
-one_given IsOf left failures (Err e) new x y one known h k = absurd h
+one_given IsOf left failures old new x y one known h k = one known.0 (rw known.1 at h) (rw known.1 at k)
 
 pub all_given : {S T : Type 0} (IsOf : T → List ℕ → Type 0) (Is : T → Type 0) → ((text : List ℕ) (x y : T) → Is x → Is y → IsOf x text → IsOf y text → x ≡ y) → (inputs : List (Reader S)) (xs ys : List T) → AllByRecursion Is xs → AllByRecursion Is ys → EachKnown inputs
     → AllZip (λ (input : Reader S) (x : T). Gives input (IsOf x)) inputs xs → AllZip (λ (input : Reader S) (x : T). Gives input (IsOf x)) inputs ys → xs ≡ ys

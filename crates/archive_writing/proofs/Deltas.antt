@@ -1,5 +1,5 @@
 -- What `delta` makes, by a copy of what a summary does not name.
-use Rattle.std.proofs.Common.{◌≡◌, ◌∙◌, ◌++◌, ℕ, List, [], Option, Result, Ok, refl, ap, sym, subst}
+use Rattle.std.proofs.Common.{◌≡◌, ◌∙◌, ◌++◌, ℕ, List, [], Option, Result, refl, ap, sym, subst}
 use mathlib.Core.Logic.{⊎_map}
 use Rattle.archive_core.specs.Summary.{Entries, delta}
 use Rattle.archive_records.specs.Entry.{AreEntries}
@@ -9,7 +9,6 @@ use Rattle.archive_records.specs.declared.fault.MergeFault.{MergeFault}
 use Rattle.archive_records.specs.declared.writing.Sizes.{Sizes}
 use Rattle.archive_records.specs.Text.{summary_text, written}
 use Rattle.archive_records.proofs.Inputs.{one_summary}
-use Rattle.byte_device.specs.declared.disks.CannotOpen.{CannotOpen}
 use Rattle.byte_device.specs.Devices.{Stream, stream}
 use Rattle.byte_device.specs.Writes.{WritesFirst}
 use Rattle.report_text.specs.Report.{archive_line}
@@ -27,11 +26,11 @@ use Rattle.archive_writing.specs.MergeStreams.{IsMergeFaultTold}
 use Rattle.archive_writing.proofs.Streamed.{archive_published}
 use Rattle.archive_writing.proofs.Begun.{one_given, read_behind}
 
--- ---- an archive that was opened
+-- ---- an archive
 
 module _ {R W : Type 0} (left : R → Option (List ℕ)) (failures : R → ℕ) (l l' : R) (held : W → Option (List ℕ)) (draft_failures : W → ℕ) (w w' : W) (s : Entries) where
   abbrev archive : Reader R
-  archive = reader left failures (Ok l) (Ok l')
+  archive = reader left failures l l'
 
   abbrev draft : Writer
   draft = writer held draft_failures w w'
@@ -43,12 +42,12 @@ module _ {R W : Type 0} (left : R → Option (List ℕ)) (failures : R → ℕ) 
   first : (e : MergeFault) → StopsCopy (stream left failures l l') (stream held draft_failures w w') s e → HasFirst (copying archive s) (IsKnown archive) draft e.written
   first e st known text told m =
       let made = m.makes in
-      let given = gives_known left failures (Ok l) (Ok l') made.before known made.archive_is in
+      let given = gives_known left failures l l' made.before known made.archive_is in
       subst (λ (t : List ℕ). WritesFirst (held w) (held w') t e.written) (sym (m.text_is ∙ ap written made.content_is)) (st.first made.before given.0 made.is_content given.1 given.2)
 
   stops : (cause : MergeCause) (n : ℕ) (fault : CommandFault) → StopsCopyBy (stream left failures l l') (stream held draft_failures w w') cause → HasFirst (copying archive s) (IsKnown archive) draft n
       → IsMergeFaultTold (record { cause = cause; written = n }) fault → StopsAmidst (copying archive s) (IsKnown archive) draft fault
-  stops (Left why) n (Input place says) st f t = ((t.0, (l', refl, why, t.1, t.2, st.0)), st.1, (n, f))
+  stops (Left why) n (Input place says) st f t = ((t.0, (why, t.1, t.2, st.0)), st.1, (n, f))
   stops (Left why) n (Output k) st f t = absurd (cc (ap (λ (e : MergeFault). e.cause) t))
   stops (Left why) n OutOfMemory st f t = (st.0.0.blames.1 (λ device. cc), st.1, (n, f))
   stops (Right why) n fault st f t = absurd st
@@ -73,7 +72,7 @@ module _ {R : Type 0} (archive : Reader R) (s : Entries) where
 
 -- ---- SUMMARY, and then ARCHIVE
 
-module _ {R S : Type 0} (archive : Reader R) (left : S → Option (List ℕ)) (failures : S → ℕ) (old new : Result S CannotOpen) (out : Out) (report : Writer) where
+module _ {R S : Type 0} (archive : Reader R) (left : S → Option (List ℕ)) (failures : S → ℕ) (old new : S) (out : Out) (report : Writer) where
   abbrev summary : Reader S
   summary = reader left failures old new
 

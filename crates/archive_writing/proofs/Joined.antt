@@ -45,7 +45,6 @@ use Rattle.archive_writing.specs.InnerTelling.{IsJoinedTelling, MakesTold, telli
 use Rattle.std.proofs.lemmas.List.{length-map}
 use Rattle.archive_core.proofs.Taken.{taken_are_joined, new_within}
 use Rattle.archive_records.proofs.Inputs.{one_operations}
-use Rattle.byte_device.specs.declared.disks.CannotOpen.{CannotOpen}
 use Rattle.sorted_archive.specs.InTurn.{AreNewInTurn}
 use Rattle.archive_writing.specs.Apply.{GivesOperations, MakesApplied, apply_as_it_comes}
 use Rattle.archive_core.specs.declared.keys.Digest.{Digest}
@@ -195,7 +194,7 @@ counts_all : (all sorted : List Operation) (number : ℕ) → AreNewInTurn all s
     → counts_of (map record_bytes sorted) number (changes o) ≡ apply_line (new_among o (map record_bytes all)) (length all - new_among o (map record_bytes all))
 counts_all all sorted number is number_is o made = rw (is.counted o made, number_is) refl
 
-module _ {R S : Type 0} (input : Reader R) (left : S → Option (List ℕ)) (failures : S → ℕ) (old new : Result S CannotOpen) (out : Out) (report : Writer) where
+module _ {R S : Type 0} (input : Reader R) (left : S → Option (List ℕ)) (failures : S → ℕ) (old new : S) (out : Out) (report : Writer) where
   abbrev ops : Reader S
   ops = reader left failures old new
 

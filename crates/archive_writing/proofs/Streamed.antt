@@ -28,7 +28,7 @@ use Rattle.command_core.specs.Outputs.{draft_of, out_of}
 use Rattle.command_core.proofs.Amidst.{gives_known, stopped_amidst, stops_alike}
 use Rattle.archive_writing.specs.Begun.{EndsBegun, HasBegun, IsUnfinished}
 use Rattle.archive_writing.specs.Joining.{IsAtHand, IsJoined, MakesJoin, joining}
-use Rattle.archive_writing.specs.MergeStreams.{IsMergeFaultTold, IsSide, StopsMerge, StopsMergeOfOne, merge_as_it_comes, merge_of_one}
+use Rattle.archive_writing.specs.MergeStreams.{IsMergeFaultTold, IsSide, StopsMergeOfOne, merge_as_it_comes, merge_of_one}
 use Rattle.archive_writing.proofs.Beginnings.{first_of_join}
 use Rattle.archive_writing.proofs.Begun.{begun, published, taken_begun}
 use Rattle.join_core.specs.Listing.{listing}
@@ -39,7 +39,6 @@ use Rattle.record_merge.specs.Arrivals.{arrival_of}
 use Rattle.record_merge.specs.declared.arrivals.Arrival.{Arrival}
 use Rattle.record_merge.proofs.Tellings.{one_set}
 use Rattle.archive_writing.specs.InnerTelling.{AreAtHand, IsJoinedTelling}
-use Rattle.byte_device.specs.declared.disks.CannotOpen.{CannotOpen}
 use Rattle.archive_writing.specs.Merge.{MakesMerged, merge_in_turn}
 use Rattle.command_core.proofs.Readers.{by_device}
 
@@ -85,7 +84,7 @@ join_published input p Makes draft sizes j lines makes out report result = archi
 
 -- what a draft has where a merge into it was stopped
 module _ {R S W : Type 0} (left : R → Option (List ℕ)) (failures : R → ℕ) (l l' : R) (other : Stream S) (held : W → Option (List ℕ)) (draft_failures : W → ℕ) (w w' : W) where
-  begun_by : (cause : MergeCause) (n : ℕ) → StopsBy (stream left failures l l') other (stream held draft_failures w w') cause n → Takes (writer held draft_failures w w') [] ⊎ (Unit {0} × HasBegun (reader left failures (Ok l) (Ok l')))
+  begun_by : (cause : MergeCause) (n : ℕ) → StopsBy (stream left failures l l') other (stream held draft_failures w w') cause n → Takes (writer held draft_failures w w') [] ⊎ (Unit {0} × HasBegun (reader left failures l l'))
   begun_by (Left why) n s = elim s.order [
     | inl magic ↦ inl (magic.0.2, s.out_unfailed)
     | inr behind ↦ inr (tt, taken_begun (stream left failures l l') behind.lefts behind.left_next behind.left_taken)
@@ -96,7 +95,7 @@ module _ {R S W : Type 0} (left : R → Option (List ℕ)) (failures : R → ℕ
   ]
   begun_by Write n s = inr (tt, s.left_begun)
 
-  pub unfinished_opened : (e : MergeFault) → Merges (stream left failures l l') other (stream held draft_failures w w') (Err e) → IsUnfinished (reader left failures (Ok l) (Ok l')) (Unit {0}) (writer held draft_failures w w')
+  pub unfinished_opened : (e : MergeFault) → Merges (stream left failures l l') other (stream held draft_failures w w') (Err e) → IsUnfinished (reader left failures l l') (Unit {0}) (writer held draft_failures w w')
   unfinished_opened e merges = record { no_text = merges.2; begun = begun_by e.cause e.written merges.0 }
 
 module _ {S : Type 0} (left2 : S → Option (List ℕ)) (failures2 : S → ℕ) (r r' : S) (p : Operations) (at : IsAtHand (stream left2 failures2 r r') p) where
@@ -112,11 +111,11 @@ module _ {S : Type 0} (left2 : S → Option (List ℕ)) (failures2 : S → ℕ) 
         | inr memory ↦ memory
       ]
 
-  -- ---- an archive that was opened
+  -- ---- an archive
 
   module _ {R W : Type 0} (left : R → Option (List ℕ)) (failures : R → ℕ) (l l' : R) (held : W → Option (List ℕ)) (draft_failures : W → ℕ) (w w' : W) where
     abbrev input : Reader R
-    input = reader left failures (Ok l) (Ok l')
+    input = reader left failures l l'
 
     abbrev draft : Writer
     draft = writer held draft_failures w w'
@@ -141,14 +140,14 @@ module _ {S : Type 0} (left2 : S → Option (List ℕ)) (failures2 : S → ℕ) 
     -- a first part of the join was written
     first : (e : MergeFault) → MergesSo (Err e) → HasFirst (joining input p) (IsKnown input) draft e.written
     first e merges known text told m =
-        let given = gives_known left failures (Ok l) (Ok l') m.content known m.archive in
+        let given = gives_known left failures l l' m.content known m.archive in
         subst (λ (t : List ℕ). WritesFirst (held w) (held w') t e.written) (sym m.text_is)
         (first_of_join (left l) (left2 r) (held w) (held w') e.written m.content p given.0 at.text m.is_content at.is_content given.1 at.is_text given.2 at.bytes merges.1)
 
     -- what stopped it stops the command
     stops : (cause : MergeCause) (n : ℕ) (fault : CommandFault) → StopsBy (stream left failures l l') other (stream held draft_failures w w') cause n → HasFirst (joining input p) (IsKnown input) draft n
         → IsMergeFaultTold (record { cause = cause; written = n }) fault → StopsAmidst (joining input p) (IsKnown input) draft fault
-    stops (Left why) n (Input place says) s f t = ((t.0, (l', refl, why, t.1, t.2, s.refused)), s.out_unfailed, (n, f))
+    stops (Left why) n (Input place says) s f t = ((t.0, (why, t.1, t.2, s.refused)), s.out_unfailed, (n, f))
     stops (Left why) n (Output k) s f t = absurd (cc (ap (λ (e : MergeFault). e.cause) t))
     stops (Left why) n OutOfMemory s f t = (s.refused.0.blames.1 (λ device. cc), s.out_unfailed, (n, f))
     stops (Right why) n (Input place says) s f t = absurd (t.2 (right_memory why s.refused))
@@ -183,7 +182,7 @@ makes_at_hand side operations at = record {
 
 module _ {S : Type 0} (left2 : S → Option (List ℕ)) (failures2 : S → ℕ) (r r' : S) (operations : Operations) (at : AreAtHand (stream left2 failures2 r r') operations)
     {R W : Type 0} (left : R → Option (List ℕ)) (failures : R → ℕ) (l l' : R) (held : W → Option (List ℕ)) (draft_failures : W → ℕ) (w w' : W) where
-  pub told_opened : (sizes : Sizes) (arrived : List Arrival) (withdraws : Bool) → IsMergedTelling (stream left failures l l') (stream left2 failures2 r r') (stream held draft_failures w w') sizes arrived withdraws → IsJoinedTelling (reader left failures (Ok l) (Ok l')) operations (stream held draft_failures w w') sizes arrived withdraws
+  pub told_opened : (sizes : Sizes) (arrived : List Arrival) (withdraws : Bool) → IsMergedTelling (stream left failures l l') (stream left2 failures2 r r') (stream held draft_failures w w') sizes arrived withdraws → IsJoinedTelling (reader left failures l l') operations (stream held draft_failures w w') sizes arrived withdraws
   unfolding joined_opened
   told_opened sizes arrived withdraws t =
       let has : HasOperations t.operations (old_written operations) = rw at.bytes at t.right_is in
@@ -194,14 +193,14 @@ module _ {S : Type 0} (left2 : S → Option (List ℕ)) (failures2 : S → ℕ) 
         withdraws_is = t.withdraws_is ∙ ap (λ (q : Operations). list_any (is_covered q) (listing t.merged.o)) same;
       }
 
--- ---- one FILE, which was opened, as IN was
+-- ---- one FILE
 
 module _ {R S D T : Type 0} (left : R → Option (List ℕ)) (failures : R → ℕ) (l l' : R) (left2 : S → Option (List ℕ)) (failures2 : S → ℕ) (r r' : S) (out : Outs D T) (report : Writer) where
   abbrev left_input : Reader R
-  left_input = reader left failures (Ok l) (Ok l')
+  left_input = reader left failures l l'
 
   abbrev right_input : Reader S
-  right_input = reader left2 failures2 (Ok r) (Ok r')
+  right_input = reader left2 failures2 r r'
 
   abbrev EndsSo : Result Status CommandFault → Type 0
   EndsSo result = EndsStreamed (merge_of_one left_input right_input (draft_of out)) (out_of out) report result
@@ -213,7 +212,7 @@ module _ {R S D T : Type 0} (left : R → Option (List ℕ)) (failures : R → �
     where
       is : (f : CommandFault) → IsMergeFaultTold e f → IsStopped (merge_of_one left_input right_input (draft_of out)) (out_of out) report f
       is f t = record {
-        stops = (l', r', refl, refl, record { stopped = e; merges = merges; count = count; told = t });
+        stops = record { stopped = e; merges = merges; count = count; told = t };
         bytes = count.0;
         took = count.1;
         count = λ n h. counted e f (length count.0) n (sym count.2) t h;
@@ -260,14 +259,11 @@ device_side left right out o p at why (Left fault) n t u co cp is_o is_p go gp s
 device_side left right out o p at why (Right fault) n t u co cp is_o is_p go gp s told = by_device fault why told.1 told.2 ((rw gp at s.refused.1) p cp is_p)
 device_side left right out o p at why Write n t u co cp is_o is_p go gp s told = absurd told
 
-module _ {R S D : Type 0} (left : R → Option (List ℕ)) (failures : R → ℕ) (left2 : S → Option (List ℕ)) (failures2 : S → ℕ) (new : Result R CannotOpen) (new2 : Result S CannotOpen) (draft : Stream D) where
-  abbrev StopsSo : Result R CannotOpen → Result S CannotOpen → CommandFault → Type 0
+module _ {R S D : Type 0} (left : R → Option (List ℕ)) (failures : R → ℕ) (left2 : S → Option (List ℕ)) (failures2 : S → ℕ) (new : R) (new2 : S) (draft : Stream D) where
+  abbrev StopsSo : R → S → CommandFault → Type 0
   StopsSo old old2 fault = StopsMergeOfOne (reader left failures old new) (reader left2 failures2 old2 new2) draft fault
 
-  pub one_device : (old : Result R CannotOpen) (old2 : Result S CannotOpen) (o p : Operations) (at : InputName) (why : Why) → IsContent o → IsContent p → IsGivenArchive (reader left failures old new) o → IsGivenArchive (reader left2 failures2 old2 new2) p
+  pub one_device : (old : R) (old2 : S) (o p : Operations) (at : InputName) (why : Why) → IsContent o → IsContent p → IsGivenArchive (reader left failures old new) o → IsGivenArchive (reader left2 failures2 old2 new2) p
       → StopsSo old old2 (Input at why) → IsDeviceFault why
-  one_device (Ok l) (Ok r) o p at why co cp go gp s =
-      let k : StopsMerge (stream left failures l s.0) (stream left2 failures2 r s.1) draft (Input at why) = s.4 in
-      device_side (stream left failures l s.0) (stream left2 failures2 r s.1) draft o p at why k.stopped.cause k.stopped.written go.0 gp.0 co cp go.1 gp.1 go.2 gp.2 k.merges.0 k.told
-  one_device (Ok l) (Err x) o p at why co cp go gp s = absurd gp.2
-  one_device (Err x) old2 o p at why co cp go gp s = absurd go.2
+  one_device old old2 o p at why co cp go gp s =
+      device_side (stream left failures old new) (stream left2 failures2 old2 new2) draft o p at why s.stopped.cause s.stopped.written go.0 gp.0 co cp go.1 gp.1 go.2 gp.2 s.merges.0 s.told

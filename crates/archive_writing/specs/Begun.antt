@@ -1,5 +1,5 @@
 -- OUT that is written as an input comes: when it is begun, and what its draft has where the command is stopped.
-use Rattle.std.specs.Prelude.{ℕ, List, [], IfSome, MatchResult, Result, ◌⊎◌}
+use Rattle.std.specs.Prelude.{ℕ, List, [], IfSome, Result, ◌⊎◌}
 use Rattle.std.specs.Io.KnownBytes.{Appends}
 use Rattle.byte_device.specs.Devices.{stream}
 use Rattle.record_merge.specs.Merging.{IsArchiveText, IsBegun}
@@ -9,12 +9,9 @@ use Rattle.command_core.specs.Ends.{Command, EndsStreamed, Streamed, writes_amid
 use Rattle.command_core.specs.Inputs.{IsKnown, Reader}
 use Rattle.command_core.specs.Outputs.{Out, Takes, Writer}
 
--- The input was opened, and the magic of an archive, of one version or the other, was taken of it.
+-- The magic of an archive, of one version or the other, was taken of the input.
 abbrev pub HasBegun : {R : Type 0} → Reader R → Type 0
-HasBegun input =
-    MatchResult input.old
-    (λ before. MatchResult input.new (λ after. IsBegun (stream input.left input.failures before after)) (λ _. ⊥))
-    (λ _. ⊥)
+HasBegun input = IsBegun (stream input.left input.failures input.old input.new)
 
 -- No bytes that the writer took are an archive's text, where it tells its bytes.
 abbrev pub TakesNoText : Writer → Type 0

@@ -1,19 +1,19 @@
 -- `merge` of one FILE: the two archives are merged as they come.
-use Rattle.std.specs.Prelude.{◌≡◌, ◌≢◌, List, [], ◌∷◌, Ok, Err, MatchResult}
+use Rattle.std.specs.Prelude.{◌≡◌, ◌≢◌, List, [], ◌∷◌, Err}
 use Rattle.archive_records.specs.declared.fault.MergeCause.{MergeCause}
 use Rattle.archive_records.specs.declared.fault.MergeCause.TheVariants.{Left, Right, Write}
 use Rattle.archive_records.specs.declared.fault.MergeFault.{MergeFault}
 use Rattle.archive_records.specs.declared.fault.RecordFaultKind.TheVariants.{OutOfMemory as RecordOutOfMemory}
 use Rattle.byte_device.specs.Devices.{Stream, stream}
-use Rattle.record_merge.specs.Merging.{Gains, GainsCount, IsUnfailed, Merges}
+use Rattle.record_merge.specs.Merging.{GainsCount, Merges}
 use Rattle.command_core.specs.declared.faults.CommandFault.{CommandFault}
 use Rattle.command_core.specs.declared.faults.CommandFault.TheVariants.{Input, Output, Report, OutOfMemory}
 use Rattle.command_core.specs.declared.faults.InputName.{InputName}
 use Rattle.command_core.specs.declared.faults.InputName.TheVariants.{Archive}
 use Rattle.command_core.specs.declared.faults.Why.{Why}
-use Rattle.command_core.specs.declared.faults.Why.TheVariants.{Record, CannotOpen as NotOpened}
+use Rattle.command_core.specs.declared.faults.Why.TheVariants.{Record}
 use Rattle.command_core.specs.Ends.{MakesArchive, Streamed}
-use Rattle.command_core.specs.Inputs.{EachUnfailed, IsUntouched, Reader, Unfailed}
+use Rattle.command_core.specs.Inputs.{EachUnfailed, Reader, Unfailed}
 use Rattle.command_core.specs.Outputs.{Outs, draft_of, out_of}
 use Rattle.archive_writing.specs.Merge.{MakesMerged, merge_in_turn}
 
@@ -45,25 +45,11 @@ pub record StopsMerge {R S D : Type 0} (left : Stream R) (right : Stream S) (dra
   pub count : GainsCount draft stopped.written
   pub told : IsMergeFaultTold stopped fault
 
--- This input was not opened: nothing was read, and the draft has nothing.
-pub record IsUnopened {R S D : Type 0} (input : Reader R) (file : Reader S) (at : InputName) (draft : Stream D)
-    (fault : CommandFault) : Type 0 where
-  pub told : fault ≡ Input at NotOpened
-  pub input_untouched : IsUntouched input
-  pub file_untouched : IsUntouched file
-  pub nothing_taken : Gains draft []
-  pub draft_unfailed : IsUnfailed draft
-
--- what stops the command: the first input that was not opened, or what stops the merge of both
+-- what stops the command: what stops the merge of both
 abbrev pub StopsMergeOfOne : {R S D : Type 0} → Reader R → Reader S → Stream D → CommandFault → Type 0
-StopsMergeOfOne {R = R} {S = S} input file draft fault =
-    MatchResult input.old
-    (λ left. MatchResult file.old
-    (λ right. (left_new : R) × (right_new : S) × (input.new ≡ Ok left_new) × (file.new ≡ Ok right_new)
-    × StopsMerge (stream input.left input.failures left left_new) (stream file.left file.failures right right_new)
-    draft fault)
-    (λ _. IsUnopened input file (Archive 1) draft fault))
-    (λ _. IsUnopened input file (Archive 0) draft fault)
+StopsMergeOfOne input file draft fault =
+    StopsMerge (stream input.left input.failures input.old input.new)
+    (stream file.left file.failures file.old file.new) draft fault
 
 -- `merge` of one FILE
 abbrev pub merge_of_one : {R S D : Type 0} → Reader R → Reader S → Stream D → Streamed

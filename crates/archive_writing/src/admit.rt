@@ -25,7 +25,7 @@ use crate::slicing::slice_file;
 use crate::telling::tell_operations;
 use admission::TakeFault;
 use archive_core::Slice;
-use byte_device::{CannotOpen, Output, Sink, Source, Target};
+use byte_device::{Output, Sink, Source, Target};
 use command_core::{
     CommandFault, InputName, Status, Why, publish_draft, read_file, refused_behind,
 };
@@ -59,7 +59,7 @@ fn admit_file<S: Source>(
     heap: &Heap,
     arrivals: &mut Arrivals,
     index: u64,
-    file: &mut Result<S, CannotOpen>,
+    file: &mut S,
 ) -> Result<(), CommandFault>
     ensures { ReadsInput (reader S.left S.failures file.old file.new) result (λ file _. (bytes : List ℕ)
         × IsAcceptedFile bytes
@@ -78,10 +78,7 @@ fn admit_file<S: Source>(
     Ok(())
 }
 
-fn admit_files<S: Source>(
-    heap: &Heap,
-    files: &mut [Result<S, CannotOpen>],
-) -> Result<Arrivals, CommandFault>
+fn admit_files<S: Source>(heap: &Heap, files: &mut [S]) -> Result<Arrivals, CommandFault>
     ensures { let known = readers S.left S.failures files.old files.new in
         ReadsInputs result (λ arrivals. HasCome known arrivals.came arrivals.first_rows.items arrivals.rows.items)
         (IsFirstRefused File IsAccepted IsFileRefused known) (EachUnfailed known) }
@@ -126,7 +123,7 @@ fn tell_arrivals(
 /// has, or retires, is known. Of each that IN retires a note is added.
 fn write_admitted<R: Source, T: Target, P: Sink>(
     heap: Heap,
-    input: &mut Result<R, CannotOpen>,
+    input: &mut R,
     arrivals: Arrivals,
     notes: &mut Vec<Note, Heap>,
     out: &mut Output<T::Draft, T>,
@@ -160,8 +157,8 @@ fn write_admitted<R: Source, T: Target, P: Sink>(
 /// failed; `OutOfMemory`.
 pub fn run_admit<R: Source, S: Source, T: Target, P: Sink>(
     heap: Heap,
-    input: &mut Result<R, CannotOpen>,
-    files: &mut [Result<S, CannotOpen>],
+    input: &mut R,
+    files: &mut [S],
     notes: &mut Vec<Note, Heap>,
     out: &mut Output<T::Draft, T>,
     report: &mut P,

@@ -16,7 +16,7 @@ ghost use Rattle.command_core.specs.Outputs.{out_of, outs, writer};
 
 use crate::telling::tell_operations;
 use archive_core::Operation;
-use byte_device::{CannotOpen, Output, Sink, Source, Target};
+use byte_device::{Output, Sink, Source, Target};
 use command_core::{CommandFault, Status, publish_draft, read_operations, refused_behind};
 use memory::Heap;
 use record_merge::number_of_new;
@@ -27,7 +27,7 @@ use sorted_archive::new_in_turn;
 /// were new and how many were known, and the sizes.
 fn write_applied<R: Source, T: Target, P: Sink>(
     heap: Heap,
-    input: &mut Result<R, CannotOpen>,
+    input: &mut R,
     operations: &[Operation],
     number: u64,
     out: &mut Output<T::Draft, T>,
@@ -50,10 +50,7 @@ fn write_applied<R: Source, T: Target, P: Sink>(
 
 /// Reads OPS, and gives those of its operations that are new in their turn among them, in the order of their records,
 /// and how many it has.
-fn read_new<S: Source>(
-    heap: Heap,
-    ops: &mut Result<S, CannotOpen>,
-) -> Result<(Vec<Operation, Heap>, u64), CommandFault>
+fn read_new<S: Source>(heap: Heap, ops: &mut S) -> Result<(Vec<Operation, Heap>, u64), CommandFault>
     ensures { ReadsInput (reader S.left S.failures ops.old ops.new) result
         (λ ops both. HasNewOf ops both.0.items both.1) IsRefusedOps }
 {
@@ -74,8 +71,8 @@ fn read_new<S: Source>(
 /// failed; `OutOfMemory`.
 pub fn run_apply<R: Source, S: Source, T: Target, P: Sink>(
     heap: Heap,
-    input: &mut Result<R, CannotOpen>,
-    ops: &mut Result<S, CannotOpen>,
+    input: &mut R,
+    ops: &mut S,
     out: &mut Output<T::Draft, T>,
     report: &mut P,
 ) -> Result<Status, CommandFault>

@@ -11,24 +11,21 @@ ghost use Rattle.command_core.specs.Outputs.{out_of, outs, writer};
 use crate::copying::copy_unnamed;
 use crate::joining::command_fault_of;
 use archive_records::{Sizes, Summary};
-use byte_device::{CannotOpen, Output, Sink, Source, Target};
-use command_core::{
-    CommandFault, InputName, Status, opened, publish_draft, read_summary_input, refused_behind,
-};
+use byte_device::{Output, Sink, Source, Target};
+use command_core::{CommandFault, Status, publish_draft, read_summary_input, refused_behind};
 use memory::Heap;
 
 /// Copies what the summary does not name of ARCHIVE into the draft.
 fn copy_input<R: Source, W: Sink>(
     heap: Heap,
-    archive: &mut Result<R, CannotOpen>,
+    archive: &mut R,
     named: &Summary,
     draft: &mut W,
 ) -> Result<Sizes, CommandFault>
     ensures { WritesAmidst (λ archive. copying archive named.now) (λ archive. IsUnnamed archive named.now)
         (reader R.left R.failures archive.old archive.new) (stream W.held W.failures draft.old draft.new) result }
 {
-    let source = opened(archive, InputName::Archive(0))?;
-    match copy_unnamed(heap, named, source, draft) {
+    match copy_unnamed(heap, named, archive, draft) {
         Ok(sizes) => Ok(sizes),
         Err(fault) => Err(command_fault_of(fault)),
     }
@@ -36,7 +33,7 @@ fn copy_input<R: Source, W: Sink>(
 
 fn write_unnamed<R: Source, T: Target, P: Sink>(
     heap: Heap,
-    archive: &mut Result<R, CannotOpen>,
+    archive: &mut R,
     named: &Summary,
     out: &mut Output<T::Draft, T>,
     report: &mut P,
@@ -61,8 +58,8 @@ fn write_unnamed<R: Source, T: Target, P: Sink>(
 /// failed; `OutOfMemory`.
 pub fn run_delta<R: Source, S: Source, T: Target, P: Sink>(
     heap: Heap,
-    archive: &mut Result<R, CannotOpen>,
-    summary: &mut Result<S, CannotOpen>,
+    archive: &mut R,
+    summary: &mut S,
     out: &mut Output<T::Draft, T>,
     report: &mut P,
 ) -> Result<Status, CommandFault>

@@ -5,8 +5,8 @@ ghost use Rattle.archive_writing.specs.Joining.{IsAtHand, JoinsAmidst};
 ghost use Rattle.archive_writing.specs.MergeStreams.{IsMergeFaultTold};
 
 use archive_records::{MergeCause, MergeFault, Sizes};
-use byte_device::{CannotOpen, Sink, Source};
-use command_core::{CommandFault, InputName, opened, refusal};
+use byte_device::{Sink, Source};
+use command_core::{CommandFault, InputName, refusal};
 use memory::Heap;
 use record_merge::merge_streams;
 
@@ -24,15 +24,14 @@ pub fn command_fault_of(fault: MergeFault) -> CommandFault
 /// Merges IN's archive with the one at hand into the draft.
 pub fn join_input<R: Source, S: Source, W: Sink>(
     heap: &Heap,
-    input: &mut Result<R, CannotOpen>,
+    input: &mut R,
     other: &mut S,
     draft: &mut W,
 ) -> Result<Sizes, CommandFault>
     ensures { JoinsAmidst (IsAtHand (stream S.left S.failures other.old other.new))
         (reader R.left R.failures input.old input.new) (stream W.held W.failures draft.old draft.new) result }
 {
-    let left = opened(input, InputName::Archive(0))?;
-    match merge_streams(heap, left, other, draft) {
+    match merge_streams(heap, input, other, draft) {
         Ok(sizes) => Ok(sizes),
         Err(fault) => Err(command_fault_of(fault)),
     }

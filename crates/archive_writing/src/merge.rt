@@ -1,5 +1,5 @@
 //! `merge IN OUT FILE...`.
-ghost use Rattle.std.specs.Prelude.{◌≡◌, ◌+◌, Ok, Some, OnOk, IfOk, IfErr};
+ghost use Rattle.std.specs.Prelude.{◌≡◌, ◌+◌, Some, OnOk, IfOk, IfErr};
 ghost use Rattle.std.specs.FinSet as set;
 ghost use Rattle.archive_core.specs.Content.{Operations, IsContent, joined};
 ghost use Rattle.archive_records.specs.Text.{written};
@@ -16,10 +16,8 @@ ghost use Rattle.command_core.specs.Outputs.{draft_of, out_of, outs, writer};
 use crate::joining::{command_fault_of, join_input};
 use archive_core::{Archive, take_all};
 use archive_records::write_archive;
-use byte_device::{Bytes, CannotOpen, Grown, Output, Sink, Source, Target};
-use command_core::{
-    CommandFault, InputName, Status, opened, publish_draft, read_input, refused_behind,
-};
+use byte_device::{Bytes, Grown, Output, Sink, Source, Target};
+use command_core::{CommandFault, Status, publish_draft, read_input, refused_behind};
 use memory::Heap;
 use record_merge::merge_streams;
 
@@ -28,7 +26,7 @@ fn join_file<A: Archive + Drop, S: Source>(
     heap: Heap,
     archive: &mut A,
     number: u64,
-    file: &mut Result<S, CannotOpen>,
+    file: &mut S,
 ) -> Result<(), CommandFault>
     ensures { ReadsInput (reader S.left S.failures file.old file.new) result
         (λ file _. HoldsContent file (λ o. A.content archive.new ≡ joined (A.content archive.old) o))
@@ -43,7 +41,7 @@ fn join_file<A: Archive + Drop, S: Source>(
 fn join_files<A: Archive + Drop, S: Source>(
     heap: &Heap,
     archive: &mut A,
-    files: &mut [Result<S, CannotOpen>],
+    files: &mut [S],
 ) -> Result<(), CommandFault>
     ensures { ReadsOthers (readers S.left S.failures files.old files.new) result
         (λ files _. HasJoined files (A.content archive.old) (A.content archive.new)) }
@@ -68,7 +66,7 @@ fn text_in_memory<A: Archive>(heap: &Heap, archive: &A) -> Result<Grown, Command
 
 fn joined_text<A: Archive + Drop, S: Source>(
     heap: &Heap,
-    files: &mut [Result<S, CannotOpen>],
+    files: &mut [S],
 ) -> Result<Grown, CommandFault>
     ensures { ReadsOthers (readers S.left S.failures files.old files.new) result
         (λ files text. (p : Operations) × IsContent p × (⟦<Grown as Sink>⟧.held text ≡ Some (written p))
@@ -82,7 +80,7 @@ fn joined_text<A: Archive + Drop, S: Source>(
 /// Writes the join of IN's archive with the one of this text to OUT as IN comes, and its sizes to the report.
 fn merge_text<R: Source, T: Target, P: Sink>(
     heap: Heap,
-    input: &mut Result<R, CannotOpen>,
+    input: &mut R,
     text: &[u8],
     out: &mut Output<T::Draft, T>,
     report: &mut P,
@@ -102,8 +100,8 @@ fn merge_text<R: Source, T: Target, P: Sink>(
 /// joined first, and then IN goes to OUT as it comes.
 fn merge_in_turn<A: Archive + Drop, R: Source, S: Source, T: Target, P: Sink>(
     heap: Heap,
-    input: &mut Result<R, CannotOpen>,
-    files: &mut [Result<S, CannotOpen>],
+    input: &mut R,
+    files: &mut [S],
     out: &mut Output<T::Draft, T>,
     report: &mut P,
 ) -> Result<Status, CommandFault>
@@ -118,29 +116,11 @@ fn merge_in_turn<A: Archive + Drop, R: Source, S: Source, T: Target, P: Sink>(
     }
 }
 
-/// Merges two archives into OUT as they come, and writes the sizes to the report.
-fn merge_opened<R: Source, S: Source, T: Target, P: Sink>(
-    heap: Heap,
-    left: &mut R,
-    right: &mut S,
-    out: &mut Output<T::Draft, T>,
-    report: &mut P,
-) -> Result<Status, CommandFault>
-    ensures { let known = outs T.Draft.held T.Draft.failures T.published T.failures out.old out.new in
-        EndsStreamed (merge_of_one (reader R.left R.failures (Ok left.old) (Ok left.new))
-        (reader S.left S.failures (Ok right.old) (Ok right.new)) (draft_of known)) (out_of known)
-        (writer P.held P.failures report.old report.new) result }
-{
-    match merge_streams(&heap, left, right, &mut out.draft) {
-        Ok(sizes) => publish_draft(String::new(heap), sizes, out, report),
-        Err(fault) => Err(command_fault_of(fault)),
-    }
-}
-
+/// Merges IN's archive with that of the one file into OUT as they come, and writes the sizes to the report.
 fn merge_one<R: Source, S: Source, T: Target, P: Sink>(
     heap: Heap,
-    input: &mut Result<R, CannotOpen>,
-    file: &mut Result<S, CannotOpen>,
+    input: &mut R,
+    file: &mut S,
     out: &mut Output<T::Draft, T>,
     report: &mut P,
 ) -> Result<Status, CommandFault>
@@ -149,9 +129,10 @@ fn merge_one<R: Source, S: Source, T: Target, P: Sink>(
         (reader S.left S.failures file.old file.new) (draft_of known)) (out_of known)
         (writer P.held P.failures report.old report.new) result }
 {
-    let left = opened(input, InputName::Archive(0))?;
-    let right = opened(file, InputName::Archive(1))?;
-    merge_opened(heap, left, right, out, report)
+    match merge_streams(&heap, input, file, &mut out.draft) {
+        Ok(sizes) => publish_draft(String::new(heap), sizes, out, report),
+        Err(fault) => Err(command_fault_of(fault)),
+    }
 }
 
 /// Writes the join of IN's archive with that of each file to OUT, and its sizes to the report. With one file the two
@@ -162,12 +143,12 @@ fn merge_one<R: Source, S: Source, T: Target, P: Sink>(
 /// # Errors
 ///
 /// `Input` for the first archive that is refused, IN being archive 0 and the first file archive 1; with one file for
-/// the first that cannot be opened, or else the one that stops their merge.
+/// the one that stops their merge.
 /// `Output` and `Report` where that writer failed; `OutOfMemory`.
 pub fn run_merge<A: Archive + Drop, R: Source, S: Source, T: Target, P: Sink>(
     heap: Heap,
-    input: &mut Result<R, CannotOpen>,
-    files: &mut [Result<S, CannotOpen>],
+    input: &mut R,
+    files: &mut [S],
     out: &mut Output<T::Draft, T>,
     report: &mut P,
 ) -> Result<Status, CommandFault>

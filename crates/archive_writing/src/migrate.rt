@@ -8,7 +8,7 @@ ghost use Rattle.archive_writing.specs.Migrate.{migrate_as_it_comes};
 ghost use Rattle.command_core.specs.Outputs.{out_of, outs, writer};
 
 use crate::joining::join_input;
-use byte_device::{Bytes, CannotOpen, Output, Sink, Source, Target};
+use byte_device::{Bytes, Output, Sink, Source, Target};
 use command_core::{CommandFault, Status, publish_draft};
 use memory::Heap;
 
@@ -27,7 +27,7 @@ fn empty_text() -> [u8; 17]
 /// `Input` where the archive is refused; `Output` and `Report` where that writer failed; `OutOfMemory`.
 pub fn run_migrate<R: Source, T: Target, P: Sink>(
     heap: Heap,
-    input: &mut Result<R, CannotOpen>,
+    input: &mut R,
     out: &mut Output<T::Draft, T>,
     report: &mut P,
 ) -> Result<Status, CommandFault>

@@ -14,7 +14,7 @@ use crate::notes::{Note, note_missing};
 use crate::telling::tell_operations;
 use archive_core::{Digest, Operation, SliceKey};
 use archive_records::Sizes;
-use byte_device::{CannotOpen, Output, Sink, Source, Target};
+use byte_device::{Output, Sink, Source, Target};
 use command_core::{CommandFault, Status, publish_draft};
 use memory::Heap;
 use report_text::retire_line;
@@ -40,7 +40,7 @@ struct Written {
 /// slice.
 fn retire_input<R: Source, W: Sink>(
     heap: &Heap,
-    input: &mut Result<R, CannotOpen>,
+    input: &mut R,
     key: &SliceKey,
     digest: &Digest,
     draft: &mut W,
@@ -67,7 +67,7 @@ fn retire_input<R: Source, W: Sink>(
 /// `Input` where the archive is refused; `Output` and `Report` where that writer failed; `OutOfMemory`.
 pub fn run_retire<R: Source, T: Target, P: Sink>(
     heap: Heap,
-    input: &mut Result<R, CannotOpen>,
+    input: &mut R,
     key: SliceKey,
     digest: Digest,
     notes: &mut Vec<Note, Heap>,

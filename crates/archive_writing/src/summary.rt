@@ -4,7 +4,7 @@ ghost use Rattle.command_core.specs.Inputs.{reader};
 ghost use Rattle.command_core.specs.Outputs.{out_of, outs, writer};
 ghost use Rattle.archive_writing.specs.Summary.{summary};
 
-use byte_device::{CannotOpen, Output, Sink, Source, Target};
+use byte_device::{Output, Sink, Source, Target};
 use command_core::{CommandFault, Status, publish_summary, read_entries};
 use memory::Heap;
 
@@ -15,7 +15,7 @@ use memory::Heap;
 /// `Input` where the archive is refused; `Output` and `Report` where that writer failed; `OutOfMemory`.
 pub fn run_summary<R: Source, T: Target, P: Sink>(
     heap: Heap,
-    archive: &mut Result<R, CannotOpen>,
+    archive: &mut R,
     out: &mut Output<T::Draft, T>,
     report: &mut P,
 ) -> Result<Status, CommandFault>

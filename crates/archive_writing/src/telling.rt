@@ -15,15 +15,15 @@ ghost use Rattle.archive_writing.specs.Joining.{WritesAmidst, joining};
 use crate::joining::command_fault_of;
 use archive_core::Operation;
 use archive_records::Sizes;
-use byte_device::{CannotOpen, Sink, Source};
-use command_core::{CommandFault, InputName, opened};
+use byte_device::{Sink, Source};
+use command_core::CommandFault;
 use memory::Heap;
 use record_merge::{BorrowedSide, BorrowedText, Told, merge_telling};
 
 /// Merges IN's archive with operations that stand in memory into the draft, and tells what each is to IN.
 pub fn tell_operations<R: Source, W: Sink>(
     heap: &Heap,
-    input: &mut Result<R, CannotOpen>,
+    input: &mut R,
     operations: &[Operation],
     draft: &mut W,
 ) -> Result<(Sizes, Told), CommandFault>
@@ -35,8 +35,7 @@ pub fn tell_operations<R: Source, W: Sink>(
         (reader R.left R.failures input.old input.new) (stream W.held W.failures draft.old draft.new) result }
 {
     let mut text = BorrowedText::new(operations);
-    let left = opened(input, InputName::Archive(0))?;
-    match merge_telling::<R, BorrowedText<'_>, BorrowedSide<'_>, W>(heap, left, &mut text, draft) {
+    match merge_telling::<R, BorrowedText<'_>, BorrowedSide<'_>, W>(heap, input, &mut text, draft) {
         Ok(told) => Ok(told),
         Err(fault) => Err(command_fault_of(fault)),
     }

@@ -50,7 +50,7 @@ impl<'a> Disk for Desk<'a> {
 }
 
 /// An input of a line, which stands at its place among those of the words.
-pub type Input<'l, 'a> = Result<AtTurn<'l, Desk<'a>>, CannotOpen>;
+pub type Input<'l, 'a> = AtTurn<'l, Desk<'a>>;
 
 /// Makes an input for each of these paths, of which the first so many have memory to be opened.
 pub fn make_inputs<'l, 'a>(
@@ -62,7 +62,7 @@ pub fn make_inputs<'l, 'a>(
     ensures { OnOk result (AreWaiting told (map (λ p. p.now) paths.now) inputs.new.items) }
 {
     'paths: for path in paths {
-        inputs.push(Ok(AtTurn::new(desk, path)))?;
+        inputs.push(AtTurn::new(desk, path))?;
         desk.limits.opened = desk.limits.opened.saturating_sub(1);
     }
     Ok(())

@@ -1,10 +1,9 @@
 -- How a command ends that writes while its inputs come, from what its parts did.
-use Rattle.std.proofs.Common.{◌≡◌, ◌<◌, ℕ, List, [], length, Option, Result, Ok, Err, subst, sym, inl, inr, ◌⊎◌, arith}
+use Rattle.std.proofs.Common.{◌≡◌, ◌<◌, ℕ, List, [], length, Option, Result, Err, subst, sym, inl, inr, ◌⊎◌, arith}
 use Rattle.std.specs.Io.KnownBytes.{Appends}
 use Rattle.byte_device.specs.Writes.{WritesFirst}
 use Rattle.archive_records.specs.Text.{written}
 use Rattle.archive_core.specs.Content.{Operations}
-use Rattle.byte_device.specs.declared.disks.CannotOpen.{CannotOpen}
 use Rattle.command_core.specs.declared.faults.CommandFault.{CommandFault}
 use Rattle.command_core.specs.declared.faults.CommandFault.TheVariants.{Input, Output, Report, OutOfMemory}
 use Rattle.command_core.specs.declared.faults.InputName.{InputName}
@@ -38,10 +37,9 @@ module _ (Makes Others : List ℕ → List ℕ → Type 0) (Refuses RefusesToo :
   stops_alike OutOfMemory s = (unfailed s.0, s.1, (s.2.0, λ k text told m. s.2.1 (known k) text told (makes text told m)))
 
 -- an archive whose bytes are known and that holds a content gives it
-pub gives_known : {S : Type 0} (left : S → Option (List ℕ)) (failures : S → ℕ) (old new : Result S CannotOpen) (o : Operations)
+pub gives_known : {S : Type 0} (left : S → Option (List ℕ)) (failures : S → ℕ) (old new : S) (o : Operations)
     → IsKnown (reader left failures old new) → HoldsArchive (reader left failures old new) o → IsGivenArchive (reader left failures old new) o
-gives_known left failures (Ok source) new o known holds = (known.0, rw known.1 at holds, known.1)
-gives_known left failures (Err e) new o known holds = absurd holds
+gives_known left failures old new o known holds = (known.0, rw known.1 at holds, known.1)
 
 -- ---- nothing was written
 

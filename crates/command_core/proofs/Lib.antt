@@ -2,7 +2,6 @@ pub mod Readers
 pub mod Archives
 pub mod Endings
 pub mod Amidst
-pub mod BorrowedSources
 pub mod Given
 pub mod Parts
 pub mod Alike

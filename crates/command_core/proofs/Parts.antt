@@ -17,7 +17,6 @@ use Rattle.archive_core.proofs.Picked.{part_alike}
 use Rattle.archive_core.specs.declared.keys.SliceKey.{SliceKey}
 use Rattle.archive_core.proofs.Members.{in_rest}
 use Rattle.archive_reading.specs.Keys.{first_key}
-use Rattle.byte_device.specs.declared.disks.CannotOpen.{CannotOpen}
 use Rattle.command_core.proofs.Archives.{each_archive, hold_more}
 use Rattle.command_core.proofs.Readers.{all_more, none_failed, none_touched}
 use Rattle.command_core.specs.Archives.{AreRefused, AreUnfailed, HoldTogether, ReadsTogether, further_name, merged}
@@ -144,7 +143,7 @@ together_refused Makes Refuses NoneFailed report (Report _) r t = absurd r
 together_refused Makes Refuses NoneFailed report fault r t = (r, t)
 
 -- memory was wanted before an archive was read
-pub wanting_first : {R S T : Type 0} (archive : Reader R) (left : S → Option (List ℕ)) (failures : S → ℕ) (others : List (Result S CannotOpen)) (IsTrue : T → Operations → Type 0) (result : Result T CommandFault) → IsErrAnd result (λ fault. fault ≡ OutOfMemory) → Unfailed archive
+pub wanting_first : {R S T : Type 0} (archive : Reader R) (left : S → Option (List ℕ)) (failures : S → ℕ) (others : List S) (IsTrue : T → Operations → Type 0) (result : Result T CommandFault) → IsErrAnd result (λ fault. fault ≡ OutOfMemory) → Unfailed archive
     → ReadsTogether archive (readers left failures others others) result IsTrue
 wanting_first archive left failures others IsTrue result is unfailed = let p = err_from_is_err_and result is in rw (p.1, p.2) (unfailed, none_failed left failures others)
 
@@ -161,7 +160,7 @@ together_tells archive others IsAlike IsTrue tells held = record {
 }
 
 -- with one archive what is true of its content is true of the join
-alone : {R : Type 0} (left : R → Option (List ℕ)) (failures : R → ℕ) (archive : Reader R) (others : List (Result R CannotOpen)) (IsTrue : Operations → Type 0) → others ≡ [] → HoldsContent archive IsTrue
+alone : {R : Type 0} (left : R → Option (List ℕ)) (failures : R → ℕ) (archive : Reader R) (others : List R) (IsTrue : Operations → Type 0) → others ≡ [] → HoldsContent archive IsTrue
     → HoldTogether archive (readers left failures others others) IsTrue
 alone left failures archive others IsTrue none held = rw none (record {
   content = held.content;
@@ -176,7 +175,7 @@ alone left failures archive others IsTrue none held = rw none (record {
 pub no_others : {X : Type 0} (xs : List X) (empty : Bool) → empty ≡ nat_eq (length xs) 0 → empty ≡ true → xs ≡ []
 no_others xs empty is holds = nil_from_length xs (eqb-true (length xs) 0 (sym is ∙ holds))
 
-pub alone_told : {R T : Type 0} (left : R → Option (List ℕ)) (failures : R → ℕ) (archive : Reader R) (others : List (Result R CannotOpen)) (IsTrue : T → Operations → Type 0) (result : Result T CommandFault) → others ≡ []
+pub alone_told : {R T : Type 0} (left : R → Option (List ℕ)) (failures : R → ℕ) (archive : Reader R) (others : List R) (IsTrue : T → Operations → Type 0) (result : Result T CommandFault) → others ≡ []
     → ReadsInput archive result (λ input told. HoldsContent input (IsTrue told)) (IsRefusedArchive 0) → ReadsTogether archive (readers left failures others others) result IsTrue
 alone_told left failures archive others IsTrue (Ok told) none read = record { is = alone left failures archive others (IsTrue told) none read.is; unfailed = (read.unfailed, none_failed left failures others) }
 alone_told left failures archive others IsTrue (Err fault) none refused = first_refused archive (readers left failures others others) fault refused (none_touched left failures others) (none_failed left failures others)

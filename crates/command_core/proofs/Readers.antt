@@ -1,14 +1,13 @@
 -- The inputs of a list, one more of which was read.
-use Rattle.std.proofs.Common.{◌≡◌, ℕ, zero, suc, ◌+◌, ◌<◌, List, [], ◌∷◌, ◌++◌, length, take, drop, get_or, set, Option, Some, Result, refl, sym, ap, ◌∙◌, subst, arith, inl, inr}
+use Rattle.std.proofs.Common.{◌≡◌, ℕ, zero, suc, ◌+◌, ◌<◌, List, [], ◌∷◌, ◌++◌, length, take, drop, get_or, set, Option, Some, refl, sym, ap, ◌∙◌, subst, arith, inl, inr}
 use Rattle.std.proofs.lemmas.List.{length-take, get_or-drop, drop-set-lt, drop-drop, get_or-set_same, take-set, take_more_set}
 use Rattle.std.specs.Prelude.{slice_get}
 use Rattle.std.proofs.lemmas.Option.{slice_get-get_or}
 use Rattle.std.proofs.Math.ListN.{length-set}
 use Rattle.std.specs.List.{AllByRecursion, AllZip}
 pub use Rattle.archive_core.proofs.Members.{pairs_more}
-use Rattle.byte_device.specs.declared.disks.CannotOpen.{CannotOpen}
 use Rattle.command_core.specs.declared.faults.CommandFault.{CommandFault}
-use Rattle.command_core.specs.declared.faults.CommandFault.TheVariants.{Input, Output, Report, OutOfMemory}
+use Rattle.command_core.specs.declared.faults.CommandFault.TheVariants.{Input, OutOfMemory}
 use Rattle.command_core.specs.declared.faults.InputName.{InputName}
 use Rattle.command_core.specs.declared.faults.Why.{Why}
 use Rattle.command_core.specs.Inputs.{Reader, reader, readers, Unfailed, EachUnfailed, EachUntouched, IsRefusal, IsFirstRefused, IsDeviceFault}
@@ -52,62 +51,62 @@ pairs_long R (x ∷ xs) (y ∷ ys) all = ap suc (pairs_long R xs ys all.1)
 pairs_long R xs ys all = absurd all
 
 module _ {S : Type 0} (left : S → Option (List ℕ)) (failures : S → ℕ) where
-  abbrev between : List (Result S CannotOpen) → List (Result S CannotOpen) → List (Reader S)
+  abbrev between : List S → List S → List (Reader S)
   between old now = readers left failures old now
 
-  pub readers_long : (old now : List (Result S CannotOpen)) → length now ≡ length old → length (between old now) ≡ length old
+  pub readers_long : (old now : List S) → length now ≡ length old → length (between old now) ≡ length old
   readers_long [] now long = refl
   readers_long (x ∷ xs) [] long = long
   readers_long (x ∷ xs) (y ∷ ys) long = let rest : length ys ≡ length xs = omega arith in ap suc (readers_long xs ys rest)
 
   -- one more input was read
-  pub set_one : (old now : List (Result S CannotOpen)) (place : ℕ) (file after : Result S CannotOpen) → place < length old → length now ≡ length old → file ≡ get_or old place file
+  pub set_one : (old now : List S) (place : ℕ) (file after : S) → place < length old → length now ≡ length old → file ≡ get_or old place file
       → between old (set now place after) ≡ set (between old now) place (reader left failures file after)
   set_one [] now place file after lt long is = absurd (omega (arith, lt))
   set_one (x ∷ xs) [] place file after lt long is = absurd (omega (arith, long))
-  set_one (x ∷ xs) (y ∷ ys) zero file after lt long is = ap (λ (f : Result S CannotOpen). reader left failures f after ∷ between xs ys) (sym is)
+  set_one (x ∷ xs) (y ∷ ys) zero file after lt long is = ap (λ (f : S). reader left failures f after ∷ between xs ys) (sym is)
   set_one (x ∷ xs) (y ∷ ys) (suc place) file after lt long is =
       let shorter : place < length xs = omega (arith, lt) in
       let rest : length ys ≡ length xs = omega (arith, long) in
       ap (λ (rs : List (Reader S)). reader left failures x y ∷ rs) (set_one xs ys place file after shorter rest is)
 
   -- those that were read up to a place, with the one at it
-  pub one_more : (old now : List (Result S CannotOpen)) (place : ℕ) (file after : Result S CannotOpen) → place < length old → length now ≡ length old → file ≡ get_or old place file
+  pub one_more : (old now : List S) (place : ℕ) (file after : S) → place < length old → length now ≡ length old → file ≡ get_or old place file
       → take (place + 1) (between old (set now place after)) ≡ take place (between old now) ++ reader left failures file after ∷ []
   one_more old now place file after lt long is =
       let within : place < length (between old now) = subst (λ (n : ℕ). place < n) (sym (readers_long old now long)) lt in
       ap (take (place + 1)) (set_one old now place file after lt long is) ∙ take_more_set (between old now) place (reader left failures file after) within
 
-  pub read_to : (old now : List (Result S CannotOpen)) (place : ℕ) → place < length old → length now ≡ length old → length (take place (between old now)) ≡ place
+  pub read_to : (old now : List S) (place : ℕ) → place < length old → length now ≡ length old → length (take place (between old now)) ≡ place
   read_to old now place lt long =
       let within : place < length (between old now) = subst (λ (n : ℕ). place < n) (sym (readers_long old now long)) lt in
       length-take place (between old now) ∙ omega (arith, within)
 
   -- all were read
-  pub all_read : (old now : List (Result S CannotOpen)) → length now ≡ length old → take (length old) (between old now) ≡ between old now
+  pub all_read : (old now : List S) → length now ≡ length old → take (length old) (between old now) ≡ between old now
   all_read (x ∷ xs) (y ∷ ys) long = let rest : length ys ≡ length xs = omega (arith, long) in ap (λ (rs : List (Reader S)). reader left failures x y ∷ rs) (all_read xs ys rest)
   all_read old now long = refl
 
-  pub none_failed : (files : List (Result S CannotOpen)) → EachUnfailed (between files files)
+  pub none_failed : (files : List S) → EachUnfailed (between files files)
   none_failed [] = tt
   none_failed (file ∷ files) = (refl, none_failed files)
 
-  pub unfailed_more : (old now : List (Result S CannotOpen)) (place : ℕ) (file after : Result S CannotOpen) → place < length old → length now ≡ length old → file ≡ get_or old place file
+  pub unfailed_more : (old now : List S) (place : ℕ) (file after : S) → place < length old → length now ≡ length old → file ≡ get_or old place file
       → EachUnfailed (between old now) → Unfailed (reader left failures file after) → EachUnfailed (between old (set now place after))
   unfailed_more old now place file after lt long is each one =
       subst (λ (rs : List (Reader S)). EachUnfailed rs) (sym (set_one old now place file after lt long is)) (all_set (λ (r : Reader S). Unfailed r) (between old now) place (reader left failures file after) each one)
 
-  pub none_touched : (files : List (Result S CannotOpen)) → EachUntouched (between files files)
+  pub none_touched : (files : List S) → EachUntouched (between files files)
   none_touched [] = tt
   none_touched (file ∷ files) = (refl, none_touched files)
 
-  pub untouched_behind : (old now : List (Result S CannotOpen)) (n : ℕ) → drop n now ≡ drop n old → EachUntouched (drop n (between old now))
-  untouched_behind old now zero same = subst (λ (l : List (Result S CannotOpen)). EachUntouched (between old l)) (sym same) (none_touched old)
+  pub untouched_behind : (old now : List S) (n : ℕ) → drop n now ≡ drop n old → EachUntouched (drop n (between old now))
+  untouched_behind old now zero same = subst (λ (l : List S). EachUntouched (between old l)) (sym same) (none_touched old)
   untouched_behind (x ∷ xs) (y ∷ ys) (suc n) same = untouched_behind xs ys n same
   untouched_behind old now n same = tt
 
   -- the input at a place is refused, those before it being accepted
-  pub refused_at : (asked_of : ℕ → InputName) (IsGood : Reader S → Type 0) (IsRefused : Reader S → Why → Type 0) (old now : List (Result S CannotOpen)) (place : ℕ) (file after : Result S CannotOpen) (fault : CommandFault)
+  pub refused_at : (asked_of : ℕ → InputName) (IsGood : Reader S → Type 0) (IsRefused : Reader S → Why → Type 0) (old now : List S) (place : ℕ) (file after : S) (fault : CommandFault)
       → place < length old → length now ≡ length old → file ≡ get_or old place file
       → AllByRecursion IsGood (take place (between old now)) → drop place now ≡ drop place old → EachUnfailed (between old now)
       → IsRefusal (λ at why. (at ≡ asked_of place) × IsRefused (reader left failures file after) why) (Unfailed (reader left failures file after)) fault

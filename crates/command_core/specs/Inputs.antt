@@ -1,6 +1,6 @@
 -- The inputs of a command: what they hold, which are refused, and why.
 use Rattle.std.specs.Prelude.{◌≡◌, ◌≢◌, ℕ, ◌+◌, Bool, List, map, take, drop, zip, Option, Some}
-use Rattle.std.specs.Prelude.{IfSome, Result, Ok, Err, MatchResult, slice_get, ◌⊎◌}
+use Rattle.std.specs.Prelude.{IfSome, Result, Ok, Err, slice_get, ◌⊎◌}
 use Rattle.std.specs.List.{AllByRecursion}
 use Rattle.byte_device.specs.Devices.{FailedIn}
 use Rattle.archive_core.specs.Content.{Operations, IsContent}
@@ -23,7 +23,6 @@ use Rattle.line_inputs.specs.Frames.{frames_of}
 use Rattle.line_inputs.specs.declared.frame.Frame.{Frame}
 use Rattle.line_inputs.specs.ScriptFlaws.{script_flaw}
 use Rattle.line_inputs.specs.Script.{script_of}
-use Rattle.byte_device.specs.declared.disks.CannotOpen.{CannotOpen}
 use Rattle.command_core.specs.declared.faults.CommandFault.{CommandFault}
 use Rattle.command_core.specs.declared.faults.CommandFault.TheVariants.{Input, Output, Report, OutOfMemory}
 use Rattle.command_core.specs.declared.faults.InputName.{InputName}
@@ -35,46 +34,41 @@ use Rattle.command_core.specs.declared.faults.Why.TheVariants.{CannotOpen as Not
 use Rattle.command_core.specs.declared.faults.Why.TheVariants.{Index as IndexFaulty, Damaged, NoArchive, NoIndex}
 use Rattle.command_core.specs.declared.faults.Why.TheVariants.{NoLines, Stale}
 
--- An input in a call, before it and after it: a reader, or that none was opened. The functions tell what a reader has
--- left, where that is known, and how often it has failed.
+-- An input in a call, before it and after it. The functions tell what it has left, where that is known, and how often
+-- it has failed.
 pub record Reader (S : Type 0) : Type 0 where
   pub left : S → Option (List ℕ)
   pub failures : S → ℕ
-  pub old : Result S CannotOpen
-  pub new : Result S CannotOpen
+  pub old : S
+  pub new : S
 
 -- the input between these two states
-abbrev pub reader : {S : Type 0} → (S → Option (List ℕ)) → (S → ℕ) → Result S CannotOpen → Result S CannotOpen
+abbrev pub reader : {S : Type 0} → (S → Option (List ℕ)) → (S → ℕ) → S → S
     → Reader S
 reader left failures old new = record { left = left; failures = failures; old = old; new = new }
 
 -- the inputs of a list, each between its two states
 abbrev pub readers : {S : Type 0} → (S → Option (List ℕ)) → (S → ℕ)
-    → List (Result S CannotOpen) → List (Result S CannotOpen) → List (Reader S)
+    → List S → List S → List (Reader S)
 readers left failures old new = map (λ states. reader left failures states.0 states.1) (zip old new)
 
--- The input was opened, and this is true of its bytes, where they are known.
+-- This is true of the input's bytes, where they are known.
 abbrev pub Gives : {S : Type 0} → Reader S → (List ℕ → Type 0) → Type 0
-Gives input IsTrue = MatchResult input.old (λ source. IfSome (input.left source) IsTrue) (λ _. ⊥)
+Gives input IsTrue = IfSome (input.left input.old) IsTrue
 
--- The input was opened and holds these bytes, where its own are known.
+-- The input holds these bytes, where its own are known.
 abbrev pub Holds : {S : Type 0} → Reader S → List ℕ → Type 0
 Holds input bytes = Gives input (λ text. text ≡ bytes)
 
--- The input was opened and is an archive's text that gives this content, where its bytes are known.
+-- The input is an archive's text that gives this content, where its bytes are known.
 abbrev pub HoldsArchive : {S : Type 0} → Reader S → Operations → Type 0
 HoldsArchive input o = Gives input (IsArchiveOf o)
 
--- how often the reader of an input has failed
-abbrev pub failures_of : {S : Type 0} → (S → ℕ) → Result S CannotOpen → ℕ
-failures_of failures (Ok source) = failures source
-failures_of failures (Err _) = 0
-
--- The input's reader did not fail in the call.
+-- The input did not fail in the call.
 abbrev pub Unfailed : {S : Type 0} → Reader S → Type 0
-Unfailed input = failures_of input.failures input.new ≡ failures_of input.failures input.old
+Unfailed input = input.failures input.new ≡ input.failures input.old
 
--- No reader of these failed.
+-- None of these failed.
 abbrev pub EachUnfailed : {S : Type 0} → List (Reader S) → Type 0
 EachUnfailed inputs = AllByRecursion Unfailed inputs
 
@@ -86,15 +80,12 @@ IsUntouched input = input.new ≡ input.old
 abbrev pub EachUntouched : {S : Type 0} → List (Reader S) → Type 0
 EachUntouched inputs = AllByRecursion IsUntouched inputs
 
--- why the text of such a file is not read: it was not opened; or reading the whole of it, which leaves it open, is
--- refused for this fault, which is not want of memory
+-- why the text of such a file is not read: reading the whole of it is refused for this fault, which is not want of
+-- memory
 abbrev pub IsTextRefused : {S : Type 0} → TextKind → Reader S → Why → Type 0
 IsTextRefused {S = S} kind input why =
-    MatchResult input.old
-    (λ source. (after : S) × (input.new ≡ Ok after) × (fault : RecordFault) × (why ≡ Record fault)
-    × (fault.kind ≢ RecordOutOfMemory)
-    × ReadsWhole {T = Meaning kind} kind (λ meaning. meaning) input.left input.failures source after (Err fault))
-    (λ _. (why ≡ NotOpened) × IsUntouched input)
+    (fault : RecordFault) × (why ≡ Record fault) × (fault.kind ≢ RecordOutOfMemory)
+    × ReadsWhole {T = Meaning kind} kind (λ meaning. meaning) input.left input.failures input.old input.new (Err fault)
 
 -- why an archive is not read
 abbrev pub IsArchiveRefused : {S : Type 0} → Reader S → Why → Type 0
@@ -108,20 +99,17 @@ IsOpsRefused input why = IsTextRefused OperationsFile input why
 abbrev pub IsSummaryRefused : {S : Type 0} → Reader S → Why → Type 0
 IsSummaryRefused input why = IsTextRefused SummaryFile input why
 
--- why a file is not taken: it was not opened, the reader failed, or it did not and its bytes have this fault
+-- why a file is not taken: its reader failed, or it did not and its bytes have this fault
 abbrev pub IsFileRefused : {S : Type 0} → Reader S → Why → Type 0
 IsFileRefused input why =
-    MatchResult input.old
-    (λ source. ((why ≡ CannotRead) × FailedIn (input.failures source) (failures_of input.failures input.new))
+    ((why ≡ CannotRead) × FailedIn (input.failures input.old) (input.failures input.new))
     ⊎ ((fault : TakeFault) × (why ≡ Take fault) × (fault ≢ TakeOutOfMemory) × Unfailed input
-    × IfSome (input.left source) (λ bytes. IsTakeFault bytes fault)))
-    (λ _. (why ≡ NotOpened) × IsUntouched input)
+    × Gives input (λ bytes. IsTakeFault bytes fault))
 
--- why the bytes of an input are not read: it was not opened, or the reader failed
+-- why the bytes of an input are not read: its reader failed
 abbrev pub IsUnread : {S : Type 0} → Reader S → Why → Type 0
-IsUnread input NotOpened = MatchResult input.old (λ _. ⊥) (λ _. IsUntouched input)
-IsUnread input CannotRead =
-    MatchResult input.old (λ source. FailedIn (input.failures source) (failures_of input.failures input.new)) (λ _. ⊥)
+IsUnread input NotOpened = ⊥
+IsUnread input CannotRead = FailedIn (input.failures input.old) (input.failures input.new)
 IsUnread input (Record _) = ⊥
 IsUnread input (Take _) = ⊥
 IsUnread input (Faulty _ _ _) = ⊥
@@ -138,7 +126,7 @@ IsUnread input NoIndex = ⊥
 -- why a script is not carried out: its bytes are not read, or they are and this is wrong with their first faulty
 -- line, which has this flaw
 abbrev pub IsScriptRefused : {S : Type 0} → Reader S → Why → Type 0
-IsScriptRefused input NotOpened = IsUnread input NotOpened
+IsScriptRefused input NotOpened = ⊥
 IsScriptRefused input CannotRead = IsUnread input CannotRead
 IsScriptRefused input (Record _) = ⊥
 IsScriptRefused input (Take _) = ⊥
@@ -157,7 +145,7 @@ IsScriptRefused input NoIndex = ⊥
 -- why nothing is told of frames: their bytes are not read, or they are and this is their first faulty line, with its
 -- flaw
 abbrev pub IsFramesRefused : {S : Type 0} → Reader S → Why → Type 0
-IsFramesRefused input NotOpened = IsUnread input NotOpened
+IsFramesRefused input NotOpened = ⊥
 IsFramesRefused input CannotRead = IsUnread input CannotRead
 IsFramesRefused input (Record _) = ⊥
 IsFramesRefused input (Take _) = ⊥
@@ -291,11 +279,11 @@ TellsInTurn input (Output n) told = (told ≡ Output n) × IsUntouched input
 TellsInTurn input (Report n) told = (told ≡ Report n) × IsUntouched input
 TellsInTurn input OutOfMemory told = (told ≡ OutOfMemory) × IsUntouched input
 
--- The input was opened, and these are its bytes.
+-- These are the input's bytes.
 abbrev pub IsGiven : {S : Type 0} → Reader S → List ℕ → Type 0
-IsGiven input bytes = MatchResult input.old (λ source. input.left source ≡ Some bytes) (λ _. ⊥)
+IsGiven input bytes = input.left input.old ≡ Some bytes
 
--- The input was opened, and its bytes are known.
+-- The input's bytes are known.
 abbrev pub IsKnown : {S : Type 0} → Reader S → Type 0
 IsKnown input = (bytes : List ℕ) × IsGiven input bytes
 
@@ -303,7 +291,7 @@ IsKnown input = (bytes : List ℕ) × IsGiven input bytes
 abbrev pub EachKnown : {S : Type 0} → List (Reader S) → Type 0
 EachKnown inputs = AllByRecursion IsKnown inputs
 
--- The input was opened, and its bytes are an archive's text that gives this content.
+-- The input's bytes are an archive's text that gives this content.
 abbrev pub IsGivenArchive : {S : Type 0} → Reader S → Operations → Type 0
 IsGivenArchive input o = (text : List ℕ) × IsArchiveOf o text × IsGiven input text
 

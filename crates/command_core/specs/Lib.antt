@@ -5,6 +5,5 @@ pub mod Outputs
 pub mod Ends
 pub mod Statuses
 pub mod Found
-pub mod InnerSources
 pub mod Together
 pub mod InnerTogether

@@ -1,6 +1,6 @@
 //! What all commands have: their inputs, the words for what they read, and how one ends.
 //!
-//! A command reads its inputs, each opened beforehand and refused in the order of the words, and writes OUT, as its
+//! A command reads its inputs, each refused in the order of the words, and writes OUT, as its
 //! first input comes or after all were read. OUT is published when it is whole, and after that comes the report.
 //!
 //! - `faults`: how a command ends, and why one is refused;
@@ -31,9 +31,8 @@ pub use faults::{CommandFault, InputName, Status, Why};
 pub use outputs::publish_output;
 pub use publishing::{publish, publish_bytes, publish_draft, publish_report, publish_summary};
 pub use sources::{
-    answer_input, opened, read_crash, read_entries, read_events, read_file, read_input,
-    read_input_part, read_operations, read_rows, read_summary_input, refusal, refused_behind,
-    test_input,
+    answer_input, read_crash, read_entries, read_events, read_file, read_input, read_input_part,
+    read_operations, read_rows, read_summary_input, refusal, refused_behind, test_input,
 };
 pub use statuses::{found_status, status_of};
 pub use together::{answer_all, answer_archives, bytes_of, join_part, read_parts};

@@ -1,6 +1,5 @@
-//! The inputs of a command, each opened beforehand and refused at its turn.
-ghost use Rattle.std.specs.Prelude.{◌≡◌, ◌≢◌, [], Ok, IsErrAnd, IsOkAnd, MatchResult};
-ghost use Rattle.std.specs.Borrow.{sem};
+//! The inputs of a command, each read and refused at its turn.
+ghost use Rattle.std.specs.Prelude.{◌≡◌, ◌≢◌, [], Ok};
 ghost use Rattle.archive_core.specs.Content.{IsContent, Operations};
 ghost use Rattle.archive_core.specs.Lists.{IsList};
 ghost use Rattle.archive_core.specs.Summary.{summary};
@@ -11,11 +10,10 @@ ghost use Rattle.archive_records.specs.Text.{IsOperationsText, summary_text};
 ghost use Rattle.line_inputs.specs.Frames.{frames_of};
 ghost use Rattle.line_inputs.specs.Script.{acts, script_of};
 ghost use Rattle.command_core.specs.declared.faults.CommandFault.TheVariants.{Input};
-ghost use Rattle.command_core.specs.declared.faults.Why.TheVariants.{CannotOpen as NotOpened, Record};
+ghost use Rattle.command_core.specs.declared.faults.Why.TheVariants.{Record};
 ghost use Rattle.command_core.specs.Inputs.{Gives, Holds, HoldsArchive, HoldsContent, HoldsPart, IsArchive, IsRefusal};
 ghost use Rattle.command_core.specs.Inputs.{IsRefusedArchive, IsRefusedFile, IsRefusedFrames, IsRefusedOps};
 ghost use Rattle.command_core.specs.Inputs.{IsRefusedScript, IsRefusedSummary, IsUnread, ReadsInput, TellsInTurn, reader};
-ghost use Rattle.command_core.specs.InnerSources.{LendsSource};
 
 use crate::faults::{CommandFault, InputName, Why};
 use archive_core::{Archive, FindRow, Operation};
@@ -25,23 +23,11 @@ use archive_reading::{
 };
 use archive_records::{RecordFault, RecordFaultKind, Summary, read_summary};
 use archive_words::line_at;
-use byte_device::{CannotOpen, ReadFault, Source, read_to_end};
+use byte_device::{ReadFault, Source, read_to_end};
 use line_inputs::{
     Frame, FramesError, Script, ScriptError, frame_flaw, read_frames, read_script, script_flaw,
 };
 use memory::Heap;
-
-/// The source of an input, or its refusal where it could not be opened.
-pub fn opened<S>(input: &mut Result<S, CannotOpen>, at: InputName) -> Result<&mut S, CommandFault>
-    ensures* lends { sem 𝓛 (LendsSource S.row input.entry result) }
-    ensures source { MatchResult input.old (λ source. IsOkAnd result (λ borrowed. borrowed.now ≡ source))
-        (λ _. IsErrAnd result (λ fault. fault ≡ Input at NotOpened)) }
-{
-    match input {
-        Ok(source) => Ok(source),
-        Err(_) => Err(CommandFault::Input(at, Why::CannotOpen)),
-    }
-}
 
 /// The refusal of an input, whose text has this fault or whose reader failed.
 pub fn refusal(at: InputName, fault: RecordFault) -> CommandFault
@@ -68,38 +54,28 @@ macro_rules! or_refused {
 pub fn read_input<A: Archive + Drop, R: Source>(
     heap: Heap,
     index: u64,
-    input: &mut Result<R, CannotOpen>,
+    input: &mut R,
 ) -> Result<A, CommandFault>
     ensures { ReadsInput (reader R.left R.failures input.old input.new) result
         (λ input archive. IsContent (A.content archive) × HoldsArchive input (A.content archive))
         (IsRefusedArchive index) }
 {
     let at = InputName::Archive(index);
-    let source = opened(input, at)?;
-    or_refused!(at, read_archive(heap, source))
+    or_refused!(at, read_archive(heap, input))
 }
 
 /// Reads the archive of this number among those of the words to its end, and keeps nothing of it.
-pub fn test_input<R: Source>(
-    heap: Heap,
-    index: u64,
-    input: &mut Result<R, CannotOpen>,
-) -> Result<(), CommandFault>
+pub fn test_input<R: Source>(heap: Heap, index: u64, input: &mut R) -> Result<(), CommandFault>
     ensures { ReadsInput (reader R.left R.failures input.old input.new) result (λ input _. IsArchive input)
         (IsRefusedArchive index) }
 {
     let at = InputName::Archive(index);
-    let source = opened(input, at)?;
-    or_refused!(at, test_archive(heap, source))
+    or_refused!(at, test_archive(heap, input))
 }
 
 /// What is told where this was told of an input behind the archive: if that one is refused, its refusal, after the
 /// archive was tested to its end, or the archive's own fault, if it has one.
-pub fn refused_behind<R: Source>(
-    heap: Heap,
-    input: &mut Result<R, CannotOpen>,
-    fault: CommandFault,
-) -> CommandFault
+pub fn refused_behind<R: Source>(heap: Heap, input: &mut R, fault: CommandFault) -> CommandFault
     ensures { TellsInTurn (reader R.left R.failures input.old input.new) fault result }
 {
     match fault {
@@ -116,21 +92,20 @@ pub fn read_input_part<A: Archive + Drop, S: Selects, R: Source>(
     heap: Heap,
     index: u64,
     select: &S,
-    input: &mut Result<R, CannotOpen>,
+    input: &mut R,
 ) -> Result<A, CommandFault>
     ensures { ReadsInput (reader R.left R.failures input.old input.new) result
         (λ input archive. HoldsPart input (S.picked select.now) (A.content archive)) (IsRefusedArchive index) }
 {
     let at = InputName::Archive(index);
-    let source = opened(input, at)?;
-    or_refused!(at, read_part(heap, select, source))
+    or_refused!(at, read_part(heap, select, input))
 }
 
 /// Reads the archive that questions are put to, and answers these.
 pub fn answer_input<A: Archive + Drop, Q: Questions + Drop, R: Source>(
     heap: Heap,
     questions: Q,
-    input: &mut Result<R, CannotOpen>,
+    input: &mut R,
 ) -> Result<Q, CommandFault>
     requires order { AreInOrder (Q.left questions) }
     requires start { (o : Operations) → Q.answered questions o questions }
@@ -139,46 +114,36 @@ pub fn answer_input<A: Archive + Drop, Q: Questions + Drop, R: Source>(
         (IsRefusedArchive 0) }
 {
     let at = InputName::Archive(0);
-    let source = opened(input, at)?;
-    or_refused!(at, answer_by_key::<A, Q, R>(heap, questions, source))
+    or_refused!(at, answer_by_key::<A, Q, R>(heap, questions, input))
 }
 
 /// Reads the archive that is listed, and gives its rows.
-pub fn read_rows<R: Source>(
-    heap: Heap,
-    input: &mut Result<R, CannotOpen>,
-) -> Result<Vec<FindRow, Heap>, CommandFault>
+pub fn read_rows<R: Source>(heap: Heap, input: &mut R) -> Result<Vec<FindRow, Heap>, CommandFault>
     ensures { ReadsInput (reader R.left R.failures input.old input.new) result
         (λ input rows. HoldsContent input (λ o. IsList o rows.items)) (IsRefusedArchive 0) }
 {
     let at = InputName::Archive(0);
-    let source = opened(input, at)?;
-    or_refused!(at, list_rows(heap, source))
+    or_refused!(at, list_rows(heap, input))
 }
 
 /// Reads the archive that is summarized, and gives its summary.
-pub fn read_entries<R: Source>(
-    heap: Heap,
-    input: &mut Result<R, CannotOpen>,
-) -> Result<Summary, CommandFault>
+pub fn read_entries<R: Source>(heap: Heap, input: &mut R) -> Result<Summary, CommandFault>
     ensures { ReadsInput (reader R.left R.failures input.old input.new) result
         (λ input entries. HoldsContent input (λ o. entries ≡ summary o)) (IsRefusedArchive 0) }
 {
     let at = InputName::Archive(0);
-    let source = opened(input, at)?;
-    or_refused!(at, summarize(heap, source))
+    or_refused!(at, summarize(heap, input))
 }
 
 fn read_bytes<S: Source>(
     heap: Heap,
     at: InputName,
-    input: &mut Result<S, CannotOpen>,
+    input: &mut S,
 ) -> Result<Vec<u8, Heap>, CommandFault>
     ensures { ReadsInput (reader S.left S.failures input.old input.new) result (λ input bytes. Holds input bytes.items)
         (λ input name why. (name ≡ at) × IsUnread input why) }
 {
-    let source = opened(input, at)?;
-    match read_to_end(heap, source) {
+    match read_to_end(heap, input) {
         Ok(bytes) => Ok(bytes),
         Err(ReadFault::Device) => Err(CommandFault::Input(at, Why::Device)),
         Err(ReadFault::OutOfMemory) => Err(CommandFault::OutOfMemory),
@@ -188,7 +153,7 @@ fn read_bytes<S: Source>(
 pub fn read_file<S: Source>(
     heap: Heap,
     index: u64,
-    file: &mut Result<S, CannotOpen>,
+    file: &mut S,
 ) -> Result<Vec<u8, Heap>, CommandFault>
     ensures { ReadsInput (reader S.left S.failures file.old file.new) result (λ file bytes. Holds file bytes.items)
         (IsRefusedFile index) }
@@ -198,34 +163,26 @@ pub fn read_file<S: Source>(
 
 pub fn read_operations<S: Source>(
     heap: Heap,
-    ops: &mut Result<S, CannotOpen>,
+    ops: &mut S,
 ) -> Result<Vec<Operation, Heap>, CommandFault>
     ensures { ReadsInput (reader S.left S.failures ops.old ops.new) result
         (λ ops operations. Gives ops (λ text. IsOperationsText text operations.items)) IsRefusedOps }
 {
     let at = InputName::Ops;
-    let source = opened(ops, at)?;
-    or_refused!(at, read_ops(heap, source))
+    or_refused!(at, read_ops(heap, ops))
 }
 
 /// Reads the summary that an archive is compared with.
-pub fn read_summary_input<S: Source>(
-    heap: Heap,
-    summary: &mut Result<S, CannotOpen>,
-) -> Result<Summary, CommandFault>
+pub fn read_summary_input<S: Source>(heap: Heap, summary: &mut S) -> Result<Summary, CommandFault>
     ensures { ReadsInput (reader S.left S.failures summary.old summary.new) result
         (λ summary entries. AreEntries entries × Holds summary (summary_text entries)) IsRefusedSummary }
 {
     let at = InputName::Summary;
-    let source = opened(summary, at)?;
-    or_refused!(at, read_summary(heap, source))
+    or_refused!(at, read_summary(heap, summary))
 }
 
 /// Reads the script that is carried out, to its end, and then what it says.
-pub fn read_events<S: Source>(
-    heap: Heap,
-    script: &mut Result<S, CannotOpen>,
-) -> Result<Script, CommandFault>
+pub fn read_events<S: Source>(heap: Heap, script: &mut S) -> Result<Script, CommandFault>
     ensures { ReadsInput (reader S.left S.failures script.old script.new) result
         (λ script listed. Gives script (λ bytes. script_of bytes ≡ Ok (listed.sites, acts listed.events.items)))
         IsRefusedScript }
@@ -242,10 +199,7 @@ pub fn read_events<S: Source>(
 }
 
 /// Reads the frames of a crash, to their end, and then what they say.
-pub fn read_crash<S: Source>(
-    heap: Heap,
-    frames: &mut Result<S, CannotOpen>,
-) -> Result<Vec<Frame, Heap>, CommandFault>
+pub fn read_crash<S: Source>(heap: Heap, frames: &mut S) -> Result<Vec<Frame, Heap>, CommandFault>
     ensures { ReadsInput (reader S.left S.failures frames.old frames.new) result
         (λ frames listed. Gives frames (λ bytes. frames_of bytes ≡ Ok listed.items)) IsRefusedFrames }
 {

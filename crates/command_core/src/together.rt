@@ -15,7 +15,7 @@ use crate::sources::{answer_input, read_input_part};
 use archive_core::{Archive, SliceKey, take_all};
 use archive_reading::{Questions, Selects};
 use archive_records::key_prefix;
-use byte_device::{CannotOpen, Source};
+use byte_device::Source;
 use memory::{Heap, NoMemory};
 
 /// Joins what is picked of the archive with this number among the words.
@@ -24,7 +24,7 @@ pub fn join_part<A: Archive + Drop, S: Selects, R: Source>(
     kept: &mut A,
     number: u64,
     select: &S,
-    archive: &mut Result<R, CannotOpen>,
+    archive: &mut R,
 ) -> Result<(), CommandFault>
     ensures { ReadsInput (reader R.left R.failures archive.old archive.new) result
         (λ archive _. HoldsContent archive
@@ -41,7 +41,7 @@ fn join_parts<A: Archive + Drop, S: Selects, R: Source>(
     heap: &Heap,
     kept: &mut A,
     select: &S,
-    others: &mut [Result<R, CannotOpen>],
+    others: &mut [R],
 ) -> Result<(), CommandFault>
     ensures { ReadsOthers (readers R.left R.failures others.old others.new) result
         (λ others _. HasJoinedParts others (S.picked select.now) (A.content kept.old) (A.content kept.new)) }
@@ -57,8 +57,8 @@ fn join_parts<A: Archive + Drop, S: Selects, R: Source>(
 pub fn read_parts<A: Archive + Drop, S: Selects, R: Source>(
     heap: Heap,
     select: &S,
-    archive: &mut Result<R, CannotOpen>,
-    others: &mut [Result<R, CannotOpen>],
+    archive: &mut R,
+    others: &mut [R],
 ) -> Result<A, CommandFault>
     ensures { ReadsTogether (reader R.left R.failures archive.old archive.new)
         (readers R.left R.failures others.old others.new) result
@@ -105,8 +105,8 @@ pub fn answer_archives<A: Archive + Drop, Q: Questions + Drop, S: Selects, R: So
     heap: Heap,
     questions: Q,
     select: &S,
-    archive: &mut Result<R, CannotOpen>,
-    others: &mut [Result<R, CannotOpen>],
+    archive: &mut R,
+    others: &mut [R],
 ) -> Result<Q, CommandFault>
     requires order { AreInOrder (Q.left questions) }
     requires picked { (key : SliceKey) → Contains (Q.left questions) key → length (key_bytes key) ≡ 24

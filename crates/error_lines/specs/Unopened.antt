@@ -1,6 +1,5 @@
 -- What is told of an input that was not opened at its turn.
 use Rattle.std.specs.Prelude.{◌≡◌, List, Option, Some, None, option_and_then, slice_get, Result, Ok, Err}
-use Rattle.byte_device.specs.declared.disks.CannotOpen.{CannotOpen}
 use Rattle.archive_files.specs.InputStates.{Told, unopened_in}
 use Rattle.archive_files.specs.declared.input_state.Unopened.{Unopened}
 use Rattle.archive_files.specs.declared.input_state.Unopened.TheVariants as unopened
@@ -11,10 +10,9 @@ use Rattle.command_core.specs.declared.faults.Why.{Why, TheVariants.CannotOpen a
 use Rattle.error_lines.specs.Numbers.{number_at}
 
 -- why an input was not opened at its turn, if it was not
-abbrev pub unopened_of : {S : Type 0} → Told S → Option (Result S CannotOpen) → Option Unopened
+abbrev pub unopened_of : {S : Type 0} → Told S → Option S → Option Unopened
 unopened_of told None = None
-unopened_of told (Some (Ok input)) = unopened_in (told.stage input)
-unopened_of told (Some (Err refused)) = None
+unopened_of told (Some input) = unopened_in (told.stage input)
 
 -- what is told where a command is refused for this input, which was not opened for this reason, if it was not
 abbrev pub fault_at : Option Unopened → InputName → Why → CommandFault
@@ -24,7 +22,7 @@ fault_at (Some unopened.OutOfMemory) name why = OutOfMemory
 
 -- This is told of a command of the line that ended so, behind which its inputs are these: where it is refused for an
 -- input that was not opened, why that was not, and else how it ended.
-abbrev pub Tells : {S : Type 0} → Told S → Line → List (Result S CannotOpen) → Result Status CommandFault
+abbrev pub Tells : {S : Type 0} → Told S → Line → List S → Result Status CommandFault
     → Result Status CommandFault → Type 0
 Tells told line inputs (Ok status) result = result ≡ Ok status
 Tells told line inputs (Err (Input name why)) result =

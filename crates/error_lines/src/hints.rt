@@ -45,9 +45,6 @@ impl Seen {
     fn of_input<F: Files>(input: &SystemInput<'_, '_, F>) -> Seen
         ensures { result.obstacle ≡ None }
     {
-        let Ok(input) = input else {
-            return Seen::NOTHING;
-        };
         match (input.input(), input.unopened()) {
             (Some(file), _) => Seen {
                 reason: file.reason(),

@@ -9,25 +9,17 @@ ghost use Rattle.error_lines.specs.Unopened.{Tells, fault_at, unopened_of};
 
 use crate::input_names::input_at;
 use archive_files::{AtTurn, Disk, Unopened};
-use byte_device::CannotOpen;
 use command_core::{CommandFault, InputName, Status, Why};
 use command_line::Line;
 
 /// Why the input of this name was not opened at its turn, if it was not.
-fn unopened_at<D: Disk>(
-    line: &Line,
-    name: InputName,
-    inputs: &[Result<AtTurn<'_, D>, CannotOpen>],
-) -> Option<Unopened>
+fn unopened_at<D: Disk>(line: &Line, name: InputName, inputs: &[AtTurn<'_, D>]) -> Option<Unopened>
     requires { length inputs.now ≡ length (inputs_of (line_view line.now)) }
     ensures { result
         ≡ unopened_of told (option_and_then (slice_get inputs.now) (number_at (line_view line.now) name)) }
 {
     let (number, _) = input_at(line, name)?;
-    match inputs.get(number)? {
-        Ok(input) => input.unopened(),
-        Err(_) => None,
-    }
+    inputs.get(number)?.unopened()
 }
 
 /// What is told where a command is refused for this input, which was not opened for this reason, if it was not.
@@ -44,7 +36,7 @@ fn fault_at(unopened: Option<Unopened>, name: InputName, why: Why) -> CommandFau
 /// What is told of a command of this line that ended so, behind which its inputs are these.
 pub fn blamed<D: Disk>(
     line: &Line,
-    inputs: &[Result<AtTurn<'_, D>, CannotOpen>],
+    inputs: &[AtTurn<'_, D>],
     ended: Result<Status, CommandFault>,
 ) -> Result<Status, CommandFault>
     requires { length inputs.now ≡ length (inputs_of (line_view line.now)) }

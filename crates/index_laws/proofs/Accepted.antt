@@ -1,7 +1,7 @@
 -- INDEX is that of a content; and with the indexes of these very archives nothing is refused but for a device.
-use Rattle.std.proofs.Common.{◌≡◌, ℕ, zero, suc, List, [], ◌∷◌, Some, subst, ◌+◌, Option, ◌++◌, length, map, take, Result, refl, sym, ap, ◌∙◌, arith, ◌≢◌}
-use Rattle.std.proofs.Common.{true, get_or, None, Ok, Err, inl, inr}
-use Rattle.std.specs.Prelude.{slice_get, Contains}
+use Rattle.std.proofs.Common.{◌≡◌, ℕ, zero, suc, List, [], ◌∷◌, Some, subst, ◌+◌, Option, ◌++◌, length, map, take, refl, sym, ap, ◌∙◌, arith, ◌≢◌}
+use Rattle.std.proofs.Common.{true, get_or, None, inl, inr}
+use Rattle.std.specs.Prelude.{IfSome, slice_get, Contains}
 use Rattle.std.specs.List.{AllZip, AllByRecursion, list_any}
 use Rattle.std.proofs.lemmas.Option.{same_Some}
 use Rattle.indexed_queries.specs.Together.{AllThree, IsKept, IsLater, IsRefusedAtPlaces, IsFirstRefusedByIndex, IsReadWith}
@@ -28,8 +28,7 @@ use Rattle.table_index.specs.Text.{IsIndexText, placed_of}
 use Rattle.table_index.proofs.Faults.{one_list, no_fault}
 use Rattle.index_writing.specs.Content.{IsTableOf, claim_of, entries_of, table_entries, table_entry}
 use Rattle.index_writing.proofs.Accepted.{accepted}
-use Rattle.byte_device.specs.declared.disks.CannotOpen.{CannotOpen}
-use Rattle.command_core.specs.Inputs.{Gives, IsGiven, Reader, reader, IsDeviceFault, IsUnread}
+use Rattle.command_core.specs.Inputs.{Gives, IsGiven, Reader, reader, IsDeviceFault}
 use Rattle.index_laws.specs.Indexes.{IsIndexFile}
 use Rattle.index_laws.proofs.OfContent.{is_key_of}
 use Rattle.indexed_queries.specs.Indexes.{HoldsIndex, HoldsTables, HasOtherLength, IsOfOtherLength, IsRefusedByIndex, IsUnreadAt, IsUnreadIndex}
@@ -47,7 +46,7 @@ use Rattle.table_index.specs.Fault.{IsIndexFault}
 use Rattle.table_index.specs.Reading.{IsRefused}
 use Rattle.command_core.specs.declared.faults.InputName.{InputName}
 use Rattle.command_core.specs.declared.faults.Why.{Why}
-use Rattle.command_core.specs.declared.faults.Why.TheVariants.{CannotOpen as NotOpened, Record, Index as IndexFaulty}
+use Rattle.command_core.specs.declared.faults.Why.TheVariants.{Record, Index as IndexFaulty}
 use Rattle.indexed_queries.specs.Prefixes.{IsReadFor, IsStaleFor, IsStaleUnder, IsUnnamedUnder}
 use Rattle.indexed_queries.specs.Several.{AreRefusedLater, AreRefusedTogether}
 
@@ -97,8 +96,8 @@ module _ {X Y Z : Type 0} (R : X → Y → Z → Type 0) where
 
 -- ---- bytes that an input has
 
-given_so : {S : Type 0} (left : S → Option (List ℕ)) (failures : S → ℕ) (old new : Result S CannotOpen) (bytes : List ℕ) (P : List ℕ → Type 0) → IsGiven (reader left failures old new) bytes → Gives (reader left failures old new) P → P bytes
-given_so left failures old new bytes P given gives = grind arith
+given_so : {S : Type 0} (left : S → Option (List ℕ)) (failures : S → ℕ) (old new : S) (bytes : List ℕ) (P : List ℕ → Type 0) → IsGiven (reader left failures old new) bytes → Gives (reader left failures old new) P → P bytes
+given_so left failures old new bytes P given gives = let held : IfSome (Some bytes) P = subst (λ (l : Option (List ℕ)). IfSome l P) given gives in held
 
 -- what is true of the bytes of an input, of these
 pub of_given : {S : Type 0} (input : Reader S) (bytes : List ℕ) (P : List ℕ → Type 0) → IsGiven input bytes → Gives input P → P bytes
@@ -166,18 +165,13 @@ no_refusal o text fault file (inl (inr memory, at)) other why is = absurd (other
 no_refusal o text fault file (inr faulty) other why is =
     absurd (no_fault text (entries_of (listing o) file.index.tables) fault (accepted o text file.index file.content file.archive_fits file.index_fits) faulty)
 
-index_device : {S : Type 0} (left : S → Option (List ℕ)) (failures : S → ℕ) (old new : Result S CannotOpen) (o : Operations) (text : List ℕ) (why : Why) → IsIndexFile o text → IsGiven (reader left failures old new) text → IsUnreadIndex (reader left failures old new) why → IsDeviceFault why
-index_device left failures (Ok source) new o text why file given (after, new_is, fault, is, other, reads) = no_refusal o text fault file (reads.says text given) other why is
-index_device left failures (Err _) new o text why file given r = absurd given
+index_device : {S : Type 0} (left : S → Option (List ℕ)) (failures : S → ℕ) (old new : S) (o : Operations) (text : List ℕ) (why : Why) → IsIndexFile o text → IsGiven (reader left failures old new) text → IsUnreadIndex (reader left failures old new) why → IsDeviceFault why
+index_device left failures old new o text why file given (fault, is, other, reads) = no_refusal o text fault file (reads.says text given) other why is
 
 -- ---- its archive
 
-archive_device : {S : Type 0} (left : S → Option (List ℕ)) (failures : S → ℕ) (old new : Result S CannotOpen) (text : List ℕ) (why : Why) → IsGiven (reader left failures old new) text → IsUnread (reader left failures old new) why → IsDeviceFault why
-archive_device left failures old new text why given r = grind arith
-
 -- one that is not read by its index is refused for its device alone
 unread_at_device : {S : Type 0} (IsRead : ℕ → Type 0) (archive : Reader S) (text : List ℕ) (why : Why) → IsGiven archive text → IsUnreadAt IsRead archive why → IsDeviceFault why
-unread_at_device IsRead archive text NotOpened given r = archive_device archive.left archive.failures archive.old archive.new text NotOpened given r
 unread_at_device IsRead archive text (Record fault) given r = r.0
 unread_at_device IsRead archive text why given r = absurd r
 
@@ -222,10 +216,8 @@ module _ (o : Operations) (text : List ℕ) (file : IsIndexFile o text) where
 
 -- ---- an archive from a later state on
 
-kept_bytes : {S : Type 0} (left : S → Option (List ℕ)) (failures : S → ℕ) (old later new after : Result S CannotOpen) (bytes : List ℕ) → IsKept left failures old later → IsGiven (reader left failures old new) bytes → IsGiven (reader left failures later after) bytes
-kept_bytes left failures (Ok old) (Ok later) new after bytes kept given = kept.0 ∙ given
-kept_bytes left failures (Ok old) (Err later) new after bytes kept given = absurd kept
-kept_bytes left failures (Err old) later new after bytes kept given = absurd given
+kept_bytes : {S : Type 0} (left : S → Option (List ℕ)) (failures : S → ℕ) (old later new after : S) (bytes : List ℕ) → IsKept left failures old later → IsGiven (reader left failures old new) bytes → IsGiven (reader left failures later after) bytes
+kept_bytes left failures old later new after bytes kept given = kept.0 ∙ given
 
 pub still_given : {S : Type 0} (first later : Reader S) (bytes : List ℕ) → IsLater first later → IsGiven first bytes → IsGiven later bytes
 still_given first later bytes is given =

@@ -2,7 +2,6 @@
 use Rattle.std.proofs.Common.{◌≡◌, ℕ, List, [], Option, length, Result, Ok, Err, ap, inl, inr}
 use Rattle.std.specs.FinSet as set
 use Rattle.byte_device.specs.Devices.{Stream}
-use Rattle.byte_device.specs.declared.disks.CannotOpen.{CannotOpen}
 use Rattle.archive_records.specs.declared.writing.Sizes.{Sizes}
 use Rattle.index_writing.specs.declared.fault.MakingFault.{MakingFault}
 use Rattle.index_writing.specs.declared.fault.MakingFault.TheVariants.{Archive as Refused, Write as Wrote}
@@ -20,11 +19,10 @@ untold : (fault : MakingFault) (n : ℕ) → TellsStop fault (Report n) → ⊥
 untold (Refused fault) n tells = absurd tells
 untold (Wrote fault) n tells = cc
 
-unreported : {R D : Type 0} (left : R → Option (List ℕ)) (failures : R → ℕ) (old new : Result R CannotOpen) (draft : Stream D) (n : ℕ) → StopsIndex (reader left failures old new) draft (Report n) → ⊥
-unreported left failures (Ok source) new draft n stops = untold stops.2.stopped n stops.2.tells
-unreported left failures (Err e) new draft n stops = let tells = stops.tells in cc
+unreported : {R D : Type 0} (left : R → Option (List ℕ)) (failures : R → ℕ) (old new : R) (draft : Stream D) (n : ℕ) → StopsIndex (reader left failures old new) draft (Report n) → ⊥
+unreported left failures old new draft n stops = untold stops.stopped n stops.tells
 
-module _ {R D : Type 0} (left : R → Option (List ℕ)) (failures : R → ℕ) (old new : Result R CannotOpen) (draft : Stream D) (out : Out) (report : Writer) where
+module _ {R D : Type 0} (left : R → Option (List ℕ)) (failures : R → ℕ) (old new : R) (draft : Stream D) (out : Out) (report : Writer) where
   abbrev archive : Reader R
   archive = reader left failures old new
 

@@ -1,10 +1,7 @@
 -- What is told where making the index of an archive was stopped, and what OUT's draft has then.
-use Rattle.std.proofs.Common.{◌≡◌, ℕ, List, [], length, Option, Result, Ok, Err, refl, sym, ◌∙◌}
-use Rattle.std.specs.Prelude.{MatchResult}
+use Rattle.std.proofs.Common.{◌≡◌, ℕ, List, length, Option, Err, sym, ◌∙◌}
 use Rattle.byte_device.specs.Devices.{stream}
-use Rattle.byte_device.proofs.Known.{Appends-none}
 use Rattle.archive_index.specs.declared.fault.IndexingFault.{IndexingFault}
-use Rattle.byte_device.specs.declared.disks.CannotOpen.{CannotOpen}
 use Rattle.index_writing.specs.Making.{Makes}
 use Rattle.index_writing.specs.declared.fault.MakingFault.{MakingFault}
 use Rattle.index_writing.specs.declared.fault.MakingFault.TheVariants.{Archive as Refused, Write as Wrote}
@@ -13,9 +10,7 @@ use Rattle.command_core.specs.Ends.{HasTaken}
 use Rattle.command_core.specs.Inputs.{reader}
 use Rattle.command_core.specs.Outputs.{writer}
 use Rattle.command_core.specs.declared.faults.CommandFault.{CommandFault}
-use Rattle.command_core.specs.declared.faults.CommandFault.TheVariants.{Input, Output, Report}
-use Rattle.command_core.specs.declared.faults.InputName.TheVariants.{Archive}
-use Rattle.command_core.specs.declared.faults.Why.TheVariants.{CannotOpen as NotOpened}
+use Rattle.command_core.specs.declared.faults.CommandFault.TheVariants.{Output, Report}
 use Rattle.index_writing.specs.Index.{TellsRefusal, TellsStop}
 use Rattle.index_writing.specs.InnerIndexing.{IndexesAmidst}
 
@@ -34,12 +29,5 @@ module _ {R D : Type 0} (left : R → Option (List ℕ)) (failures : R → ℕ) 
   taken (Wrote fault) told makes tells = (makes.bytes, makes.took, λ n is. let same : Output n ≡ Output fault.written = sym is ∙ tells in let count : n ≡ fault.written = cc in count ∙ makes.count)
 
   pub stopped_so : (fault : MakingFault) (told : CommandFault) → Makes (stream left failures source after) (stream held writes start end) (Err fault) → TellsStop fault told
-      → IndexesAmidst (reader left failures (Ok source) (Ok after)) (stream held writes start end) (Err told)
-  stopped_so fault told makes tells = (taken fault told makes tells, (after, refl, record { stopped = fault; makes = makes; tells = tells }))
-
--- ---- the archive was not opened
-
-pub unopened : {R D : Type 0} (left : R → Option (List ℕ)) (failures : R → ℕ) (old : Result R CannotOpen) (held : D → Option (List ℕ)) (writes : D → ℕ) (draft : D) (told : CommandFault)
-    → MatchResult old (λ source. ⊥) (λ _. told ≡ Input (Archive 0) NotOpened) → IndexesAmidst (reader left failures old old) (stream held writes draft draft) (Err told)
-unopened left failures (Ok source) held writes draft told is = absurd is
-unopened left failures (Err e) held writes draft told is = (([], Appends-none (held draft), λ n same. cc), record { tells = is; untouched = refl; unwritten = (Appends-none (held draft), refl) })
+      → IndexesAmidst (reader left failures source after) (stream held writes start end) (Err told)
+  stopped_so fault told makes tells = (taken fault told makes tells, record { stopped = fault; makes = makes; tells = tells })

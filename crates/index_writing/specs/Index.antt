@@ -1,5 +1,5 @@
 -- What `index` makes of an archive.
-use Rattle.std.specs.Prelude.{◌≡◌, ◌++◌, ℕ, List, [], codes, length, Ok, Err, MatchResult}
+use Rattle.std.specs.Prelude.{◌≡◌, ◌++◌, ℕ, List, codes, length, Err}
 use Rattle.std.specs.Fmt.{decimal}
 use Rattle.std.specs.FinSet as set
 use Rattle.byte_device.specs.Devices.{Stream, stream}
@@ -15,10 +15,9 @@ use Rattle.index_writing.specs.declared.fault.MakingFault.{MakingFault}
 use Rattle.index_writing.specs.declared.fault.MakingFault.TheVariants.{Archive as Refused, Write as Wrote}
 use Rattle.report_text.specs.Report.{line}
 use Rattle.command_core.specs.Ends.{Streamed}
-use Rattle.command_core.specs.Inputs.{Reader, IsRefusal, IsUntouched, Unfailed, Holds}
-use Rattle.command_core.specs.Outputs.{Takes, writer}
+use Rattle.command_core.specs.Inputs.{Reader, IsRefusal, Unfailed, Holds}
 use Rattle.command_core.specs.declared.faults.CommandFault.{CommandFault}
-use Rattle.command_core.specs.declared.faults.CommandFault.TheVariants.{Input, Output}
+use Rattle.command_core.specs.declared.faults.CommandFault.TheVariants.{Output}
 use Rattle.command_core.specs.declared.faults.InputName.TheVariants.{Archive}
 use Rattle.command_core.specs.declared.faults.Why.{Why}
 use Rattle.command_core.specs.declared.faults.Why.TheVariants as why_is
@@ -60,19 +59,10 @@ pub record StopsMaking {R D : Type 0} (archive : Stream R) (draft : Stream D) (t
   pub makes : Makes archive draft (Err stopped)
   pub tells : TellsStop stopped told
 
--- The archive was not opened: nothing was read, and nothing was written.
-pub record IsUnopened {R D : Type 0} (archive : Reader R) (draft : Stream D) (told : CommandFault) : Type 0 where
-  pub tells : told ≡ Input (Archive 0) why_is.CannotOpen
-  pub untouched : IsUntouched archive
-  pub unwritten : Takes (writer draft.bytes draft.failures draft.old draft.new) []
-
--- what stops the command: the archive was not opened, or making its index was stopped, which leaves it open
+-- what stops the command: making the archive's index was stopped
 abbrev pub StopsIndex : {R D : Type 0} → Reader R → Stream D → CommandFault → Type 0
-StopsIndex {R = R} archive draft told =
-    MatchResult archive.old
-    (λ source. (after : R) × (archive.new ≡ Ok after)
-    × StopsMaking (stream archive.left archive.failures source after) draft told)
-    (λ _. IsUnopened archive draft told)
+StopsIndex archive draft told =
+    StopsMaking (stream archive.left archive.failures archive.old archive.new) draft told
 
 -- ARCHIVE is the text of a content in version 2; these are the text of its index, and the line with its sizes.
 pub record MakesIndex {R : Type 0} (archive : Reader R) (text told : List ℕ) : Type 0 where

@@ -6,7 +6,7 @@ ghost use Rattle.index_writing.specs.Index.{index};
 
 use crate::indexing::index_input;
 use crate::publishing::publish_index;
-use byte_device::{CannotOpen, Output, Sink, Source, Target};
+use byte_device::{Output, Sink, Source, Target};
 use command_core::{CommandFault, Status};
 use memory::Heap;
 
@@ -20,7 +20,7 @@ use memory::Heap;
 /// where that writer failed; `OutOfMemory`. A fault of OUT comes before a later one of ARCHIVE.
 pub fn run_index<R: Source, T: Target, P: Sink>(
     heap: Heap,
-    archive: &mut Result<R, CannotOpen>,
+    archive: &mut R,
     out: &mut Output<T::Draft, T>,
     report: &mut P,
 ) -> Result<Status, CommandFault>

@@ -8,8 +8,8 @@ use crate::fault::MakingFault;
 use crate::making::index_into;
 use archive_index::IndexingFault;
 use archive_records::Sizes;
-use byte_device::{CannotOpen, Sink, Source};
-use command_core::{CommandFault, InputName, Why, opened, refusal};
+use byte_device::{Sink, Source};
+use command_core::{CommandFault, InputName, Why, refusal};
 use line_tables::laws::one_slice_table;
 use memory::Heap;
 
@@ -38,15 +38,14 @@ fn stop_of(fault: MakingFault) -> CommandFault
 /// Makes the index of the archive in the draft.
 pub fn index_input<R: Source, W: Sink>(
     heap: &Heap,
-    archive: &mut Result<R, CannotOpen>,
+    archive: &mut R,
     draft: &mut W,
 ) -> Result<Sizes, CommandFault>
     ensures { IndexesAmidst (reader R.left R.failures archive.old archive.new)
         (stream W.held W.failures draft.old draft.new) result }
 {
     one_slice_table();
-    let source = opened(archive, InputName::Archive(0))?;
-    match index_into(heap.share(), source, draft) {
+    match index_into(heap.share(), archive, draft) {
         Ok(sizes) => Ok(sizes),
         Err(fault) => Err(stop_of(fault)),
     }

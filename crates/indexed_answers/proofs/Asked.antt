@@ -1,17 +1,17 @@
 -- What came of asking one entry after another.
 use Rattle.std.proofs.Common.{◌≡◌, ℕ, ◌+◌, ◌<◌, Bool, List, [], ◌∷◌, ◌++◌, length, map, take, set, get_or, slice_get, refl, sym, subst, ap, ◌∙◌, arith}
-use Rattle.std.specs.Prelude.{Contains, Option, None, Some, Result, Ok, Err, MatchResult}
+use Rattle.std.specs.Prelude.{Contains, Option, Some, Result, Ok, Err, MatchResult}
 use Rattle.std.specs.List.{AllZip}
+use Rattle.std.proofs.Math.ListN.{length-map}
 use Rattle.std.specs.Option.{option_map}
 use Rattle.std.proofs.lemmas.List.{map-set, set-get_or}
 use Rattle.std.proofs.lemmas.List.Elements.{All-weaker}
-use Rattle.std.proofs.lemmas.Option.{get_or_from_slice_get, none-some, same_Some, slice_get-get_or, slice_get-map, slice_get_within}
+use Rattle.std.proofs.lemmas.Option.{get_or_from_slice_get, same_Some, slice_get-get_or, slice_get-map, slice_get_within}
 use Rattle.std.proofs.lemmas.Slice.Zip.{AllZip-long}
-use Rattle.byte_device.specs.declared.disks.CannotOpen.{CannotOpen}
 use Rattle.archive_core.specs.declared.lookup.Where.{Where}
 use Rattle.table_index.specs.Entry.{claim_in}
 use Rattle.indexed_answers.specs.Among.{EntryAt}
-use Rattle.indexed_answers.specs.AmongAsked.{AreOpened, AsksAmong, BlamesAmong, HasText, HaveTexts, IsOpenedAt, IsUntoldAmong, each_known, known_of}
+use Rattle.indexed_answers.specs.AmongAsked.{AreThere, AsksAmong, BlamesAmong, HasText, HaveTexts, IsUntoldAmong, each_known}
 use Rattle.indexed_answers.specs.InnerAnswering.{AsksOne, BlamesOne, IsColumnOf, IsUntoldOne, entry_at}
 use Rattle.indexed_answers.specs.Told.{AreFramesToldBy, IsToldBy}
 use Rattle.indexed_answers.specs.Views.{IsColumnAt, frame_lists, told_view}
@@ -24,50 +24,41 @@ use Rattle.indexed_answers.proofs.Lists.{map_has, map_within, read_map}
 
 -- ---- what is known of the devices
 
-module _ {D V : Type 0} (known : D → V) (devices : List (Result D CannotOpen)) (i : ℕ) (before : D) (is : slice_get devices i ≡ Some (Ok before)) where
-  pub known_at : slice_get (each_known known devices) i ≡ Some (Ok (known before))
-  known_at = slice_get-map (known_of known) devices i ∙ ap (option_map (known_of known)) is
+module _ {D V : Type 0} (known : D → V) (devices : List D) (i : ℕ) (before : D) (is : slice_get devices i ≡ Some before) where
+  pub known_at : slice_get (each_known known devices) i ≡ Some (known before)
+  known_at = slice_get-map known devices i ∙ ap (option_map known) is
 
-  pub known_set : (after : D) → each_known known (set devices i (Ok after)) ≡ set (each_known known devices) i (Ok (known after))
-  known_set after = map-set (known_of known) devices i (Ok after)
+  pub known_set : (after : D) → each_known known (set devices i after) ≡ set (each_known known devices) i (known after)
+  known_set after = map-set known devices i after
 
-  pub known_kept : (after : D) → known after ≡ known before → each_known known (set devices i (Ok after)) ≡ each_known known devices
+  pub known_kept : (after : D) → known after ≡ known before → each_known known (set devices i after) ≡ each_known known devices
   known_kept after same =
-      let none : Result V CannotOpen = Ok (known before) in
-      known_set after ∙ ap (λ (v : V). set (each_known known devices) i (Ok v)) same
-      ∙ ap (λ (r : Result V CannotOpen). set (each_known known devices) i r) (sym (get_or_from_slice_get (each_known known devices) i (Ok (known before)) none known_at))
-      ∙ set-get_or (each_known known devices) i none
+      known_set after ∙ ap (λ (v : V). set (each_known known devices) i v) same
+      ∙ ap (λ (v : V). set (each_known known devices) i v) (sym (get_or_from_slice_get (each_known known devices) i (known before) (known before) known_at))
+      ∙ set-get_or (each_known known devices) i (known before)
 
--- the text of a device that was opened
-pub text_at : {D : Type 0} (whole : D → Option (List ℕ)) (devices : List (Result D CannotOpen)) (texts : List (List ℕ)) (i : ℕ) (before : D) → slice_get devices i ≡ Some (Ok before) → HaveTexts whole devices texts
+-- the text of a device
+pub text_at : {D : Type 0} (whole : D → Option (List ℕ)) (devices : List D) (texts : List (List ℕ)) (i : ℕ) (before : D) → slice_get devices i ≡ Some before → HaveTexts whole devices texts
     → (text : List ℕ) × (slice_get texts i ≡ Some text) × (whole before ≡ Some text)
 text_at whole devices texts i before is have =
     let ks = each_known whole devices in
     let here = known_at whole devices i before is in
-    let lt : i < length ks = slice_get_within ks i (Ok (whole before)) here in
+    let lt : i < length ks = slice_get_within ks i (whole before) here in
     let long : length texts ≡ length ks = AllZip-long HasText ks texts have in
-    (get_or texts i [], slice_get-get_or texts i [] (omega (arith, lt, long)), subst (λ k. HasText k (get_or texts i [])) (get_or_from_slice_get ks i (Ok (whole before)) (Ok (whole before)) here) (zip_at HasText ks texts i (Ok (whole before)) [] have lt))
+    (get_or texts i [], slice_get-get_or texts i [] (omega (arith, lt, long)), subst (λ k. HasText k (get_or texts i [])) (get_or_from_slice_get ks i (whole before) (whole before) here) (zip_at HasText ks texts i (whole before) [] have lt))
 
--- a device stays opened whose bytes are as they were
-still_opened : {D : Type 0} (whole : D → Option (List ℕ)) (old new : List (Result D CannotOpen)) (i : ℕ) → each_known whole new ≡ each_known whole old → IsOpenedAt old i → IsOpenedAt new i
-still_opened {D} whole old new i same opened =
-    of (slice_get new i) refl (sym (slice_get-map (known_of whole) new i) ∙ ap (λ ks. slice_get ks i) same ∙ known_at whole old i opened.0 opened.1)
-  where
-    of : (o : Option (Result D CannotOpen)) → slice_get new i ≡ o → option_map (known_of whole) o ≡ Some (Ok (whole opened.0)) → IsOpenedAt new i
-    of None is known = absurd (none-some (Ok (whole opened.0)) known)
-    of (Some (Ok device)) is known = (device, is)
-    of (Some (Err reason)) is known =
-        let other : Err reason ≡ Ok (whole opened.0) = same_Some (Err reason) (Ok (whole opened.0)) known in absurd (cc)
-
-all_opened : {D : Type 0} (whole : D → Option (List ℕ)) (old new : List (Result D CannotOpen)) (xs : List EntryAt) → each_known whole new ≡ each_known whole old → AreOpened old xs → AreOpened new xs
-all_opened whole old new xs same opened = All-weaker (λ x. IsOpenedAt old x.input) (λ x. IsOpenedAt new x.input) (λ x h. still_opened whole old new x.input same h) xs opened
+-- as many devices are there whose bytes are as they were
+all_there : {D : Type 0} (whole : D → Option (List ℕ)) (old new : List D) (xs : List EntryAt) → each_known whole new ≡ each_known whole old → AreThere old xs → AreThere new xs
+all_there whole old new xs same there =
+    let long : length new ≡ length old = sym (length-map new whole) ∙ ap length same ∙ length-map old whole in
+    All-weaker (λ x. x.input < length old) (λ x. x.input < length new) (λ x h. omega (arith, h, long)) xs there
 
 -- ---- one entry, of its device
 
-module _ {D : Type 0} (whole : D → Option (List ℕ)) (failures : D → ℕ) (lines : Bool) (asked : List Where) (answering : List EntryAt) (x : EntryAt) (answers : Contains answering x) (devices : List (Result D CannotOpen)) (before after : D)
-    (is : slice_get devices x.input ≡ Some (Ok before)) where
-  abbrev news : List (Result D CannotOpen)
-  news = set devices x.input (Ok after)
+module _ {D : Type 0} (whole : D → Option (List ℕ)) (failures : D → ℕ) (lines : Bool) (asked : List Where) (answering : List EntryAt) (x : EntryAt) (answers : Contains answering x) (devices : List D) (before after : D)
+    (is : slice_get devices x.input ≡ Some before) where
+  abbrev news : List D
+  news = set devices x.input after
 
   named : (input number : ℕ) → input ≡ x.input → number ≡ x.number → Contains answering (record { input = input; number = number; entry = x.entry })
   named input number a b = subst (Contains answering) (λ i. record { input = sym a i; number = sym b i; entry = x.entry }) answers
@@ -108,7 +99,7 @@ module _ {D : Type 0} (whole : D → Option (List ℕ)) (failures : D → ℕ) (
       new = failures after;
       old_is = ap (slice_get (each_known failures devices)) h.0 ∙ known_at failures devices x.input before is;
       failed = h.2;
-      others = known_set failures devices x.input before is after ∙ ap (λ n. set (each_known failures devices) n (Ok (failures after))) (sym h.0);
+      others = known_set failures devices x.input before is after ∙ ap (λ n. set (each_known failures devices) n (failures after)) (sym h.0);
     },
   )
 
@@ -122,12 +113,11 @@ module _ {D : Type 0} (whole : D → Option (List ℕ)) (failures : D → ℕ) (
   }
 
 -- the same of the device as it is read and written
-pub asked_at : {D : Type 0} (whole : D → Option (List ℕ)) (failures : D → ℕ) (lines : Bool) (asked : List Where) (answering : List EntryAt) (x : EntryAt) (devices : List (Result D CannotOpen)) (old new : Result D CannotOpen) (r : Result EntryAnswers AnswerFault)
+pub asked_at : {D : Type 0} (whole : D → Option (List ℕ)) (failures : D → ℕ) (lines : Bool) (asked : List Where) (answering : List EntryAt) (x : EntryAt) (devices : List D) (old new : D) (r : Result EntryAnswers AnswerFault)
     → Contains answering x → slice_get devices x.input ≡ Some old → AsksOne whole failures lines x old new r (λ text column. IsColumnOf text lines asked x column)
     → AsksAmong whole failures lines answering devices (set devices x.input new) r (λ texts column. IsColumnAt texts lines asked x column)
 asked_at whole failures lines asked answering x devices old new r answers is one =
-    subst (λ n. AsksAmong whole failures lines answering devices (set devices x.input n) r (λ texts column. IsColumnAt texts lines asked x column)) (sym one.new_is)
-    (asked_one whole failures lines asked answering x answers devices one.before one.after (is ∙ ap Some one.old_is) r one.says one.keeps one.counts)
+    asked_one whole failures lines asked answering x answers devices old new is r one.says one.keeps one.counts
 
 -- ---- one after another
 
@@ -136,23 +126,23 @@ module _ {D : Type 0} (whole : D → Option (List ℕ)) (failures : D → ℕ) (
   answering = map entry_at entries
 
   -- what the first of the entries tell
-  abbrev pub HaveTold : ℕ → List (Result D CannotOpen) → List (Result D CannotOpen) → List EntryAnswers → Type 0
+  abbrev pub HaveTold : ℕ → List D → List D → List EntryAnswers → Type 0
   HaveTold i old new columns = AsksAmong whole failures lines answering old new (Ok columns) (λ texts cs. AllZip (IsColumnAt texts lines asked) (take i answering) cs)
 
-  module _ (i : ℕ) (n : Numbered) (lt : i < length entries) (is : n ≡ get_or entries i n) (old mid : List (Result D CannotOpen)) (columns : List EntryAnswers) (so_far : HaveTold i old mid columns) where
-    -- the device of the next one is opened
-    pub opened_here : AreOpened old answering → IsOpenedAt mid n.input
-    opened_here opened =
-        subst (λ z. IsOpenedAt mid z.input) (sym (read_map entry_at entries i n lt is)) (all_opened whole old mid answering so_far.keeps opened i (entry_at n) (map_within entry_at entries i n lt is))
+  module _ (i : ℕ) (n : Numbered) (lt : i < length entries) (is : n ≡ get_or entries i n) (old mid : List D) (columns : List EntryAnswers) (so_far : HaveTold i old mid columns) where
+    -- the device of the next one is there
+    pub there_here : AreThere old answering → n.input < length mid
+    there_here there =
+        subst (λ z. z.input < length mid) (sym (read_map entry_at entries i n lt is)) (all_there whole old mid answering so_far.keeps there i (entry_at n) (map_within entry_at entries i n lt is))
 
     have_texts : (texts : List (List ℕ)) → HaveTexts whole old texts → HaveTexts whole mid texts
     have_texts texts have = subst (λ ks. AllZip HasText ks texts) (sym so_far.keeps) have
 
     -- what comes of asking it, where it is among entries
-    abbrev IsAsked : List (Result D CannotOpen) → Result EntryAnswers AnswerFault → Type 0
+    abbrev IsAsked : List D → Result EntryAnswers AnswerFault → Type 0
     IsAsked new r = (xs : List EntryAt) → Contains xs (entry_at n) → AsksAmong whole failures lines xs mid new r (λ texts c. IsColumnAt texts lines asked (entry_at n) c)
 
-    pub one_told : (new : List (Result D CannotOpen)) (after : List EntryAnswers) (column : EntryAnswers) → after ≡ columns ++ column ∷ [] → IsAsked new (Ok column) → HaveTold (i + 1) old new after
+    pub one_told : (new : List D) (after : List EntryAnswers) (column : EntryAnswers) → after ≡ columns ++ column ∷ [] → IsAsked new (Ok column) → HaveTold (i + 1) old new after
     one_told new after column grown all =
         let told = all answering (map_has entry_at entries i n lt is) in
         record {
@@ -162,7 +152,7 @@ module _ {D : Type 0} (whole : D → Option (List ℕ)) (failures : D → ℕ) (
         }
 
     -- a refusal is passed on
-    pub none_more : {U : Type 0} (new : List (Result D CannotOpen)) (f : AnswerFault) (B : List (List ℕ) → U → Type 0) → IsAsked new (Err f) → AsksAmong whole failures lines answering old new (Err f) B
+    pub none_more : {U : Type 0} (new : List D) (f : AnswerFault) (B : List (List ℕ) → U → Type 0) → IsAsked new (Err f) → AsksAmong whole failures lines answering old new (Err f) B
     none_more new f B all =
         let told = all answering (map_has entry_at entries i n lt is) in
         record {
@@ -172,7 +162,7 @@ module _ {D : Type 0} (whole : D → Option (List ℕ)) (failures : D → ℕ) (
         }
 
     -- no memory is left for what was told
-    pub no_memory : {U : Type 0} (new : List (Result D CannotOpen)) (column : EntryAnswers) (B : List (List ℕ) → U → Type 0) → IsAsked new (Ok column) → AsksAmong whole failures lines answering old new (Err OutOfMemory) B
+    pub no_memory : {U : Type 0} (new : List D) (column : EntryAnswers) (B : List (List ℕ) → U → Type 0) → IsAsked new (Ok column) → AsksAmong whole failures lines answering old new (Err OutOfMemory) B
     no_memory new column B all =
         let told = all answering (map_has entry_at entries i n lt is) in
         record { says = λ texts have. tt; keeps = told.keeps ∙ so_far.keeps; counts = told.counts ∙ so_far.counts }

@@ -1,9 +1,8 @@
 -- What comes of asking entries of several indexes.
 use Rattle.std.specs.Prelude.{◌≡◌, ◌<◌, ◌^◌, ℕ, Bool, true, List, All, Contains, length, map, slice_get, slice_set}
-use Rattle.std.specs.Prelude.{Option, Some, Result, Ok, Err, MatchResult}
+use Rattle.std.specs.Prelude.{Option, Some, Result, MatchResult}
 use Rattle.std.specs.List.{AllZip}
 use Rattle.byte_device.specs.Devices.{FailedIn}
-use Rattle.byte_device.specs.declared.disks.CannotOpen.{CannotOpen}
 use Rattle.checked_pages.specs.Pages.{AreStored}
 use Rattle.line_tables.specs.SliceTable.{IsSliceTable}
 use Rattle.table_index.specs.Entry.{claim_in}
@@ -12,31 +11,21 @@ use Rattle.indexed_answers.specs.Told.{HasNoLinesBy}
 use Rattle.indexed_answers.specs.declared.fault.AnswerFault.{AnswerFault}
 use Rattle.indexed_answers.specs.declared.fault.AnswerFault.TheVariants.{Damaged, Device, NoLines, OutOfMemory}
 
--- what is known of a device, if it was opened
-abbrev pub known_of : {D V : Type 0} → (D → V) → Result D CannotOpen → Result V CannotOpen
-known_of known (Ok device) = Ok (known device)
-known_of known (Err reason) = Err reason
+-- what is known of each device
+abbrev pub each_known : {D V : Type 0} → (D → V) → List D → List V
+each_known known devices = map known devices
 
--- what is known of each
-abbrev pub each_known : {D V : Type 0} → (D → V) → List (Result D CannotOpen) → List (Result V CannotOpen)
-each_known known devices = map (known_of known) devices
-
--- a device that was opened is known to have these bytes
-abbrev pub HasText : Result (Option (List ℕ)) CannotOpen → List ℕ → Type 0
-HasText (Ok known) text = known ≡ Some text
-HasText (Err reason) text = Unit {0}
+-- a device is known to have these bytes
+abbrev pub HasText : Option (List ℕ) → List ℕ → Type 0
+HasText known text = known ≡ Some text
 
 -- the device of each index has its bytes
-abbrev pub HaveTexts : {D : Type 0} → (D → Option (List ℕ)) → List (Result D CannotOpen) → List (List ℕ) → Type 0
+abbrev pub HaveTexts : {D : Type 0} → (D → Option (List ℕ)) → List D → List (List ℕ) → Type 0
 HaveTexts whole devices texts = AllZip HasText (each_known whole devices) texts
 
--- the device of this number is there, and was opened
-abbrev pub IsOpenedAt : {D : Type 0} → List (Result D CannotOpen) → ℕ → Type 0
-IsOpenedAt {D} devices input = (device : D) × (slice_get devices input ≡ Some (Ok device))
-
--- those of the indexes in which these entries stand are
-abbrev pub AreOpened : {D : Type 0} → List (Result D CannotOpen) → List EntryAt → Type 0
-AreOpened devices xs = All (λ x. IsOpenedAt devices x.input) xs
+-- the devices of the indexes in which these entries stand are there
+abbrev pub AreThere : {D : Type 0} → List D → List EntryAt → Type 0
+AreThere devices xs = All (λ x. x.input < length devices) xs
 
 -- no table of a slice is stored where the entry says
 abbrev pub HasNoTable : List ℕ → List ℕ → Type 0
@@ -74,16 +63,15 @@ IsUntoldAmong texts answering (Device input offset) = Unit {0}
 IsUntoldAmong texts answering OutOfMemory = Unit {0}
 
 -- the device of this number failed once, and no other did
-pub record FailedAt (input : ℕ) (olds news : List (Result ℕ CannotOpen)) : Type 0 where
+pub record FailedAt (input : ℕ) (olds news : List ℕ) : Type 0 where
   pub old : ℕ
   pub new : ℕ
-  pub old_is : slice_get olds input ≡ Some (Ok old)
+  pub old_is : slice_get olds input ≡ Some old
   pub failed : FailedIn old new
-  pub others : news ≡ slice_set olds input (Ok new)
+  pub others : news ≡ slice_set olds input new
 
 -- what a fault says of the failures of the devices; no table is refused for its lines unless they are wanted
-abbrev pub BlamesAmong : Bool → List EntryAt → List (Result ℕ CannotOpen) → List (Result ℕ CannotOpen) → AnswerFault
-    → Type 0
+abbrev pub BlamesAmong : Bool → List EntryAt → List ℕ → List ℕ → AnswerFault → Type 0
 BlamesAmong lines answering olds news (Damaged input number) = news ≡ olds
 BlamesAmong lines answering olds news (NoLines input number) = (lines ≡ true) × (news ≡ olds)
 BlamesAmong lines answering olds news (Device input offset) =
@@ -91,9 +79,9 @@ BlamesAmong lines answering olds news (Device input offset) =
 BlamesAmong lines answering olds news OutOfMemory = news ≡ olds
 
 -- What came of asking these entries, for their lines too if these are wanted: what is told is true of the texts that
--- the devices are known to have. Each device stays opened or not, and keeps its bytes.
+-- the devices are known to have. Each device keeps its bytes.
 pub record AsksAmong {D T : Type 0} (whole : D → Option (List ℕ)) (failures : D → ℕ) (lines : Bool)
-    (answering : List EntryAt) (old new : List (Result D CannotOpen)) (result : Result T AnswerFault)
+    (answering : List EntryAt) (old new : List D) (result : Result T AnswerFault)
     (IsTrue : List (List ℕ) → T → Type 0) : Type 0 where
   pub says : (texts : List (List ℕ)) → HaveTexts whole old texts
       → MatchResult result (IsTrue texts) (IsUntoldAmong texts answering)

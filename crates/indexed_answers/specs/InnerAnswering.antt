@@ -1,11 +1,10 @@
 -- Entries with their numbers: the words of the inner functions. No contract of a public one has them.
 use Rattle.std.specs.Prelude.{◌≡◌, ◌≢◌, ◌&&◌, ◌==◌, not, ℕ, ◌+◌, Bool, true, List, [], ◌∷◌}
 use Rattle.std.specs.Prelude.{◌++◌, Contains, filter, map, slice_index, take, drop}
-use Rattle.std.specs.Prelude.{Option, Some, Result, Ok, MatchResult}
+use Rattle.std.specs.Prelude.{Option, Some, Result, MatchResult}
 use Rattle.std.specs.List.{AllZip, list_any}
 use Rattle.std.specs.Str.{bytes_eq}
 use Rattle.byte_device.specs.Devices.{FailedIn}
-use Rattle.byte_device.specs.declared.disks.CannotOpen.{CannotOpen}
 use Rattle.checked_pages.specs.Pages.{Claim, MayBeStored}
 use Rattle.checked_pages.specs.declared.pages.Pages.{Pages}
 use Rattle.macho_image.specs.Sections.{text_base_of}
@@ -128,14 +127,10 @@ BlamesOne lines x old new (Device input offset) =
     (input ≡ x.input) × (offset ≡ (claim_in x.entry).offset) × FailedIn old new
 BlamesOne lines x old new OutOfMemory = new ≡ old
 
--- what came of asking one entry of its device, which was opened
+-- what came of asking one entry of its device
 pub record AsksOne {D T : Type 0} (whole : D → Option (List ℕ)) (failures : D → ℕ) (lines : Bool) (x : EntryAt)
-    (old new : Result D CannotOpen) (result : Result T AnswerFault) (IsTrue : List ℕ → T → Type 0) : Type 0 where
-  pub before : D
-  pub after : D
-  pub old_is : old ≡ Ok before
-  pub new_is : new ≡ Ok after
-  pub says : (text : List ℕ) → whole before ≡ Some text → MatchResult result (IsTrue text) (IsUntoldOne text x)
-  pub keeps : whole after ≡ whole before
-  pub counts : MatchResult result (λ _. failures after ≡ failures before)
-      (BlamesOne lines x (failures before) (failures after))
+    (old new : D) (result : Result T AnswerFault) (IsTrue : List ℕ → T → Type 0) : Type 0 where
+  pub says : (text : List ℕ) → whole old ≡ Some text → MatchResult result (IsTrue text) (IsUntoldOne text x)
+  pub keeps : whole new ≡ whole old
+  pub counts : MatchResult result (λ _. failures new ≡ failures old)
+      (BlamesOne lines x (failures old) (failures new))

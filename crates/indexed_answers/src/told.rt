@@ -1,6 +1,6 @@
 //! What the table of an entry tells of several places, and those of several entries.
 
-ghost use Rattle.std.specs.Prelude.{◌≡◌, ◌<◌, ◌^◌, ℕ, List, Contains, IfOk, IsOk, MatchOption, None, map, length, true};
+ghost use Rattle.std.specs.Prelude.{◌≡◌, ◌<◌, ◌^◌, ℕ, List, Contains, IfOk, MatchOption, None, map, length, true};
 ghost use Rattle.std.specs.List.{AllZip};
 ghost use Rattle.checked_pages.specs.Pages.{AreStored};
 ghost use Rattle.checked_pages.specs.Views.{claim_view};
@@ -9,7 +9,7 @@ ghost use Rattle.symbol_tables.specs.Opened.{IsOpened};
 ghost use Rattle.symbol_tables.specs.Table.{TableParts, table_bytes};
 ghost use Rattle.line_tables.specs.SliceTable.{IsSliceTable};
 ghost use Rattle.indexed_answers.specs.Among.{EntryAt};
-ghost use Rattle.indexed_answers.specs.AmongAsked.{AreOpened, AsksAmong, HasNoTable, IsOpenedAt};
+ghost use Rattle.indexed_answers.specs.AmongAsked.{AreThere, AsksAmong, HasNoTable};
 ghost use Rattle.indexed_answers.specs.Told.{HasNoLinesBy, IsToldBy};
 ghost use Rattle.indexed_answers.specs.Views.{IsColumnAt, told_view};
 ghost use Rattle.indexed_answers.specs.InnerAnswering.{AsksOne, IsBaseBy, IsColumnOf, IsOwnOpened, entry_at};
@@ -22,7 +22,7 @@ use crate::numbered::Numbered;
 use crate::own::own_of;
 use archive_core::Where;
 use archive_records::digest_in;
-use byte_device::{CannotOpen, Placed};
+use byte_device::Placed;
 use checked_pages::{CheckFault, Claim};
 use memory::Heap;
 use symbol_tables::{OwnedFound, Table};
@@ -99,16 +99,14 @@ fn column_of<P: Placed>(
 /// What the table of an entry tells of several places. The device is that of its index.
 fn told_by<P: Placed>(
     heap: &Heap,
-    device: &mut Result<P, CannotOpen>,
+    device: &mut P,
     numbered: &Numbered,
     lines: bool,
     asked: &[Where],
 ) -> Result<EntryAnswers, AnswerFault>
-    requires { IsOk device.old }
     ensures { AsksOne P.whole P.failures lines (entry_at numbered.now) device.old device.new result
         (λ text column. IsColumnOf text lines asked.now (entry_at numbered.now) column) }
 {
-    let Ok(device) = device else { unreachable!() };
     let input = numbered.input;
     let entry = numbered.number;
     let offset = numbered.entry.claim.offset;
@@ -124,13 +122,12 @@ fn told_by<P: Placed>(
 /// The same, by the device of its index.
 fn told_at<P: Placed>(
     heap: &Heap,
-    devices: &mut [Result<P, CannotOpen>],
+    devices: &mut [P],
     numbered: &Numbered,
     lines: bool,
     asked: &[Where],
 ) -> Result<EntryAnswers, AnswerFault>
-    requires within { numbered.now.input < length devices.old }
-    requires opened { IsOpenedAt devices.old numbered.now.input }
+    requires { numbered.now.input < length devices.old }
     ensures { (answering : List EntryAt) → Contains answering (entry_at numbered.now)
         → AsksAmong P.whole P.failures lines answering devices.old devices.new result
         (λ texts column. IsColumnAt texts lines asked.now (entry_at numbered.now) column) }
@@ -147,12 +144,12 @@ fn told_at<P: Placed>(
 /// What the tables of entries tell of several places, each in its column. One table is open at a time.
 fn told_by_each<P: Placed>(
     heap: &Heap,
-    devices: &mut [Result<P, CannotOpen>],
+    devices: &mut [P],
     answering: &[Numbered],
     lines: bool,
     asked: &[Where],
 ) -> Result<Vec<EntryAnswers, Heap>, AnswerFault>
-    requires { AreOpened devices.old (map entry_at answering.now) }
+    requires { AreThere devices.old (map entry_at answering.now) }
     ensures { AsksAmong P.whole P.failures lines (map entry_at answering.now) devices.old devices.new result
         (λ texts columns. AllZip (IsColumnAt texts lines asked.now) (map entry_at answering.now) columns.items) }
 {
@@ -176,12 +173,12 @@ fn told_by_each<P: Placed>(
 /// lines, if they are wanted. The entries are asked in their order, each for its symbols before its lines.
 pub fn answer_among<P: Placed>(
     heap: &Heap,
-    devices: &mut [Result<P, CannotOpen>],
+    devices: &mut [P],
     answering: &Answering,
     lines: bool,
     asked: &[Where],
 ) -> Result<Answers, AnswerFault>
-    requires { AreOpened devices.old answering.now }
+    requires { AreThere devices.old answering.now }
     ensures { AsksAmong P.whole P.failures lines answering.now devices.old devices.new result
         (λ texts answers. AllZip (IsColumnAt texts lines asked.now) answering.now answers.columns.items) }
 {

@@ -7,9 +7,8 @@ use Rattle.std.proofs.lemmas.List.{get_or-set_same}
 use Rattle.std.proofs.lemmas.List.Sums.{fold-append}
 use Rattle.std.proofs.lemmas.Option.{slice_get-get_or, slice_get_read}
 use Rattle.archive_core.specs.Content.{Operations}
-use Rattle.byte_device.specs.declared.disks.CannotOpen.{CannotOpen}
 use Rattle.command_core.specs.Archives.{merged}
-use Rattle.command_core.specs.Inputs.{Reader, reader, readers, EachUnfailed, IsRefusal, ReadsInputs, Unfailed, failures_of}
+use Rattle.command_core.specs.Inputs.{Reader, reader, readers, EachUnfailed, IsRefusal, ReadsInputs, Unfailed}
 use Rattle.command_core.specs.declared.faults.CommandFault.{CommandFault}
 use Rattle.command_core.specs.declared.faults.CommandFault.TheVariants.{Input, OutOfMemory}
 use Rattle.command_core.proofs.Readers.{all_take, readers_long, rest_kept, set_one, unfailed_more, untouched_behind}
@@ -65,14 +64,14 @@ module _ {P : Type 0} (prefixes : List (List ℕ)) where
 -- ---- one of a list
 
 module _ {S : Type 0} (left : S → Option (List ℕ)) (failures : S → ℕ) where
-  abbrev between : List (Result S CannotOpen) → List (Result S CannotOpen) → List (Reader S)
+  abbrev between : List S → List S → List (Reader S)
   between old now = readers left failures old now
 
-  pub front_kept : (old now : List (Result S CannotOpen)) (place : ℕ) (after : Result S CannotOpen) → take place (between old (set now place after)) ≡ take place (between old now)
+  pub front_kept : (old now : List S) (place : ℕ) (after : S) → take place (between old (set now place after)) ≡ take place (between old now)
   front_kept (x ∷ xs) (y ∷ ys) (suc place) after = ap (λ (rs : List (Reader S)). reader left failures x y ∷ rs) (front_kept xs ys place after)
   front_kept old now place after = refl
 
-  pub one_of : (old now : List (Result S CannotOpen)) (place : ℕ) (file after : Result S CannotOpen) → place < length old → length now ≡ length old → file ≡ get_or old place file → drop place now ≡ drop place old → EachUnfailed (between old now)
+  pub one_of : (old now : List S) (place : ℕ) (file after : S) → place < length old → length now ≡ length old → file ≡ get_or old place file → drop place now ≡ drop place old → EachUnfailed (between old now)
       → IsOneOf (between old (set now place after)) place (reader left failures file after)
   one_of old now place file after lt long is rest each =
       let x = reader left failures file after in
@@ -88,25 +87,24 @@ module _ {S : Type 0} (left : S → Option (List ℕ)) (failures : S → ℕ) wh
 
   -- ---- which are kept
 
-  kept_itself : (input : Result S CannotOpen) → IsKept left failures input input
-  kept_itself (Ok source) = (refl, refl)
-  kept_itself (Err error) = refl
+  kept_itself : (input : S) → IsKept left failures input input
+  kept_itself input = (refl, refl)
 
-  pub kept_none : (inputs : List (Result S CannotOpen)) → AreAllKept left failures inputs inputs
+  pub kept_none : (inputs : List S) → AreAllKept left failures inputs inputs
   kept_none [] = tt
   kept_none (input ∷ inputs) = (kept_itself input, kept_none inputs)
 
-  pub kept_more : (old now : List (Result S CannotOpen)) (place : ℕ) (file after : Result S CannotOpen) → place < length old → file ≡ get_or old place file → AreAllKept left failures old now → IsKept left failures file after → AreAllKept left failures old (set now place after)
+  pub kept_more : (old now : List S) (place : ℕ) (file after : S) → place < length old → file ≡ get_or old place file → AreAllKept left failures old now → IsKept left failures file after → AreAllKept left failures old (set now place after)
   kept_more [] now place file after lt is all one = absurd (omega (arith, lt))
   kept_more (x ∷ xs) [] place file after lt is all one = absurd all
-  kept_more (x ∷ xs) (y ∷ ys) zero file after lt is all one = (subst (λ (f : Result S CannotOpen). IsKept left failures f after) is one, all.1)
+  kept_more (x ∷ xs) (y ∷ ys) zero file after lt is all one = (subst (λ (f : S). IsKept left failures f after) is one, all.1)
   kept_more (x ∷ xs) (y ∷ ys) (suc place) file after lt is all one =
       let shorter : place < length xs = omega (arith, lt) in
       (all.0, kept_more xs ys place file after shorter is all.1 one)
 
   -- ---- and read once more
 
-  pub later_readers : (old mid new : List (Result S CannotOpen)) → length new ≡ length mid → AreAllKept left failures old mid → AreLater (between old new) (between mid new)
+  pub later_readers : (old mid new : List S) → length new ≡ length mid → AreAllKept left failures old mid → AreLater (between old new) (between mid new)
   later_readers [] [] new long all = tt
   later_readers (x ∷ xs) (y ∷ ys) [] long all = absurd (omega (arith, long))
   later_readers (x ∷ xs) (y ∷ ys) (z ∷ zs) long all =
@@ -114,18 +112,18 @@ module _ {S : Type 0} (left : S → Option (List ℕ)) (failures : S → ℕ) wh
       (record { left_is = refl; failures_is = refl; new_is = refl; kept = all.0 }, later_readers xs ys zs rest all.1)
   later_readers old mid new long all = absurd all
 
-  pub unfailed_through : (old mid new : List (Result S CannotOpen)) → length mid ≡ length old → length new ≡ length old → EachUnfailed (between old mid) → EachUnfailed (between mid new) → EachUnfailed (between old new)
+  pub unfailed_through : (old mid new : List S) → length mid ≡ length old → length new ≡ length old → EachUnfailed (between old mid) → EachUnfailed (between mid new) → EachUnfailed (between old new)
   unfailed_through [] mid new long more first second = tt
   unfailed_through (x ∷ xs) [] new long more first second = absurd (omega (arith, long))
   unfailed_through (x ∷ xs) (y ∷ ys) [] long more first second = absurd (omega (arith, more))
   unfailed_through (x ∷ xs) (y ∷ ys) (z ∷ zs) long more first second =
-      let here : failures_of failures z ≡ failures_of failures x = second.0 ∙ first.0 in
+      let here : failures z ≡ failures x = second.0 ∙ first.0 in
       let rest : length ys ≡ length xs = omega (arith, long) in
       let rest_more : length zs ≡ length xs = omega (arith, more) in
       (here, unfailed_through xs ys zs rest rest_more first.1 second.1)
 
   -- what was read with the first states was so whatever the last are
-  pub read_earlier : {I : Type 0} (indexes : List (Reader I)) (old mid new : List (Result S CannotOpen)) (all : List (List (List ℕ))) → length mid ≡ length old → length new ≡ length old → AreReadWith indexes (between old mid) all → AreReadWith indexes (between old new) all
+  pub read_earlier : {I : Type 0} (indexes : List (Reader I)) (old mid new : List S) (all : List (List (List ℕ))) → length mid ≡ length old → length new ≡ length old → AreReadWith indexes (between old mid) all → AreReadWith indexes (between old new) all
   read_earlier indexes [] mid new all long more read = read
   read_earlier indexes (x ∷ xs) [] new all long more read = absurd (omega (arith, long))
   read_earlier indexes (x ∷ xs) (y ∷ ys) [] all long more read = absurd (omega (arith, more))
@@ -138,7 +136,7 @@ module _ {S : Type 0} (left : S → Option (List ℕ)) (failures : S → ℕ) wh
 -- ---- one of the indexes, or its archive, is refused
 
 module _ {I P : Type 0} (left : I → Option (List ℕ)) (failures : I → ℕ) (whole : P → Option (List ℕ)) (failures_at : P → ℕ)
-    (old now : List (Result I CannotOpen)) (before seen : List (Result P CannotOpen)) (place : ℕ) (file after : Result I CannotOpen) (archive later : Result P CannotOpen)
+    (old now : List I) (before seen : List P) (place : ℕ) (file after : I) (archive later : P)
     (lt : place < length old) (long : length now ≡ length old) (is : file ≡ get_or old place file) (rest : drop place now ≡ drop place old) (each : EachUnfailed (readers left failures old now))
     (lt_at : place < length before) (long_at : length seen ≡ length before) (is_at : archive ≡ get_or before place archive) (rest_at : drop place seen ≡ drop place before) (each_at : EachUnfailed (readers whole failures_at before seen)) where
   abbrev indexes : List (Reader I)
@@ -170,7 +168,7 @@ module _ {I P : Type 0} (left : I → Option (List ℕ)) (failures : I → ℕ) 
 -- ---- one of the archives is refused
 
 module _ {P : Type 0} (whole : P → Option (List ℕ)) (failures : P → ℕ) (prefixes : List (List ℕ)) (all : List (List (List ℕ)))
-    (before seen : List (Result P CannotOpen)) (place : ℕ) (archive later : Result P CannotOpen) (entries : List (List ℕ))
+    (before seen : List P) (place : ℕ) (archive later : P) (entries : List (List ℕ))
     (lt : place < length before) (long : length seen ≡ length before) (is : archive ≡ get_or before place archive) (rest : drop place seen ≡ drop place before) (each : EachUnfailed (readers whole failures before seen))
     (few : place < length all) (entries_are : entries ≡ get_or all place entries) where
   abbrev ones : List (Reader P)
@@ -201,7 +199,7 @@ first_refused prefixes indexes archives (Input at why) r = inl r
 first_refused prefixes indexes archives OutOfMemory r = r
 first_refused prefixes indexes archives fault r = absurd r
 
-module _ {I P : Type 0} (prefixes : List (List ℕ)) (indexes : List (Reader I)) (whole : P → Option (List ℕ)) (failures : P → ℕ) (old mid new : List (Result P CannotOpen)) (all : List (List (List ℕ)))
+module _ {I P : Type 0} (prefixes : List (List ℕ)) (indexes : List (Reader I)) (whole : P → Option (List ℕ)) (failures : P → ℕ) (old mid new : List P) (all : List (List (List ℕ)))
     (long : length mid ≡ length old) (more : length new ≡ length old) (read : AreReadWith indexes (readers whole failures old mid) all) (unfailed : EachUnfailed indexes × EachUnfailed (readers whole failures old mid)) (kept : AreAllKept whole failures old mid) where
   abbrev known : List (Reader P)
   known = readers whole failures old new

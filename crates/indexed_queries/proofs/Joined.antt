@@ -1,5 +1,5 @@
 -- Parts that are joined one after another.
-use Rattle.std.proofs.Common.{◌≡◌, ℕ, ◌+◌, ◌<◌, List, [], ◌∷◌, ◌++◌, length, map, take, get_or, Option, Some, None, Ok, refl, sym, ap, ◌∙◌, subst, inl, inr, arith}
+use Rattle.std.proofs.Common.{◌≡◌, ℕ, ◌+◌, ◌<◌, List, [], ◌∷◌, ◌++◌, length, map, take, get_or, Option, Some, None, refl, sym, ap, ◌∙◌, subst, inl, inr, arith}
 use Rattle.std.specs.Prelude.{IfSome, flat_map}
 use Rattle.std.specs.List.{AllZip}
 use Rattle.std.specs.FinSet as set
@@ -102,10 +102,10 @@ joined_together whole prefixes entries old gathered o new is none h taken = reco
 
 -- ---- of an input
 
--- one that was opened, by what its index says of records
+-- by what its index says of records
 module _ {S : Type 0} (whole : S → Option (List ℕ)) (failures : S → ℕ) (source after : S) (prefixes : List (List ℕ)) (entries : Entries) (tables : List (List ℕ)) (placed : entries ≡ placed_of tables) where
   abbrev archive : Reader S
-  archive = reader whole failures (Ok source) (Ok after)
+  archive = reader whole failures source after
 
   pub named_in : (old new : Operations) → IfSome (whole source) (HasIndexedLength entries) → HasJoinedNamed (whole source) prefixes entries old new → IsNamedIn archive prefixes (placed_of tables) old new
   named_in old new long h = subst (λ (e : Entries). IsNamedIn archive prefixes e old new) placed (record {

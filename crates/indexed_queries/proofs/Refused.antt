@@ -29,9 +29,9 @@ where_known (Some text) P says = says text refl
 
 module _ {S : Type 0} (left : S → Option (List ℕ)) (failures : S → ℕ) (source after : S) where
   abbrev index : Reader S
-  index = reader left failures (Ok source) (Ok after)
+  index = reader left failures source after
 
-  -- an index was read of an input that was opened
+  -- an index was read
   pub tables_read : (all : List (List ℕ)) → ReadsIndex left failures source after (Ok all) → AreRead (HoldsTables index all) (Unfailed index)
   tables_read all reads = record {
     is = where_known (left source) (λ text. IsIndexText text all) reads.says;
@@ -39,14 +39,14 @@ module _ {S : Type 0} (left : S → Option (List ℕ)) (failures : S → ℕ) (s
   }
 
   -- which is kept
-  pub index_kept : (all : List (List ℕ)) → ReadsIndex left failures source after (Ok all) → IsKept left failures (Ok source) (Ok after)
+  pub index_kept : (all : List (List ℕ)) → ReadsIndex left failures source after (Ok all) → IsKept left failures source after
   index_kept all reads = (reads.keeps, reads.counts)
 
   -- what is reported where none was read
   pub index_refused : (number : ℕ) (fault : IndexFault) (told : CommandFault) → ReadsIndex left failures source after (Err fault)
       → IsRefusal (λ at why. (at ≡ Index number) × (why ≡ IndexFaulty fault) × (fault.kind ≢ IndexOutOfMemory)) (fault.kind ≡ IndexOutOfMemory) told
       → IsRefusal (λ at why. (at ≡ Index number) × IsUnreadIndex index why) (Unfailed index) told
-  index_refused number fault (Input at why) reads r = (r.0, (after, refl, fault, r.1, r.2, reads))
+  index_refused number fault (Input at why) reads r = (r.0, (fault, r.1, r.2, reads))
   index_refused number fault OutOfMemory reads r = subst (λ (kind : IndexFaultKind). Blames (failures source) (failures after) kind) r reads.counts
   index_refused number fault told reads r = absurd r
 

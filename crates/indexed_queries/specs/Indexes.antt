@@ -1,5 +1,5 @@
 -- Archives with their indexes: what an index says, and which of the two is refused, and why.
-use Rattle.std.specs.Prelude.{◌≡◌, ◌≢◌, ℕ, List, None, Ok, Err, MatchResult, ◌⊎◌}
+use Rattle.std.specs.Prelude.{◌≡◌, ◌≢◌, ℕ, List, None, Err, ◌⊎◌}
 use Rattle.archive_core.specs.Summary.{Entries}
 use Rattle.archive_index.specs.Index.{AreIndexEntries}
 use Rattle.archive_index.specs.Places.{HasIndexedLength}
@@ -27,18 +27,15 @@ pub record HoldsIndex {S : Type 0} (input : Reader S) (entries : Entries) : Type
   pub holds : HoldsTables input all
   pub placed : entries ≡ placed_of all
 
--- why an index is not read: it was not opened; or reading it, which leaves it open, is refused for this fault, which is
--- not want of memory
+-- why an index is not read: reading it is refused for this fault, which is not want of memory
 abbrev pub IsUnreadIndex : {S : Type 0} → Reader S → Why → Type 0
-IsUnreadIndex {S = S} input why =
-    MatchResult input.old
-    (λ device. (after : S) × (input.new ≡ Ok after) × (fault : IndexFault) × (why ≡ IndexFaulty fault)
-    × (fault.kind ≢ IndexOutOfMemory) × ReadsIndex input.left input.failures device after (Err fault))
-    (λ _. (why ≡ NotOpened) × IsUntouched input)
+IsUnreadIndex input why =
+    (fault : IndexFault) × (why ≡ IndexFaulty fault) × (fault.kind ≢ IndexOutOfMemory)
+    × ReadsIndex input.left input.failures input.old input.new (Err fault)
 
--- why an archive is not read by its index: it was not opened; or its device failed, and the fault tells such an offset
+-- why an archive is not read by its index: its device failed, and the fault tells such an offset
 abbrev pub IsUnreadAt : {S : Type 0} → (ℕ → Type 0) → Reader S → Why → Type 0
-IsUnreadAt IsRead archive NotOpened = IsUnread archive NotOpened
+IsUnreadAt IsRead archive NotOpened = ⊥
 IsUnreadAt IsRead archive CannotRead = ⊥
 IsUnreadAt IsRead archive (Record fault) =
     (fault.kind ≡ DeviceFailed) × IsRead fault.offset × IsUnread archive CannotRead
@@ -64,8 +61,7 @@ abbrev pub HasOtherLength : {S : Type 0} → Reader S → Entries → Type 0
 HasOtherLength archive entries = Gives archive (λ text. HasIndexedLength entries text → ⊥)
 
 -- An archive whose length is compared with that of its index, which have this number among those of the words, is
--- refused: it was not opened, or its device failed, which is told at 0; or it did not, and the archive has another
--- length.
+-- refused: its device failed, which is told at 0; or it did not, and the archive has another length.
 abbrev pub IsOfOtherLength : {S : Type 0} → ℕ → Reader S → Entries → InputName → Why → Type 0
 IsOfOtherLength number archive entries at why =
     ((at ≡ Archive number) × IsUnreadAt (λ offset. offset ≡ 0) archive why)

@@ -39,7 +39,7 @@ pub record HasJoinedNamed (whole : Option (List ℕ)) (prefixes : List (List ℕ
   pub content : new ≡ merged old parts
   pub named : IfSome whole (λ text. AreNamedUnder prefixes entries text parts)
 
--- the same of an input, which was opened and has the length that the entries tell
+-- the same of an input, which has the length that the entries tell
 pub record IsNamedIn {S : Type 0} (archive : Reader S) (prefixes : List (List ℕ)) (entries : Entries)
     (old new : Operations) : Type 0 where
   pub parts : List Operations

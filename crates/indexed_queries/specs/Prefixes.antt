@@ -41,8 +41,8 @@ IsReadUnderOne prefixes entries offset =
 abbrev pub IsReadFor : List (List ℕ) → Entries → ℕ → Type 0
 IsReadFor prefixes entries offset = (offset ≡ 0) ⊎ IsReadUnderOne prefixes entries offset
 
--- ARCHIVE was opened and has the length that the index tells, and what the entries name in it under each of these
--- prefixes makes these contents.
+-- ARCHIVE has the length that the index tells, and what the entries name in it under each of these prefixes makes these
+-- contents.
 abbrev pub HoldsNamed : {S : Type 0} → List (List ℕ) → Reader S → Entries → List Operations → Type 0
 HoldsNamed prefixes archive entries parts =
     Gives archive (λ text. HasIndexedLength entries text × AreNamedUnder prefixes entries text parts)

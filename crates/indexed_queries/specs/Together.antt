@@ -1,10 +1,9 @@
 -- Archives that are asked together by their indexes: read, and which of them is refused first.
-use Rattle.std.specs.Prelude.{◌≡◌, ℕ, ◌+◌, List, [], ◌∷◌, Some, Option, fold, take, drop, slice_get, ◌⊎◌, Result, Ok, Err}
+use Rattle.std.specs.Prelude.{◌≡◌, ℕ, ◌+◌, List, [], ◌∷◌, Some, Option, fold, take, drop, slice_get, ◌⊎◌}
 use Rattle.std.specs.List.{AllZip}
 use Rattle.std.specs.FinSet as set
 use Rattle.archive_core.specs.Content.{Operations}
 use Rattle.archive_index.specs.Places.{HasIndexedLength}
-use Rattle.byte_device.specs.declared.disks.CannotOpen.{CannotOpen}
 use Rattle.table_index.specs.Text.{placed_of}
 use Rattle.command_core.specs.Archives.{merged}
 use Rattle.command_core.specs.Inputs.{Reader, Gives, EachUnfailed, EachUntouched, Unfailed}
@@ -50,15 +49,12 @@ pub record IsFirstRefusedByIndex {I P : Type 0} (indexes : List (Reader I)) (arc
 
 -- ---- after the indexes were read
 
--- an input is open, as it was, with the same bytes and no further failure; or it was not opened
-abbrev pub IsKept : {S : Type 0} → (S → Option (List ℕ)) → (S → ℕ) → Result S CannotOpen → Result S CannotOpen → Type 0
-IsKept left failures (Ok old) (Ok new) = (left new ≡ left old) × (failures new ≡ failures old)
-IsKept left failures (Err old) (Err new) = new ≡ old
-IsKept left failures old new = ⊥
+-- an input has the same bytes, and no further failure
+abbrev pub IsKept : {S : Type 0} → (S → Option (List ℕ)) → (S → ℕ) → S → S → Type 0
+IsKept left failures old new = (left new ≡ left old) × (failures new ≡ failures old)
 
 -- so it is with each of these, as many
-abbrev pub AreAllKept : {S : Type 0} → (S → Option (List ℕ)) → (S → ℕ) → List (Result S CannotOpen)
-    → List (Result S CannotOpen) → Type 0
+abbrev pub AreAllKept : {S : Type 0} → (S → Option (List ℕ)) → (S → ℕ) → List S → List S → Type 0
 AreAllKept left failures old new = AllZip (IsKept left failures) old new
 
 -- The same input from a later state on, up to which it was kept.
@@ -89,9 +85,8 @@ pub record HoldNamed {P : Type 0} (prefixes : List (List ℕ)) (archives : List 
   pub named : AreNamedBy prefixes archives all groups
   pub content_is : p ≡ merged_each set.empty groups
 
--- An archive is refused at the places that its index names: it is not open, or its device failed, at 0 where its length
--- was asked for, or at the record that was read; or it did not, and an entry names no record; or it has another length
--- by now.
+-- An archive is refused at the places that its index names: its device failed, at 0 where its length was asked for,
+-- or at the record that was read; or it did not, and an entry names no record; or it has another length by now.
 abbrev pub IsRefusedAtPlaces : {P : Type 0} → List (List ℕ) → ℕ → Reader P → List (List ℕ) → InputName → Why → Type 0
 IsRefusedAtPlaces prefixes number archive entries at why =
     ((at ≡ Archive number) × IsUnreadAt (IsReadFor prefixes (placed_of entries)) archive why)

@@ -10,7 +10,7 @@ use crate::prefixes::{KeyPrefix, uuid_bytes};
 use crate::rows::rows_under;
 use crate::together::read_together;
 use archive_core::Archive;
-use byte_device::{CannotOpen, Placed, Sink};
+use byte_device::{Placed, Sink};
 use command_core::{CommandFault, Status, found_status, publish_report};
 use memory::Heap;
 use report_text::find_lines;
@@ -25,8 +25,8 @@ use uuid::Uuid;
 /// `OutOfMemory`.
 pub fn run_find_at<I: Placed, P: Placed, W: Sink>(
     heap: Heap,
-    index: &mut Result<I, CannotOpen>,
-    archive: &mut Result<P, CannotOpen>,
+    index: &mut I,
+    archive: &mut P,
     uuid: &Uuid,
     report: &mut W,
 ) -> Result<Status, CommandFault>
@@ -51,8 +51,8 @@ pub fn run_find_at<I: Placed, P: Placed, W: Sink>(
 /// `Input` for the first index or archive that is refused; `Report` where the report failed; `OutOfMemory`.
 pub fn run_find_together<A: Archive + Drop, I: Placed, P: Placed, W: Sink>(
     heap: Heap,
-    indexes: &mut [Result<I, CannotOpen>],
-    archives: &mut [Result<P, CannotOpen>],
+    indexes: &mut [I],
+    archives: &mut [P],
     uuid: &Uuid,
     report: &mut W,
 ) -> Result<Status, CommandFault>

@@ -16,8 +16,8 @@ ghost use Rattle.indexed_queries.specs.Together.{IsKept, IsReadWith};
 
 use archive_index::{Index, IndexFault, IndexFaultKind, has_size};
 use archive_records::{RecordFault, RecordFaultKind};
-use byte_device::{CannotOpen, Failed, Placed};
-use command_core::{CommandFault, InputName, Why, opened};
+use byte_device::{Failed, Placed};
+use command_core::{CommandFault, InputName, Why};
 use memory::Heap;
 use table_index::{TableIndex, read_index};
 
@@ -47,14 +47,13 @@ pub(crate) fn unread(number: u64, offset: u64) -> CommandFault
 fn read_tables<I: Placed>(
     heap: Heap,
     number: u64,
-    index: &mut Result<I, CannotOpen>,
+    index: &mut I,
 ) -> Result<TableIndex, CommandFault>
     ensures read { ReadsInput (reader I.whole I.failures index.old index.new) result HoldsTables
         (λ index at why. (at ≡ IndexPlace number) × IsUnreadIndex index why) }
     ensures kept { OnOk result (IsKept I.whole I.failures index.old index.new) }
 {
-    let device = opened(index, InputName::Index(number))?;
-    match read_index(heap, device) {
+    match read_index(heap, index) {
         Ok(tables) => Ok(tables),
         Err(fault) => Err(refusal(number, fault)),
     }
@@ -64,7 +63,7 @@ fn read_tables<I: Placed>(
 fn test_length<P: Placed>(
     number: u64,
     tables: &TableIndex,
-    archive: &mut Result<P, CannotOpen>,
+    archive: &mut P,
 ) -> Result<(), CommandFault>
     ensures entries { AreIndexEntries (placed_of tables.now) }
     ensures tests { ReadsInput (reader P.whole P.failures archive.old archive.new) result
@@ -73,8 +72,7 @@ fn test_length<P: Placed>(
     ensures kept { OnOk result (IsKept P.whole P.failures archive.old archive.new) }
 {
     let size = tables.archive_size();
-    let device = opened(archive, InputName::Archive(number))?;
-    match has_size(size, device) {
+    match has_size(size, archive) {
         Ok(true) => Ok(()),
         Ok(false) => Err(CommandFault::Input(InputName::Index(number), Why::Stale(None))),
         Err(Failed) => Err(unread(number, 0)),
@@ -86,8 +84,8 @@ fn test_length<P: Placed>(
 pub(crate) fn read_with_tables<I: Placed, P: Placed>(
     heap: &Heap,
     number: u64,
-    index: &mut Result<I, CannotOpen>,
-    archive: &mut Result<P, CannotOpen>,
+    index: &mut I,
+    archive: &mut P,
 ) -> Result<TableIndex, CommandFault>
     ensures read { let named = reader I.whole I.failures index.old index.new in
         let known = reader P.whole P.failures archive.old archive.new in
@@ -104,8 +102,8 @@ pub(crate) fn read_with_tables<I: Placed, P: Placed>(
 /// Reads the index of the first archive, and tests that this has the length that it tells.
 pub fn read_index_of<I: Placed, P: Placed>(
     heap: &Heap,
-    index: &mut Result<I, CannotOpen>,
-    archive: &mut Result<P, CannotOpen>,
+    index: &mut I,
+    archive: &mut P,
 ) -> Result<Index, CommandFault>
     ensures { let named = reader I.whole I.failures index.old index.new in
         let known = reader P.whole P.failures archive.old archive.new in

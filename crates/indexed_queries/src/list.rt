@@ -6,7 +6,7 @@ ghost use Rattle.indexed_queries.specs.List.{list_at};
 
 use crate::inputs::read_index_of;
 use crate::rows::rows_under;
-use byte_device::{CannotOpen, Placed, Sink};
+use byte_device::{Placed, Sink};
 use command_core::{CommandFault, Status, found_status, publish_report};
 use memory::Heap;
 use report_text::list_lines;
@@ -19,8 +19,8 @@ use report_text::list_lines;
 /// Those of `run_find_at`.
 pub fn run_list_at<I: Placed, P: Placed, W: Sink>(
     heap: Heap,
-    index: &mut Result<I, CannotOpen>,
-    archive: &mut Result<P, CannotOpen>,
+    index: &mut I,
+    archive: &mut P,
     report: &mut W,
 ) -> Result<Status, CommandFault>
     ensures { EndsReport (list_at (reader I.whole I.failures index.old index.new)

@@ -18,8 +18,8 @@ use crate::inputs::unread;
 use crate::prefixes::{KeyPrefix, key_of, uuid_bytes};
 use archive_core::{Archive, Operation, take_all};
 use archive_index::{Index, PlaceFault, archive_of, gather_at, indexed_size};
-use byte_device::{CannotOpen, Placed};
-use command_core::{CommandFault, InputName, Why, opened};
+use byte_device::Placed;
+use command_core::{CommandFault, InputName, Why};
 use memory::{Heap, NoMemory};
 use table_index::TableIndex;
 
@@ -128,7 +128,7 @@ pub(crate) fn join_archive<A: Archive + Drop, P: Placed>(
     number: u64,
     prefixes: &[KeyPrefix],
     tables: &TableIndex,
-    archive: &mut Result<P, CannotOpen>,
+    archive: &mut P,
 ) -> Result<(), CommandFault>
     ensures { let sought = map prefix_bytes prefixes.now in
         ReadsInput (reader P.whole P.failures archive.old archive.new) result
@@ -136,8 +136,7 @@ pub(crate) fn join_archive<A: Archive + Drop, P: Placed>(
         (λ archive. IsRefusedAtPlaces sought number archive tables.now) }
 {
     let entries = tables.placed(heap.share())?;
-    let device = opened(archive, InputName::Archive(number))?;
-    match join_prefixes(heap, kept, prefixes, &entries, device) {
+    match join_prefixes(heap, kept, prefixes, &entries, archive) {
         Ok(()) => Ok(()),
         Err(fault) => Err(told(number, fault)),
     }

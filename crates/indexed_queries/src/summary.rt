@@ -6,7 +6,7 @@ ghost use Rattle.indexed_queries.specs.Summary.{summary_at};
 
 use crate::inputs::read_index_of;
 use crate::summaries::summary_of;
-use byte_device::{CannotOpen, Output, Placed, Sink, Target};
+use byte_device::{Output, Placed, Sink, Target};
 use command_core::{CommandFault, Status, publish_summary};
 use memory::Heap;
 
@@ -19,8 +19,8 @@ use memory::Heap;
 /// failed; `OutOfMemory`.
 pub fn run_summary_at<I: Placed, P: Placed, T: Target, W: Sink>(
     heap: Heap,
-    index: &mut Result<I, CannotOpen>,
-    archive: &mut Result<P, CannotOpen>,
+    index: &mut I,
+    archive: &mut P,
     out: &mut Output<T::Draft, T>,
     report: &mut W,
 ) -> Result<Status, CommandFault>

@@ -12,7 +12,7 @@ use crate::inputs::read_with_tables;
 use crate::parts::join_archive;
 use crate::prefixes::KeyPrefix;
 use archive_core::Archive;
-use byte_device::{CannotOpen, Placed};
+use byte_device::Placed;
 use command_core::CommandFault;
 use memory::Heap;
 use table_index::TableIndex;
@@ -25,8 +25,8 @@ use table_index::TableIndex;
 /// `Input` for the first index or archive that is refused; `OutOfMemory`.
 pub fn read_indexes<I: Placed, P: Placed>(
     heap: &Heap,
-    indexes: &mut [Result<I, CannotOpen>],
-    archives: &mut [Result<P, CannotOpen>],
+    indexes: &mut [I],
+    archives: &mut [P],
 ) -> Result<Vec<TableIndex, Heap>, CommandFault>
     requires { length indexes.old ≡ length archives.old }
     ensures read { let named = readers I.whole I.failures indexes.old indexes.new in
@@ -56,7 +56,7 @@ fn join_each<A: Archive + Drop, P: Placed>(
     kept: &mut A,
     prefixes: &[KeyPrefix],
     read: &[TableIndex],
-    archives: &mut [Result<P, CannotOpen>],
+    archives: &mut [P],
 ) -> Result<(), CommandFault>
     requires { length read.now ≡ length archives.old }
     ensures { let sought = map prefix_bytes prefixes.now in
@@ -88,7 +88,7 @@ pub fn read_prefixes<A: Archive + Drop, P: Placed>(
     heap: &Heap,
     prefixes: &[KeyPrefix],
     read: &[TableIndex],
-    archives: &mut [Result<P, CannotOpen>],
+    archives: &mut [P],
 ) -> Result<A, CommandFault>
     requires { length read.now ≡ length archives.old }
     ensures { let sought = map prefix_bytes prefixes.now in
@@ -110,8 +110,8 @@ pub fn read_prefixes<A: Archive + Drop, P: Placed>(
 pub fn read_together<A: Archive + Drop, I: Placed, P: Placed>(
     heap: &Heap,
     prefixes: &[KeyPrefix],
-    indexes: &mut [Result<I, CannotOpen>],
-    archives: &mut [Result<P, CannotOpen>],
+    indexes: &mut [I],
+    archives: &mut [P],
 ) -> Result<A, CommandFault>
     requires { length indexes.old ≡ length archives.old }
     ensures { let sought = map prefix_bytes prefixes.now in

@@ -1,10 +1,9 @@
 -- How commands end that ask by tables, or by slices: `frames` under the keys of frames, and `symbolicate` under one.
-use Rattle.std.proofs.Common.{◌≡◌, ℕ, ◌⊎◌, Bool, List, [], ◌∷◌, length, Option, Result, Ok, refl, sym, ap, ◌∙◌, subst, inl, inr}
+use Rattle.std.proofs.Common.{◌≡◌, ℕ, ◌⊎◌, Bool, List, [], ◌∷◌, length, Option, refl, sym, ap, ◌∙◌, subst, inl, inr}
 use Rattle.std.specs.Prelude.{slice_get, slice_set}
 use Rattle.std.specs.List.{AllZip}
 use Rattle.std.proofs.lemmas.List.Elements.{All-weaker}
 use Rattle.std.proofs.lemmas.Slice.Zip.{AllZip-long}
-use Rattle.byte_device.specs.declared.disks.CannotOpen.{CannotOpen}
 use Rattle.archive_core.specs.Content.{HaveSameMembers, Operations}
 use Rattle.archive_core.specs.Key.{key_bytes}
 use Rattle.archive_core.specs.declared.keys.SliceKey.{SliceKey}
@@ -34,7 +33,7 @@ use Rattle.indexed_symbols.specs.Symbolicate.{symbolicate_at}
 use Rattle.indexed_symbols.proofs.States.{all_kept, fails_alone, none_failed_of, read_before, texts_of}
 
 -- as many indexes are read as there are archives
-pub as_many : {I P : Type 0} (indexes : List (Reader I)) (whole : P → Option (List ℕ)) (failures : P → ℕ) (before seen : List (Result P CannotOpen))
+pub as_many : {I P : Type 0} (indexes : List (Reader I)) (whole : P → Option (List ℕ)) (failures : P → ℕ) (before seen : List P)
     (all : List (List (List ℕ)))
     → AreReadWith indexes (readers whole failures before seen) all → length seen ≡ length before → length all ≡ length seen
 as_many indexes whole failures before seen all read long =
@@ -42,7 +41,7 @@ as_many indexes whole failures before seen all read long =
 
 -- after the indexes were read
 module _ {I P : Type 0} (left : I → Option (List ℕ)) (failures : I → ℕ) (whole : P → Option (List ℕ)) (failures_at : P → ℕ)
-    (old mid new : List (Result I CannotOpen)) (before seen after : List (Result P CannotOpen)) (all : List (List (List ℕ)))
+    (old mid new : List I) (before seen after : List P) (all : List (List (List ℕ)))
     (more : length new ≡ length mid) (more_at : length after ≡ length seen)
     (read : AreRead (AreReadWith (readers left failures old mid) (readers whole failures_at before seen) all)
     (EachUnfailed (readers left failures old mid) × EachUnfailed (readers whole failures_at before seen)))
@@ -79,7 +78,7 @@ module _ {I P : Type 0} (left : I → Option (List ℕ)) (failures : I → ℕ) 
   -- the bytes that the indexes are given with are those that their tables were told of
   given_texts : (texts : List (List ℕ)) → AreGiven named texts → HaveTexts left mid texts
   given_texts texts given =
-      subst (λ (ds : List (Result (Option (List ℕ)) CannotOpen)). AllZip HasText ds texts) (sym (all_kept left failures old mid kept.0).0)
+      subst (λ (ds : List (Option (List ℕ))). AllZip HasText ds texts) (sym (all_kept left failures old mid kept.0).0)
       (texts_of left failures old new texts (more ∙ long) given)
 
   none_failed_named : NoneFailed failures mid new → EachUnfailed named
@@ -121,7 +120,7 @@ module _ {I P : Type 0} (left : I → Option (List ℕ)) (failures : I → ℕ) 
         at_is = cc;
         why_is = cc;
         asked = counts.0;
-        failed = fails_alone left failures old new input failed.old failed.new (ap (λ (ds : List (Result ℕ CannotOpen)). slice_get ds input) (sym counts_kept) ∙ failed.old_is) failed.failed (failed.others ∙ ap (λ (ds : List (Result ℕ CannotOpen)). slice_set ds input (Ok failed.new)) counts_kept);
+        failed = fails_alone left failures old new input failed.old failed.new (ap (λ (ds : List ℕ). slice_get ds input) (sym counts_kept) ∙ failed.old_is) failed.failed (failed.others ∙ ap (λ (ds : List ℕ). slice_set ds input failed.new) counts_kept);
       }))
   fault_of answering answer.OutOfMemory at why told says counts = absurd (cc told)
 

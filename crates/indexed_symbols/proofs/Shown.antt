@@ -1,12 +1,11 @@
 -- What is asked of tables, told by them and shown of it.
-use Rattle.std.proofs.Common.{◌≡◌, ℕ, zero, suc, ◌+◌, ◌<◌, ◌⊎◌, if◌then◌else◌, Bool, false, List, [], ◌∷◌, ◌++◌, length, take, map, get_or, Option, Some, refl, sym, ap, ◌∙◌, subst, arith, inl, inr, Result, Ok, Err}
+use Rattle.std.proofs.Common.{◌≡◌, ℕ, zero, suc, ◌+◌, ◌<◌, ◌⊎◌, if◌then◌else◌, Bool, false, List, [], ◌∷◌, ◌++◌, length, take, map, get_or, Option, Some, refl, sym, ap, ◌∙◌, subst, arith, inl, inr, Ok, Err}
 use Rattle.std.specs.Prelude.{slice_get}
 use Rattle.std.specs.List.{AllZip, Contains}
 use Rattle.std.proofs.Math.ListN.{length-map}
 use Rattle.std.proofs.lemmas.List.{flat_map_more, get_or-map, length-take, map-append, take_more}
 use Rattle.std.proofs.lemmas.List.Elements.{All-contains}
 use Rattle.std.proofs.lemmas.Option.{slice_get-get_or, get_or_from_slice_get, slice_get_within}
-use Rattle.byte_device.specs.declared.disks.CannotOpen.{CannotOpen}
 use Rattle.source_frames.specs.Frames.{FrameRecord}
 use Rattle.archive_core.specs.Key.{key_bytes}
 use Rattle.archive_core.specs.Lookup.{answer_view}
@@ -51,7 +50,7 @@ only_key key other (suc n, lt, e) = absurd (omega (arith, lt))
 
 -- ---- under one key
 
-module _ {D : Type 0} (whole : D → Option (List ℕ)) (failures : D → ℕ) (key : SliceKey) (all : List (List (List ℕ))) (answering : List EntryAt) (are : AreAnsweringAmong (key_bytes key) all answering) (old new : List (Result D CannotOpen)) (lines : Bool) (places : List Where) where
+module _ {D : Type 0} (whole : D → Option (List ℕ)) (failures : D → ℕ) (key : SliceKey) (all : List (List (List ℕ))) (answering : List EntryAt) (are : AreAnsweringAmong (key_bytes key) all answering) (old new : List D) (lines : Bool) (places : List Where) where
   abbrev AreColumns : List (List ℕ) → Answers → Type 0
   AreColumns texts answers = AllZip (IsColumnAt texts lines places) answering answers.columns.items
 
@@ -75,16 +74,16 @@ module _ {D : Type 0} (whole : D → Option (List ℕ)) (failures : D → ℕ) (
 
 -- ---- under several keys
 
-module _ {D : Type 0} (whole : D → Option (List ℕ)) (failures : D → ℕ) (lines : Bool) (all : List (List (List ℕ))) (first mid : List (Result D CannotOpen)) (texts_kept : each_known whole mid ≡ each_known whole first) where
+module _ {D : Type 0} (whole : D → Option (List ℕ)) (failures : D → ℕ) (lines : Bool) (all : List (List (List ℕ))) (first mid : List D) (texts_kept : each_known whole mid ≡ each_known whole first) where
   texts_first : (texts : List (List ℕ)) → HaveTexts whole first texts → HaveTexts whole mid texts
-  texts_first texts have = subst (λ (ds : List (Result (Option (List ℕ)) CannotOpen)). AllZip HasText ds texts) (sym texts_kept) have
+  texts_first texts have = subst (λ (ds : List (Option (List ℕ))). AllZip HasText ds texts) (sym texts_kept) have
 
   -- what is true of later states is true of the first
   pub true_first : (one : KeyAnswers) → IsToldUnder (HaveTexts whole mid) all lines one → IsToldUnder (HaveTexts whole first) all lines one
   true_first one told = λ texts have. told texts (texts_first texts have)
 
   -- what is not told under some keys is not told under others, among which they are
-  pub untold_first : (counts_kept : each_known failures mid ≡ each_known failures first) (new : List (Result D CannotOpen)) (keys others : List (List ℕ))
+  pub untold_first : (counts_kept : each_known failures mid ≡ each_known failures first) (new : List D) (keys others : List (List ℕ))
       (fault : CommandFault) → ((key : List ℕ) → Contains keys key → Contains others key)
       → IsRefusal (IsUntoldBy whole failures lines keys all mid new) (NoneFailed failures mid new) fault
       → IsRefusal (IsUntoldBy whole failures lines others all first new) (NoneFailed failures first new) fault
@@ -96,7 +95,7 @@ module _ {D : Type 0} (whole : D → Option (List ℕ)) (failures : D → ℕ) (
     fault = r.fault;
     told_as = r.told_as;
     says = λ texts have. r.says texts (texts_first texts have);
-    counts = subst (λ (olds : List (Result ℕ CannotOpen)). BlamesAmong lines r.answering olds (each_known failures new) r.fault) counts_kept r.counts;
+    counts = subst (λ (olds : List ℕ). BlamesAmong lines r.answering olds (each_known failures new) r.fault) counts_kept r.counts;
   }
   untold_first counts_kept new keys others OutOfMemory among r = r ∙ counts_kept
   untold_first counts_kept new keys others fault among r = absurd r

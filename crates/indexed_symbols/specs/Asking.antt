@@ -11,7 +11,7 @@ use Rattle.archive_index.specs.declared.index_fault.IndexFaultKind.TheVariants.{
 use Rattle.indexed_answers.specs.Among.{AreAnsweringAmong, AreTied, EntryAt}
 use Rattle.indexed_answers.specs.AmongAsked.{IsAskedAt, IsDamagedAt, IsLinelessAt}
 use Rattle.indexed_answers.specs.AmongTold.{IsAnswerAmong}
-use Rattle.command_core.specs.Inputs.{Reader, EachUnfailed, IsGiven, failures_of}
+use Rattle.command_core.specs.Inputs.{Reader, EachUnfailed, IsGiven}
 use Rattle.command_core.specs.declared.faults.InputName.{InputName}
 use Rattle.command_core.specs.declared.faults.InputName.TheVariants.{Index}
 use Rattle.command_core.specs.declared.faults.Status.{Status}
@@ -56,7 +56,7 @@ AreTiedUnder keys all = (key : List ℕ) × Contains keys key × AreTied key all
 pub record FailsAlone {I : Type 0} (indexes : List (Reader I)) (input : ℕ) : Type 0 where
   pub index : Reader I
   pub index_is : slice_get indexes input ≡ Some index
-  pub failed : FailedIn (failures_of index.failures index.old) (failures_of index.failures index.new)
+  pub failed : FailedIn (index.failures index.old) (index.failures index.new)
   pub before : EachUnfailed (take input indexes)
   pub after : EachUnfailed (drop (input + 1) indexes)
 

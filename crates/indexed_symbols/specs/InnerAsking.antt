@@ -1,8 +1,6 @@
 -- What comes of asking by tables, and of asking by slices if two are tied: the words of inner functions. No contract of
 -- a public one has them.
-use Rattle.std.specs.Prelude.{◌≡◌, ◌⊎◌, ℕ, List, Bool, Option, Result, IsOk, Contains}
-use Rattle.std.specs.List.{AllByRecursion}
-use Rattle.byte_device.specs.declared.disks.CannotOpen.{CannotOpen}
+use Rattle.std.specs.Prelude.{◌≡◌, ◌⊎◌, ℕ, List, Bool, Option, Result, Contains}
 use Rattle.archive_core.specs.Content.{Operations}
 use Rattle.archive_index.specs.declared.index_fault.IndexFaultKind.TheVariants.{Device as DeviceKind}
 use Rattle.indexed_answers.specs.Among.{AreAnsweringAmong, EntryAt}
@@ -19,10 +17,6 @@ use Rattle.command_core.specs.declared.faults.Why.TheVariants as why
 use Rattle.indexed_queries.specs.Together.{HoldNamed, IsFirstRefusedAtPlaces}
 use Rattle.indexed_symbols.specs.Asking.{AreTiedUnder}
 
--- each device was opened
-abbrev pub AreAllOpened : {D : Type 0} → List (Result D CannotOpen) → Type 0
-AreAllOpened devices = AllByRecursion IsOk devices
-
 -- how a command tells a fault of answers
 abbrev pub command_fault : AnswerFault → CommandFault
 command_fault (Damaged input entry) = command.Input (Index input) (why.Damaged entry)
@@ -32,7 +26,7 @@ command_fault OutOfMemory = command.OutOfMemory
 
 -- Under one of these keys a table is not told, for a fault that a command tells so.
 pub record IsUntoldBy {D : Type 0} (whole : D → Option (List ℕ)) (failures : D → ℕ) (lines : Bool)
-    (keys : List (List ℕ)) (all : List (List (List ℕ))) (old new : List (Result D CannotOpen)) (at : InputName)
+    (keys : List (List ℕ)) (all : List (List (List ℕ))) (old new : List D) (at : InputName)
     (why : Why) : Type 0 where
   pub key : List ℕ
   pub key_is : Contains keys key
@@ -44,13 +38,13 @@ pub record IsUntoldBy {D : Type 0} (whole : D → Option (List ℕ)) (failures :
   pub counts : BlamesAmong lines answering (each_known failures old) (each_known failures new) fault
 
 -- no device failed
-abbrev pub NoneFailed : {D : Type 0} → (D → ℕ) → List (Result D CannotOpen) → List (Result D CannotOpen) → Type 0
+abbrev pub NoneFailed : {D : Type 0} → (D → ℕ) → List D → List D → Type 0
 NoneFailed failures old new = each_known failures new ≡ each_known failures old
 
 -- What came of asking the tables under these keys: something of which this is true, and each device has its bytes; or a
 -- table is not told.
 abbrev pub AsksTables : {D T : Type 0} → (D → Option (List ℕ)) → (D → ℕ) → Bool → List (List ℕ)
-    → List (List (List ℕ)) → List (Result D CannotOpen) → List (Result D CannotOpen) → Result T CommandFault
+    → List (List (List ℕ)) → List D → List D → Result T CommandFault
     → (T → Type 0) → Type 0
 AsksTables whole failures lines keys all old new result IsTrue =
     ReadsInputs result (λ value. IsTrue value × (each_known whole new ≡ each_known whole old))
@@ -80,7 +74,7 @@ AsksSlices IsSought all archives result IsTrue =
 
 -- What came of asking by tables under these keys; or by slices under such keys, if two are tied.
 abbrev pub AsksEither : {D P T : Type 0} → Bool → (List (List ℕ) → Type 0) → (D → Option (List ℕ)) → (D → ℕ)
-    → List (List ℕ) → List (List (List ℕ)) → List (Result D CannotOpen) → List (Result D CannotOpen)
+    → List (List ℕ) → List (List (List ℕ)) → List D → List D
     → List (Reader P) → Result T CommandFault → (T → Type 0) → (Operations → T → Type 0) → Type 0
 AsksEither lines IsSought whole failures keys all old new archives result ByTables BySlices =
     ReadsInputs result

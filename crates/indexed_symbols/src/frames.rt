@@ -10,13 +10,13 @@ ghost use Rattle.indexed_answers.specs.AmongAsked.{HaveTexts};
 ghost use Rattle.indexed_queries.specs.Prefixes.{prefix_bytes};
 ghost use Rattle.indexed_symbols.specs.Asking.{AreTiedUnder};
 ghost use Rattle.indexed_symbols.specs.Frames.{TellTablesOfFrames, frames_at, keys_of};
-ghost use Rattle.indexed_symbols.specs.InnerAsking.{AreAllOpened, AsksEither, AsksSlices, AsksTables};
+ghost use Rattle.indexed_symbols.specs.InnerAsking.{AsksEither, AsksSlices, AsksTables};
 
 use crate::places::asked_places;
 use crate::told::{answer_frames_by_tables, tell_keys};
 use archive_core::{Archive, SliceKey, compare_keys};
 use archive_queries::answer_frames;
-use byte_device::{CannotOpen, Placed, Sink, Source};
+use byte_device::{Placed, Sink, Source};
 use command_core::{CommandFault, Status, publish_bytes, read_crash};
 use indexed_queries::{KeyPrefix, read_indexes, read_prefixes};
 use line_inputs::Frame;
@@ -57,10 +57,9 @@ fn tell_by_tables<I: Placed>(
     lines: bool,
     frames: &[Frame],
     read: &[TableIndex],
-    indexes: &mut [Result<I, CannotOpen>],
+    indexes: &mut [I],
 ) -> Result<Option<(Status, Vec<u8, Heap>)>, CommandFault>
-    requires same { length read.now ≡ length indexes.old }
-    requires opened { AreAllOpened indexes.old }
+    requires { length read.now ≡ length indexes.old }
     ensures { AsksTables I.whole I.failures lines (keys_of frames.now) read.now indexes.old indexes.new result
         (λ found. MatchOption found (AreTiedUnder (keys_of frames.now) read.now)
         (λ told. TellTablesOfFrames (HaveTexts I.whole indexes.old) read.now lines frames.now told.0 told.1.items)) }
@@ -79,7 +78,7 @@ fn tell_by_slices<A: Archive + Drop, P: Placed>(
     lines: bool,
     frames: &[Frame],
     read: &[TableIndex],
-    archives: &mut [Result<P, CannotOpen>],
+    archives: &mut [P],
 ) -> Result<(Status, Vec<u8, Heap>), CommandFault>
     requires { length read.now ≡ length archives.old }
     ensures { AsksSlices (λ keys. HaveSameMembers keys (keys_of frames.now)) read.now
@@ -99,12 +98,11 @@ fn tell_frames<A: Archive + Drop, I: Placed, P: Placed>(
     lines: bool,
     frames: &[Frame],
     read: &[TableIndex],
-    indexes: &mut [Result<I, CannotOpen>],
-    archives: &mut [Result<P, CannotOpen>],
+    indexes: &mut [I],
+    archives: &mut [P],
 ) -> Result<(Status, Vec<u8, Heap>), CommandFault>
     requires same { length read.now ≡ length indexes.old }
     requires many { length read.now ≡ length archives.old }
-    requires opened { AreAllOpened indexes.old }
     ensures { AsksEither lines (λ keys. HaveSameMembers keys (keys_of frames.now)) I.whole I.failures
         (keys_of frames.now) read.now indexes.old indexes.new
         (readers P.whole P.failures archives.old archives.new) result
@@ -131,9 +129,9 @@ fn tell_frames<A: Archive + Drop, I: Placed, P: Placed>(
 pub fn run_frames_at<A: Archive + Drop, C: Source, I: Placed, P: Placed, W: Sink>(
     heap: Heap,
     lines: bool,
-    crash: &mut Result<C, CannotOpen>,
-    indexes: &mut [Result<I, CannotOpen>],
-    archives: &mut [Result<P, CannotOpen>],
+    crash: &mut C,
+    indexes: &mut [I],
+    archives: &mut [P],
     report: &mut W,
 ) -> Result<Status, CommandFault>
     requires { length indexes.old ≡ length archives.old }

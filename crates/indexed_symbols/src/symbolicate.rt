@@ -7,14 +7,14 @@ ghost use Rattle.command_core.specs.Inputs.{readers};
 ghost use Rattle.command_core.specs.Outputs.{writer};
 ghost use Rattle.indexed_answers.specs.AmongAsked.{HaveTexts};
 ghost use Rattle.indexed_symbols.specs.Asking.{AreTiedUnder, TellTables};
-ghost use Rattle.indexed_symbols.specs.InnerAsking.{AreAllOpened, AsksEither, AsksSlices, AsksTables};
+ghost use Rattle.indexed_symbols.specs.InnerAsking.{AsksEither, AsksSlices, AsksTables};
 ghost use Rattle.indexed_symbols.specs.InnerTold.{ShowsAddresses};
 ghost use Rattle.indexed_symbols.specs.Symbolicate.{symbolicate_at};
 
 use crate::tables::{push_told, tell_key};
 use archive_core::{Archive, SliceKey};
 use archive_queries::{answer_each, places_of, status_behind};
-use byte_device::{CannotOpen, Placed, Sink};
+use byte_device::{Placed, Sink};
 use command_core::{CommandFault, Status, publish_report};
 use indexed_answers::Answers;
 use indexed_queries::{KeyPrefix, read_indexes, read_prefixes};
@@ -45,14 +45,13 @@ fn answer_by_tables(
 fn tell_by_tables<I: Placed>(
     heap: &Heap,
     read: &[TableIndex],
-    indexes: &mut [Result<I, CannotOpen>],
+    indexes: &mut [I],
     key: &SliceKey,
     load: Option<u64>,
     lines: bool,
     addresses: &[u64],
 ) -> Result<Option<(Status, String<Heap>)>, CommandFault>
-    requires same { length read.now ≡ length indexes.old }
-    requires opened { AreAllOpened indexes.old }
+    requires { length read.now ≡ length indexes.old }
     ensures { AsksTables I.whole I.failures lines (key_bytes key.now ∷ []) read.now indexes.old indexes.new result
         (λ found. MatchOption found (AreTiedUnder (key_bytes key.now ∷ []) read.now)
         (λ told. TellTables (HaveTexts I.whole indexes.old) read.now key.now load lines addresses.now told.0
@@ -71,7 +70,7 @@ fn tell_by_tables<I: Placed>(
 fn tell_by_slices<A: Archive + Drop, P: Placed>(
     heap: &Heap,
     read: &[TableIndex],
-    archives: &mut [Result<P, CannotOpen>],
+    archives: &mut [P],
     key: &SliceKey,
     load: Option<u64>,
     lines: bool,
@@ -92,8 +91,8 @@ fn tell_by_slices<A: Archive + Drop, P: Placed>(
 fn tell_addresses<A: Archive + Drop, I: Placed, P: Placed>(
     heap: &Heap,
     read: &[TableIndex],
-    indexes: &mut [Result<I, CannotOpen>],
-    archives: &mut [Result<P, CannotOpen>],
+    indexes: &mut [I],
+    archives: &mut [P],
     key: &SliceKey,
     load: Option<u64>,
     lines: bool,
@@ -101,7 +100,6 @@ fn tell_addresses<A: Archive + Drop, I: Placed, P: Placed>(
 ) -> Result<(Status, String<Heap>), CommandFault>
     requires same { length read.now ≡ length indexes.old }
     requires many { length read.now ≡ length archives.old }
-    requires opened { AreAllOpened indexes.old }
     ensures { AsksEither lines (λ keys. keys ≡ key_bytes key.now ∷ []) I.whole I.failures (key_bytes key.now ∷ [])
         read.now indexes.old indexes.new (readers P.whole P.failures archives.old archives.new) result
         (λ told. TellTables (HaveTexts I.whole indexes.old) read.now key.now load lines addresses.now told.0
@@ -126,8 +124,8 @@ fn tell_addresses<A: Archive + Drop, I: Placed, P: Placed>(
 /// `Input` for the first index, archive or table that is refused; `Report` where the report failed; `OutOfMemory`.
 pub fn run_symbolicate_at<A: Archive + Drop, I: Placed, P: Placed, W: Sink>(
     heap: Heap,
-    indexes: &mut [Result<I, CannotOpen>],
-    archives: &mut [Result<P, CannotOpen>],
+    indexes: &mut [I],
+    archives: &mut [P],
     key: &SliceKey,
     load: Option<u64>,
     lines: bool,

@@ -7,12 +7,12 @@ ghost use Rattle.report_text.specs.FrameLists.{lists_view};
 ghost use Rattle.indexed_answers.specs.Among.{AreTied};
 ghost use Rattle.indexed_answers.specs.AmongAsked.{HaveTexts};
 ghost use Rattle.indexed_answers.specs.Views.{borrowed_in};
-ghost use Rattle.indexed_symbols.specs.InnerAsking.{AreAllOpened, AsksTables, command_fault};
+ghost use Rattle.indexed_symbols.specs.InnerAsking.{AsksTables, command_fault};
 ghost use Rattle.indexed_symbols.specs.InnerTold.{AreToldOf, shown_at};
 
 use archive_core::{Answer, SliceKey, Where};
 use archive_index::{IndexFault, IndexFaultKind};
-use byte_device::{CannotOpen, Placed};
+use byte_device::Placed;
 use command_core::{CommandFault, InputName, Why};
 use indexed_answers::laws::each_told;
 use indexed_answers::{AnswerFault, Answers, answer_among, answering_among};
@@ -48,13 +48,12 @@ fn refusal(fault: AnswerFault) -> CommandFault
 pub(crate) fn tell_key<I: Placed>(
     heap: &Heap,
     read: &[TableIndex],
-    indexes: &mut [Result<I, CannotOpen>],
+    indexes: &mut [I],
     key: &SliceKey,
     lines: bool,
     places: &[Where],
 ) -> Result<Option<Answers>, CommandFault>
-    requires same { length read.now ≡ length indexes.old }
-    requires opened { AreAllOpened indexes.old }
+    requires { length read.now ≡ length indexes.old }
     ensures { AsksTables I.whole I.failures lines (key_bytes key.now ∷ []) read.now indexes.old indexes.new result
         (λ told. MatchOption told (AreTied (key_bytes key.now) read.now)
         (AreToldOf (HaveTexts I.whole indexes.old) read.now key.now lines places.now)) }

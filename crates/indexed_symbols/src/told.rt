@@ -8,7 +8,7 @@ ghost use Rattle.archive_queries.specs.Symbolicate.{asked_of};
 ghost use Rattle.indexed_answers.specs.Among.{AreTied};
 ghost use Rattle.indexed_answers.specs.AmongAsked.{HaveTexts};
 ghost use Rattle.indexed_symbols.specs.Asking.{AreTiedUnder};
-ghost use Rattle.indexed_symbols.specs.InnerAsking.{AreAllOpened, AsksTables};
+ghost use Rattle.indexed_symbols.specs.InnerAsking.{AsksTables};
 ghost use Rattle.indexed_symbols.specs.InnerPlaces.{asked_cmp, has_key};
 ghost use Rattle.indexed_symbols.specs.InnerTold.{AreInOrder, AreTold, HasTold, HaveToldEach, IsToldUnder};
 ghost use Rattle.indexed_symbols.specs.InnerTold.{ShowsFrames, StandsAt};
@@ -17,7 +17,7 @@ use crate::places::{AskedPlace, compare_places};
 use crate::tables::{push_told, tell_key};
 use archive_core::{SliceKey, Where, compare_keys};
 use archive_queries::status_behind;
-use byte_device::{CannotOpen, Placed};
+use byte_device::Placed;
 use command_core::{CommandFault, Status};
 use indexed_answers::Answers;
 use line_inputs::Frame;
@@ -55,13 +55,12 @@ fn places_in(heap: Heap, asked: &[AskedPlace]) -> Result<Vec<Where, Heap>, NoMem
 fn tell_run<I: Placed>(
     heap: &Heap,
     read: &[TableIndex],
-    indexes: &mut [Result<I, CannotOpen>],
+    indexes: &mut [I],
     key: SliceKey,
     lines: bool,
     run: &[AskedPlace],
 ) -> Result<Option<KeyAnswers>, CommandFault>
-    requires same { length read.now ≡ length indexes.old }
-    requires opened { AreAllOpened indexes.old }
+    requires { length read.now ≡ length indexes.old }
     ensures { AsksTables I.whole I.failures lines (key_bytes key ∷ []) read.now indexes.old indexes.new result
         (λ told. MatchOption told (AreTied (key_bytes key) read.now)
         (λ one. (one.key ≡ key) × (one.places.items ≡ map (λ asked. asked.place) run.now)
@@ -83,12 +82,11 @@ fn tell_run<I: Placed>(
 pub(crate) fn tell_keys<I: Placed>(
     heap: &Heap,
     read: &[TableIndex],
-    indexes: &mut [Result<I, CannotOpen>],
+    indexes: &mut [I],
     lines: bool,
     asked: &[AskedPlace],
 ) -> Result<Option<Vec<KeyAnswers, Heap>>, CommandFault>
     requires same { length read.now ≡ length indexes.old }
-    requires opened { AreAllOpened indexes.old }
     requires sorted { IsStrictlySortedBy asked_cmp asked.now }
     ensures { let keys = map (λ one. key_bytes one.key) asked.now in
         AsksTables I.whole I.failures lines keys read.now indexes.old indexes.new result

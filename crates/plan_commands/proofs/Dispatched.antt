@@ -8,7 +8,6 @@ use Rattle.command_core.specs.declared.faults.{CommandFault.CommandFault, Comman
 use Rattle.command_core.specs.declared.faults.InputName.{InputName, TheVariants.Archive, TheVariants.Index}
 use Rattle.command_core.specs.declared.faults.Why.{Why, TheVariants.NoArchive, TheVariants.NoIndex}
 use Rattle.command_core.specs.Inputs.{Reader, reader, readers}
-use Rattle.byte_device.specs.declared.disks.CannotOpen.{CannotOpen}
 use Rattle.archive_core.specs.declared.keys.SliceKey.{SliceKey}
 use Rattle.command_core.proofs.Readers.{readers_long}
 use Rattle.indexed_queries.specs.Find.{find_together}
@@ -19,18 +18,18 @@ use Rattle.plan_commands.specs.QueryDispatch.{IsAlone, find_of, frames_of, if_pa
 
 module _ {S : Type 0} (left : S → Option (List ℕ)) (failures : S → ℕ) where
   -- there is one where there is an input
-  pub some_read : (a c : List (Result S CannotOpen)) → length c ≡ length a → 0 < length a
+  pub some_read : (a c : List S) → length c ≡ length a → 0 < length a
       → 0 < length (readers left failures a c)
   some_read a c same some = omega (arith, readers_long left failures a c same)
 
-  joined : (a b c d : List (Result S CannotOpen)) → length c ≡ length a
+  joined : (a b c d : List S) → length c ≡ length a
       → readers left failures (a ++ b) (c ++ d) ≡ readers left failures a c ++ readers left failures b d
   joined [] b [] d is = refl
   joined (x ∷ a) b (y ∷ c) d is = ap (λ rest. reader left failures x y ∷ rest) (joined a b c d (omega arith))
   joined a b c d is = absurd (omega arith)
 
   -- the parts, between their states
-  parts : (n : ℕ) (a b c d : List (Result S CannotOpen)) → length a ≡ n → length c ≡ length a
+  parts : (n : ℕ) (a b c d : List S) → length a ≡ n → length c ≡ length a
       → (take n (readers left failures (a ++ b) (c ++ d)) ≡ readers left failures a c)
       × (drop n (readers left failures (a ++ b) (c ++ d)) ≡ readers left failures b d)
   parts n a b c d is same =
@@ -94,7 +93,7 @@ apart archives indexes fault (inr fewer) one single = omega (arith, fewer.0, one
 
 -- the same of archives and indexes that are handed on
 module _ {S : Type 0} (left whole : S → Option (List ℕ)) (failures place_failures : S → ℕ) where
-  pub readers_alone : (archives ix : List (Result S CannotOpen)) (fault : CommandFault)
+  pub readers_alone : (archives ix : List S) (fault : CommandFault)
       → IsAlone (length archives) (length ix) fault
       → (at : InputName) × (why : Why) × (fault ≡ Input at why)
       × (paired (length (readers left failures archives archives)) (length (readers whole place_failures ix ix))
@@ -103,7 +102,7 @@ module _ {S : Type 0} (left whole : S → Option (List ℕ)) (failures place_fai
       alone (length (readers left failures archives archives)) (length (readers whole place_failures ix ix)) fault
       (rw (readers_long left failures archives archives refl, readers_long whole place_failures ix ix refl) is)
 
-  pub readers_paired : (a c ix iy : List (Result S CannotOpen)) → length ix ≡ length a → length c ≡ length a
+  pub readers_paired : (a c ix iy : List S) → length ix ≡ length a → length c ≡ length a
       → length iy ≡ length ix
       → paired (length (readers left failures a c)) (length (readers whole place_failures ix iy)) ≡ Ok tt
   readers_paired a c ix iy as_many same indexes =
@@ -112,7 +111,7 @@ module _ {S : Type 0} (left whole : S → Option (List ℕ)) (failures place_fai
 
   -- and of any query that is made of them
   pub alone_refused : {W : Type 0} (held : W → Option (List ℕ)) (write_failures : W → ℕ)
-      (archives ix : List (Result S CannotOpen)) (query made : Query) (report : W) (fault : CommandFault)
+      (archives ix : List S) (query made : Query) (report : W) (fault : CommandFault)
       → IsAlone (length archives) (length ix) fault
       → query ≡ if_paired
       (paired (length (readers left failures archives archives)) (length (readers whole place_failures ix ix))) made
@@ -122,7 +121,7 @@ module _ {S : Type 0} (left whole : S → Option (List ℕ)) (failures place_fai
       subst (λ (q : Query). EndsReport q (writer held write_failures report report) (Err fault)) (sym by)
       (rw (refused.2, refused.3) (refl, (Appends-nil (held report), refl)))
 
-  pub paired_kept : (a c ix iy : List (Result S CannotOpen)) (query made : Query) (report : Writer)
+  pub paired_kept : (a c ix iy : List S) (query made : Query) (report : Writer)
       (result : Result Status CommandFault) → length ix ≡ length a → length c ≡ length a → length iy ≡ length ix
       → query ≡ if_paired
       (paired (length (readers left failures a c)) (length (readers whole place_failures ix iy))) made
@@ -132,7 +131,7 @@ module _ {S : Type 0} (left whole : S → Option (List ℕ)) (failures place_fai
 
   -- what holds of archives and indexes that are handed on holds of the parts of the inputs that they were made of
   pub at_parts : (Holds : List (Reader S) → List (Reader S) → List (Reader S) → List (Reader S) → Type 0) (n : ℕ)
-      (inputs a b c d : List (Result S CannotOpen)) → inputs ≡ a ++ b → length a ≡ n → length c ≡ length a
+      (inputs a b c d : List S) → inputs ≡ a ++ b → length a ≡ n → length c ≡ length a
       → Holds (readers left failures a c) (readers left failures b d) (readers whole place_failures a c)
       (readers whole place_failures b d)
       → Holds (take n (readers left failures inputs (c ++ d))) (drop n (readers left failures inputs (c ++ d)))

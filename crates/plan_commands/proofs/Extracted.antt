@@ -3,7 +3,6 @@ use Rattle.std.proofs.Common.{◌≡◌, ◌∙◌, ℕ, ◌<◌, List, [], ◌�
 use Rattle.std.proofs.{KnownBytes.Appends-nil, lemmas.Bool.ne_eqb}
 use Rattle.std.specs.Io.KnownBytes.{Appends}
 use Rattle.archive_core.specs.declared.keys.{Digest.Digest, SliceKey.SliceKey}
-use Rattle.byte_device.specs.declared.disks.CannotOpen.{CannotOpen}
 use Rattle.byte_device.specs.declared.targets.Output.{Output as Out}
 use Rattle.command_core.specs.Inputs.{Reader, reader, readers}
 use Rattle.command_core.specs.Outputs.{Outs, Takes, Writer, out_of}
@@ -48,20 +47,20 @@ module _ {D T : Type 0} (out : Outs D T) (report : Writer) where
 module _ {S : Type 0} (left whole : S → Option (List ℕ)) (failures place_failures : S → ℕ) (key : SliceKey)
     (digest : Option Digest) where
   -- without an index
-  pub whole_extracted : {D T : Type 0} (archives ix : List (Result S CannotOpen)) (a c : Result S CannotOpen)
-      (b d : List (Result S CannotOpen)) (out : Outs D T) (report : Writer) (result : Result Status CommandFault)
+  pub whole_extracted : {D T : Type 0} (archives ix : List S) (a c : S)
+      (b d : List S) (out : Outs D T) (report : Writer) (result : Result Status CommandFault)
       → archives ≡ a ∷ b → true ≡ (length ix == 0)
       → Extracts (extract (reader left failures a c) (readers left failures b d) key digest (out_of out).draft) out report result
       → Extracts (extract_of (readers left failures archives (c ∷ d)) (readers whole place_failures archives (c ∷ d))
       (readers whole place_failures ix ix) key digest (out_of out).draft) out report result
   whole_extracted archives [] a c b d out report result is none ends =
-      subst (λ (all : List (Result S CannotOpen)). Extracts (extract_of (readers left failures all (c ∷ d))
+      subst (λ (all : List S). Extracts (extract_of (readers left failures all (c ∷ d))
       (readers whole place_failures all (c ∷ d)) (readers whole place_failures [] []) key digest (out_of out).draft) out report result)
       (sym is) ends
   whole_extracted archives (i ∷ ix) a c b d out report result is none ends =
       absurd (true≢false (none ∙ ne_eqb (length (i ∷ ix)) 0 (omega arith)))
 
-  pub alone_stopped : {D T : Type 0} (archives ix : List (Result S CannotOpen)) (out : Outs D T) (report : Writer)
+  pub alone_stopped : {D T : Type 0} (archives ix : List S) (out : Outs D T) (report : Writer)
       (fault : CommandFault) → IsAlone (length archives) (length ix) fault → 0 < length (readers whole place_failures ix ix)
       → out.new ≡ out.old → Takes report []
       → Extracts (extract_of (readers left failures archives archives) (readers whole place_failures archives archives)
@@ -75,7 +74,7 @@ module _ {S : Type 0} (left whole : S → Option (List ℕ)) (failures place_fai
       (rw (refused.2, refused.3)
       (stopped out report refused.0 refused.1 (extract_at named places key digest (out_of out).draft) same unreported))
 
-  pub paired_extracted : {D T : Type 0} (a c ix iy : List (Result S CannotOpen)) (out : Outs D T) (report : Writer)
+  pub paired_extracted : {D T : Type 0} (a c ix iy : List S) (out : Outs D T) (report : Writer)
       (result : Result Status CommandFault) → length ix ≡ length a → length c ≡ length a → length iy ≡ length ix
       → 0 < length (readers whole place_failures ix iy)
       → Extracts (extract_at (readers whole place_failures ix iy) (readers whole place_failures a c) key digest

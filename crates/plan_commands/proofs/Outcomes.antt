@@ -5,7 +5,6 @@ use Rattle.std.specs.FinSet as set
 use Rattle.std.specs.{Io.KnownBytes.Appends, Prelude.option_and_then, Prelude.slice_get}
 use Rattle.command_line.specs.Lines.{Line}
 use Rattle.archive_records.specs.Text.{written}
-use Rattle.byte_device.specs.declared.disks.CannotOpen.{CannotOpen}
 use Rattle.command_core.specs.declared.faults.{CommandFault.CommandFault, InputName.InputName, Status.Status, Why.Why}
 use Rattle.command_core.specs.declared.faults.CommandFault.TheVariants.{Input, Output, Report, OutOfMemory}
 use Rattle.byte_device.specs.declared.targets.Output.{Output as Out}
@@ -127,7 +126,7 @@ done (answers query) out report r e = queried query out report r e
 done none out report r e = absurd e
 
 -- and what is told of it
-module _ {S D T : Type 0} (told : Told S) (line : Line) (behind : List (Result S CannotOpen)) (out : Outs D T) where
+module _ {S D T : Type 0} (told : Told S) (line : Line) (behind : List S) (out : Outs D T) where
   by_fault : (u : Option Unopened) (name : InputName) (why : Why) → IsNotPut out (Err (Input name why))
       → IsOutcome out (Err (fault_at u name why))
   by_fault None name why o = o
@@ -143,7 +142,7 @@ module _ {S D T : Type 0} (told : Told S) (line : Line) (behind : List (Result S
       (by_fault (unopened_of told (option_and_then (slice_get behind) (number_at line name))) name why o)
   told_outcome ended result tells o = subst (IsOutcome out) (sym tells) o
 
-pub carried_outcome : {S D T : Type 0} (told : Told S) (line : Line) (plan : Plan) (before behind : List (Result S CannotOpen))
+pub carried_outcome : {S D T : Type 0} (told : Told S) (line : Line) (plan : Plan) (before behind : List S)
     (out : Outs D T) (report : Writer) (r : Result Status CommandFault) (notes noted : List Note)
     → Carried told line plan before behind out report r notes noted
     → IsOutcome out r

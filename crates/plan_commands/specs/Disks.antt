@@ -1,6 +1,5 @@
 -- A plan over inputs that are opened at their turn.
 use Rattle.std.specs.Prelude.{◌≡◌, List, OnOk, length, Result}
-use Rattle.byte_device.specs.declared.disks.CannotOpen.{CannotOpen}
 use Rattle.archive_files.specs.InputStates.{AreAtTurn, AreWaiting, Told}
 use Rattle.command_line.specs.Lines.{Line, inputs_of}
 use Rattle.command_core.specs.declared.faults.{CommandFault.CommandFault, Status.Status}
@@ -12,7 +11,7 @@ use Rattle.plan_commands.specs.Plans.{Executes, Notes}
 
 -- The plan of a line ended so over inputs with the paths of the line, in the order of the words, each of which was
 -- opened at its turn, if that came; this was told of it, and where it ended well, these notes were added to those.
-pub record Carried {S D T : Type 0} (told : Told S) (line : Line) (plan : Plan) (before behind : List (Result S CannotOpen))
+pub record Carried {S D T : Type 0} (told : Told S) (line : Line) (plan : Plan) (before behind : List S)
     (out : Outs D T) (report : Writer) (result : Result Status CommandFault) (notes noted : List Note) : Type 0 where
   pub plan_is : IsPlanOf plan line
   pub waiting : AreWaiting told (inputs_of line) before

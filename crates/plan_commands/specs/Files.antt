@@ -19,7 +19,6 @@ use Rattle.archive_files.specs.declared.replaceable.OutFault.TheVariants as faul
 use Rattle.archive_writing.specs.declared.notes.Note.{Note}
 use Rattle.command_line.specs.declared.plan.Plan.{Plan}
 use Rattle.plan_commands.specs.{Disks.Carried, Plans.replaces_of}
-use Rattle.byte_device.specs.declared.disks.CannotOpen.{CannotOpen}
 
 -- why OUT failed after it took so many bytes
 abbrev pub out_failure : Option OutFault → ℕ → Failure
@@ -113,8 +112,8 @@ pub record IsCarriedOut {S D T : Type 0} (calls : Calls S D T) (line : Line) (re
   pub begun_unfailed : calls.draft_failures begun.draft ≡ 0
   pub nothing_published : calls.published begun.target ≡ None
   pub asked : calls.asked_new ≡ calls.asked_old ++ inputs_of line
-  pub before : List (Result S CannotOpen)
-  pub behind : List (Result S CannotOpen)
+  pub before : List S
+  pub behind : List S
   pub noted : List Note
   pub plan : Plan
   pub carried : Carried calls.told line plan before behind (outs_in calls begun done) report ended [] noted

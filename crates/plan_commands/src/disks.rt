@@ -12,7 +12,7 @@ use crate::plans::execute;
 use archive_core::Archive;
 use archive_files::{AtTurn, Disk};
 use archive_writing::Note;
-use byte_device::{CannotOpen, Output, Sink, Target};
+use byte_device::{Output, Sink, Target};
 use command_core::{CommandFault, Status};
 use command_line::{Line, Plan};
 use error_lines::blamed;
@@ -23,7 +23,7 @@ use memory::Heap;
 /// is. What the command notes is added to `notes`.
 pub fn execute_on<A: Archive + Drop, L: Archive + Drop, D: Disk, T: Target, P: Sink>(
     heap: Heap,
-    inputs: &mut [Result<AtTurn<'_, D>, CannotOpen>],
+    inputs: &mut [AtTurn<'_, D>],
     line: &Line,
     plan: &Plan,
     notes: &mut Vec<Note, Heap>,

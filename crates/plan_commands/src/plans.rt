@@ -7,7 +7,7 @@ ghost use Rattle.command_line.specs.Plan.{least_inputs};
 ghost use Rattle.plan_commands.specs.Plans.{Executes, Notes, replaces_of};
 
 use crate::queries::answer;
-use crate::query_dispatch::{self, Input, first_and_rest};
+use crate::query_dispatch::{self, first_and_rest};
 use crate::updates;
 use archive_core::Archive;
 use archive_files::Replaces;
@@ -36,7 +36,7 @@ pub fn replaces(plan: &Plan) -> Replaces
 pub fn execute<A: Archive + Drop, L: Archive + Drop, S: Source + Placed, T: Target, P: Sink>(
     heap: Heap,
     plan: &Plan,
-    inputs: &mut [Input<S>],
+    inputs: &mut [S],
     notes: &mut Vec<Note, Heap>,
     out: &mut Output<T::Draft, T>,
     report: &mut P,

@@ -6,7 +6,7 @@ ghost use Rattle.command_core.specs.Outputs.{writer};
 ghost use Rattle.command_line.specs.Plan.{least_inputs};
 ghost use Rattle.plan_commands.specs.Plans.{Answers, Notes, only_reports};
 
-use crate::query_dispatch::{self, Input, first_and_rest};
+use crate::query_dispatch::{self, first_and_rest};
 use archive_core::Archive;
 use archive_exchange::run_rehearse;
 use archive_writing::Note;
@@ -20,7 +20,7 @@ use memory::Heap;
 pub fn answer<A: Archive + Drop, L: Archive + Drop, S: Source + Placed, P: Sink>(
     heap: Heap,
     plan: &Plan,
-    inputs: &mut [Input<S>],
+    inputs: &mut [S],
     notes: &mut Vec<Note, Heap>,
     report: &mut P,
 ) -> Result<Status, CommandFault>

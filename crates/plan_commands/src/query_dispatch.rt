@@ -13,16 +13,13 @@ ghost use Rattle.slice_extraction.specs.Extract.{Extracts};
 use archive_core::{Archive, Digest, SliceKey};
 use archive_queries::{answer_name, run_find, run_frames, run_list, run_symbolicate};
 use archive_writing::Note;
-use byte_device::{CannotOpen, Output, Placed, Sink, Source, Target};
+use byte_device::{Output, Placed, Sink, Source, Target};
 use command_core::{CommandFault, InputName, Status, Why, publish_report};
 use indexed_queries::{run_find_at, run_find_together, run_list_at};
 use indexed_symbols::{run_frames_at, run_symbolicate_at};
 use memory::{Heap, NoMemory};
 use slice_extraction::{run_extract, run_extract_at};
 use uuid::Uuid;
-
-/// An input of a command, if it could be opened.
-pub type Input<S> = Result<S, CannotOpen>;
 
 /// The first of some, and the rest.
 pub fn first_and_rest<T>(items: &mut [T]) -> (&mut T, &mut [T])
@@ -51,8 +48,8 @@ fn test_pairs(archives: usize, indexes: usize) -> Result<(), CommandFault>
 /// `find` over archives, which are read by these indexes, if there are some: of one archive by its index alone.
 pub fn find<A: Archive + Drop, S: Source + Placed, P: Sink>(
     heap: Heap,
-    archives: &mut [Input<S>],
-    indexes: &mut [Input<S>],
+    archives: &mut [S],
+    indexes: &mut [S],
     uuid: &Uuid,
     report: &mut P,
 ) -> Result<Status, CommandFault>
@@ -80,8 +77,8 @@ pub fn find<A: Archive + Drop, S: Source + Placed, P: Sink>(
 /// `list` over an archive, which is read by its index, if there is one.
 pub fn list<S: Source + Placed, P: Sink>(
     heap: Heap,
-    archive: &mut Input<S>,
-    indexes: &mut [Input<S>],
+    archive: &mut S,
+    indexes: &mut [S],
     report: &mut P,
 ) -> Result<Status, CommandFault>
     ensures { EndsReport (list_of
@@ -116,8 +113,8 @@ fn note_underscored(
 /// `_` before it, a note is added.
 pub fn name<S: Source, P: Sink>(
     heap: Heap,
-    archive: &mut Input<S>,
-    others: &mut [Input<S>],
+    archive: &mut S,
+    others: &mut [S],
     sought: &[u8],
     notes: &mut Vec<Note, Heap>,
     report: &mut P,
@@ -138,8 +135,8 @@ pub fn name<S: Source, P: Sink>(
 /// `symbolicate` over archives, which are read by these indexes, if there are some.
 pub fn symbolicate<A: Archive + Drop, S: Source + Placed, P: Sink>(
     heap: Heap,
-    archives: &mut [Input<S>],
-    indexes: &mut [Input<S>],
+    archives: &mut [S],
+    indexes: &mut [S],
     key: &SliceKey,
     load: Option<u64>,
     lines: bool,
@@ -168,9 +165,9 @@ pub fn symbolicate<A: Archive + Drop, S: Source + Placed, P: Sink>(
 pub fn frames<A: Archive + Drop, S: Source + Placed, P: Sink>(
     heap: Heap,
     lines: bool,
-    crash: &mut Input<S>,
-    archives: &mut [Input<S>],
-    indexes: &mut [Input<S>],
+    crash: &mut S,
+    archives: &mut [S],
+    indexes: &mut [S],
     report: &mut P,
 ) -> Result<Status, CommandFault>
     requires { 0 < length archives.old }
@@ -192,8 +189,8 @@ pub fn frames<A: Archive + Drop, S: Source + Placed, P: Sink>(
 /// `extract` over archives, which are read by these indexes, if there are some.
 pub fn extract<A: Archive + Drop, S: Source + Placed, T: Target, P: Sink>(
     heap: Heap,
-    archives: &mut [Input<S>],
-    indexes: &mut [Input<S>],
+    archives: &mut [S],
+    indexes: &mut [S],
     key: &SliceKey,
     digest: &Option<Digest>,
     out: &mut Output<T::Draft, T>,

@@ -6,7 +6,7 @@ ghost use Rattle.command_core.specs.Outputs.{outs, writer};
 ghost use Rattle.plan_commands.specs.Plans.{Executes, Notes};
 ghost use Rattle.command_line.specs.declared.plan.Plan.TheVariants.{Admit, Apply, Delta, Merge, Retire, Summary};
 
-use crate::query_dispatch::{Input, first_and_rest};
+use crate::query_dispatch::first_and_rest;
 use archive_core::{Archive, Digest, SliceKey};
 use archive_writing::{Note, run_admit, run_apply, run_delta, run_merge, run_retire, run_summary};
 use byte_device::{Output, Placed, Sink, Source, Target};
@@ -17,7 +17,7 @@ use memory::Heap;
 /// `admit`, of an archive and of files.
 pub fn admit<S: Source + Placed, T: Target, P: Sink>(
     heap: Heap,
-    inputs: &mut [Input<S>],
+    inputs: &mut [S],
     notes: &mut Vec<Note, Heap>,
     out: &mut Output<T::Draft, T>,
     report: &mut P,
@@ -39,7 +39,7 @@ pub fn admit<S: Source + Placed, T: Target, P: Sink>(
 /// `retire`, of an archive.
 pub fn retire<S: Source + Placed, T: Target, P: Sink>(
     heap: Heap,
-    inputs: &mut [Input<S>],
+    inputs: &mut [S],
     key: SliceKey,
     digest: Digest,
     notes: &mut Vec<Note, Heap>,
@@ -63,7 +63,7 @@ pub fn retire<S: Source + Placed, T: Target, P: Sink>(
 /// `merge`, of an archive and of those behind it.
 pub fn merge<A: Archive + Drop, S: Source + Placed, T: Target, P: Sink>(
     heap: Heap,
-    inputs: &mut [Input<S>],
+    inputs: &mut [S],
     out: &mut Output<T::Draft, T>,
     report: &mut P,
 ) -> Result<Status, CommandFault>
@@ -81,7 +81,7 @@ pub fn merge<A: Archive + Drop, S: Source + Placed, T: Target, P: Sink>(
 /// `apply`, of an archive and of operations.
 pub fn apply<S: Source + Placed, T: Target, P: Sink>(
     heap: Heap,
-    inputs: &mut [Input<S>],
+    inputs: &mut [S],
     out: &mut Output<T::Draft, T>,
     report: &mut P,
 ) -> Result<Status, CommandFault>
@@ -99,7 +99,7 @@ pub fn apply<S: Source + Placed, T: Target, P: Sink>(
 /// `summary` of an archive, which is read by its index, if there is one.
 pub fn summary<S: Source + Placed, T: Target, P: Sink>(
     heap: Heap,
-    inputs: &mut [Input<S>],
+    inputs: &mut [S],
     out: &mut Output<T::Draft, T>,
     report: &mut P,
 ) -> Result<Status, CommandFault>
@@ -120,7 +120,7 @@ pub fn summary<S: Source + Placed, T: Target, P: Sink>(
 /// `delta`, of an archive and of a summary.
 pub fn delta<S: Source + Placed, T: Target, P: Sink>(
     heap: Heap,
-    inputs: &mut [Input<S>],
+    inputs: &mut [S],
     out: &mut Output<T::Draft, T>,
     report: &mut P,
 ) -> Result<Status, CommandFault>

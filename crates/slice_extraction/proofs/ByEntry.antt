@@ -3,7 +3,6 @@ use Rattle.std.proofs.Common.{◌≡◌, ℕ, ◌<◌, List, [], ◌∷◌, leng
 use Rattle.std.specs.List.{AllZip}
 use Rattle.std.proofs.lemmas.Option.{slice_get_within}
 use Rattle.std.proofs.lemmas.Slice.Zip.{AllZip-long}
-use Rattle.byte_device.specs.declared.disks.CannotOpen.{CannotOpen}
 use Rattle.archive_core.specs.Key.{key_bytes}
 use Rattle.archive_core.specs.declared.find.FindRow.{FindRow}
 use Rattle.archive_core.specs.declared.keys.Digest.{Digest}
@@ -39,7 +38,7 @@ pub archive_there : (key : SliceKey) (digest : Option Digest) (all : List (List 
 archive_there key digest all x is = let among = chosen_among key digest all x is in slice_get_within all x.input among.entries among.index_is
 
 -- as many indexes are read as there are archives
-pub as_many : {I P : Type 0} (indexes : List (Reader I)) (whole : P → Option (List ℕ)) (failures : P → ℕ) (before seen : List (Result P CannotOpen))
+pub as_many : {I P : Type 0} (indexes : List (Reader I)) (whole : P → Option (List ℕ)) (failures : P → ℕ) (before seen : List P)
     (all : List (List (List ℕ))) → AreReadWith indexes (readers whole failures before seen) all → length seen ≡ length before → length all ≡ length seen
 as_many indexes whole failures before seen all read long =
     three_long IsReadWith indexes (readers whole failures before seen) all read ∙ readers_long whole failures before seen long ∙ sym long
@@ -55,7 +54,7 @@ refused_first indexes archives key digest out report fault r same unreported =
 
 -- ---- after the indexes were read
 
-module _ {I P D T : Type 0} (indexes : List (Reader I)) (whole : P → Option (List ℕ)) (failures : P → ℕ) (before seen after : List (Result P CannotOpen))
+module _ {I P D T : Type 0} (indexes : List (Reader I)) (whole : P → Option (List ℕ)) (failures : P → ℕ) (before seen after : List P)
     (all : List (List (List ℕ))) (more : length after ≡ length seen)
     (read : AreRead (AreReadWith indexes (readers whole failures before seen) all) (EachUnfailed indexes × EachUnfailed (readers whole failures before seen)))
     (kept : AreAllKept whole failures before seen)
@@ -116,7 +115,7 @@ module _ {I P D T : Type 0} (indexes : List (Reader I)) (whole : P → Option (L
       (inl (refused, took_nothing out same)) same unreported)
 
   -- the slice of an entry is sent from its archive
-  module _ (x : EntryAt) (chosen : IsChosen key digest all x) (old new : Result P CannotOpen) (old_is : old ≡ get_or seen x.input old)
+  module _ (x : EntryAt) (chosen : IsChosen key digest all x) (old new : P) (old_is : old ≡ get_or seen x.input old)
       (after_is : after ≡ set seen x.input new) where
     abbrev archive : Reader P
     archive = reader whole failures old new
@@ -132,14 +131,14 @@ module _ {I P D T : Type 0} (indexes : List (Reader I)) (whole : P → Option (L
       chosen = chosen;
       later = later;
       are_later = are_later;
-      archive_is = subst (λ (l : List (Result P CannotOpen)). IsOneOf (readers whole failures seen l) x.input archive) (sym after_is)
+      archive_is = subst (λ (l : List P). IsOneOf (readers whole failures seen l) x.input archive) (sym after_is)
           (one_of whole failures seen seen x.input old new within refl old_is refl (none_failed whole failures seen));
     }
 
     unfailed_sent : Unfailed archive → AreUnfailedTogether indexes known
     unfailed_sent one = unfailed_all (
       read.unfailed.0,
-      subst (λ (l : List (Result P CannotOpen)). EachUnfailed (readers whole failures seen l)) (sym after_is)
+      subst (λ (l : List P). EachUnfailed (readers whole failures seen l)) (sym after_is)
           (unfailed_more whole failures seen seen x.input old new within refl old_is (none_failed whole failures seen) one),
     )
 

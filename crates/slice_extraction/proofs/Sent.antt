@@ -1,9 +1,8 @@
 -- What was sent of the slice of an entry, and told of it; or why it was not.
 use Rattle.std.proofs.Common.{◌≡◌, ℕ, ◌+◌, ◌<◌, List, [], take, drop, length, Option, Some, None, Result, Ok, Err, refl, sym, ap, ◌∙◌, subst, inl, inr, arith}
-use Rattle.std.specs.Prelude.{IfSome, MatchResult}
+use Rattle.std.specs.Prelude.{IfSome}
 use Rattle.sha2.specs.Sha256.{sha256}
 use Rattle.byte_device.specs.Devices.{stream}
-use Rattle.byte_device.specs.declared.disks.CannotOpen.{CannotOpen}
 use Rattle.byte_device.specs.Places.{Stands}
 use Rattle.slice_extraction.specs.Copies.{IsCopied}
 use Rattle.slice_extraction.specs.Sending.{HaveOther, HaveSome, StopsSending, Hinders as HindersSending}
@@ -12,11 +11,11 @@ use Rattle.slice_extraction.specs.declared.tested_copy.SendFault.TheVariants.{Ot
 use Rattle.command_core.specs.Inputs.{Gives, Reader, Unfailed, reader}
 use Rattle.command_core.specs.Outputs.{IsPublished, Out, Publishes, Reports, Takes, Writer, writer}
 use Rattle.command_core.specs.declared.faults.CommandFault.{CommandFault}
-use Rattle.command_core.specs.declared.faults.CommandFault.TheVariants.{Input, Report}
+use Rattle.command_core.specs.declared.faults.CommandFault.TheVariants.{Report}
 use Rattle.command_core.specs.declared.faults.InputName.TheVariants.{Archive, Index}
 use Rattle.command_core.specs.declared.faults.Status.{Status}
 use Rattle.command_core.specs.declared.faults.Status.TheVariants.{Done}
-use Rattle.command_core.specs.declared.faults.Why.TheVariants.{CannotOpen as NotOpened, Stale}
+use Rattle.command_core.specs.declared.faults.Why.TheVariants.{Stale}
 use Rattle.indexed_answers.specs.Among.{EntryAt}
 use Rattle.archive_core.specs.declared.keys.SliceKey.{SliceKey}
 use Rattle.archive_index.specs.Entry.{offset_in}
@@ -37,17 +36,9 @@ unbegun archive x draft fault took hinders = record {
   hinders = hinders;
 }
 
--- the archive is not open
-pub unopened : {S : Type 0} (left : S → Option (List ℕ)) (failures : S → ℕ) (old : Result S CannotOpen) (number : ℕ) (x : EntryAt) (draft : Writer) (fault : CommandFault) → number ≡ x.input → Takes draft []
-    → MatchResult old (λ _. ⊥) (λ _. fault ≡ Input (Archive number) NotOpened) → StopsSlice (reader left failures old old) x draft fault
-unopened left failures (Ok source) number x draft fault same took is = absurd is
-unopened left failures (Err reason) number x draft fault same took is =
-    subst (λ (f : CommandFault). StopsSlice (reader left failures (Err reason) (Err reason)) x draft f) (sym is)
-    (unbegun (reader left failures (Err reason) (Err reason)) x draft (Input (Archive number) NotOpened) took (inl (ap Archive same, refl), took.1))
-
 module _ {P W : Type 0} (whole : P → Option (List ℕ)) (failures : P → ℕ) (held : W → Option (List ℕ)) (failures_of_draft : W → ℕ) (device after : P) (before behind : W) (named : NamedSlice) (x : EntryAt) (names : Names x named) where
   abbrev archive : Reader P
-  archive = reader whole failures (Ok device) (Ok after)
+  archive = reader whole failures device after
 
   abbrev draft : Writer
   draft = writer held failures_of_draft before behind

@@ -7,7 +7,6 @@ use Rattle.archive_core.specs.Key.{key_bytes}
 use Rattle.archive_core.specs.declared.keys.Digest.{Digest}
 use Rattle.archive_core.specs.declared.keys.SliceKey.{SliceKey}
 use Rattle.archive_records.specs.declared.fault.RecordFaultKind.TheVariants.{Device as DeviceFailed}
-use Rattle.byte_device.specs.declared.disks.CannotOpen.{CannotOpen}
 use Rattle.command_core.specs.Inputs.{EachUnfailed, IsRefusal, Reader, Unfailed, reader}
 use Rattle.command_core.specs.Outputs.{Outs, PublishesNothing, Publishes, Takes, Writer, out_of}
 use Rattle.command_core.specs.declared.faults.CommandFault.{CommandFault}
@@ -61,10 +60,10 @@ PublishesSlice archive key x out report result =
     × PublishesNothing (out_of out) × Takes report [])
 
 -- The same from its archive among several, of which no other is touched.
-abbrev pub PublishesFrom : {P D T : Type 0} → (P → Option (List ℕ)) → (P → ℕ) → List (Result P CannotOpen)
-    → List (Result P CannotOpen) → SliceKey → EntryAt → Outs D T → Writer → Result Status CommandFault → Type 0
+abbrev pub PublishesFrom : {P D T : Type 0} → (P → Option (List ℕ)) → (P → ℕ) → List P
+    → List P → SliceKey → EntryAt → Outs D T → Writer → Result Status CommandFault → Type 0
 PublishesFrom {P} whole failures old new key x out report result =
-    (before : Result P CannotOpen) × (after : Result P CannotOpen) × (before ≡ slice_index_or old x.input before)
+    (before : P) × (after : P) × (before ≡ slice_index_or old x.input before)
     × (new ≡ slice_set old x.input after) × PublishesSlice (reader whole failures before after) key x out report result
 
 -- What the slices under the key make, which these entries name in archives, is published; or an archive is refused or

@@ -7,7 +7,7 @@ ghost use Rattle.slice_extraction.specs.Extract.{Extracts, extract};
 use crate::publishing::publish_wanted;
 use archive_core::{Archive, Digest, SliceKey};
 use archive_reading::Under;
-use byte_device::{CannotOpen, Output, Sink, Source, Target};
+use byte_device::{Output, Sink, Source, Target};
 use command_core::{CommandFault, Status, bytes_of, read_parts};
 use memory::Heap;
 
@@ -22,8 +22,8 @@ use memory::Heap;
 /// `Input` for the first archive that is refused; `Output` and `Report` where that writer failed; `OutOfMemory`.
 pub fn run_extract<A: Archive + Drop, R: Source, T: Target, P: Sink>(
     heap: Heap,
-    archive: &mut Result<R, CannotOpen>,
-    others: &mut [Result<R, CannotOpen>],
+    archive: &mut R,
+    others: &mut [R],
     key: &SliceKey,
     digest: &Option<Digest>,
     out: &mut Output<T::Draft, T>,

@@ -13,7 +13,7 @@ use crate::entries::{EntryChoice, choose_entry};
 use crate::publishing::{publish_rows, publish_wanted};
 use crate::sending::publish_named;
 use archive_core::{Archive, Digest, SliceKey};
-use byte_device::{CannotOpen, Output, Placed, Sink, Target};
+use byte_device::{Output, Placed, Sink, Target};
 use command_core::{CommandFault, Status, bytes_of};
 use indexed_answers::NamedSlice;
 use indexed_queries::{KeyPrefix, read_indexes, read_prefixes};
@@ -31,8 +31,8 @@ use table_index::TableIndex;
 /// and `Report` where that writer failed; `OutOfMemory`.
 pub fn run_extract_at<A: Archive + Drop, I: Placed, P: Placed, T: Target, W: Sink>(
     heap: Heap,
-    indexes: &mut [Result<I, CannotOpen>],
-    archives: &mut [Result<P, CannotOpen>],
+    indexes: &mut [I],
+    archives: &mut [P],
     key: &SliceKey,
     digest: &Option<Digest>,
     out: &mut Output<T::Draft, T>,
@@ -57,7 +57,7 @@ fn publish_from<P: Placed, T: Target, W: Sink>(
     heap: &Heap,
     key: &SliceKey,
     named: &NamedSlice,
-    archives: &mut [Result<P, CannotOpen>],
+    archives: &mut [P],
     out: &mut Output<T::Draft, T>,
     report: &mut W,
 ) -> Result<Status, CommandFault>
@@ -76,7 +76,7 @@ fn publish_tied<A: Archive + Drop, P: Placed, T: Target, W: Sink>(
     heap: &Heap,
     key: &SliceKey,
     read: &[TableIndex],
-    archives: &mut [Result<P, CannotOpen>],
+    archives: &mut [P],
     out: &mut Output<T::Draft, T>,
     report: &mut W,
 ) -> Result<Status, CommandFault>

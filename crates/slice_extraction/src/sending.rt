@@ -14,8 +14,8 @@ use crate::tested_copy::{SendFault, send_at};
 use archive_core::{Digest, SliceKey};
 use archive_records::{RecordFault, RecordFaultKind};
 use archive_words::Spelled;
-use byte_device::{CannotOpen, Output, Placed, Sink, Target};
-use command_core::{CommandFault, InputName, Status, Why, opened, publish_output, publish_report};
+use byte_device::{Output, Placed, Sink, Target};
+use command_core::{CommandFault, InputName, Status, Why, publish_output, publish_report};
 use indexed_answers::NamedSlice;
 use memory::{Heap, NoMemory};
 use report_text::Text;
@@ -100,16 +100,15 @@ fn send_slice_at<P: Placed, W: Sink>(
 fn send_named<P: Placed, W: Sink>(
     heap: Heap,
     named: &NamedSlice,
-    archive: &mut Result<P, CannotOpen>,
+    archive: &mut P,
     draft: &mut W,
 ) -> Result<(), CommandFault>
     ensures { (x : EntryAt) → Names x named.now → SendsSlice (reader P.whole P.failures archive.old archive.new) x
         (writer W.held W.failures draft.old draft.new) result }
 {
     let mut piece = room_for_piece(heap)?;
-    let device = opened(archive, InputName::Archive(named.input))?;
     match send_slice_at(
-        device,
+        archive,
         named.offset,
         named.size,
         &named.row.digest.0,
@@ -127,7 +126,7 @@ pub(crate) fn publish_named<P: Placed, T: Target, W: Sink>(
     heap: &Heap,
     key: &SliceKey,
     named: &NamedSlice,
-    archive: &mut Result<P, CannotOpen>,
+    archive: &mut P,
     out: &mut Output<T::Draft, T>,
     report: &mut W,
 ) -> Result<Status, CommandFault>

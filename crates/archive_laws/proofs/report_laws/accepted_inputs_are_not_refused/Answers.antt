@@ -14,9 +14,9 @@ returns g c = record {
   name = λ archive others o sought given. join_refused archive others o given;
   symbolicate = λ archive others o key load lines addresses given. join_refused archive others o given;
   frames = λ lines input archive others bytes listed o is says given at why refused. elim refused [
-    | inl p ↦ frames_accepted input input why (inr (bytes, is, is)) (listed, gives input bytes (λ text. frames_of text ≡ Ok listed) is says) p.0.1
+    | inl p ↦ frames_accepted input input why (bytes, is, is) (listed, gives input bytes (λ text. frames_of text ≡ Ok listed) is says) p.0.1
     | inr p ↦ join_refused archive others o given at why p.2
   ];
   rehearse = λ script bytes sites events is says at why refused.
-      script_accepted script script (sites, events) why (inr (bytes, is, is)) (gives script bytes (λ text. script_of text ≡ Ok (sites, events)) is says) refused.1;
+      script_accepted script script (sites, events) why (bytes, is, is) (gives script bytes (λ text. script_of text ≡ Ok (sites, events)) is says) refused.1;
 }

@@ -2,12 +2,11 @@ use Rattle.std.proofs.Common.{List, map, subst, arith}
 use Rattle.std.specs.List.{AllZip}
 use Rattle.std.proofs.Math.ListN.{length-map}
 use Rattle.std.proofs.lemmas.List.{take_all}
-use Rattle.std.proofs.lemmas.Option.{slice_get_within}
 use Rattle.std.proofs.lemmas.Result.{err_from_is_err_and}
 use Rattle.indexed_answers.specs.Among.{EntryAt}
 use Rattle.indexed_answers.specs.Views.{IsColumnAt}
 use Rattle.indexed_answers.specs.InnerAnswering.{entry_at}
-use Rattle.indexed_answers.proofs.Asked.{no_memory, none_more, one_told, opened_here}
+use Rattle.indexed_answers.proofs.Asked.{no_memory, none_more, one_told, there_here}
 use Rattle.indexed_answers.proofs.told.told_by_each.Goals as goal
 
 pub answering-preserved : goal.answering-preserved
@@ -15,14 +14,9 @@ answering-preserved g c =
     one_told g.P.Placed.whole g.P.Placed.failures c.args.lines c.args.asked.now c.args.answering.now c.answering.numbered-index c.numbered-item.result c.answering-test.true c.numbered-item.is _ _ _ c.answering.invariant
     c.told_at.new.devices _ c.in_ok-column.column c.in_default.ensures.items c.in_ok-column.ensures
 
-pub told_at-requires-clause-within : goal.told_at-requires-clause-within
-told_at-requires-clause-within g c =
-    let opened = opened_here g.P.Placed.whole g.P.Placed.failures c.args.lines c.args.asked.now c.args.answering.now c.answering.numbered-index c.numbered-item.result c.answering-test.true c.numbered-item.is _ _ _ c.answering.invariant c.requires in
-    slice_get_within c.answering.devices c.numbered-item.result.input _ opened.1
-
-pub told_at-requires-clause-opened : goal.told_at-requires-clause-opened
-told_at-requires-clause-opened g c =
-    opened_here g.P.Placed.whole g.P.Placed.failures c.args.lines c.args.asked.now c.args.answering.now c.answering.numbered-index c.numbered-item.result c.answering-test.true c.numbered-item.is _ _ _ c.answering.invariant c.requires
+pub told_at-requires : goal.told_at-requires
+told_at-requires g c =
+    there_here g.P.Placed.whole g.P.Placed.failures c.args.lines c.args.asked.now c.args.answering.now c.answering.numbered-index c.numbered-item.result c.answering-test.true c.numbered-item.is _ _ _ c.answering.invariant c.requires
 
 pub returns-in_err-column : goal.returns-in_err-column
 returns-in_err-column g c =

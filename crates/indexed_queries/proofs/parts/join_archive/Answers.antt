@@ -1,18 +1,17 @@
 use Rattle.std.proofs.Common.{map}
 use Rattle.indexed_queries.specs.Prefixes.{prefix_bytes}
 use Rattle.indexed_queries.proofs.Joined.{named_in, told_refused}
-use Rattle.command_core.proofs.BorrowedSources.{borrowed_from}
 use Rattle.indexed_queries.proofs.parts.join_archive.Goals as goal
 
 pub returns-in-Ok : goal.returns-in-Ok
 returns-in-Ok g c =
     let j = c.in-Ok.ensures in
-    rw (borrowed_from c.args.archive.now _ c.in_ok-device.ensures.source) (record {
-      is = named_in g.P.Placed.whole g.P.Placed.failures _ _ (map prefix_bytes c.args.prefixes.now) c.in_ok-entries.entries c.args.tables.now c.in_ok-entries.ensures _ _ j.0.0 j.0.1;
+    record {
+      is = named_in g.P.Placed.whole g.P.Placed.failures c.args.archive.now _ (map prefix_bytes c.args.prefixes.now) c.in_ok-entries.entries c.args.tables.now c.in_ok-entries.ensures _ _ j.0.0 j.0.1;
       unfailed = j.2;
-    })
+    }
 
 pub returns : goal.returns
 returns g c =
-    rw (borrowed_from c.args.archive.now _ c.in_ok-device.ensures.source, c.told.ensures)
-    (told_refused g.P.Placed.whole g.P.Placed.failures _ _ (map prefix_bytes c.args.prefixes.now) c.in_ok-entries.entries c.args.tables.now c.in_ok-entries.ensures _ _ c.in-Err.ensures.0 c.in-Err.ensures.2)
+    rw c.told.ensures
+    (told_refused g.P.Placed.whole g.P.Placed.failures c.args.archive.now _ (map prefix_bytes c.args.prefixes.now) c.in_ok-entries.entries c.args.tables.now c.in_ok-entries.ensures _ _ c.in-Err.ensures.0 c.in-Err.ensures.2)

@@ -7,7 +7,6 @@ use Rattle.command_core.proofs.Readers.{none_failed, none_touched}
 use Rattle.command_core.proofs.Parts.{refusal_of, together_refused}
 use Rattle.indexed_symbols.specs.Frames.{keys_of}
 use Rattle.indexed_symbols.proofs.Ended.{as_many, frames_refused, frames_told}
-use Rattle.indexed_symbols.proofs.States.{opened_read}
 use Rattle.indexed_symbols.proofs.frames.run_frames_at.Goals as goal
 
 pub returns-in_err-frames : goal.returns-in_err-frames
@@ -46,11 +45,6 @@ tell_frames-requires-clause-many g c =
     ap length c.deref-2.ensures.value ∙ as_many
     (readers g.I.Placed.whole g.I.Placed.failures c.args.indexes.now c.read_indexes.new.indexes) g.P.Placed.whole g.P.Placed.failures
     c.args.archives.now c.read_indexes.new.archives c.in_ok-read.read.items c.in_ok-read.ensures.read.is c.read_indexes.auto.archives
-
-pub tell_frames-requires-clause-opened : goal.tell_frames-requires-clause-opened
-tell_frames-requires-clause-opened g c =
-    opened_read g.I.Placed.whole g.I.Placed.failures (readers g.P.Placed.whole g.P.Placed.failures c.args.archives.now c.read_indexes.new.archives)
-    c.in_ok-read.read.items c.args.indexes.now c.read_indexes.new.indexes c.in_ok-read.ensures.read.is c.in_ok-read.ensures.kept.0
 
 pub returns-in_err-status : goal.returns-in_err-status
 returns-in_err-status g c =

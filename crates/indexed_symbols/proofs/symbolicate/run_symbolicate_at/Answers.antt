@@ -5,7 +5,6 @@ use Rattle.command_core.specs.Inputs.{readers}
 use Rattle.command_core.proofs.Endings.{reported}
 use Rattle.command_core.proofs.Parts.{together_refused}
 use Rattle.indexed_symbols.proofs.Ended.{as_many, key_refused, key_told}
-use Rattle.indexed_symbols.proofs.States.{opened_read}
 use Rattle.indexed_symbols.proofs.symbolicate.run_symbolicate_at.Goals as goal
 
 pub tell_addresses-requires-clause-many : goal.tell_addresses-requires-clause-many
@@ -20,11 +19,6 @@ tell_addresses-requires-clause-same g c =
     (readers g.I.Placed.whole g.I.Placed.failures c.args.indexes.now c.read_indexes.new.indexes) g.P.Placed.whole g.P.Placed.failures
     c.args.archives.now c.read_indexes.new.archives c.in_ok-read.read.items c.in_ok-read.ensures.read.is c.read_indexes.auto.archives
     ∙ c.read_indexes.auto.archives ∙ sym c.requires ∙ sym c.read_indexes.auto.indexes
-
-pub tell_addresses-requires-clause-opened : goal.tell_addresses-requires-clause-opened
-tell_addresses-requires-clause-opened g c =
-    opened_read g.I.Placed.whole g.I.Placed.failures (readers g.P.Placed.whole g.P.Placed.failures c.args.archives.now c.read_indexes.new.archives)
-    c.in_ok-read.read.items c.args.indexes.now c.read_indexes.new.indexes c.in_ok-read.ensures.read.is c.in_ok-read.ensures.kept.0
 
 pub returns-in_err-status : goal.returns-in_err-status
 returns-in_err-status g c =

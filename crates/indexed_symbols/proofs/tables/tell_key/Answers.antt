@@ -1,12 +1,12 @@
 use Rattle.archive_core.specs.Key.{key_bytes}
 use Rattle.indexed_symbols.proofs.Shown.{fault_told, told_of}
-use Rattle.indexed_symbols.proofs.States.{opened_among}
+use Rattle.indexed_symbols.proofs.States.{there_among}
 use Rattle.indexed_symbols.proofs.tables.tell_key.Goals as goal
 
 pub answer_among-requires : goal.answer_among-requires
 answer_among-requires g c =
     let are = rw c.in-Some.is at c.in_ok-answering.ensures in
-    opened_among {D = g.row.I.Denot} g.I.Placed.whole c.args.indexes.now (key_bytes c.args.key.now) c.args.read.now c.in-Some.answering c.requires.same c.requires.opened are
+    there_among {D = g.row.I.Denot} c.args.indexes.now (key_bytes c.args.key.now) c.args.read.now c.in-Some.answering c.requires are
 
 pub returns-in-Ok : goal.returns-in-Ok
 returns-in-Ok g c =

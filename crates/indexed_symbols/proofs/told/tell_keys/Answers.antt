@@ -12,7 +12,6 @@ use Rattle.indexed_symbols.specs.declared.places.AskedPlace.{AskedPlace}
 use Rattle.indexed_symbols.specs.declared.told.KeyAnswers.{KeyAnswers}
 use Rattle.indexed_symbols.proofs.Shown.{only_key, true_first, untold_first}
 use Rattle.indexed_symbols.proofs.Runs.{all_left, fewer_left, first_there, none_left, told_more}
-use Rattle.indexed_symbols.proofs.States.{opened_still}
 use Rattle.indexed_symbols.proofs.told.tell_keys.Goals as goal
 
 pub keys-init : goal.keys-init
@@ -21,7 +20,6 @@ keys-init g c = record {
   are_true = rw c.new-told.ensures.items (λ k d lt. absurd (omega (arith, lt)));
   texts = refl;
   counts = refl;
-  opened = c.requires.opened;
 }
 
 -- the key of the first that is left was asked for
@@ -60,7 +58,6 @@ keys-preserved g c =
       are_true = rw c.in_ok-push.ensures.items all;
       texts = c.in_ok-one.ensures.is.1 ∙ c.keys.invariant.texts;
       counts = c.in_ok-one.ensures.unfailed ∙ c.keys.invariant.counts;
-      opened = opened_still g.I.Placed.whole c.keys.indexes c.tell_run.new.indexes c.in_ok-one.ensures.is.1 c.keys.invariant.opened;
     }
 
 pub returns : goal.returns

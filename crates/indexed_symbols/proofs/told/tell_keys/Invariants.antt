@@ -1,7 +1,6 @@
 use Rattle.std.proofs.Common.{◌≡◌, length}
 use Rattle.std.specs.List.{All}
 use Rattle.indexed_answers.specs.AmongAsked.{HaveTexts, each_known}
-use Rattle.indexed_symbols.specs.InnerAsking.{AreAllOpened}
 use Rattle.indexed_symbols.specs.InnerTold.{IsToldSoFar, IsToldUnder}
 use Rattle.indexed_symbols.proofs.told.tell_keys.Given as goal
 
@@ -11,7 +10,6 @@ invariant-keys g l = record {
   are_true : All (IsToldUnder (HaveTexts g.I.Placed.whole l.fn.indexes) l.read l.lines) l.told.items;
   texts : each_known g.I.Placed.whole l.indexes ≡ each_known g.I.Placed.whole l.fn.indexes;
   counts : each_known g.I.Placed.failures l.indexes ≡ each_known g.I.Placed.failures l.fn.indexes;
-  opened : AreAllOpened l.indexes;
 }
 
 abbrev pub decreases-keys : goal.decreases-keys

@@ -1,9 +1,8 @@
 use Rattle.std.proofs.Common.{refl}
 use Rattle.std.proofs.lemmas.Result.{err_from_is_err_and}
-use Rattle.command_core.proofs.BorrowedSources.{borrowed_from}
 use Rattle.byte_device.proofs.Known.{Appends-none}
 use Rattle.command_core.specs.declared.faults.CommandFault.TheVariants.{OutOfMemory}
-use Rattle.slice_extraction.proofs.Sent.{sent, unbegun, unopened, unsent}
+use Rattle.slice_extraction.proofs.Sent.{sent, unbegun, unsent}
 use Rattle.slice_extraction.proofs.sending.send_named.Goals as goal
 
 pub returns-in_err-piece : goal.returns-in_err-piece
@@ -11,18 +10,11 @@ returns-in_err-piece g c =
     let p = err_from_is_err_and c.from_residual.result c.from_residual.ensures.1 in
     rw (p.1, p.2) (λ x names. unbegun _ x _ OutOfMemory (Appends-none _, refl) (refl, (Appends-none _, refl)))
 
-pub returns-in_err-device : goal.returns-in_err-device
-returns-in_err-device g c =
-    let p = err_from_is_err_and c.from_residual-in_err-device.result c.from_residual-in_err-device.ensures.1 in
-    rw (p.1, p.2) (λ x names. unopened g.P.Placed.whole g.P.Placed.failures c.args.archive.now c.args.named.now.input x _ c.in_err-device.field-0.0
-    names.input_is (Appends-none _, refl) c.in_err-device.ensures.source)
-
 pub returns-in-Ok : goal.returns-in-Ok
 returns-in-Ok g c =
-    rw (borrowed_from c.args.archive.now _ c.in_ok-device.ensures.source)
-    (λ x names. sent g.P.Placed.whole g.P.Placed.failures g.W.Sink.held g.W.Sink.failures c.in_ok-device.device.now c.send_slice_at.new.device c.args.draft.now c.send_slice_at.new.w c.args.named.now x names c.in-Ok.ensures.sends)
+    λ x names. sent g.P.Placed.whole g.P.Placed.failures g.W.Sink.held g.W.Sink.failures c.args.archive.now c.send_slice_at.new.device c.args.draft.now c.send_slice_at.new.w c.args.named.now x names c.in-Ok.ensures.sends
 
 pub returns : goal.returns
 returns g c =
-    rw (borrowed_from c.args.archive.now _ c.in_ok-device.ensures.source, c.told.ensures)
-    (λ x names. unsent g.P.Placed.whole g.P.Placed.failures g.W.Sink.held g.W.Sink.failures c.in_ok-device.device.now c.send_slice_at.new.device c.args.draft.now c.send_slice_at.new.w c.args.named.now x names c.in-Err.fault c.in-Err.ensures.sends)
+    rw c.told.ensures
+    (λ x names. unsent g.P.Placed.whole g.P.Placed.failures g.W.Sink.held g.W.Sink.failures c.args.archive.now c.send_slice_at.new.device c.args.draft.now c.send_slice_at.new.w c.args.named.now x names c.in-Err.fault c.in-Err.ensures.sends)
