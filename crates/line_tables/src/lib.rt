@@ -35,4 +35,4 @@ mod table;
 mod texts;
 
 pub use frame::{OwnedFrame, OwnedPath};
-pub use table::LineTable;
+pub use table::{HEAD_LEN, LineTable};

@@ -5,7 +5,7 @@ ghost use Rattle.std.specs.Prelude.{◌≡◌, ◌+◌, ◌*◌, ◌<◌, ◌^�
 use crate::row::{FILE_LEN, LOCATION_LEN, RUN_LEN, STEP_LEN, TEXT_LEN};
 
 /// How many bytes the head has.
-pub(crate) const HEAD_LEN: usize = 56;
+pub const HEAD_LEN: usize = 56;
 
 /// The line table of a slice, opened: its head was read. Its bytes are those of stored pages from an offset on, which
 /// are handed in with their device at each call.

@@ -105,13 +105,6 @@ goes_further one two three a b = record { more = a.more ++ b.more; is = b.is ∙
 
 -- ---- the whole grows
 
-pub grows_on : (one two three : KeptRecord) → Grows one two → Grows two three → Grows one three
-grows_on one two three a b = record {
-  texts = goes_further one.texts two.texts three.texts a.texts b.texts;
-  files = goes_further one.files two.files three.files a.files b.files;
-  locations = goes_further one.locations two.locations three.locations a.locations b.locations;
-}
-
 pub longer_on : {A : Type 0} (old new : List A) → GoesOn old new → length old ≤ length new
 longer_on old new h = omega (arith, ap length h.is, length-append old h.more)
 
@@ -301,13 +294,6 @@ module _ (k : KeptRecord) (kept : IsKept k) (key : LocationKey) (name : key.name
 
   pub located : IsLocation (record k { locations = new }) n (frame_of_key k key ∷ chain_at k key.caller)
   located = record { within = h.is_number.within; is = step_at n refl h.is_number }
-
--- the frames of a location, by those of its key
-pub location_of : (k new : KeptRecord) (key : LocationKey) (frame : FrameRecord) (outer : List FrameRecord) (n : ℕ) → at_number (text_at k) key.name ≡ frame.name → at_number (file_at k) key.file ≡ frame.path
-    → key.line ≡ frame.line → key.column ≡ frame.column → chain_at k key.caller ≡ outer → IsLocation new n (frame_of_key k key ∷ chain_at k key.caller) → IsLocation new n (frame ∷ outer)
-location_of k new key frame outer n name path line column callers is =
-    let here : frame_of_key k key ≡ frame = λ i. record { name = name i; path = path i; line = line i; column = column i } in
-    record { within = is.within; is = is.is ∙ (λ i. here i ∷ callers i) }
 
 -- ---- what numbers told of they still tell of
 

@@ -100,11 +100,6 @@ told_at f keys d (suc i) x some e =
 pub grows_none : (k : KeptRecord) → Grows k k
 grows_none k = record { texts = stays k.texts k.texts refl; files = stays k.files k.files refl; locations = stays k.locations k.locations refl }
 
-pub no_frames : (k : KeptRecord) (frames : List Frame) (n : ℕ) → length frames ≤ n → IsLocation k 0 (map (λ f. frame_view f) (drop n frames)) × (have_few_lines (map (λ f. frame_view f) (drop n frames)) ≡ true)
-no_frames k frames n past =
-    let none : drop n frames ≡ [] = drop_all n frames past in
-    (record { within = omega arith; is = chain_none k ∙ ap (λ l. map (λ f. frame_view f) l) (sym none) }, ap (λ l. have_few_lines (map (λ f. frame_view f) l)) none)
-
 -- ---- changes
 
 pub changed_next : (steps : List Step) (i : ℕ) (d : Step) (changed now whole : List Step) (before after : ℕ) → i < length steps → (get_or steps i d).location ≢ before → now ≡ changed ++ get_or steps i d ∷ [] → after ≡ (get_or steps i d).location
@@ -132,21 +127,7 @@ changed_not steps i d changed whole before less same e =
 pub callers_here : (before numbers callers : List ℕ) → before ≡ [] → numbers ≡ before ++ callers → numbers ≡ callers
 callers_here before numbers callers none is = is ∙ ap (λ l. l ++ callers) none
 
--- frames that are too wide
-pub wide : (frames : List Frame) (i : ℕ) (d : Frame) → i < length frames → ((get_or frames i d).line < 2 ^ 32 → (get_or frames i d).column < 2 ^ 32 → ⊥)
-    → have_few_lines (map (λ f. frame_view f) frames) ≡ false
-wide frames i d less none =
-    let few : Frame → Bool = λ f. nat_lt f.line (2 ^ 32) && nat_lt f.column (2 ^ 32) in
-    list_all-map (λ (f : FrameRecord). nat_lt f.line (2 ^ 32) && nat_lt f.column (2 ^ 32)) (λ (f : Frame). frame_view f) frames
-    ∙ list_all_at few frames i d less (false_from_ne_true (few (get_or frames i d)) (λ t.
-    let both = and_parts (nat_lt (get_or frames i d).line (2 ^ 32)) (nat_lt (get_or frames i d).column (2 ^ 32)) t in
-    none (ltb-true (get_or frames i d).line (2 ^ 32) both.0) (ltb-true (get_or frames i d).column (2 ^ 32) both.1)))
-
 -- ---- by what a call gave
-
-pub on_err_any : {T E : Type 0} (r : Result T E) (Q : Type 0) → Q → OnErr r Q
-on_err_any (Ok x) Q q = tt
-on_err_any (Err e) Q q = q
 
 -- ---- bytes, one part after another
 

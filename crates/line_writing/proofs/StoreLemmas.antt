@@ -44,18 +44,6 @@ module _ (old new : KeptRecord) (kept : IsKept old) (grows : Grows old new) wher
   taken_same true steps value h e = e
   taken_same false steps value h e = ap Some (steps_same steps h) ∙ e
 
-  -- one more
-  pub taken_more : (wide : Bool) (steps now : List Step) (value : Option (List StepRecord)) (start location : ℕ) (frames : List FrameRecord) → HaveLocations old steps → wide ≡ false → taken_steps wide old steps ≡ value
-      → now ≡ steps ++ (record { start = start; location = location }) ∷ [] → IsLocation new location frames → have_few_lines frames ≡ true → taken_steps wide new now ≡ after_step value (record { start = start; frames = frames })
-  taken_more true steps now value start location frames h not_wide e push is few = cc not_wide
-  taken_more false steps now value start location frames h not_wide e push is few =
-      let one : ◌≡◌ {A = StepRecord} (record { start = start; frames = chain_at new location }) (record { start = start; frames = frames }) = λ i. record { start = start; frames = is.is i } in
-      let all : map (step_of new) now ≡ map (step_of old) steps ++ (record { start = start; frames = frames }) ∷ [] =
-      ap (map (step_of new)) push ∙ map-append (step_of new) steps ((record { start = start; location = location }) ∷ []) ∙ (λ i. steps_same steps h i ++ one i ∷ []) in
-      ap Some all
-      ∙ ap (λ b. cond b (Some (map (step_of old) steps ++ (record { start = start; frames = frames }) ∷ [])) None) (sym few)
-      ∙ ap (λ v. after_step v (record { start = start; frames = frames })) e
-
 pub no_frames_located : (k : KeptRecord) → IsLocated k [] (Some 0)
 no_frames_located k = (record { within = omega arith; is = chain_none k }, refl)
 

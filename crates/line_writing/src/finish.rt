@@ -18,10 +18,8 @@ use crate::rows::push_u64;
 use crate::runs::{count_runs, push_runs};
 use crate::step::Step;
 use crate::store::LineStore;
+use line_tables::HEAD_LEN;
 use memory::{Heap, NoMemory};
-
-/// How many bytes the head of a table has.
-const HEAD_LEN: usize = 56;
 
 /// The head of a table that has no lines.
 #[tactic(auto, unfolding(line_tables::specs::LineTable::no_lines))]

@@ -7,7 +7,6 @@ use crate::keys::{FileKey, LocationKey, TextKey};
 use crate::numbers::Numbers;
 use line_programs::PathParts;
 use memory::{Heap, NoMemory};
-use source_frames::Frame;
 
 /// The texts, files and locations of frames.
 #[derive(Drop)]
@@ -94,31 +93,5 @@ impl<'a> Kept<'a> {
             (frame_of_key (kept_view self.old) key ∷ chain_at (kept_view self.old) key.caller)) }
     {
         self.locations.number(key)
-    }
-
-    /// The number of the location of a frame that is inlined into another location, or into none (0).
-    pub fn location(
-        &mut self,
-        frame: &Frame<'a>,
-        line: u32,
-        column: u32,
-        caller: u32,
-    ) -> Result<u32, NoMemory>
-        requires line { line ≡ frame.now.line }
-        requires column { column ≡ frame.now.column }
-        requires caller { caller ≤ length (kept_view self.old).locations }
-        ensures grows { Grows (kept_view self.old) (kept_view self.new) }
-        ensures is { IfOk result (λ number. IsLocation (kept_view self.new) number
-            (frame_view frame.now ∷ chain_at (kept_view self.old) caller)) }
-    {
-        let name = self.name(frame.name)?;
-        let file = self.file(frame.path)?;
-        self.location_number(LocationKey {
-            name,
-            file,
-            line,
-            column,
-            caller,
-        })
     }
 }

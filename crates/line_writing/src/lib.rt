@@ -4,11 +4,11 @@
 //! what it writes is the one table of the image (`line_tables`).
 //!
 //! The modules in reading order: `numbers`, the numbers of things as they first come; `keys` and `kept`, what frames
-//! have, each thing once and told by number, and `lookups`, what a number tells of; `locate`, the location of the
-//! frames of an address; `step` and `store`, `LineStore`, which takes them; `changes`, the steps at which frames
-//! change; `first_uses`, numbers anew by first use, and `parts`, those of a table; `runs`, `rows` and `texts`, its bytes
-//! part by part; `finish`, `LineStore::finish`; `taker`, a store as a taker of turns; `making`, [`line_table`]; `laws`, what the
-//! definitions say of each other, and why it is enough to take the turns.
+//! have, each thing once and told by number, and `lookups`, what a number tells of; `step` and `store`, `LineStore`,
+//! which takes the frames of addresses; `changes`, the steps at which frames change; `first_uses`, numbers anew by first
+//! use, and `parts`, those of a table; `runs`, `rows` and `texts`, its bytes part by part; `finish`,
+//! `LineStore::finish`; `taker`, a store as a taker of turns; `making`, [`line_table`]; `laws`, what the definitions say
+//! of each other, and why it is enough to take the turns.
 //!
 //! Decided:
 //!
@@ -26,7 +26,6 @@ mod first_uses;
 mod kept;
 mod keys;
 pub mod laws;
-mod locate;
 mod lookups;
 mod making;
 mod numbers;

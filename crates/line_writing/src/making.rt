@@ -7,6 +7,7 @@ use crate::laws::table_by_turns;
 use crate::store::LineStore;
 use crate::taker::StoreTaker;
 use frame_turns::give_turns;
+use line_tables::HEAD_LEN;
 use macho_image::Image;
 use memory::{Heap, NoMemory};
 
@@ -15,7 +16,8 @@ fn room_for(image: &Image) -> u64
     ensures { result ≡ room_of image.now }
 {
     let most = 4 * image.bytes().len() as u64;
-    if most < 56 { 56 } else { most }
+    let least = HEAD_LEN as u64;
+    if most < least { least } else { most }
 }
 
 /// The line table of an image: that of its steps, if it fits into four times the bytes of the image, and else one that

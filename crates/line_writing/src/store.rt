@@ -7,7 +7,6 @@ use crate::keys::LocationKey;
 use crate::step::Step;
 use line_programs::PathParts;
 use memory::{Heap, NoMemory};
-use source_frames::Frame;
 use std::marker::Model;
 
 /// The frames of addresses. A contract sees those of each, as they came, or none if a line or a column of one has more
@@ -56,31 +55,6 @@ impl<'a> LineStore<'a> {
             steps: Vec::new(heap),
             too_wide: false,
         }
-    }
-
-    /// Takes the frames of an address, the innermost first; an address is to come once. It takes the time of six
-    /// searches for each frame, and the memory of what has not come before, beside 16 bytes; texts are not copied.
-    ///
-    /// # Errors
-    ///
-    /// `NoMemory` if a growth was refused, or there are 2^32 texts, files or locations. Nothing is taken then.
-    pub fn add(&mut self, address: u64, frames: &[Frame<'a>]) -> Result<(), NoMemory>
-        ensures added { OnOk result (self.new.taken ≡ after_step self.old.taken
-            (record { start = address; frames = map (λ f. frame_view f) frames.now })) }
-        ensures unchanged { OnErr result (self.new.taken ≡ self.old.taken) }
-        ensures tells { StillTells self.old.kept self.new.kept }
-    {
-        if self.too_wide {
-            return Ok(());
-        }
-        match self.kept.locate(frames)? {
-            Some(location) => self.steps.push(Step {
-                start: address,
-                location,
-            })?,
-            None => self.too_wide = true,
-        }
-        Ok(())
     }
 
     /// The number of a name, or of none (0). It takes the time of a search, and the memory of a name that has not come
