@@ -8,6 +8,7 @@ use Rattle.std.proofs.lemmas.List.{take_all, take-append-drop, drop-drop}
 use borrow.Rule.Slice.PartMut.{put_mid}
 use Rattle.sha2.specs.Sha256.{sha256}
 use Rattle.macho_image.specs.Contents.{is_dsym_image}
+use Rattle.checked_pages.specs.declared.claim.Claim.{Claim}
 use Rattle.archive_core.specs.Key.{IsKey, key_bytes}
 use Rattle.archive_core.specs.Valid.{key_of}
 use Rattle.archive_core.specs.Record.{borrowed_bytes, operation_borrowed, record_bytes, IsOperation}
@@ -20,7 +21,7 @@ use Rattle.archive_core.specs.declared.operations.Operation.TheVariants.{Admit, 
 use Rattle.archive_core.specs.declared.operations.Record.{Record}
 use Rattle.archive_core.proofs.Entries.{admission_entry, retirement_entry, slice_of}
 use Rattle.archive_core.proofs.Heads.{laid_last}
-use Rattle.archive_index.specs.declared.entry.PlacedEntry.{PlacedEntry}
+use Rattle.archive_index.specs.declared.entry.IndexEntry.{IndexEntry}
 use Rattle.archive_index.proofs.Placed.{offset_laid, length_laid}
 use Rattle.archive_index.specs.Entry.{IsRowOf, kind_byte, placed_entry, placed_bytes, tag_byte, dsym_byte, length_in, offset_in}
 
@@ -59,9 +60,9 @@ row_kind_of (Admit slice) valid = kind_of_slice (is_dsym_image slice) ∙ ap (λ
 row_kind_of (Retire key digest) is = refl
 
 -- the entry that is made of a record is its entry
-pub made_entry : (bytes : List ℕ) (row : FindRow) (offset n : ℕ) → IsRowOf bytes row → n ≡ length bytes → placed_bytes (record { row = row; offset = offset; length = n }) ≡ placed_entry offset bytes
+pub made_entry : (bytes : List ℕ) (row : FindRow) (offset n : ℕ) (claim : Claim) → IsRowOf bytes row → n ≡ length bytes → placed_bytes (record { row = row; offset = offset; length = n; claim = claim }) ≡ placed_entry offset bytes
 unfolding placed_bytes placed_entry
-made_entry bytes row offset n is long =
+made_entry bytes row offset n claim is long =
     let entry_is : tag_byte row.state ∷ (key_bytes row.key ++ row.digest.0) ≡ entry bytes = ap (λ (r : FindRow). tag_byte r.state ∷ (key_bytes r.key ++ r.digest.0)) is.row_is ∙ row_entry_of is.operation is.is_operation ∙ ap entry is.bytes_are in
     let kind_is : dsym_byte row.state ≡ kind_byte bytes = ap (λ (r : FindRow). dsym_byte r.state) is.row_is ∙ row_kind_of is.operation is.is_operation ∙ ap kind_byte is.bytes_are in
     λ i. entry_is i ++ (kind_is i ∷ (to_be_bytes w64 offset ++ to_be_bytes w64 (long i)))
@@ -79,31 +80,31 @@ parts_of (x ∷ xs) long =
     ap (λ (t : List ℕ). x ∷ t)
     (ap (λ (t : List ℕ). (take 24 xs ++ take 32 (drop 24 xs)) ++ t) tail ∙ append_assoc (take 24 xs) (take 32 (drop 24 xs)) (drop 56 xs) ∙ ap (λ (t : List ℕ). take 24 xs ++ t) digest ∙ take-append-drop 24 xs)
 
-pub read_entry : (bytes : List ℕ) (e : PlacedEntry) → length bytes ≡ 74 → tag_byte e.row.state ≡ get_or bytes 0 0 → key_bytes e.row.key ≡ take 24 (drop 1 bytes) → e.row.digest.0 ≡ take 32 (drop 25 bytes) → dsym_byte e.row.state ≡ get_or bytes 57 0
+pub read_entry : (bytes : List ℕ) (e : IndexEntry) → length bytes ≡ 74 → tag_byte e.row.state ≡ get_or bytes 0 0 → key_bytes e.row.key ≡ take 24 (drop 1 bytes) → e.row.digest.0 ≡ take 32 (drop 25 bytes) → dsym_byte e.row.state ≡ get_or bytes 57 0
     → to_be_bytes w64 e.offset ≡ take 8 (drop 58 bytes) → to_be_bytes w64 e.length ≡ take 8 (drop 66 bytes) → placed_bytes e ≡ bytes
 unfolding placed_bytes
 read_entry bytes e long tag key digest kind offset len = (λ i. (tag i ∷ (key i ++ digest i)) ++ (kind i ∷ (offset i ++ len i))) ∙ parts_of bytes long
 
 -- ---- the length in an entry
 
-front_long : (e : PlacedEntry) → length (placed_bytes e) ≡ 74 → length (tag_byte e.row.state ∷ (key_bytes e.row.key ++ e.row.digest.0)) ≡ 57
+front_long : (e : IndexEntry) → length (placed_bytes e) ≡ 74 → length (tag_byte e.row.state ∷ (key_bytes e.row.key ++ e.row.digest.0)) ≡ 57
 unfolding placed_bytes
 front_long e long =
     let front : List ℕ = tag_byte e.row.state ∷ (key_bytes e.row.key ++ e.row.digest.0) in
     let tail : List ℕ = dsym_byte e.row.state ∷ (to_be_bytes w64 e.offset ++ to_be_bytes w64 e.length) in
     omega (arith, long, length-append front tail, length-append (to_be_bytes w64 e.offset) (to_be_bytes w64 e.length))
 
-pub length_of_bytes : (e : PlacedEntry) → length (placed_bytes e) ≡ 74 → e.length < 2 ^ 64 → length_in (placed_bytes e) ≡ e.length
+pub length_of_bytes : (e : IndexEntry) → length (placed_bytes e) ≡ 74 → e.length < 2 ^ 64 → length_in (placed_bytes e) ≡ e.length
 unfolding placed_bytes
 length_of_bytes e long fits = length_laid (tag_byte e.row.state ∷ (key_bytes e.row.key ++ e.row.digest.0)) (dsym_byte e.row.state) e.offset e.length (front_long e long) fits
 
 -- and the offset
-pub offset_of_bytes : (e : PlacedEntry) → length (placed_bytes e) ≡ 74 → e.offset < 2 ^ 64 → offset_in (placed_bytes e) ≡ e.offset
+pub offset_of_bytes : (e : IndexEntry) → length (placed_bytes e) ≡ 74 → e.offset < 2 ^ 64 → offset_in (placed_bytes e) ≡ e.offset
 unfolding placed_bytes
 offset_of_bytes e long fits = offset_laid (tag_byte e.row.state ∷ (key_bytes e.row.key ++ e.row.digest.0)) (dsym_byte e.row.state) e.offset e.length (front_long e long) fits
 
 -- what holds of each entry's bytes
-pub each_of : (P : List ℕ → Type 0) (entries : List PlacedEntry) (i : ℕ) (e : PlacedEntry) → AllByRecursion P (map placed_bytes entries) → i < length entries → e ≡ get_or entries i e → P (placed_bytes e)
+pub each_of : (P : List ℕ → Type 0) (entries : List IndexEntry) (i : ℕ) (e : IndexEntry) → AllByRecursion P (map placed_bytes entries) → i < length entries → e ≡ get_or entries i e → P (placed_bytes e)
 each_of P [] i e all lt is = absurd (omega arith)
-each_of P (x ∷ xs) zero e all lt is = subst (λ (y : PlacedEntry). P (placed_bytes y)) (sym is) all.0
+each_of P (x ∷ xs) zero e all lt is = subst (λ (y : IndexEntry). P (placed_bytes y)) (sym is) all.0
 each_of P (x ∷ xs) (suc i) e all lt is = each_of P xs i e all.1 (omega arith) is

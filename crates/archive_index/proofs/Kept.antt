@@ -44,9 +44,3 @@ module _ {E : Type 0} (bytes_of : E → List ℕ) where
         ∙ ap set.from_list (map_dedup bytes_of (eq_by_cmp order) moved)
         ∙ from_list_same nat_list_cmp_total bytes_same (dedup (eq_by_cmp order) bytes) bytes (λ q. (Contains-from_dedup (eq_by_cmp order) bytes q, Contains-dedup (eq_by_cmp_equiv nat_list_cmp_total) tied_is bytes q))
         ∙ from_list_permuted nat_list_cmp_total bytes_same (map bytes_of gathered) bytes (IsPermutation-map bytes_of gathered moved permuted)
-
-    pub listed_kept : AllByRecursion IsPlacedEntry (map bytes_of gathered) → IsSortedBy (λ x y. is_lt (order (bytes_of x) (bytes_of y))) moved → AreIndexed (map bytes_of kept)
-    listed_kept all sorted = record {
-      ascending = ascending_map order bytes_of kept (subst (IsStrictlySortedBy (λ x y. order (bytes_of x) (bytes_of y))) (sym once) (IsStrictlySortedBy-dedup (on_total bytes_of nat_list_cmp_total) (λ x y. refl) moved sorted));
-      are = along IsPlacedEntry (map bytes_of kept) (λ q e. are_listed (map bytes_of gathered) all q (ap (λ s. set.contains s q) (sym set_kept) ∙ contains-from_list nat_list_cmp_total (map bytes_of kept) q ∙ e));
-    }

@@ -13,3 +13,12 @@ pub mod RunLemmas
 pub mod NamedRecord
 pub mod Ordered
 pub mod Gathered
+pub mod IndexTexts
+pub mod Fields
+pub mod Checks
+pub mod ReadLemmas
+pub mod EndLemmas
+pub mod Faults
+pub mod PlaceLemmas
+pub mod Fronts
+pub mod Decided

@@ -19,7 +19,7 @@ use Rattle.archive_records.specs.Layout.{framed}
 use Rattle.archive_index.specs.declared.fault.IndexingFault.{IndexingFault}
 use Rattle.archive_index.specs.declared.fault.IndexingFault.TheVariants.{Archive as Archive_fault, OldArchive, TooLong}
 use Rattle.archive_index.specs.InnerMaking.{BlamesIndexing, HasStoppedIndexing}
-use Rattle.archive_index.specs.Reading.{RefusesToIndex}
+use Rattle.archive_index.specs.Making.{RefusesToIndex}
 
 -- ---- the magic
 

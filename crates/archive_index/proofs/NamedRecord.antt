@@ -13,7 +13,7 @@ use Rattle.archive_records.specs.Layout.{largest_slice, slice_length}
 use Rattle.archive_core.proofs.Entries.{retirement_entry}
 use Rattle.archive_core.proofs.Records.{length-retirement_record}
 use Rattle.byte_device.specs.Places.{EndsBefore, Stands}
-use Rattle.archive_index.specs.declared.entry.PlacedEntry.{PlacedEntry}
+use Rattle.archive_index.specs.declared.entry.IndexEntry.{IndexEntry}
 use Rattle.archive_index.specs.Entry.{IsPlacedEntry, length_in, offset_in, placed_bytes, placed_entry, tag_byte, dsym_byte}
 use Rattle.archive_index.specs.Places.{IsNamedBy}
 use Rattle.archive_index.specs.declared.fault.PlaceFault.TheVariants.{Stale}
@@ -21,7 +21,7 @@ use Rattle.archive_index.specs.InnerGathering.{IsReadOf, IsUnnamed}
 use Rattle.archive_index.proofs.Entries.{length_of_bytes, offset_of_bytes}
 use Rattle.archive_index.proofs.Placed.{length_is, offset_is, tag_is}
 
-first_byte : (e : PlacedEntry) → get_or (placed_bytes e) 0 0 ≡ tag_byte e.row.state
+first_byte : (e : IndexEntry) → get_or (placed_bytes e) 0 0 ≡ tag_byte e.row.state
 unfolding placed_bytes
 first_byte e = refl
 
@@ -29,7 +29,7 @@ tag_two : (state : FindState) → state ≢ Retired → tag_byte state ≡ 2
 tag_two state other = grind arith
 
 -- an entry of no retirement names an admission, which stands at its place
-pub record IsAdmissionAt (text : List ℕ) (e : PlacedEntry) (r : List ℕ) : Type 0 where
+pub record IsAdmissionAt (text : List ℕ) (e : IndexEntry) (r : List ℕ) : Type 0 where
   pub admits : Admits r
   pub offset : ℕ
   pub offset_is : offset ≡ e.offset
@@ -37,7 +37,7 @@ pub record IsAdmissionAt (text : List ℕ) (e : PlacedEntry) (r : List ℕ) : Ty
   pub entry_is : placed_bytes e ≡ placed_entry offset r
   pub stands : take (length r) (drop e.offset text) ≡ r
 
-pub admission_at : (text : List ℕ) (e : PlacedEntry) (r : List ℕ) → IsPlacedEntry (placed_bytes e) → e.offset < 2 ^ 64 → e.length < 2 ^ 64 → e.row.state ≢ Retired → IsNamedBy text (placed_bytes e) r → IsAdmissionAt text e r
+pub admission_at : (text : List ℕ) (e : IndexEntry) (r : List ℕ) → IsPlacedEntry (placed_bytes e) → e.offset < 2 ^ 64 → e.length < 2 ^ 64 → e.row.state ≢ Retired → IsNamedBy text (placed_bytes e) r → IsAdmissionAt text e r
 admission_at text e r is offset_fits length_fits other n =
     let tag : get_or r 0 0 ≡ 2 = sym (tag_is n.offset r n.is) ∙ ap (λ (t : List ℕ). get_or t 0 0) (sym n.entry_is) ∙ first_byte e ∙ tag_two e.row.state other in
     let offsets : n.offset ≡ e.offset = sym (offset_is n.offset r n.is n.fits) ∙ ap offset_in (sym n.entry_is) ∙ offset_of_bytes e is.long offset_fits in
@@ -55,11 +55,11 @@ admission_at text e r is offset_fits length_fits other n =
     ]
 
 -- the record of an admission is read where it stands
-pub read_of : (e : PlacedEntry) → IsPlacedEntry (placed_bytes e) → e.offset < 2 ^ 64 → e.row.state ≢ Retired → IsReadOf (placed_bytes e) e.offset
+pub read_of : (e : IndexEntry) → IsPlacedEntry (placed_bytes e) → e.offset < 2 ^ 64 → e.row.state ≢ Retired → IsReadOf (placed_bytes e) e.offset
 read_of e is fits other = (ap (λ (n : ℕ). eqb n 2) (first_byte e ∙ tag_two e.row.state other), sym (offset_of_bytes e is.long fits))
 
 -- none where fewer bytes stand
-pub none_short : (whole : Option (List ℕ)) (number : ℕ) (e : PlacedEntry) → IsPlacedEntry (placed_bytes e) → e.offset < 2 ^ 64 → e.length < 2 ^ 64 → e.row.state ≢ Retired → EndsBefore whole (e.offset + e.length)
+pub none_short : (whole : Option (List ℕ)) (number : ℕ) (e : IndexEntry) → IsPlacedEntry (placed_bytes e) → e.offset < 2 ^ 64 → e.length < 2 ^ 64 → e.row.state ≢ Retired → EndsBefore whole (e.offset + e.length)
     → IfSome whole (λ text. IsUnnamed number (placed_bytes e) text (Stale (Some number)))
 none_short None number e is offset_fits length_fits other ends = tt
 none_short (Some text) number e is offset_fits length_fits other ends = (
@@ -70,7 +70,7 @@ none_short (Some text) number e is offset_fits length_fits other ends = (
 )
 
 -- none where other bytes stand
-pub none_other : (whole : Option (List ℕ)) (number : ℕ) (e : PlacedEntry) (bytes : List ℕ) → IsPlacedEntry (placed_bytes e) → e.offset < 2 ^ 64 → e.length < 2 ^ 64 → e.row.state ≢ Retired → length bytes ≡ e.length → Stands whole e.offset bytes
+pub none_other : (whole : Option (List ℕ)) (number : ℕ) (e : IndexEntry) (bytes : List ℕ) → IsPlacedEntry (placed_bytes e) → e.offset < 2 ^ 64 → e.length < 2 ^ 64 → e.row.state ≢ Retired → length bytes ≡ e.length → Stands whole e.offset bytes
     → (Admits bytes → placed_bytes e ≡ placed_entry e.offset bytes → ⊥) → IfSome whole (λ text. IsUnnamed number (placed_bytes e) text (Stale (Some number)))
 none_other None number e bytes is offset_fits length_fits other long stands not = tt
 none_other (Some text) number e bytes is offset_fits length_fits other long stands not = (
@@ -82,13 +82,13 @@ none_other (Some text) number e bytes is offset_fits length_fits other long stan
 )
 
 -- a retirement is in its entry
-retired_length : (e : PlacedEntry) → IsPlacedEntry (placed_bytes e) → e.length < 2 ^ 64 → e.row.state ≡ Retired → e.length ≡ 57
+retired_length : (e : IndexEntry) → IsPlacedEntry (placed_bytes e) → e.length < 2 ^ 64 → e.row.state ≡ Retired → e.length ≡ 57
 retired_length e is fits retired =
     let tag : get_or (placed_bytes e) 0 0 ≡ 1 = first_byte e ∙ ap tag_byte retired in
     let test : eqb (length_in (placed_bytes e)) 57 ≡ true = sym (ap (λ (n : ℕ). cond (eqb n 2) (nat_le 33 (length_in (placed_bytes e)) && nat_le (length_in (placed_bytes e)) (33 + largest_slice)) (eqb (length_in (placed_bytes e)) 57)) tag) ∙ is.length_is in
     sym (length_of_bytes e is.long fits) ∙ eqb-true (length_in (placed_bytes e)) 57 test
 
-pub named_retirement : (whole : Option (List ℕ)) (e : PlacedEntry) → IsPlacedEntry (placed_bytes e) → e.offset < 2 ^ 64 → e.length < 2 ^ 64 → e.row.state ≡ Retired → IsKey e.row.key → length e.row.digest.0 ≡ 32
+pub named_retirement : (whole : Option (List ℕ)) (e : IndexEntry) → IsPlacedEntry (placed_bytes e) → e.offset < 2 ^ 64 → e.length < 2 ^ 64 → e.row.state ≡ Retired → IsKey e.row.key → length e.row.digest.0 ≡ 32
     → IfSome whole (λ text. IsNamedBy text (placed_bytes e) (retirement_record e.row.key e.row.digest.0))
 unfolding placed_bytes placed_entry
 named_retirement None e is offset_fits length_fits retired is_key long = tt

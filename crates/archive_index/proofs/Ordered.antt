@@ -13,7 +13,7 @@ use Rattle.std.proofs.lemmas.List.{get_or-drop, get_or-take}
 use Rattle.std.proofs.lemmas.Map.Keys.{Less-from_sorted}
 use Rattle.archive_core.specs.Part.{is_under}
 use Rattle.archive_core.proofs.Made.{and_left, by_test, either}
-use Rattle.archive_index.specs.declared.entry.PlacedEntry.{PlacedEntry}
+use Rattle.archive_index.specs.declared.entry.IndexEntry.{IndexEntry}
 use Rattle.archive_index.specs.Entry.{IsPlacedEntry, placed_bytes}
 use Rattle.archive_index.specs.Index.{AreIndexed}
 use Rattle.archive_index.proofs.Texts.{bytes_at}
@@ -28,7 +28,7 @@ long_enough n [] few are = tt
 long_enough n (x ∷ xs) few are = (omega (arith, few, are.0.long), long_enough n xs few are.1)
 
 -- an entry of a run, among all
-pub in_run : (xs : List PlacedEntry) (start stop i : ℕ) (e : PlacedEntry) → i < length (take (stop - start) (drop start xs)) → e ≡ get_or (take (stop - start) (drop start xs)) i e → (start + i < stop) × (start + i < length xs) × (e ≡ get_or xs (start + i) e) × (placed_bytes e ≡ get_or (map placed_bytes xs) (start + i) [])
+pub in_run : (xs : List IndexEntry) (start stop i : ℕ) (e : IndexEntry) → i < length (take (stop - start) (drop start xs)) → e ≡ get_or (take (stop - start) (drop start xs)) i e → (start + i < stop) × (start + i < length xs) × (e ≡ get_or xs (start + i) e) × (placed_bytes e ≡ get_or (map placed_bytes xs) (start + i) [])
 in_run xs start stop i e lt is =
     let long = length-take (stop - start) (drop start xs) in
     let all = length-drop start xs in

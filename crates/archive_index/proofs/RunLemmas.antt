@@ -11,7 +11,7 @@ use Rattle.std.specs.List.Sorted.{IsStrictlySortedBy, IsPartitionedBy, IsPartiti
 use Rattle.std.specs.Str.{bytes_eq}
 use Rattle.std.proofs.lemmas.Bool.{eqb-true}
 use Rattle.std.proofs.lemmas.Bool.Decides.{nat_tests}
-use Rattle.std.proofs.lemmas.List.{get_or-map as get_or-map_at, length-take-le, take-append-drop}
+use Rattle.std.proofs.lemmas.List.{drop-take, get_or-map as get_or-map_at, get_or-take, length-take-le, take-append-drop, take-take}
 use Rattle.std.proofs.lemmas.List.Elements.{All-from_recursion}
 use Rattle.std.proofs.lemmas.Map.Keys.{Less-from_sorted}
 use Rattle.std.proofs.lemmas.Slice.Eq.{bytes_eq-Decides}
@@ -76,6 +76,28 @@ tagged tag front (x ∷ xs) some =
     let tag_is : x ≡ tag = eqb-true x tag (and_left _ _ h) in
     let front_is : front ≡ take (length front) xs = (bytes_eq-Decides front (take (length front) xs)).0 (and_right (eqb x tag) _ h) in
     ap (λ (l : List ℕ). is_eq (order l (tag ∷ front))) (first ∙ (λ i. tag_is i ∷ sym front_is i)) ∙ ap is_eq (tied_itself nat_list_cmp_total (tag ∷ front)))
+
+-- what the first 74 bytes of an entry begin with, it begins with
+tagged_front : (tag : ℕ) (front e : List ℕ) → length front ≤ 24 → is_tagged tag front (take 74 e) ≡ is_tagged tag front e
+unfolding is_under
+tagged_front tag front e short =
+    let first : get_or (take 74 e) 0 0 ≡ get_or e 0 0 = get_or-take 74 e 0 0 (omega arith) in
+    let key : take (length front) (drop 1 (take 74 e)) ≡ take (length front) (drop 1 e) = ap (take (length front)) (drop-take 1 73 e) ∙ take-take (length front) 73 (drop 1 e) (omega (arith, short)) in
+    λ i. eqb (first i) tag && bytes_eq front (key i)
+
+-- so a run of the first 74 bytes of entries is one of the entries
+pub run_whole : (tag : ℕ) (front : List ℕ) (es : List (List ℕ)) (start stop : ℕ) → length front ≤ 24 → IsRun (is_tagged tag front) (map (take 74) es) start stop → IsRun (is_tagged tag front) es start stop
+run_whole tag front es start stop short run =
+    let long : length (map (take 74) es) ≡ length es = length-map es (take 74) in
+    let same : (k : ℕ) (d : List ℕ) → is_tagged tag front (get_or es k d) ≡ is_tagged tag front (get_or (map (take 74) es) k (take 74 d)) =
+    λ k d. sym (ap (is_tagged tag front) (get_or-map (take 74) es k d) ∙ tagged_front tag front (get_or es k d) short) in
+    record {
+      ordered = run.ordered;
+      within = omega (arith, long, run.within);
+      before = λ k d le lt. same k d ∙ run.before k (take 74 d) le lt;
+      inside = λ k d le lt. same k d ∙ run.inside k (take 74 d) le lt;
+      behind = λ k d le lt. same k d ∙ run.behind k (take 74 d) le (omega (arith, long, lt));
+    }
 
 le_of_lt : (r : Ordering) → is_lt r ≡ true → is_le r ≡ true
 le_of_lt r h = grind arith

@@ -13,7 +13,7 @@ use Rattle.archive_records.specs.Reader.{StopsInMagicOf}
 use Rattle.archive_index.specs.declared.fault.IndexingFault.{IndexingFault}
 use Rattle.archive_index.specs.declared.fault.IndexingFault.TheVariants.{Archive as Archive_fault, OldArchive, TooLong}
 use Rattle.archive_index.specs.InnerMaking.{MagicTested}
-use Rattle.archive_index.specs.Reading.{TellsVersion}
+use Rattle.archive_index.specs.Making.{TellsVersion}
 
 -- the magic of version 1 is no fault of it
 no_fault : (text came left : List ℕ) (kind : RecordFaultKind) → text ≡ came ++ left → (length came < 8 → left ≡ []) → take 8 text ≡ old_magic → IsMagicFault Old_format came kind → ⊥

@@ -1,28 +1,32 @@
--- Why no index is made of an archive.
-use Rattle.std.specs.Prelude.{◌≡◌, ◌≢◌, ℕ, ◌^◌, ◌≤◌, List, length, take, Option, IfSome}
-use Rattle.std.specs.Io.KnownBytes.{Consumes}
-use Rattle.archive_core.specs.Content.{Operations, IsContent}
-use Rattle.archive_records.specs.Kind.{old_magic}
-use Rattle.archive_records.specs.Text.{IsArchiveOf}
-use Rattle.archive_records.specs.Reading.{IsRefused, IsOfMachine}
-use Rattle.archive_records.specs.declared.kind.TextKind.TheVariants.{Archive}
-use Rattle.archive_index.specs.declared.fault.IndexingFault.{IndexingFault}
-use Rattle.archive_index.specs.declared.fault.IndexingFault.TheVariants.{Archive as Archive_fault, OldArchive, TooLong}
+-- What comes of reading an index.
+use Rattle.std.specs.Prelude.{◌≡◌, ℕ, List, ◌⊎◌, Option, Some, Result, MatchResult}
+use Rattle.byte_device.specs.Devices.{FailedIn}
+use Rattle.archive_index.specs.Fault.{IsIndexFault, IsOfMachine, IsPartOffset}
+use Rattle.archive_index.specs.Text.{IsIndexText}
+use Rattle.archive_index.specs.declared.index_fault.IndexFault.{IndexFault}
+use Rattle.archive_index.specs.declared.index_fault.IndexFaultKind.{IndexFaultKind}
+use Rattle.archive_index.specs.declared.index_fault.IndexFaultKind.TheVariants.{Device}
 
--- Why no index is made: the text is refused as by any reader of archives, it is one of version 1, of which no more than
--- the magic is taken, or its records stand beyond what eight bytes count.
-abbrev pub RefusesToIndex : {R : Type 0} → (R → Option (List ℕ)) → (R → ℕ) → R → R → IndexingFault → Type 0
-RefusesToIndex left failures old new (Archive_fault fault) =
-    IsRefused Archive left failures old new fault
-    × IfSome (left old) (λ text. (o : Operations) → IsContent o → IsArchiveOf o text → IsOfMachine fault.kind)
-RefusesToIndex left failures old new OldArchive =
-    Consumes (left old) (left new) old_magic × (failures new ≡ failures old)
-RefusesToIndex left failures old new TooLong =
-    ((bytes : List ℕ) × Consumes (left old) (left new) bytes × (2 ^ 64 ≤ length bytes))
-    × (failures new ≡ failures old)
+-- how often the device failed, after a call that was refused
+abbrev pub Blames : ℕ → ℕ → IndexFaultKind → Type 0
+Blames old new Device = FailedIn old new
+Blames old new _ = new ≡ old
 
--- What begins as an archive of version 1 is refused as that, whatever follows, but for faults of the machine.
-abbrev pub TellsVersion : Option (List ℕ) → IndexingFault → Type 0
-TellsVersion left (Archive_fault fault) = IfSome left (λ text. take 8 text ≡ old_magic → IsOfMachine fault.kind)
-TellsVersion left OldArchive = Unit {0}
-TellsVersion left TooLong = IfSome left (λ text. take 8 text ≢ old_magic)
+-- A fault is the machine's, which stopped where a part begins, or it is this of the text.
+abbrev pub IsRefused : (List ℕ → IndexFault → Type 0) → List ℕ → IndexFault → Type 0
+IsRefused IsFaulty text fault = (IsOfMachine fault.kind × IsPartOffset text fault.offset) ⊎ IsFaulty text fault
+
+-- A call reads of a device. What it gives is true of the text that the device is known to have, or the text has this
+-- fault. The device keeps its bytes.
+pub record ReadsText {D T : Type 0} (whole : D → Option (List ℕ)) (failures : D → ℕ) (old new : D)
+    (result : Result T IndexFault) (IsTrue : List ℕ → T → Type 0) (IsFaulty : List ℕ → IndexFault → Type 0)
+    : Type 0 where
+  pub says : (text : List ℕ) → whole old ≡ Some text → MatchResult result (IsTrue text) (IsRefused IsFaulty text)
+  pub keeps : whole new ≡ whole old
+  pub counts : MatchResult result (λ _. failures new ≡ failures old)
+      (λ fault. Blames (failures old) (failures new) fault.kind)
+
+-- What came of reading an index: the text is one with these entries, or it has the fault of one that is none.
+abbrev pub ReadsIndex : {D : Type 0} → (D → Option (List ℕ)) → (D → ℕ) → D → D → Result (List (List ℕ)) IndexFault
+    → Type 0
+ReadsIndex whole failures old new result = ReadsText whole failures old new result IsIndexText IsIndexFault

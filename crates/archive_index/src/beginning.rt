@@ -7,7 +7,7 @@ ghost use Rattle.archive_records.specs.declared.format.Format.TheVariants.{Archi
 ghost use Rattle.archive_records.specs.Reader.{HasRead};
 ghost use Rattle.archive_index.specs.declared.fault.IndexingFault.TheVariants.{TooLong};
 ghost use Rattle.archive_index.specs.InnerMaking.{BlamesIndexing, HasStoppedIndexing, MagicTested};
-ghost use Rattle.archive_index.specs.Reading.{TellsVersion};
+ghost use Rattle.archive_index.specs.Making.{TellsVersion};
 
 use crate::fault::IndexingFault;
 use archive_records::{Format, RecordFault, RecordFaultKind, RecordReader, TextKind};

@@ -10,10 +10,11 @@ ghost use Rattle.archive_index.specs.Places.{IsReadAmong, IsReadUnder};
 ghost use Rattle.archive_index.specs.InnerGathering.{AreGathered, IsGathered, IsReadOf, IsStaleAmong, IsUnnamed};
 ghost use Rattle.archive_index.specs.Runs.{is_tagged};
 ghost use Rattle.archive_index.specs.Gathering.{AreGatheredUnder, IsEntryFault, ReadsPlaces};
+ghost use Rattle.archive_index.specs.Text.{placed_of};
 
 use crate::records::operation_at;
 use crate::runs::run_under;
-use crate::{Index, PlaceFault, PlacedEntry};
+use crate::{Index, IndexEntry, PlaceFault};
 use archive_core::Operation;
 use archive_records::{ADMISSION, RETIREMENT};
 use byte_device::Placed;
@@ -24,7 +25,7 @@ fn gather_entry<P: Placed>(
     heap: &Heap,
     gathered: &mut Vec<Operation, Heap>,
     number: u64,
-    entry: &PlacedEntry,
+    entry: &IndexEntry,
     archive: &mut P,
     size: u64,
 ) -> Result<(), PlaceFault>
@@ -48,7 +49,7 @@ fn gather_run<P: Placed>(
     gathered: &mut Vec<Operation, Heap>,
     tag: u8,
     prefix: &[u8],
-    entries: &[PlacedEntry],
+    entries: &[IndexEntry],
     archive: &mut P,
     size: u64,
 ) -> Result<(), PlaceFault>
@@ -75,7 +76,7 @@ fn gather_under<P: Placed>(
     heap: &Heap,
     gathered: &mut Vec<Operation, Heap>,
     prefix: &[u8],
-    entries: &[PlacedEntry],
+    entries: &[IndexEntry],
     archive: &mut P,
     size: u64,
 ) -> Result<(), PlaceFault>
@@ -104,17 +105,16 @@ pub fn gather_at<P: Placed>(
     heap: &Heap,
     gathered: &mut Vec<Operation, Heap>,
     prefix: &[u8],
-    entries: &Index,
+    index: &Index,
     archive: &mut P,
     size: u64,
 ) -> Result<(), PlaceFault>
     requires prefix { length prefix.now ≤ 24 }
     requires size { HasSize (P.whole archive.old) size }
     ensures { ReadsPlaces P.whole P.failures archive.old archive.new result
-        (λ _. AreGatheredUnder (P.whole archive.old) prefix.now entries.now (map record_bytes gathered.old.items)
-        (map record_bytes gathered.new.items)) (IsEntryFault prefix.now entries.now)
-        (IsReadUnder prefix.now entries.now) }
+        (λ _. AreGatheredUnder (P.whole archive.old) prefix.now (placed_of index.now) (map record_bytes gathered.old.items)
+        (map record_bytes gathered.new.items)) (IsEntryFault prefix.now (placed_of index.now))
+        (IsReadUnder prefix.now (placed_of index.now)) }
 {
-    let _count = entries.len();
-    gather_under(heap, gathered, prefix, entries.entries(), archive, size)
+    gather_under(heap, gathered, prefix, index.entries(), archive, size)
 }

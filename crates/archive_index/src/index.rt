@@ -1,84 +1,79 @@
-//! The index of a content.
+//! The entries of an index that was read.
 
-ghost use Rattle.std.specs.Prelude.{◌≡◌, map};
-ghost use Rattle.std.specs.FinSet as set;
-ghost use Rattle.std.specs.List.{AllByRecursion, sum_by};
+ghost use Rattle.std.specs.Prelude.{◌≡◌, ◌+◌, All, length, map};
+ghost use Rattle.std.specs.List.{sum_by};
 ghost use Rattle.join_core.specs.Listing.{listing};
-ghost use Rattle.archive_index.specs.Entry.{IsPlacedEntry, length_in, placed_bytes};
+ghost use Rattle.archive_index.specs.Entry.{AreOrderedEntries, HasItsFields, entry_bytes, length_in, placed_bytes};
 ghost use Rattle.archive_index.specs.Index.{AreIndexEntries, AreIndexed, lengths_of};
+ghost use Rattle.archive_index.specs.Text.{placed_of};
 
-use crate::entry::PlacedEntry;
+use crate::IndexEntry;
 use memory::Heap;
 use std::marker::Model;
 
-/// The entries of the operations of a content, each once, in ascending byte order. A contract sees it as the set of
-/// their bytes.
+/// How many bytes the magic and the end record of an archive have together.
+const FRAME_LEN: u128 = 17;
+
+/// The entries of an index, in ascending byte order. A contract sees it as the list of their bytes.
 #[derive(Drop)]
 pub struct Index {
-    entries: Vec<PlacedEntry, Heap>,
+    entries: Vec<IndexEntry, Heap>,
 }
 
 impl Model for Index {
-    ghost use Rattle.std.specs.Prelude.{map};
-    ghost use Rattle.std.specs.Ordering.{nat_cmp};
-    ghost use Rattle.std.specs.Cmp.Lexicographic.{slice_cmp};
-    ghost use Rattle.std.specs.FinSet as set;
-    ghost use Rattle.std.specs.Coded.{coded_list, coded_ℕ};
-    ghost use Rattle.archive_index.specs.Entry.{placed_bytes};
-    ghost use Rattle.archive_index.specs.Index.{AreIndexed};
+    ghost use Rattle.std.specs.Prelude.{ℕ, List, map};
+    ghost use Rattle.archive_index.specs.Entry.{AreOrderedEntries, entry_bytes};
 
-    ghost Value = { set.FinSet (slice_cmp nat_cmp) };
+    ghost Value = { List (List ℕ) };
 
-    ghost coded = { set.code (coded_list coded_ℕ) };
+    ghost view = { λ index. map entry_bytes index.entries.items };
 
-    ghost view = { λ index. set.from_list (map placed_bytes index.entries.items) };
+    ghost invariant = { λ index. AreOrderedEntries index.entries.items };
+}
 
-    ghost invariant = { λ index. AreIndexed (map placed_bytes index.entries.items) };
+/// How many bytes the magic, the records that entries name and the end record have together.
+fn framed_size(entries: &[IndexEntry]) -> u128
+    requires { All HasItsFields entries.now }
+    ensures { result ≡ 17 + sum_by length_in (map entry_bytes entries.now) }
+{
+    let mut size = FRAME_LEN;
+    'adding: for entry in entries {
+        size += u128::from(entry.length);
+    }
+    size
 }
 
 impl Index {
-    /// The index of these entries, which may stand in any order, and several times.
-    pub fn of_entries(entries: Vec<PlacedEntry, Heap>) -> Index
-        requires { AllByRecursion IsPlacedEntry (map placed_bytes entries.items) }
-        ensures { result ≡ set.from_list (map placed_bytes entries.items) }
+    /// The index of these entries.
+    pub(crate) fn of_entries(entries: Vec<IndexEntry, Heap>) -> Index
+        requires { AreOrderedEntries entries.items }
+        ensures { result ≡ map entry_bytes entries.items }
     {
-        let mut entries = entries;
-        entries.sort_unstable_by(|a, b| a.compare(b));
-        entries.dedup_by(|a, b| a.compare(b).is_eq());
         Index { entries }
     }
 
     /// The number of entries.
     pub fn len(&self) -> u64
-        ensures len { result ≡ set.len self.now }
-        ensures entries { AreIndexEntries self.now }
+        ensures len { result ≡ length self.now }
+        ensures entries { AreIndexEntries (placed_of self.now) }
     {
         self.entries.len() as u64
     }
 
     /// The entries in their order.
-    pub fn entries(&self) -> &[PlacedEntry]
-        ensures { map placed_bytes result.now ≡ listing self.now }
+    pub fn entries(&self) -> &[IndexEntry]
+        ensures bytes { map entry_bytes result.now ≡ self.now }
+        ensures fields { All HasItsFields result.now }
+        ensures placed { map placed_bytes result.now ≡ listing (placed_of self.now) }
+        ensures indexed { AreIndexed (map placed_bytes result.now) }
     {
         &self.entries
     }
 
-    /// The lengths of the records, together.
-    pub fn total_length(&self) -> u128
-        ensures { result ≡ lengths_of self.now }
+    /// How many bytes an archive has whose records the entries name: the magic, the records and the end record.
+    pub(crate) fn archive_size(&self) -> u128
+        ensures { result ≡ 17 + lengths_of (placed_of self.now) }
     {
-        sum_lengths(&self.entries)
+        framed_size(&self.entries)
     }
-}
-
-// The lengths of the records that entries name, together.
-fn sum_lengths(entries: &[PlacedEntry]) -> u128
-    requires { AllByRecursion IsPlacedEntry (map placed_bytes entries.now) }
-    ensures { result ≡ sum_by length_in (map placed_bytes entries.now) }
-{
-    let mut total: u128 = 0;
-    'adding: for entry in entries {
-        total += u128::from(entry.length);
-    }
-    total
 }

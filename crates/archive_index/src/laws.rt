@@ -1,15 +1,18 @@
-//! What an index tells of the content that it was made of. Each law is a function with an empty body, and its contract
-//! the law.
+//! What an index tells of the content that it was made of, and that what is read is one. Each law is a function with an
+//! empty body, and its contract the law.
 
-ghost use Rattle.std.specs.Prelude.{◌≡◌, ◌≤◌, ◌<◌, ◌^◌, ℕ, List, length, map, take};
+ghost use Rattle.std.specs.Prelude.{◌≡◌, ◌⊎◌, ◌≤◌, ◌<◌, ◌^◌, ℕ, List, length, map, slice_index, take};
 ghost use Rattle.std.specs.FinSet as set;
 ghost use Rattle.join_core.specs.Listing.{listing};
 ghost use Rattle.archive_core.specs.Content.{Operations, IsContent};
 ghost use Rattle.archive_core.specs.Part.{is_under, part};
 ghost use Rattle.archive_core.specs.Summary.{summary};
 ghost use Rattle.archive_records.specs.Text.{written};
+ghost use Rattle.archive_index.specs.Fault.{IsIndexFault};
 ghost use Rattle.archive_index.specs.Index.{index};
 ghost use Rattle.archive_index.specs.Places.{AreNamed, HasIndexedLength, TellsFound};
+ghost use Rattle.archive_index.specs.Text.{IsIndexText};
+ghost use Rattle.archive_index.specs.declared.index_fault.IndexFault.{IndexFault};
 
 /// With the index of the archive whose text this is, what is named under a UUID or a key is what the content has there.
 /// Nothing is supposed of SHA-256.
@@ -34,4 +37,15 @@ pub fn right_length()
 /// The entries of a content's summary are those of its index, without their places.
 pub fn summary_of_the_index()
     ensures { (o : Operations) → IsContent o → summary o ≡ set.from_list (map (take 57) (listing (index o))) }
+{}
+
+/// Bytes are the index with one list of entries or have one fault, and never both.
+pub fn one_index_fault()
+    ensures either { (text : List ℕ) → ((i : ℕ) → slice_index text i < 256)
+        → ((entries : List (List ℕ)) × IsIndexText text entries) ⊎ ((f : IndexFault) × IsIndexFault text f) }
+    ensures one { (text : List ℕ) (f g : IndexFault) → IsIndexFault text f → IsIndexFault text g → f ≡ g }
+    ensures none { (text : List ℕ) (entries : List (List ℕ)) (f : IndexFault) → IsIndexText text entries
+        → IsIndexFault text f → ⊥ }
+    ensures alone { (text : List ℕ) (entries others : List (List ℕ)) → IsIndexText text entries
+        → IsIndexText text others → entries ≡ others }
 {}

@@ -1,21 +1,26 @@
-//! What an index says of an archive's records: what each is and where it stands, and what is read there.
+//! The index of an archive with the tables of its slices: what it says of each record, how it is read from its end, and
+//! what is read at the places that it names.
 //!
-//! An entry here is the first 74 bytes of one of an index. They are the entry of a summary, whether the record is a
-//! companion's, and the offset and the length of the record in the archive's text of version 2. How an index is made and
-//! read, with the tables of its slices, is in the crates above.
+//! An index is the magic `MSYMIDX1`, the stored tables of the slices in the order of their records in the archive, an
+//! entry of 122 bytes for each record, strictly ascending in byte order, and the end record: `03`, the number of
+//! entries and the SHA-256 of their bytes. An entry is that of a summary, whether it is a companion's, the offset and
+//! the length of the record in the archive's text of version 2, and the claim of its table: where it is stored in the
+//! index, its size, and the SHA-256 of its page digests. How an index is made is in `index_writing`.
 //!
-//! - `entry`: [`PlacedEntry`], what a record is and where it stands;
-//! - `index`: [`Index`], the entries of a content;
+//! - `entry`: [`IndexEntry`], what a record is, where it stands, and where its table is stored;
+//! - `index`: [`Index`], the entries of an index that was read; `runs`: [`run_under`], those of one tag under a prefix,
+//!   which stand together;
+//! - `ends`: the magic and the end record; `checking`: the checks of an entry; `places`: whether records and tables
+//!   follow one another; `reading`: [`read_index`];
+//! - `index_fault`: why bytes are no index of an archive, and `index_fault_text`, how that is printed;
 //! - `fault`: why no index is made, and why no record is read by one;
-//! - `index_fault`: why bytes are no index of an archive, which `table_index` tests, and `index_fault_text`, how that is
-//!   printed;
 //! - `beginning`: [`begin_archive`], of the first bytes of an archive of which an index is made;
-//! - [`laws`]: what the entries tell of the content that they were made of;
 //! - `records`: the record at the place of an entry, tested and hashed;
-//! - `runs`: the entries of one tag under a prefix, which stand together;
 //! - `gathering`: [`gather_at`], the records under a UUID or a key;
-//! - `parts`: [`archive_of`], what they make; [`has_size`], whether an archive has a size; [`indexed_size`], the size
-//!   that the index tells; [`is_under`], whether an entry is under a prefix.
+//! - `parts`: [`archive_of`], what they make; [`indexed_size`], the size of the archive, if it is the one that the index
+//!   tells; [`is_under`], whether an entry is under a prefix;
+//! - [`laws`]: what the entries tell of the content that they were made of; a text is the index with one list of
+//!   entries, or has one fault.
 //!
 //! # What is proved
 //!
@@ -26,7 +31,9 @@
 //!
 //! # Why it is so
 //!
-//! - The magic is taken before anything else is read, so an archive of version 1 is told by eight bytes.
+//! - The entries stand last, so an index is written as its archive comes. They are read whole and compared with their
+//!   digest; of the tables only the pages that an answer needs are read.
+//! - The magic of an archive is taken before anything else is read, so one of version 1 is told by eight bytes.
 //! - Entries are sorted, so a key is found by halving. An entry is compared as a whole.
 //! - The entries under a UUID or a key stand in two runs, of retirements and of admissions, each found by halving. So a
 //!   question costs what it finds. The length is compared once for all keys, before any byte is read.
@@ -39,6 +46,8 @@
 #![tactic(auto)]
 
 mod beginning;
+mod checking;
+mod ends;
 mod entry;
 mod fault;
 mod gathering;
@@ -47,13 +56,18 @@ mod index_fault;
 mod index_fault_text;
 pub mod laws;
 mod parts;
+mod places;
+mod reading;
 mod records;
 mod runs;
 
 pub use beginning::begin_archive;
-pub use entry::PlacedEntry;
+pub use ends::magic;
+pub use entry::{IndexEntry, no_claim};
 pub use fault::{IndexingFault, PlaceFault};
 pub use gathering::gather_at;
 pub use index::Index;
 pub use index_fault::{IndexFault, IndexFaultKind};
-pub use parts::{archive_of, has_size, indexed_size, is_under};
+pub use parts::{archive_of, indexed_size, is_under};
+pub use reading::read_index;
+pub use runs::run_under;

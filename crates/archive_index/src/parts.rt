@@ -1,30 +1,26 @@
 //! The records under a UUID or a key.
 
-ghost use Rattle.std.specs.Prelude.{◌≡◌, ◌+◌, ◌<◌, ◌↔◌, length, map, IfOk, IfSome, IsTrue, OnOk};
+ghost use Rattle.std.specs.Prelude.{◌≡◌, ◌<◌, length, map, IfOk, IfSome, OnOk};
 ghost use Rattle.std.specs.FinSet as set;
 ghost use Rattle.archive_core.specs.Content.{content_of, with_records};
 ghost use Rattle.archive_core.specs.Part.{is_under};
 ghost use Rattle.archive_core.specs.Record.{record_bytes};
-ghost use Rattle.byte_device.specs.Devices.{CountsFailure};
 ghost use Rattle.byte_device.specs.Places.{HasSize};
 ghost use Rattle.archive_index.specs.Entry.{placed_bytes};
-ghost use Rattle.archive_index.specs.Index.{lengths_of};
 ghost use Rattle.archive_index.specs.Places.{HasIndexedLength};
 ghost use Rattle.archive_index.specs.Gathering.{IsLengthFault, ReadsPlaces};
+ghost use Rattle.archive_index.specs.Text.{placed_of};
 
-use crate::{Index, PlaceFault, PlacedEntry};
+use crate::{Index, IndexEntry, PlaceFault};
 use archive_core::{Archive, Operation};
-use byte_device::{Failed, Placed};
+use byte_device::Placed;
 use memory::{Heap, NoMemory};
 
-/// How many bytes the magic and the end record of an archive have together.
-const FRAME_LEN: u64 = 17;
-
 /// Whether the key of an entry begins with these bytes.
-pub fn is_under(prefix: &[u8], entry: &PlacedEntry) -> bool
+pub fn is_under(prefix: &[u8], entry: &IndexEntry) -> bool
     ensures { result ≡ is_under prefix.now (placed_bytes entry.now) }
 {
-    begins(&entry.bytes(), prefix)
+    begins(&entry.placed_bytes(), prefix)
 }
 
 /// Whether bytes behind a tag begin with these.
@@ -35,37 +31,22 @@ fn begins(bytes: &[u8], prefix: &[u8]) -> bool
     bytes[1..].starts_with(prefix)
 }
 
-/// Whether an archive of this size has the length that the index tells.
-fn tells_size(entries: &Index, size: u64) -> bool
-    ensures { IsTrue result ↔ (size ≡ 17 + lengths_of entries.now) }
-{
-    size >= FRAME_LEN && u128::from(size - FRAME_LEN) == entries.total_length()
-}
-
-/// Whether an archive has this size. No byte of it is read.
-pub fn has_size<P: Placed>(size: u128, archive: &mut P) -> Result<bool, Failed>
-    ensures has { IfOk result (λ has. IfSome (P.whole archive.old) (λ text. IsTrue has ↔ (length text ≡ size))) }
-    ensures keeps { P.whole archive.new ≡ P.whole archive.old }
-    ensures count { CountsFailure (P.failures archive.old) (P.failures archive.new) result }
-{
-    let found = archive.size()?;
-    Ok(u128::from(found) == size)
-}
-
 /// The size of an archive, where it is the length that the index tells. No byte of it is read.
 ///
 /// # Errors
 ///
 /// `Stale` where the archive has another length; `Device` at 0.
-pub fn indexed_size<P: Placed>(entries: &Index, archive: &mut P) -> Result<u64, PlaceFault>
+pub fn indexed_size<P: Placed>(index: &Index, archive: &mut P) -> Result<u64, PlaceFault>
     ensures { ReadsPlaces P.whole P.failures archive.old archive.new result
-        (λ size. HasSize (P.whole archive.old) size × IfSome (P.whole archive.old) (HasIndexedLength entries.now))
-        (IsLengthFault entries.now) (λ offset. offset ≡ 0) }
+        (λ size. HasSize (P.whole archive.old) size
+        × IfSome (P.whole archive.old) (HasIndexedLength (placed_of index.now)))
+        (IsLengthFault (placed_of index.now)) (λ offset. offset ≡ 0) }
 {
+    let told = index.archive_size();
     let Ok(size) = archive.size() else {
         return Err(PlaceFault::Device(0));
     };
-    if tells_size(entries, size) {
+    if u128::from(size) == told {
         Ok(size)
     } else {
         Err(PlaceFault::Stale(None))

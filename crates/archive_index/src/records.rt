@@ -12,7 +12,7 @@ ghost use Rattle.archive_index.specs.Places.{IsNamedBy};
 ghost use Rattle.archive_index.specs.InnerGathering.{IsReadOf, IsUnnamed};
 ghost use Rattle.archive_index.specs.Gathering.{ReadsPlaces};
 
-use crate::{PlaceFault, PlacedEntry};
+use crate::{IndexEntry, PlaceFault};
 use archive_core::{FindState, Operation, Record, Slice, retirement};
 use archive_records::{ADMISSION, ADMISSION_HEAD_LEN, has_key, number_at};
 use byte_device::{Placed, ReadFault, read_at};
@@ -56,19 +56,19 @@ fn admission_in(bytes: &[u8]) -> Option<Record<'_>>
 }
 
 /// Whether a record, which is these bytes, is the one that the entry is of. Its slice is hashed.
-fn is_of(entry: &PlacedEntry, bytes: &[u8], record: &Record<'_>) -> bool
+fn is_of(entry: &IndexEntry, bytes: &[u8], record: &Record<'_>) -> bool
     requires { borrowed_bytes record.now ≡ bytes.now }
     ensures { IsTrue result ↔ (placed_bytes entry.now ≡ placed_entry entry.now.offset bytes.now) }
 {
-    let made = PlacedEntry::of_record(record, entry.offset, bytes.len() as u64);
-    made.bytes() == entry.bytes()
+    let made = IndexEntry::of_record(record, entry.offset, bytes.len() as u64, entry.claim);
+    made.placed_bytes() == entry.placed_bytes()
 }
 
 /// The operation of the admission that these bytes are, if they are the record that the entry is of. The slice is
 /// hashed, and copied.
 fn admission_of(
     heap: &Heap,
-    entry: &PlacedEntry,
+    entry: &IndexEntry,
     bytes: &[u8],
 ) -> Result<Option<Operation>, NoMemory>
     ensures found { IfOk result (λ found. IfSome found (λ operation. record_bytes operation ≡ bytes.now)) }
@@ -92,7 +92,7 @@ fn bytes_at<P: Placed>(
     heap: Heap,
     archive: &mut P,
     size: u64,
-    entry: &PlacedEntry,
+    entry: &IndexEntry,
 ) -> Result<Option<Vec<u8, Heap>>, ReadFault>
     requires { HasSize (P.whole archive.old) size }
     ensures read { IfOk result (λ read. MatchOption read
@@ -111,14 +111,14 @@ fn bytes_at<P: Placed>(
 }
 
 /// Where the record of an entry stands.
-fn offset_of(entry: &PlacedEntry) -> u64
+fn offset_of(entry: &IndexEntry) -> u64
     ensures { result ≡ entry.now.offset }
 {
     entry.offset
 }
 
 /// How long the record of an entry is.
-fn length_of(entry: &PlacedEntry) -> u64
+fn length_of(entry: &IndexEntry) -> u64
     ensures { result ≡ entry.now.length }
 {
     entry.length
@@ -142,7 +142,7 @@ pub(crate) fn operation_at<P: Placed>(
     archive: &mut P,
     size: u64,
     number: u64,
-    entry: &PlacedEntry,
+    entry: &IndexEntry,
 ) -> Result<Operation, PlaceFault>
     requires size { HasSize (P.whole archive.old) size }
     requires entry { IsPlacedEntry (placed_bytes entry.now) }

@@ -19,6 +19,14 @@ impl Pages {
         self.claim.size
     }
 
+    /// Drops the pages that were read. One of which bytes are asked for is read anew.
+    pub fn forget(&mut self)
+        ensures claim { self.new.claim ≡ self.old.claim }
+        ensures keeps { (text all : List ℕ) → ArePagesOf self.old text all → ArePagesOf self.new text all }
+    {
+        self.kept = Vec::new(self.heap.share());
+    }
+
     /// How many bytes a page has.
     fn page_len(&self, index: u64) -> u64
         requires { 16384 * index < self.now.claim.size }

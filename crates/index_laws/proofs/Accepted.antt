@@ -23,9 +23,9 @@ use Rattle.archive_index.specs.Entry.{placed_entry}
 use Rattle.archive_index.specs.Index.{index, placed_entries}
 use Rattle.archive_index.proofs.Kept.{in_made}
 use Rattle.archive_index.proofs.Placed.{entry_long}
-use Rattle.table_index.specs.Entry.{claim_bytes}
-use Rattle.table_index.specs.Text.{IsIndexText, placed_of}
-use Rattle.table_index.proofs.Faults.{one_list, no_fault}
+use Rattle.archive_index.specs.Entry.{claim_bytes}
+use Rattle.archive_index.specs.Text.{IsIndexText, placed_of}
+use Rattle.archive_index.proofs.Faults.{one_list, no_fault}
 use Rattle.index_writing.specs.Content.{IsTableOf, claim_of, entries_of, table_entries, table_entry}
 use Rattle.index_writing.proofs.Accepted.{accepted}
 use Rattle.command_core.specs.Inputs.{Gives, IsGiven, Reader, reader, IsDeviceFault}
@@ -42,8 +42,8 @@ use Rattle.archive_index.proofs.Named.{named_there}
 use Rattle.archive_index.proofs.Sums.{right_length}
 use Rattle.archive_index.specs.declared.index_fault.IndexFault.{IndexFault}
 use Rattle.archive_index.specs.declared.index_fault.IndexFaultKind.TheVariants.{OutOfMemory as IndexOutOfMemory}
-use Rattle.table_index.specs.Fault.{IsIndexFault}
-use Rattle.table_index.specs.Reading.{IsRefused}
+use Rattle.archive_index.specs.Fault.{IsIndexFault}
+use Rattle.archive_index.specs.Reading.{IsRefused}
 use Rattle.command_core.specs.declared.faults.InputName.{InputName}
 use Rattle.command_core.specs.declared.faults.Why.{Why}
 use Rattle.command_core.specs.declared.faults.Why.TheVariants.{Record, Index as IndexFaulty}

@@ -24,7 +24,7 @@ use Rattle.archive_core.proofs.Entries.{retirement_entry}
 use Rattle.archive_core.proofs.Members.{in_flat_map, to_flat_map}
 use Rattle.archive_core.proofs.Records.{length-key_of, one_key as same_key}
 use Rattle.archive_records.proofs.Contents.{members_listed}
-use Rattle.table_index.specs.Text.{IsIndexText}
+use Rattle.archive_index.specs.Text.{IsIndexText}
 use Rattle.indexed_answers.specs.Among.{EntryAt, IsAmong, all_of, answers_among, covers, has_live_companion, lives_under}
 use Rattle.indexed_answers.specs.Told.{admits_under, is_companion}
 use Rattle.index_laws.specs.Indexes.{AreIndexes, IsHeld, IsIndexFile, all_joined}

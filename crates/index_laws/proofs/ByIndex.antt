@@ -19,7 +19,7 @@ use Rattle.archive_records.specs.Text.{written}
 use Rattle.archive_index.specs.Index.{index}
 use Rattle.archive_index.specs.Places.{AreNamed, HasIndexedLength, IsNamedBy, TellsFound}
 use Rattle.archive_index.proofs.Named.{of_the_index, right}
-use Rattle.table_index.specs.Text.{placed_of}
+use Rattle.archive_index.specs.Text.{placed_of}
 use Rattle.archive_queries.specs.Frames.{IsFrameAnswered, TellsFrames}
 use Rattle.archive_queries.specs.Symbolicate.{Answered, asked_of}
 use Rattle.command_core.proofs.Parts.{joined_alike}

@@ -16,7 +16,7 @@ use Rattle.command_core.specs.declared.faults.InputName.{InputName}
 use Rattle.command_core.specs.declared.faults.Status.{Status}
 use Rattle.command_core.specs.declared.faults.Why.{Why}
 use Rattle.line_inputs.specs.declared.frame.Frame.{Frame}
-use Rattle.table_index.specs.Text.{IsIndexText}
+use Rattle.archive_index.specs.Text.{IsIndexText}
 use Rattle.index_laws.specs.Indexes.{AreIndexes, DigestsTell, IsIndexFile, all_joined}
 use Rattle.index_laws.proofs.Joined.{joined_alone, tells_alone}
 use Rattle.index_laws.proofs.Right as told

@@ -38,9 +38,9 @@ use Rattle.archive_core.proofs.Made.{bytes_same}
 use Rattle.archive_records.proofs.Contents.{members_listed, order}
 use Rattle.archive_index.proofs.Placed.{entry_long, kind_of}
 use Rattle.archive_index.proofs.Sums.{nonempty, text_length}
-use Rattle.table_index.specs.Text.{IsIndexText}
-use Rattle.table_index.proofs.Entries.{byte_kept}
-use Rattle.table_index.proofs.Faults.{one_list}
+use Rattle.archive_index.specs.Text.{IsIndexText}
+use Rattle.archive_index.proofs.Fields.{byte_kept}
+use Rattle.archive_index.proofs.Faults.{one_list}
 use Rattle.index_writing.specs.Content.{claim_of, entries_of, table_entries, table_entry, tables_text}
 use Rattle.index_writing.proofs.Accepted.{accepted}
 use Rattle.index_writing.proofs.Contents.{claim_stored, entry_at, entry_begins, entry_length, entry_offset, is_table, length-table_entries}

@@ -28,8 +28,8 @@ use Rattle.archive_core.proofs.Members.{in_cons, in_front, in_rest}
 use Rattle.archive_core.proofs.Records.{length-key_of, same_parts}
 use Rattle.archive_records.proofs.Contents.{order}
 use Rattle.archive_index.specs.Entry.{offset_in}
-use Rattle.table_index.specs.Entry.{claim_in}
-use Rattle.table_index.specs.Text.{IsIndexText}
+use Rattle.archive_index.specs.Entry.{claim_in}
+use Rattle.archive_index.specs.Text.{IsIndexText}
 use Rattle.indexed_answers.specs.Among.{AreAnsweringAmong, AreTied, EntryAt, IsAmong, IsRepeatOf, StandsBefore, all_of, answers_among, lives_under}
 use Rattle.archive_queries.specs.Sources.{AreFramesAt, AreShown, IsSourced}
 use Rattle.indexed_answers.specs.AmongTold.{AreFramesToldAt, AreShownAmong, IsAnswerAmong, IsToldOfAmong, IsToldRowAt}

@@ -9,7 +9,7 @@ use Rattle.archive_core.specs.Key.{IsKey, key_bytes}
 use Rattle.archive_core.specs.Record.{admission_record}
 use Rattle.archive_core.specs.declared.keys.SliceKey.{SliceKey}
 use Rattle.archive_records.specs.Text.{written}
-use Rattle.table_index.specs.Text.{IsIndexText}
+use Rattle.archive_index.specs.Text.{IsIndexText}
 use Rattle.index_writing.specs.Content.{IsIndexOf}
 
 -- the text is the index of a content of byte strings, and neither it nor the archive has 2^64 bytes

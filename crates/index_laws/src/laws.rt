@@ -9,7 +9,7 @@ ghost use Rattle.archive_core.specs.declared.keys.SliceKey.{SliceKey};
 ghost use Rattle.archive_core.specs.declared.lookup.Where.{Where};
 ghost use Rattle.source_frames.specs.Frames.{FrameRecord};
 ghost use Rattle.line_tables.specs.SliceTable.{HasNoLines};
-ghost use Rattle.table_index.specs.Text.{IsIndexText};
+ghost use Rattle.archive_index.specs.Text.{IsIndexText};
 ghost use Rattle.archive_queries.specs.Sources.{IsSourced};
 ghost use Rattle.indexed_answers.specs.Among.{AreAnsweringAmong, AreTied, EntryAt, IsAmong, all_of, answers_among};
 ghost use Rattle.indexed_answers.specs.AmongTold.{IsAnswerAmong};

@@ -19,7 +19,7 @@ use Rattle.sha2.proofs.Facts256.{length-sha256}
 use Rattle.join_core.specs.Listing.{ascending_of, listing}
 use Rattle.join_core.proofs.Listing.{listed}
 use Rattle.checked_pages.specs.Pages.{page_digests, stored}
-use Rattle.table_index.specs.Entry.{zeros, claim_at, claim_bytes, claim_in, has_claim, no_claim, stored_size}
+use Rattle.archive_index.specs.Entry.{zeros, claim_at, claim_bytes, claim_in, has_claim, no_claim, stored_size}
 use Rattle.archive_core.specs.Content.{IsContent, Operations, is_admission}
 use Rattle.archive_core.specs.Record.{IsRecord}
 use Rattle.archive_core.proofs.Made.{bytes_same}
@@ -32,9 +32,9 @@ use Rattle.archive_index.specs.Entry.{has_kind, has_length, has_tag, length_in, 
 use Rattle.archive_index.proofs.Placed.{entry_long, is_placed, tag_is}
 use Rattle.archive_index.proofs.Sums.{AreApart as AreDistinct, any_ascending_of, is_same, listing_of, nonempty, text_length}
 use Rattle.index_writing.specs.Content.{IsIndexOf, IsTableOf, claim_of, entries_of, table_entries, table_entry, tables_text, EndAlike, HasTable}
-use Rattle.table_index.specs.Text.{FollowOn, IsIndexText, PassChecks, end_of, check_entry}
-use Rattle.table_index.proofs.Entries.{byte_kept, claim_read, long_with, number_kept}
-use Rattle.table_index.proofs.Checks.{long_entries}
+use Rattle.archive_index.specs.Text.{FollowOn, IsIndexText, PassChecks, end_of, check_entry}
+use Rattle.archive_index.proofs.Fields.{byte_kept, claim_read, long_with, number_kept}
+use Rattle.archive_index.proofs.Checks.{long_entries}
 use Rattle.index_writing.proofs.Contents.{apart, entry_length, entry_offset, moved, near_all, claim_admitted, claim_retired, stored_long}
 use Rattle.archive_index.proofs.Ascending.{along_list}
 use Rattle.sha2.specs.Sha256.{sha256}
@@ -44,7 +44,7 @@ use Rattle.symbol_tables.specs.declared.nearest.NearestSymbol.{NearestSymbol}
 use Rattle.line_tables.proofs.SliceTables.{table_of_symbols}
 use Rattle.archive_core.proofs.Records.{same_parts}
 use Rattle.index_writing.specs.Asked.{DigestsTell, IsToldBy}
-use Rattle.table_index.proofs.Texts.{last_is}
+use Rattle.archive_index.proofs.IndexTexts.{last_is}
 
 -- ---- the claim of a table
 

@@ -17,7 +17,7 @@ use Rattle.archive_records.proofs.Contents.{order, members_listed}
 use Rattle.archive_index.specs.Entry.{length_in, offset_in, placed_entry}
 use Rattle.archive_index.proofs.Placed.{entry_long, length_is, offset_is, entry_front}
 use Rattle.archive_index.proofs.Sums.{AreApart as AreDistinct, any_ascending_of, is_same, listing_of, nonempty}
-use Rattle.table_index.proofs.Entries.{number_kept, claim_read}
+use Rattle.archive_index.proofs.Fields.{number_kept, claim_read}
 use Rattle.index_writing.specs.Content.{IsTableOf, claim_of, entries_of, table_entries, table_entry, tables_text, HasTable, IsIndexOf}
 use Rattle.index_writing.specs.Making.{AreNear}
 use Rattle.std.specs.Prelude.{Option}
@@ -39,8 +39,8 @@ use Rattle.archive_index.proofs.Kept.{in_made}
 use Rattle.archive_core.specs.Summary.{entry}
 use Rattle.archive_index.specs.Text.{index_magic}
 use Rattle.index_writing.specs.Asked.{IsToldBy}
-use Rattle.table_index.specs.Entry.{claim_at, claim_bytes, claim_in, no_claim}
-use Rattle.table_index.specs.Text.{end_of, index_text}
+use Rattle.archive_index.specs.Entry.{claim_at, claim_bytes, claim_in, no_claim}
+use Rattle.archive_index.specs.Text.{end_of, index_text}
 
 -- ---- records and tables that begin below 2^64
 

@@ -19,8 +19,8 @@ use Rattle.archive_records.specs.declared.format.Format.TheVariants.{Archive}
 use Rattle.archive_records.proofs.Steps.{HasRead-grows, HasReadAll-grows, Stopped-fails, Stopped-unkept}
 use Rattle.archive_index.specs.Text.{index_magic}
 use Rattle.index_writing.specs.Content.{IsTableOf, front_of, table_entries, table_entry, tables_text}
-use Rattle.table_index.specs.Entry.{entry_bytes}
-use Rattle.table_index.specs.declared.entry.TableEntry.{TableEntry}
+use Rattle.archive_index.specs.Entry.{entry_bytes}
+use Rattle.archive_index.specs.declared.entry.IndexEntry.{IndexEntry}
 use Rattle.index_writing.specs.InnerMaking.{HasPut, HasPutAll, BlamesMaking, HasStoppedMaking, StopsRecord}
 use Rattle.index_writing.specs.Making.{HasBegun, IsBegun}
 use Rattle.index_writing.proofs.Contents.{near_push}
@@ -58,13 +58,13 @@ front_push tables t =
 pub put_none : {W : Type 0} (a b : Option (List ℕ)) (held : W → Option (List ℕ)) (failures : W → ℕ) (old new : W) (position : Position) (done : ℕ) → HasRead Archive a b [] position → IsPut held failures old new 0 (front_of []) done → HasPut a b held failures old new [] position done
 put_none a b held failures old new position done read put = record { records = []; tables = []; read = read; tabled = record { near = tt; each = tt; entries_are = refl }; put = put }
 
-module _ {W : Type 0} (a b c : Option (List ℕ)) (held : W → Option (List ℕ)) (failures : W → ℕ) (old mid new : W) (entries : List TableEntry) (before after : Position) (done : ℕ) (h : HasPut a b held failures old mid entries before done) where
+module _ {W : Type 0} (a b c : Option (List ℕ)) (held : W → Option (List ℕ)) (failures : W → ℕ) (old mid new : W) (entries : List IndexEntry) (before after : Position) (done : ℕ) (h : HasPut a b held failures old mid entries before done) where
   -- the front of the index, with the table of one record more
   front_then : (t : List ℕ) (end : ℕ) → IsPut held failures mid new done (stored t) end → IsPut held failures old new 0 (front_of (h.tables ++ t ∷ [])) end
   front_then t end put = subst (λ (x : List ℕ). IsPut held failures old new 0 x end) (front_push h.tables t) (puts_then held failures (λ (n : ℕ). n) old mid new 0 done (front_of h.tables) (stored t) (Ok end) h.put put)
 
   -- one record more was read, and its table written
-  pub put_more : (more : List TableEntry) (e : TableEntry) (t : List ℕ) (end : ℕ) → Passes b c before after → (before.offset < 2 ^ 64) × (done < 2 ^ 64) → more ≡ entries ++ e ∷ [] → IsTableOf after.last t → entry_bytes e ≡ table_entry before.offset done after.last t → IsPut held failures mid new done (stored t) end
+  pub put_more : (more : List IndexEntry) (e : IndexEntry) (t : List ℕ) (end : ℕ) → Passes b c before after → (before.offset < 2 ^ 64) × (done < 2 ^ 64) → more ≡ entries ++ e ∷ [] → IsTableOf after.last t → entry_bytes e ≡ table_entry before.offset done after.last t → IsPut held failures mid new done (stored t) end
       → HasPut a c held failures old new more after end
   put_more more e t end passes near grown table is put = record {
     records = h.records ++ after.last ∷ [];
@@ -124,7 +124,7 @@ module _ {W : Type 0} (a b c : Option (List ℕ)) (held : W → Option (List ℕ
       (subst (Appends (held old) (held new)) (λ i. take (sym count i) (whole i)) first.first.gained)
 
 -- nothing stands behind the end record
-pub put_end : {W : Type 0} (a b c : Option (List ℕ)) (held : W → Option (List ℕ)) (failures : W → ℕ) (old new : W) (entries : List TableEntry) (position : Position) (done : ℕ) → HasPutAll a b held failures old new entries position done → Consumes b c [] → HasPutAll a c held failures old new entries position done
+pub put_end : {W : Type 0} (a b c : Option (List ℕ)) (held : W → Option (List ℕ)) (failures : W → ℕ) (old new : W) (entries : List IndexEntry) (position : Position) (done : ℕ) → HasPutAll a b held failures old new entries position done → Consumes b c [] → HasPutAll a c held failures old new entries position done
 put_end a b c held failures old new entries position done h none = record {
   records = h.records;
   tables = h.tables;
@@ -172,7 +172,7 @@ pub refused_where : {W : Type 0} (a c : Option (List ℕ)) (held : W → Option 
 refused_where a c held failures old new records tables done fault stopped each put =
     (inr (Archive, refl, records, stopped), put.unfailed, (done, inr (begun_where a c held failures old new records tables done fault stopped each put)))
 
-module _ {W : Type 0} (a b c : Option (List ℕ)) (held : W → Option (List ℕ)) (failures : W → ℕ) (old mid new : W) (entries : List TableEntry) (before after : Position) (done : ℕ) (h : HasPut a b held failures old mid entries before done) where
+module _ {W : Type 0} (a b c : Option (List ℕ)) (held : W → Option (List ℕ)) (failures : W → ℕ) (old mid new : W) (entries : List IndexEntry) (before after : Position) (done : ℕ) (h : HasPut a b held failures old mid entries before done) where
   -- the next record is refused
   pub next_stopped : (fault : RecordFault) → StopsAt b c before fault → HasStoppedMaking a c held failures old mid (Refused (Archive_fault fault))
   next_stopped fault stop = refused_where a c held failures old mid h.records h.tables done fault (Stopped-fails Archive a b c h.records before fault h.read stop) h.tabled.each h.put

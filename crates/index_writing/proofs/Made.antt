@@ -19,9 +19,9 @@ use Rattle.archive_records.proofs.Longest.{behind_magic, end-stops, longest}
 use Rattle.archive_index.specs.Text.{index_magic}
 use Rattle.index_writing.specs.Content.{IsIndexOf, IsTableOf, entries_of, front_of, tables_text}
 use Rattle.index_writing.specs.Making.{IsBegun, IsTooFar, AreNear, IsMade, IsRefused, IsStopped, Makes, RefusesToMake}
-use Rattle.table_index.specs.Text.{end_of, index_text}
+use Rattle.archive_index.specs.Text.{end_of, index_text}
 use Rattle.index_writing.proofs.Contents.{HaveOneTable, same_table, as_many, one_of_content}
-use Rattle.table_index.proofs.Texts.{end_long}
+use Rattle.archive_index.proofs.IndexTexts.{end_long}
 use Rattle.std.specs.Prelude.{IfSome}
 use Rattle.std.specs.FinSet as set
 use Rattle.std.specs.Cmp.Lexicographic.{nat_list_cmp_total}
@@ -36,12 +36,12 @@ use Rattle.archive_records.specs.Reader.{Position, set_of}
 use Rattle.archive_records.specs.declared.kind.TextKind.TheVariants.{Archive}
 use Rattle.archive_records.specs.declared.writing.Sizes.{Sizes}
 use Rattle.archive_records.proofs.Inputs.{IsReadTo, read_whole, all_taken as taken_whole}
-use Rattle.archive_index.specs.Reading.{TellsVersion}
+use Rattle.archive_index.specs.Making.{TellsVersion}
 use Rattle.archive_index.specs.declared.fault.IndexingFault.{IndexingFault}
 use Rattle.archive_index.specs.declared.fault.IndexingFault.TheVariants.{Archive as Archive_fault, OldArchive, TooLong}
 use Rattle.archive_index.proofs.Made.{refused as indexing_refused, text_along}
-use Rattle.table_index.specs.Entry.{entry_bytes}
-use Rattle.table_index.specs.declared.entry.TableEntry.{TableEntry}
+use Rattle.archive_index.specs.Entry.{entry_bytes}
+use Rattle.archive_index.specs.declared.entry.IndexEntry.{IndexEntry}
 use Rattle.index_writing.specs.InnerMaking.{BlamesMaking, HasPutAll, HasStoppedMaking, TellsVersionMaking}
 use Rattle.index_writing.specs.declared.fault.MakingFault.{MakingFault}
 use Rattle.index_writing.specs.declared.fault.MakingFault.TheVariants.{Archive as Refused, Write as Wrote}
@@ -181,7 +181,7 @@ module _ {R W : Type 0} (once : HaveOneTable) (left : R → Option (List ℕ)) (
       }
 
   -- all records were read and their tables written, and these are their entries
-  module _ (mid : W) (entries sorted : List TableEntry) (position : Position) (done : ℕ) (all : HasPutAll (left old) (left new) held writes start mid entries position done) (at_end : IsAtEnd (left new)) (unfailed : failures new ≡ failures old) (is : map entry_bytes sorted ≡ listing (set.from_list {R = order} (map entry_bytes entries))) where
+  module _ (mid : W) (entries sorted : List IndexEntry) (position : Position) (done : ℕ) (all : HasPutAll (left old) (left new) held writes start mid entries position done) (at_end : IsAtEnd (left new)) (unfailed : failures new ≡ failures old) (is : map entry_bytes sorted ≡ listing (set.from_list {R = order} (map entry_bytes entries))) where
     abbrev content : Operations
     content = set_of all.records
 

@@ -18,9 +18,9 @@ use Rattle.archive_core.proofs.Made.{bytes_same}
 use Rattle.archive_records.proofs.Contents.{order}
 use Rattle.archive_records.proofs.Puts.{concat-push}
 use Rattle.archive_index.proofs.Kept.{set_kept}
-use Rattle.table_index.specs.Entry.{entry_bytes}
-use Rattle.table_index.specs.Text.{end_of}
-use Rattle.table_index.specs.declared.entry.TableEntry.{TableEntry}
+use Rattle.archive_index.specs.Entry.{entry_bytes}
+use Rattle.archive_index.specs.Text.{end_of}
+use Rattle.archive_index.specs.declared.entry.IndexEntry.{IndexEntry}
 
 -- what sorting and dropping repeats leaves is the listing
 pub listing_kept : {E : Type 0} (bytes_of : E → List ℕ) (gathered moved kept : List E) → IsPermutation gathered moved → kept ≡ dedup (λ x y. eq_by_cmp order (bytes_of x) (bytes_of y)) moved → IsSortedBy (λ x y. is_lt (order (bytes_of x) (bytes_of y))) moved
@@ -31,7 +31,7 @@ listing_kept bytes_of gathered moved kept permuted once sorted =
     sym (ap listing (sym (set_kept bytes_of gathered moved kept permuted once)) ∙ listing_ascending nat_list_cmp_total bytes_same (map bytes_of kept) (ascending_map order bytes_of kept strictly))
 
 -- the bytes of an entry among those of all
-pub bytes_at : (entries : List TableEntry) (i : ℕ) (e : TableEntry) (bytes : List ℕ) → i < length entries → e ≡ get_or entries i e → bytes ≡ entry_bytes e → bytes ≡ get_or (map entry_bytes entries) i []
+pub bytes_at : (entries : List IndexEntry) (i : ℕ) (e : IndexEntry) (bytes : List ℕ) → i < length entries → e ≡ get_or entries i e → bytes ≡ entry_bytes e → bytes ≡ get_or (map entry_bytes entries) i []
 bytes_at entries i e bytes lt at of = of ∙ ap entry_bytes at ∙ sym (get_or-map entry_bytes entries i e [] lt)
 
 -- the bytes of one entry more
@@ -39,7 +39,7 @@ pub concat_next : (xs : List (List ℕ)) (i : ℕ) (item : List ℕ) → i < len
 concat_next xs i item lt is = sym (ap concat (take_more xs i [] lt) ∙ concat-push (take i xs) (get_or xs i []) ∙ ap (λ (t : List ℕ). concat (take i xs) ++ t) (sym is))
 
 -- the end record, as it is written
-pub end_is : (entries : List TableEntry) (count : ℕ) (digest end : List ℕ) → count ≡ length entries → digest ≡ sha256 (concat (map entry_bytes entries)) → end ≡ 3 ∷ (to_be_bytes w64 count ++ digest) → end ≡ end_of (map entry_bytes entries)
+pub end_is : (entries : List IndexEntry) (count : ℕ) (digest end : List ℕ) → count ≡ length entries → digest ≡ sha256 (concat (map entry_bytes entries)) → end ≡ 3 ∷ (to_be_bytes w64 count ++ digest) → end ≡ end_of (map entry_bytes entries)
 unfolding end_of
 end_is entries count digest end many hashed is =
     let same : count ≡ length (map entry_bytes entries) = many ∙ sym (length-map entries entry_bytes) in

@@ -14,8 +14,8 @@ use Rattle.archive_core.specs.Valid.{IsValid}
 use Rattle.archive_core.specs.declared.keys.SliceKey.{SliceKey}
 use Rattle.archive_core.proofs.Entries.{slice_of}
 use Rattle.archive_index.specs.Entry.{placed_bytes, placed_entry}
-use Rattle.archive_index.specs.declared.entry.PlacedEntry.{PlacedEntry}
-use Rattle.table_index.specs.Entry.{claim_at, claim_bytes, entry_bytes, no_claim}
+use Rattle.archive_index.specs.declared.entry.IndexEntry.{IndexEntry}
+use Rattle.archive_index.specs.Entry.{claim_at, claim_bytes, entry_bytes, no_claim}
 use Rattle.index_writing.specs.Content.{IsTableOf, claim_of, table_entry}
 use Rattle.index_writing.specs.InnerMaking.{StopsTable}
 use Rattle.index_writing.specs.declared.fault.TableFault.{TableFault}
@@ -70,7 +70,7 @@ put_retired held failures w done key digest r c end is none same = (
 
 -- ---- the entry of a record
 
-pub entry_made : (placed : PlacedEntry) (claim : ClaimFields) (offset at before done : ℕ) (r table : List ℕ) → placed_bytes placed ≡ placed_entry offset r → claim_view claim ≡ claim_of at r table → offset ≡ before → at ≡ done
-    → entry_bytes (record { placed = placed; claim = claim }) ≡ table_entry before done r table
+pub entry_made : (entry : IndexEntry) (claim : ClaimFields) (offset at before done : ℕ) (r table : List ℕ) → entry.claim ≡ claim → placed_bytes entry ≡ placed_entry offset r → claim_view claim ≡ claim_of at r table → offset ≡ before → at ≡ done
+    → entry_bytes entry ≡ table_entry before done r table
 unfolding entry_bytes table_entry
-entry_made placed claim offset at before done r table p c o a = (λ i. p i ++ claim_bytes (c i)) ∙ (λ i. placed_entry (o i) r ++ claim_bytes (claim_of (a i) r table))
+entry_made entry claim offset at before done r table has p c o a = (λ i. p i ++ claim_bytes ((ap claim_view has ∙ c) i)) ∙ (λ i. placed_entry (o i) r ++ claim_bytes (claim_of (a i) r table))

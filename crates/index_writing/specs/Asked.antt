@@ -6,7 +6,7 @@ use Rattle.symbol_tables.specs.Found.{IsSaid}
 use Rattle.symbol_tables.specs.Steps.{AreBytes}
 use Rattle.symbol_tables.specs.Table.{IsTableText}
 use Rattle.symbol_tables.specs.declared.nearest.NearestSymbol.{NearestSymbol}
-use Rattle.table_index.specs.Entry.{claim_in}
+use Rattle.archive_index.specs.Entry.{claim_in}
 
 -- What an entry tells of an address, over any bytes of the index: the nearest symbol of each slice whose table may be
 -- stored where the entry says.

@@ -10,8 +10,8 @@ use Rattle.archive_core.specs.Content.{Operations, is_admission}
 use Rattle.archive_core.specs.Summary.{Entries, entry}
 use Rattle.archive_index.specs.Entry.{placed_entry}
 use Rattle.archive_index.specs.Text.{index_magic}
-use Rattle.table_index.specs.Entry.{claim_at, claim_bytes, claim_in, no_claim}
-use Rattle.table_index.specs.Text.{index_text}
+use Rattle.archive_index.specs.Entry.{claim_at, claim_bytes, claim_in, no_claim}
+use Rattle.archive_index.specs.Text.{index_text}
 
 -- the claim of a record's table that is stored from this offset on; a retirement has none
 unfoldable pub claim_of : ℕ → List ℕ → List ℕ → Claim

@@ -11,10 +11,10 @@ use Rattle.archive_records.specs.declared.format.Format.TheVariants.{Archive}
 use Rattle.archive_records.specs.declared.fault.RecordFaultKind.TheVariants.{OutOfMemory as Wanted}
 use Rattle.archive_records.specs.declared.kind.TextKind.TheVariants.{Archive as Archive_text}
 use Rattle.archive_index.specs.InnerMaking.{BlamesIndexing}
-use Rattle.archive_index.specs.Reading.{TellsVersion}
+use Rattle.archive_index.specs.Making.{TellsVersion}
 use Rattle.archive_index.specs.declared.fault.IndexingFault.TheVariants.{Archive as Archive_fault, OldArchive, TooLong}
-use Rattle.table_index.specs.Entry.{entry_bytes}
-use Rattle.table_index.specs.declared.entry.TableEntry.{TableEntry}
+use Rattle.archive_index.specs.Entry.{entry_bytes}
+use Rattle.archive_index.specs.declared.entry.IndexEntry.{IndexEntry}
 use Rattle.index_writing.specs.Content.{IsTableOf, front_of, table_entries}
 use Rattle.index_writing.specs.Making.{AreNear, IsBegun, IsTooFar}
 use Rattle.index_writing.specs.declared.fault.MakingFault.{MakingFault}
@@ -31,14 +31,14 @@ StopsTable held failures old new done IsTable (Write fault) = (table : List ℕ)
     × StopsPut held failures old new done (stored table) fault.written
 
 -- these are the tables of the records, and their entries
-pub record AreTabled (records tables : List (List ℕ)) (entries : List TableEntry) : Type 0 where
+pub record AreTabled (records tables : List (List ℕ)) (entries : List IndexEntry) : Type 0 where
   pub near : AreNear 8 8 records tables
   pub each : AllZip IsTableOf records tables
   pub entries_are : map entry_bytes entries ≡ table_entries 8 8 records tables
 
 -- The magic of an archive and these records were read of it, and the front of its index was written.
 pub record HasPut {W : Type 0} (a b : Option (List ℕ)) (held : W → Option (List ℕ)) (failures : W → ℕ) (old new : W)
-    (entries : List TableEntry) (position : Position) (done : ℕ) : Type 0 where
+    (entries : List IndexEntry) (position : Position) (done : ℕ) : Type 0 where
   pub records : List (List ℕ)
   pub tables : List (List ℕ)
   pub read : HasRead Archive a b records position
@@ -47,7 +47,7 @@ pub record HasPut {W : Type 0} (a b : Option (List ℕ)) (held : W → Option (L
 
 -- The same up to the end record.
 pub record HasPutAll {W : Type 0} (a b : Option (List ℕ)) (held : W → Option (List ℕ)) (failures : W → ℕ) (old new : W)
-    (entries : List TableEntry) (position : Position) (done : ℕ) : Type 0 where
+    (entries : List IndexEntry) (position : Position) (done : ℕ) : Type 0 where
   pub records : List (List ℕ)
   pub tables : List (List ℕ)
   pub read : HasReadAll Archive a b records position

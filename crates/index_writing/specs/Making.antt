@@ -17,7 +17,7 @@ use Rattle.archive_records.specs.Writing.{IsWrittenWhole}
 use Rattle.archive_records.specs.declared.format.Format.TheVariants.{Archive as Archive_format}
 use Rattle.archive_records.specs.declared.kind.TextKind.TheVariants.{Archive}
 use Rattle.archive_records.specs.declared.writing.Sizes.{Sizes}
-use Rattle.archive_index.specs.Reading.{RefusesToIndex, TellsVersion}
+use Rattle.archive_index.specs.Making.{RefusesToIndex, TellsVersion}
 use Rattle.archive_index.specs.declared.fault.IndexingFault.{IndexingFault}
 use Rattle.archive_index.specs.declared.fault.IndexingFault.TheVariants.{TooLong}
 use Rattle.index_writing.specs.Content.{IsIndexOf, IsTableOf, front_of}

@@ -8,17 +8,17 @@ ghost use Rattle.sha2.specs.Sha256.{sha256};
 ghost use Rattle.join_core.specs.Listing.{listing};
 ghost use Rattle.archive_core.specs.Summary.{Entries};
 ghost use Rattle.byte_device.specs.Writes.{Puts};
-ghost use Rattle.table_index.specs.Entry.{entry_bytes};
-ghost use Rattle.table_index.specs.Text.{end_of};
+ghost use Rattle.archive_index.specs.Entry.{entry_bytes};
+ghost use Rattle.archive_index.specs.Text.{end_of};
 
+use archive_index::IndexEntry;
 use archive_records::{Sizes, end_bytes};
 use byte_device::{Sink, WriteFault, put};
 use memory::Heap;
 use sha2::{Digest, Sha256};
-use table_index::TableEntry;
 
 /// The entries in ascending byte order.
-pub(crate) fn sorted(entries: Vec<TableEntry, Heap>) -> Vec<TableEntry, Heap>
+pub(crate) fn sorted(entries: Vec<IndexEntry, Heap>) -> Vec<IndexEntry, Heap>
     ensures { let all : Entries = set.from_list (map entry_bytes entries.items) in
         map entry_bytes result.items ≡ listing all }
 {
@@ -41,7 +41,7 @@ fn end_record(count: u64, digest: &[u8; 32]) -> [u8; 41]
 /// Writes the entries in their order after the first `done` bytes of an index, and returns their SHA-256 and how many
 /// bytes there are then.
 fn put_hashed<W: Sink>(
-    entries: &[TableEntry],
+    entries: &[IndexEntry],
     w: &mut W,
     done: u128,
 ) -> Result<([u8; 32], u128), WriteFault>
@@ -63,7 +63,7 @@ fn put_hashed<W: Sink>(
 /// Writes the entries in their order and the end record after the first `done` bytes of an index, and says how many
 /// entries and bytes there are then.
 pub(crate) fn put_entries<W: Sink>(
-    entries: &[TableEntry],
+    entries: &[IndexEntry],
     w: &mut W,
     done: u128,
 ) -> Result<Sizes, WriteFault>

@@ -15,8 +15,8 @@ ghost use Rattle.archive_records.specs.Text.{written};
 ghost use Rattle.index_writing.specs.Asked.{DigestsTell, IsToldBy};
 ghost use Rattle.index_writing.specs.Content.{EndAlike, HasTable, IsIndexOf, entries_of};
 ghost use Rattle.index_writing.specs.Making.{IsTooFar};
-ghost use Rattle.table_index.specs.Entry.{claim_in};
-ghost use Rattle.table_index.specs.Text.{IsIndexText};
+ghost use Rattle.archive_index.specs.Entry.{claim_in};
+ghost use Rattle.archive_index.specs.Text.{IsIndexText};
 
 use line_tables::laws::one_slice_table;
 

@@ -10,12 +10,11 @@ ghost use Rattle.index_writing.specs.Making.{Makes};
 use crate::entries::{put_entries, sorted};
 use crate::fault::MakingFault;
 use crate::records::put_tables;
-use archive_index::{IndexingFault, begin_archive};
+use archive_index::{IndexEntry, IndexingFault, begin_archive, magic};
 use archive_records::Sizes;
 use byte_device::{Sink, Source, put};
 use line_tables::laws::one_slice_table;
 use memory::Heap;
-use table_index::{TableEntry, magic};
 
 /// Reads an archive of version 2 to its end, and writes the magic of its index and the tables of its records. It gives
 /// their entries, and how many bytes the index has then.
@@ -23,7 +22,7 @@ fn put_front<R: Source, W: Sink>(
     heap: Heap,
     r: &mut R,
     w: &mut W,
-) -> Result<(Vec<TableEntry, Heap>, u128), MakingFault>
+) -> Result<(Vec<IndexEntry, Heap>, u128), MakingFault>
     ensures all { IfOk result (λ put. (position : Position) × HasPutAll (R.left r.old) (R.left r.new) W.held W.failures
         w.old w.new put.0.items position put.1) }
     ensures at_end { OnOk result (IsAtEnd (R.left r.new)) }

@@ -7,18 +7,17 @@ ghost use Rattle.archive_core.specs.Record.{IsRecord};
 ghost use Rattle.archive_records.specs.Reader.{HasRead};
 ghost use Rattle.archive_records.specs.declared.format.Format.TheVariants.{Archive};
 ghost use Rattle.archive_index.specs.declared.fault.IndexingFault.TheVariants.{Archive as Archive_fault};
-ghost use Rattle.table_index.specs.Entry.{entry_bytes};
+ghost use Rattle.archive_index.specs.Entry.{entry_bytes};
 ghost use Rattle.index_writing.specs.Content.{IsTableOf, front_of, table_entry};
 ghost use Rattle.index_writing.specs.InnerMaking.{BlamesMaking, HasPutAll, HasStoppedMaking, StopsRecord};
 ghost use Rattle.index_writing.specs.declared.fault.MakingFault.TheVariants.{Archive as Refused};
 
 use crate::fault::{MakingFault, TableFault};
 use crate::tables::put_table;
-use archive_index::{IndexingFault, PlacedEntry};
+use archive_index::{IndexEntry, IndexingFault};
 use archive_records::{NextRecord, RecordFault, RecordReader};
 use byte_device::{Sink, Source};
 use memory::Heap;
-use table_index::TableEntry;
 
 /// A fault of the archive.
 fn refused(fault: RecordFault) -> MakingFault
@@ -35,7 +34,7 @@ fn put_record<W: Sink>(
     before: u128,
     w: &mut W,
     done: u128,
-) -> Result<(TableEntry, u128), MakingFault>
+) -> Result<(IndexEntry, u128), MakingFault>
     requires { IsRecord reader.now.last }
     ensures near { OnOk result ((before < 2 ^ 64) × (done < 2 ^ 64)) }
     ensures short { IfOk result (λ put. put.1 < 2 ^ 80) }
@@ -53,10 +52,7 @@ fn put_record<W: Sink>(
     let item = reader.record();
     let size = reader.last().len() as u64;
     match put_table(heap, &item, w, at) {
-        Ok((claim, done)) => {
-            let placed = PlacedEntry::of_record(&item, offset, size);
-            Ok((TableEntry { placed, claim }, done))
-        }
+        Ok((claim, done)) => Ok((IndexEntry::of_record(&item, offset, size, claim), done)),
         Err(TableFault::OutOfMemory) => Err(refused(RecordFault::out_of_memory(before))),
         Err(TableFault::Write(fault)) => Err(MakingFault::Write(fault)),
     }
@@ -70,7 +66,7 @@ pub(crate) fn put_tables<R: Source, W: Sink>(
     r: &mut R,
     w: &mut W,
     done: u128,
-) -> Result<(Vec<TableEntry, Heap>, u128), MakingFault>
+) -> Result<(Vec<IndexEntry, Heap>, u128), MakingFault>
     requires file { reader.old.file ≡ Archive }
     requires fits { done < 2 ^ 80 }
     ensures all { IfOk result (λ put. (a : Option (List ℕ)) (first : W)

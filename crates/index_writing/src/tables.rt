@@ -7,18 +7,18 @@ ghost use Rattle.checked_pages.specs.Views.{claim_view};
 ghost use Rattle.line_tables.specs.SliceTable.{IsSliceTable};
 ghost use Rattle.archive_core.specs.Record.{IsOperation, borrowed_bytes, operation_borrowed};
 ghost use Rattle.archive_core.specs.Valid.{IsValid};
-ghost use Rattle.table_index.specs.Entry.{claim_at};
+ghost use Rattle.archive_index.specs.Entry.{claim_at};
 ghost use Rattle.index_writing.specs.Content.{IsTableOf, claim_of};
 ghost use Rattle.index_writing.specs.InnerMaking.{StopsTable};
 
 use crate::fault::TableFault;
 use archive_core::{CheckedSlice, Record};
+use archive_index::no_claim;
 use byte_device::Sink;
 use checked_pages::Claim;
 use line_writing::line_table;
 use memory::{Heap, NoMemory};
 use symbol_tables::TableText;
-use table_index::no_claim;
 
 /// The table of a slice, and its page digests.
 fn table_of<'a>(

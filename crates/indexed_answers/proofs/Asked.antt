@@ -9,7 +9,7 @@ use Rattle.std.proofs.lemmas.List.Elements.{All-weaker}
 use Rattle.std.proofs.lemmas.Option.{get_or_from_slice_get, same_Some, slice_get-get_or, slice_get-map, slice_get_within}
 use Rattle.std.proofs.lemmas.Slice.Zip.{AllZip-long}
 use Rattle.archive_core.specs.declared.lookup.Where.{Where}
-use Rattle.table_index.specs.Entry.{claim_in}
+use Rattle.archive_index.specs.Entry.{claim_in}
 use Rattle.indexed_answers.specs.Among.{EntryAt}
 use Rattle.indexed_answers.specs.AmongAsked.{AreThere, AsksAmong, BlamesAmong, HasText, HaveTexts, IsUntoldAmong, each_known}
 use Rattle.indexed_answers.specs.InnerAnswering.{AsksOne, BlamesOne, IsColumnOf, IsUntoldOne, entry_at}

@@ -9,3 +9,4 @@ pub mod Asked
 pub mod EachTold
 pub mod RunLemmas
 pub mod NamedSlices
+pub mod OpenedLines

@@ -1,33 +1,37 @@
 -- Entries of one tag under a key, which stand together.
-use Rattle.std.proofs.Common.{◌≡◌, ℕ, ◌+◌, ◌-◌, ◌<◌, ◌≤◌, Bool, true, false, not, ◌&&◌, List, [], ◌∷◌, ◌++◌, length, map, take, drop, get_or, sym, ap, ◌∙◌, arith}
+use Rattle.std.proofs.Common.{◌≡◌, ℕ, ◌+◌, ◌-◌, ◌<◌, ◌≤◌, Bool, true, false, not, ◌&&◌, List, [], ◌∷◌, ◌++◌, length, map, take, drop, get_or, sym, ap, ◌∙◌, arith, subst}
 use Rattle.std.specs.Prelude.{All, filter}
 use Rattle.std.specs.List.{AllWithin}
 use Rattle.std.proofs.lemmas.List.{get_or-drop, get_or-take, length-map, take_all}
 use Rattle.archive_index.specs.Runs.{IsRun}
 use Rattle.archive_index.proofs.RunLemmas.{past, length_run}
-use Rattle.table_index.specs.Entry.{HasItsFields, entry_bytes}
-use Rattle.table_index.specs.declared.entry.TableEntry.{TableEntry}
+use Rattle.archive_index.specs.Entry.{HasItsFields, entry_bytes}
+use Rattle.archive_index.specs.declared.entry.IndexEntry.{IndexEntry}
 use Rattle.indexed_answers.specs.Among.{EntryAt}
 use Rattle.indexed_answers.specs.Told.{admits_under}
 use Rattle.indexed_answers.specs.InnerAnswering.{entries_at, is_retired, lives_by}
 use Rattle.indexed_answers.proofs.Entries.{at, get_or-entries_at, length-entries_at}
 use Rattle.indexed_answers.proofs.Lists.{filter_passed, filter_pushed, read_map}
 
+-- a run of a list is one of the same list
+pub along_index : (passes : List ℕ → Bool) (es fs : List (List ℕ)) (start stop : ℕ) → es ≡ fs → IsRun passes es start stop → IsRun passes fs start stop
+along_index passes es fs start stop same run = subst (λ (xs : List (List ℕ)). IsRun passes xs start stop) same run
+
 -- an entry of a run, among all
-pub record IsInRun (passes : List ℕ → Bool) (xs : List TableEntry) (es : List (List ℕ)) (place : ℕ) (e : TableEntry) : Type 0 where
+pub record IsInRun (passes : List ℕ → Bool) (xs : List IndexEntry) (es : List (List ℕ)) (place : ℕ) (e : IndexEntry) : Type 0 where
   pub within : place < length es
   pub is : entry_bytes e ≡ get_or es place (entry_bytes e)
   pub passes_is : passes (entry_bytes e) ≡ true
   pub fields : All HasItsFields xs → HasItsFields e
 
-module _ (xs : List TableEntry) (es : List (List ℕ)) (are : map entry_bytes xs ≡ es) (passes : List ℕ → Bool) (start stop : ℕ) (run : IsRun passes es start stop) where
+module _ (xs : List IndexEntry) (es : List (List ℕ)) (are : map entry_bytes xs ≡ es) (passes : List ℕ → Bool) (start stop : ℕ) (run : IsRun passes es start stop) where
   as_many : length xs ≡ length es
   as_many = sym (length-map xs entry_bytes) ∙ ap length are
 
   pub run_length : length (take (stop - start) (drop start xs)) ≡ stop - start
   run_length = length_run xs start stop run.ordered (omega (arith, as_many, run.within))
 
-  pub in_run : (i : ℕ) (e : TableEntry) → i < length (take (stop - start) (drop start xs)) → e ≡ get_or (take (stop - start) (drop start xs)) i e → IsInRun passes xs es (start + i) e
+  pub in_run : (i : ℕ) (e : IndexEntry) → i < length (take (stop - start) (drop start xs)) → e ≡ get_or (take (stop - start) (drop start xs)) i e → IsInRun passes xs es (start + i) e
   in_run i e lt is =
       let inside : i < stop - start = omega (arith, run_length, lt) in
       let within : start + i < length xs = omega (arith, as_many, inside, run.within) in

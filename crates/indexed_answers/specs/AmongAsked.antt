@@ -5,7 +5,7 @@ use Rattle.std.specs.List.{AllZip}
 use Rattle.byte_device.specs.Devices.{FailedIn}
 use Rattle.checked_pages.specs.Pages.{AreStored}
 use Rattle.line_tables.specs.SliceTable.{IsSliceTable}
-use Rattle.table_index.specs.Entry.{claim_in}
+use Rattle.archive_index.specs.Entry.{claim_in}
 use Rattle.indexed_answers.specs.Among.{EntryAt}
 use Rattle.indexed_answers.specs.Told.{HasNoLinesBy}
 use Rattle.indexed_answers.specs.declared.fault.AnswerFault.{AnswerFault}

@@ -4,7 +4,7 @@ use Rattle.std.specs.List.{AllZip}
 use Rattle.source_frames.specs.Frames.{FrameRecord}
 use Rattle.archive_core.specs.Lookup.{AnswerRecord, OwnRow, Unanswered, Alone, Disputed}
 use Rattle.archive_core.specs.declared.lookup.Where.{Where}
-use Rattle.table_index.specs.Entry.{claim_in}
+use Rattle.archive_index.specs.Entry.{claim_in}
 use Rattle.indexed_answers.specs.Among.{AreAnsweringAmong, EntryAt}
 use Rattle.indexed_answers.specs.Told.{AreFramesToldBy, IsToldBy}
 

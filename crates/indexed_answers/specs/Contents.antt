@@ -4,7 +4,7 @@ use Rattle.sha2.specs.Sha256.{sha256}
 use Rattle.checked_pages.specs.Pages.{AreStored}
 use Rattle.symbol_tables.specs.Steps.{AreBytes}
 use Rattle.line_tables.specs.SliceTable.{IsSliceTable}
-use Rattle.table_index.specs.Entry.{claim_in}
+use Rattle.archive_index.specs.Entry.{claim_in}
 
 -- the slice of an entry: the entry has its SHA-256, and its table is stored in the text where the entry says
 pub record IsSliceOf (text slice e : List ℕ) : Type 0 where

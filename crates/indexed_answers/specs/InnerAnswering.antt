@@ -12,7 +12,7 @@ use Rattle.macho_symbols.specs.Found.{FoundRecord}
 use Rattle.source_frames.specs.Frames.{FrameRecord}
 use Rattle.symbol_tables.specs.Opened.{IsOpened}
 use Rattle.symbol_tables.specs.Steps.{AreBytes}
-use Rattle.symbol_tables.specs.Table.{IsTableOf, TableParts}
+use Rattle.symbol_tables.specs.Table.{FitsTable, IsTableOf, TableParts, table_bytes}
 use Rattle.symbol_tables.specs.declared.table.Table.{Table}
 use Rattle.line_tables.specs.Opened.{IsOpened as AreLinesOpened}
 use Rattle.line_tables.specs.Steps.{AreFrameSteps, StepRecord}
@@ -22,7 +22,7 @@ use Rattle.archive_core.specs.Lookup.{IsOwn}
 use Rattle.archive_core.specs.Part.{is_under}
 use Rattle.archive_core.specs.declared.lookup.Where.{Where}
 use Rattle.archive_index.specs.Entry.{length_in, offset_in}
-use Rattle.table_index.specs.Entry.{claim_in, entry_bytes}
+use Rattle.archive_index.specs.Entry.{claim_in, entry_bytes}
 use Rattle.indexed_answers.specs.Among.{AreOfOneSlice, EntryAt, HaveNoOrder, subject_of}
 use Rattle.indexed_answers.specs.AmongAsked.{HasNoTable}
 use Rattle.indexed_answers.specs.Told.{AreFramesOfPlace, AreFramesToldBy, HasNoLinesBy, IsToldBy, admits_under}
@@ -82,6 +82,11 @@ pub record HaveTie (xs : List EntryAt) : Type 0 where
   pub one_in : Contains xs one
   pub other_in : Contains xs other
   pub unordered : HaveNoOrder one other
+
+-- the table is opened where a claim says: it is each that may be stored there
+abbrev pub IsTableBy : List ℕ → Claim → Table → Type 0
+IsTableBy text claim table =
+    (t : TableParts) → FitsTable t → MayBeStored text claim (table_bytes t) → IsOpened table text t
 
 -- what a table that is opened tells of a place
 abbrev pub IsOwnOpened : Table → List ℕ → Where → Option FoundRecord → Type 0

@@ -13,7 +13,7 @@ use Rattle.line_tables.specs.FrameViews.{owned_frames}
 use Rattle.line_tables.specs.declared.frame.OwnedFrame.{OwnedFrame}
 use Rattle.archive_core.specs.Lookup.{AnswerRecord, OwnRow, Unanswered, Alone, Disputed}
 use Rattle.archive_core.specs.declared.lookup.Where.{Where}
-use Rattle.table_index.specs.Entry.{claim_in}
+use Rattle.archive_index.specs.Entry.{claim_in}
 use Rattle.indexed_answers.specs.Among.{EntryAt}
 use Rattle.indexed_answers.specs.Told.{AreFramesToldBy, IsToldBy}
 use Rattle.indexed_answers.specs.declared.answers.EntryAnswers.{EntryAnswers}

@@ -8,9 +8,9 @@ use crate::live::answering_under;
 use crate::numbered::Numbered;
 use crate::order::{are_tied, keep_once, sort_by_rank};
 use archive_core::{SliceKey, key_prefix};
+use archive_index::Index;
 use memory::{Heap, NoMemory};
 use std::marker::Model;
-use table_index::TableIndex;
 
 /// Entries of several indexes that answer together, in the order of their records. A contract sees each with the number
 /// of its index, its own number in that, both from 0 on, and its bytes.
@@ -57,7 +57,7 @@ impl Answering {
 pub fn answering_among(
     heap: &Heap,
     key: &SliceKey,
-    indexes: &[TableIndex],
+    indexes: &[Index],
 ) -> Result<Option<Answering>, NoMemory>
     ensures { IfOk result (λ found. MatchOption found (AreTied (key_bytes key.now) indexes.now)
         (λ answering. AreAnsweringAmong (key_bytes key.now) indexes.now answering)) }

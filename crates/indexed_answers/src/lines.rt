@@ -1,6 +1,6 @@
 //! The source frames of places, by the line table of an entry.
 
-ghost use Rattle.std.specs.Prelude.{◌≡◌, ◌<◌, ◌^◌, ℕ, List, IfOk, MatchOption, None, Some, length, map, true};
+ghost use Rattle.std.specs.Prelude.{◌≡◌, ℕ, List, IfOk, MatchOption, None, Some, map, true};
 ghost use Rattle.std.specs.List.{AllZip};
 ghost use Rattle.checked_pages.specs.Pages.{AreStored};
 ghost use Rattle.checked_pages.specs.Views.{KeepsPages, claim_view};
@@ -9,17 +9,17 @@ ghost use Rattle.line_tables.specs.FrameViews.{owned_frames};
 ghost use Rattle.line_tables.specs.Opened.{IsOpened};
 ghost use Rattle.line_tables.specs.Steps.{AreFrameSteps, StepRecord};
 ghost use Rattle.line_tables.specs.SliceTable.{IsSliceTable};
-ghost use Rattle.indexed_answers.specs.InnerAnswering.{AreFramesBased, AreFramesOpened};
+ghost use Rattle.indexed_answers.specs.InnerAnswering.{AreFramesBased, AreFramesOpened, IsTableBy};
 ghost use Rattle.indexed_answers.specs.Told.{HasNoLinesBy};
 ghost use Rattle.indexed_answers.specs.Views.{list_in};
 
 use crate::own::address_of;
 use archive_core::Where;
 use byte_device::Placed;
-use checked_pages::{CheckFault, Claim, Pages};
+use checked_pages::{CheckFault, Pages};
 use line_tables::{LineTable, OwnedFrame};
 use memory::Heap;
-use symbol_tables::open_lines;
+use symbol_tables::Table;
 
 /// The frames of a place, by a line table that is opened, of a slice whose `__TEXT` has this `vmaddr`.
 fn frames_of<P: Placed>(
@@ -68,27 +68,28 @@ fn frames_of_each<P: Placed>(
     Ok(lists)
 }
 
-/// The frames of several places, by the table that a claim names of a slice whose `__TEXT` has this `vmaddr`; none
-/// where the slice has no lines.
-fn frames_by_claim<P: Placed>(
+/// The frames of several places, by a table that is opened, of a slice whose `__TEXT` has this `vmaddr`; none where the
+/// slice has no lines.
+fn frames_by_table<P: Placed>(
     heap: &Heap,
     device: &mut P,
-    claim: Claim,
+    table: Table,
     base: Option<u64>,
     asked: &[Where],
 ) -> Result<Option<Vec<Vec<OwnedFrame, Heap>, Heap>>, CheckFault>
     ensures { ReadsStored P.whole P.failures device.old device.new result
-        (λ text found. MatchOption found (HasNoLinesBy text (claim_view claim))
-        (λ lists. AllZip (AreFramesBased base text (claim_view claim)) asked.now
+        (λ text found. IsTableBy text (claim_view table.pages.claim) table
+        → MatchOption found (HasNoLinesBy text (claim_view table.pages.claim))
+        (λ lists. AllZip (AreFramesBased base text (claim_view table.pages.claim)) asked.now
         (map list_in lists.items)))
-        (λ text. length text < 2 ^ 64 → (slice all : List ℕ) → IsSliceTable slice all
-        → AreStored text (claim_view claim) all → ⊥) }
+        (λ text. IsTableBy text (claim_view table.pages.claim) table → (slice all : List ℕ) → IsSliceTable slice all
+        → AreStored text (claim_view table.pages.claim) all → ⊥) }
 {
-    let (mut pages, first) = open_lines(heap.share(), device, claim)?;
-    let Some(table) = LineTable::open(device, &mut pages, first)? else {
+    let (mut pages, first) = table.into_lines();
+    let Some(lines) = LineTable::open(device, &mut pages, first)? else {
         return Ok(None);
     };
-    let lists = frames_of_each(heap, device, &mut pages, &table, base, asked)?;
+    let lists = frames_of_each(heap, device, &mut pages, &lines, base, asked)?;
     Ok(Some(lists))
 }
 
@@ -96,21 +97,22 @@ fn frames_by_claim<P: Placed>(
 pub(crate) fn frames_if<P: Placed>(
     heap: &Heap,
     device: &mut P,
-    claim: Claim,
+    table: Table,
     lines: bool,
     base: Option<u64>,
     asked: &[Where],
 ) -> Result<Option<Vec<Vec<OwnedFrame, Heap>, Heap>>, CheckFault>
     ensures wanted { IfOk result (λ found. found ≡ None → lines ≡ true) }
     ensures read { ReadsStored P.whole P.failures device.old device.new result
-        (λ text found. MatchOption found (HasNoLinesBy text (claim_view claim))
-        (λ lists. lines ≡ true → AllZip (AreFramesBased base text (claim_view claim)) asked.now
+        (λ text found. IsTableBy text (claim_view table.pages.claim) table
+        → MatchOption found (HasNoLinesBy text (claim_view table.pages.claim))
+        (λ lists. lines ≡ true → AllZip (AreFramesBased base text (claim_view table.pages.claim)) asked.now
         (map list_in lists.items)))
-        (λ text. length text < 2 ^ 64 → (slice all : List ℕ) → IsSliceTable slice all
-        → AreStored text (claim_view claim) all → ⊥) }
+        (λ text. IsTableBy text (claim_view table.pages.claim) table → (slice all : List ℕ) → IsSliceTable slice all
+        → AreStored text (claim_view table.pages.claim) all → ⊥) }
 {
     if lines {
-        return frames_by_claim(heap, device, claim, base, asked);
+        return frames_by_table(heap, device, table, base, asked);
     }
     Ok(Some(Vec::new(heap.share())))
 }

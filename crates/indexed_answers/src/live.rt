@@ -5,15 +5,16 @@ ghost use Rattle.std.specs.List.{list_any};
 ghost use Rattle.std.specs.List.Sorted.{IsSortedByKey};
 ghost use Rattle.std.specs.Ordering.{nat_cmp};
 ghost use Rattle.std.specs.Cmp.Lexicographic.{slice_cmp};
-ghost use Rattle.table_index.specs.Entry.{entry_bytes};
+ghost use Rattle.archive_index.specs.Entry.{entry_bytes};
 ghost use Rattle.indexed_answers.specs.Among.{all_of, answers_among, lives_under};
 ghost use Rattle.indexed_answers.specs.Told.{is_companion};
 ghost use Rattle.indexed_answers.specs.InnerAnswering.{all_at, entries_at, entry_at, lives_by};
 
-use crate::numbered::{ADMISSION, Numbered, is_companion};
+use crate::numbered::{Numbered, is_companion};
 use crate::retired::{is_retired, retired_under};
+use archive_index::{Index, run_under};
+use archive_records::ADMISSION;
 use memory::{Heap, NoMemory};
-use table_index::TableIndex;
 
 /// Adds the entries of the index of this number that live under these bytes, in their order. Of its entries the
 /// admissions under these bytes are looked at.
@@ -21,7 +22,7 @@ fn gather(
     prefix: &[u8],
     retired: &[[u8; 56]],
     input: u64,
-    index: &TableIndex,
+    index: &Index,
     live: &mut Vec<Numbered, Heap>,
 ) -> Result<(), NoMemory>
     requires prefix { length prefix.now ≡ 24 }
@@ -29,8 +30,8 @@ fn gather(
     ensures { OnOk result (map entry_at live.new.items ≡ map entry_at live.old.items
         ++ filter (λ x. lives_by prefix.now retired.now x.entry) (entries_at input 0 index.now)) }
 {
-    let (start, stop) = index.run_under(ADMISSION, prefix);
     let entries = index.entries();
+    let (start, stop) = run_under(entries, ADMISSION, prefix);
     let run = &entries[start..stop];
     'run: for (nth, entry) in run.iter().enumerate() {
         if is_retired(retired, entry) {
@@ -50,7 +51,7 @@ fn live_besides(
     heap: Heap,
     prefix: &[u8],
     retired: &[[u8; 56]],
-    indexes: &[TableIndex],
+    indexes: &[Index],
 ) -> Result<Vec<Numbered, Heap>, NoMemory>
     requires prefix { length prefix.now ≡ 24 }
     requires sorted { IsSortedByKey (λ subject. subject) (slice_cmp nat_cmp) retired.now }
@@ -68,7 +69,7 @@ fn live_besides(
 pub(crate) fn live_under(
     heap: &Heap,
     prefix: &[u8],
-    indexes: &[TableIndex],
+    indexes: &[Index],
 ) -> Result<Vec<Numbered, Heap>, NoMemory>
     requires { length prefix.now ≡ 24 }
     ensures { IfOk result (λ live. map entry_at live.items
@@ -96,7 +97,7 @@ fn keep_companions(live: &mut Vec<Numbered, Heap>)
 pub(crate) fn answering_under(
     heap: &Heap,
     prefix: &[u8],
-    indexes: &[TableIndex],
+    indexes: &[Index],
 ) -> Result<Vec<Numbered, Heap>, NoMemory>
     requires { length prefix.now ≡ 24 }
     ensures { IfOk result (λ found. map entry_at found.items

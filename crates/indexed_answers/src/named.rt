@@ -11,12 +11,9 @@ use crate::answering::answering_among;
 use crate::live::live_under;
 use crate::numbered::{Numbered, is_companion};
 use archive_core::{Digest, FindRow, FindState, SliceKey, key_prefix};
-use archive_records::{digest_in, key_in};
+use archive_index::Index;
+use archive_records::{ADMISSION_HEAD_LEN, digest_in, key_in};
 use memory::{Heap, NoMemory};
-use table_index::TableIndex;
-
-/// How many bytes of a record stand before its slice.
-const HEAD_LEN: u64 = 33;
 
 /// A slice that an entry of one of several indexes names.
 #[derive(Clone, Copy)]
@@ -55,13 +52,13 @@ fn row_of(numbered: &Numbered) -> FindRow
 fn named_by(numbered: &Numbered) -> NamedSlice
     ensures { Names (entry_at numbered.now) result }
 {
-    let placed = &numbered.entry.placed;
+    let entry = &numbered.entry;
     NamedSlice {
         input: numbered.input,
         number: numbered.number,
         row: row_of(numbered),
-        offset: placed.offset,
-        size: placed.length.saturating_sub(HEAD_LEN),
+        offset: entry.offset,
+        size: entry.length.saturating_sub(ADMISSION_HEAD_LEN as u64),
     }
 }
 
@@ -82,7 +79,7 @@ fn named_by_each(heap: Heap, entries: &[Numbered]) -> Result<Vec<NamedSlice, Hea
 pub fn named_among(
     heap: &Heap,
     key: &SliceKey,
-    indexes: &[TableIndex],
+    indexes: &[Index],
 ) -> Result<Option<Vec<NamedSlice, Heap>>, NoMemory>
     ensures { IfOk result (λ found. MatchOption found (AreTied (key_bytes key.now) indexes.now)
         (λ named. NamesAmong (key_bytes key.now) indexes.now named.items)) }
@@ -118,7 +115,7 @@ pub fn named_with(
     heap: &Heap,
     key: &SliceKey,
     digest: &Digest,
-    indexes: &[TableIndex],
+    indexes: &[Index],
 ) -> Result<Option<NamedSlice>, NoMemory>
     ensures { IfOk result (λ found. MatchOption found
         ((x : EntryAt) → LivesAmong (key_bytes key.now) digest.now.0 indexes.now x → ⊥)

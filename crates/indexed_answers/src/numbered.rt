@@ -1,17 +1,11 @@
 //! An entry of one of several indexes, and what an entry says.
 
 ghost use Rattle.std.specs.Prelude.{◌≡◌};
-ghost use Rattle.table_index.specs.Entry.{HasItsFields, entry_bytes};
+ghost use Rattle.archive_index.specs.Entry.{HasItsFields, entry_bytes};
 ghost use Rattle.indexed_answers.specs.Among.{subject_of};
 ghost use Rattle.indexed_answers.specs.Told.{is_companion};
 
-use table_index::TableEntry;
-
-/// The tag of a retirement.
-pub(crate) const RETIREMENT: u8 = 1;
-
-/// The tag of an admission.
-pub(crate) const ADMISSION: u8 = 2;
+use archive_index::IndexEntry;
 
 /// How many bytes the tag, the key and the digest of an entry are.
 pub(crate) const SLICE_LEN: usize = 57;
@@ -21,12 +15,12 @@ pub(crate) const SLICE_LEN: usize = 57;
 pub(crate) struct Numbered {
     pub input: u64,
     pub number: u64,
-    pub entry: TableEntry,
+    pub entry: IndexEntry,
     ghost fields: { HasItsFields entry },
 }
 
 /// The key and the digest of an entry.
-pub(crate) fn subject_of(entry: &TableEntry) -> [u8; 56]
+pub(crate) fn subject_of(entry: &IndexEntry) -> [u8; 56]
     ensures { result ≡ subject_of (entry_bytes entry.now) }
 {
     let mut subject = [0; 56];
@@ -35,7 +29,7 @@ pub(crate) fn subject_of(entry: &TableEntry) -> [u8; 56]
 }
 
 /// Whether an entry is that of a companion.
-pub(crate) fn is_companion(entry: &TableEntry) -> bool
+pub(crate) fn is_companion(entry: &IndexEntry) -> bool
     ensures { result ≡ is_companion (entry_bytes entry.now) }
 {
     entry.bytes()[57] == 1

@@ -8,13 +8,13 @@ ghost use Rattle.std.specs.List.Sorted.{IsPermutation, IsSortedByKey};
 ghost use Rattle.std.specs.Ordering.{nat_cmp};
 ghost use Rattle.std.specs.Cmp.Lexicographic.{slice_cmp};
 ghost use Rattle.archive_index.specs.Entry.{length_in};
-ghost use Rattle.table_index.specs.Entry.{entry_bytes};
+ghost use Rattle.archive_index.specs.Entry.{entry_bytes};
 ghost use Rattle.indexed_answers.specs.InnerAnswering.{HaveOrder, HaveTie, entry_at, is_elsewhere, rank_in};
 
 use crate::numbered::{Numbered, SLICE_LEN};
+use archive_index::IndexEntry;
 use memory::Heap;
 use std::cmp::Ordering;
-use table_index::TableEntry;
 
 /// Whether two entries begin alike: they are of one slice.
 fn begin_alike(bytes: &[u8; 122], other: &[u8; 122]) -> bool
@@ -24,7 +24,7 @@ fn begin_alike(bytes: &[u8; 122], other: &[u8; 122]) -> bool
 }
 
 /// Whether two entries are of one slice.
-fn are_of_one_slice(entry: &TableEntry, other: &TableEntry) -> bool
+fn are_of_one_slice(entry: &IndexEntry, other: &IndexEntry) -> bool
     ensures { result ≡ bytes_eq (take 57 (entry_bytes entry.now)) (take 57 (entry_bytes other.now)) }
 {
     begin_alike(&entry.bytes(), &other.bytes())
@@ -34,15 +34,15 @@ fn are_of_one_slice(entry: &TableEntry, other: &TableEntry) -> bool
 fn rank_of(numbered: &Numbered) -> [u64; 3]
     ensures { result ≡ rank_in (entry_at numbered.now) }
 {
-    let placed = &numbered.entry.placed;
-    [placed.length, numbered.input, placed.offset]
+    let entry = &numbered.entry;
+    [entry.length, numbered.input, entry.offset]
 }
 
 /// Whether the records of two entries have one length.
 fn have_one_length(numbered: &Numbered, other: &Numbered) -> bool
     ensures { result ≡ (length_in (entry_at numbered.now).entry == length_in (entry_at other.now).entry) }
 {
-    numbered.entry.placed.length == other.entry.placed.length
+    numbered.entry.length == other.entry.length
 }
 
 /// Whether the records of two entries have one length, and stand in two archives.

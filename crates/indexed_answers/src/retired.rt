@@ -4,14 +4,15 @@ ghost use Rattle.std.specs.Prelude.{◌≡◌, ◌++◌, IfOk, OnOk, length};
 ghost use Rattle.std.specs.List.Sorted.{IsSortedByKey};
 ghost use Rattle.std.specs.Ordering.{nat_cmp};
 ghost use Rattle.std.specs.Cmp.Lexicographic.{slice_cmp};
-ghost use Rattle.table_index.specs.Entry.{entry_bytes};
+ghost use Rattle.archive_index.specs.Entry.{entry_bytes};
 ghost use Rattle.indexed_answers.specs.Among.{all_of};
 ghost use Rattle.indexed_answers.specs.InnerAnswering.{is_retired, retired_of};
 
-use crate::numbered::{RETIREMENT, subject_of};
+use crate::numbered::subject_of;
+use archive_index::{Index, IndexEntry, run_under};
+use archive_records::RETIREMENT;
 use memory::{Heap, NoMemory};
 use std::cmp::Ordering;
-use table_index::{TableEntry, TableIndex};
 
 /// Compares two keys with their digests.
 fn compare(subject: &[u8; 56], other: &[u8; 56]) -> Ordering
@@ -21,16 +22,12 @@ fn compare(subject: &[u8; 56], other: &[u8; 56]) -> Ordering
 }
 
 /// Adds what the retirements of an index under these bytes are of. None of its other entries is looked at.
-fn gather(
-    prefix: &[u8],
-    index: &TableIndex,
-    retired: &mut Vec<[u8; 56], Heap>,
-) -> Result<(), NoMemory>
+fn gather(prefix: &[u8], index: &Index, retired: &mut Vec<[u8; 56], Heap>) -> Result<(), NoMemory>
     requires { length prefix.now ≡ 24 }
     ensures { OnOk result (retired.new.items ≡ retired.old.items ++ retired_of prefix.now index.now) }
 {
-    let (start, stop) = index.run_under(RETIREMENT, prefix);
     let entries = index.entries();
+    let (start, stop) = run_under(entries, RETIREMENT, prefix);
     let run = &entries[start..stop];
     'run: for entry in run {
         retired.push(subject_of(entry))?;
@@ -39,11 +36,7 @@ fn gather(
 }
 
 /// What the retirements of several indexes under these bytes are of, in the order of their entries.
-fn gathered(
-    heap: Heap,
-    prefix: &[u8],
-    indexes: &[TableIndex],
-) -> Result<Vec<[u8; 56], Heap>, NoMemory>
+fn gathered(heap: Heap, prefix: &[u8], indexes: &[Index]) -> Result<Vec<[u8; 56], Heap>, NoMemory>
     requires { length prefix.now ≡ 24 }
     ensures { IfOk result (λ retired. retired.items ≡ retired_of prefix.now (all_of indexes.now)) }
 {
@@ -58,7 +51,7 @@ fn gathered(
 pub(crate) fn retired_under(
     heap: Heap,
     prefix: &[u8],
-    indexes: &[TableIndex],
+    indexes: &[Index],
 ) -> Result<Vec<[u8; 56], Heap>, NoMemory>
     requires { length prefix.now ≡ 24 }
     ensures same { IfOk result (λ retired.
@@ -71,7 +64,7 @@ pub(crate) fn retired_under(
 }
 
 /// Whether what an entry is of is among these. It is found by halving.
-pub(crate) fn is_retired(retired: &[[u8; 56]], entry: &TableEntry) -> bool
+pub(crate) fn is_retired(retired: &[[u8; 56]], entry: &IndexEntry) -> bool
     requires { IsSortedByKey (λ subject. subject) (slice_cmp nat_cmp) retired.now }
     ensures { result ≡ is_retired retired.now (entry_bytes entry.now) }
 {

@@ -1,6 +1,7 @@
 //! What the table of an entry tells of several places, and those of several entries.
 
-ghost use Rattle.std.specs.Prelude.{◌≡◌, ◌<◌, ◌^◌, ℕ, List, Contains, IfOk, MatchOption, None, map, length, true};
+ghost use Rattle.std.specs.Prelude.{◌≡◌, ◌<◌, ◌^◌, ℕ, List, Contains, IfOk, IsOk, MatchOption, None, OnOk, Some, map};
+ghost use Rattle.std.specs.Prelude.{length, true};
 ghost use Rattle.std.specs.List.{AllZip};
 ghost use Rattle.checked_pages.specs.Pages.{AreStored};
 ghost use Rattle.checked_pages.specs.Views.{claim_view};
@@ -12,7 +13,7 @@ ghost use Rattle.indexed_answers.specs.Among.{EntryAt};
 ghost use Rattle.indexed_answers.specs.AmongAsked.{AreThere, AsksAmong, HasNoTable};
 ghost use Rattle.indexed_answers.specs.Told.{HasNoLinesBy, IsToldBy};
 ghost use Rattle.indexed_answers.specs.Views.{IsColumnAt, told_view};
-ghost use Rattle.indexed_answers.specs.InnerAnswering.{AsksOne, IsBaseBy, IsColumnOf, IsOwnOpened, entry_at};
+ghost use Rattle.indexed_answers.specs.InnerAnswering.{AsksOne, IsBaseBy, IsColumnOf, IsOwnOpened, IsTableBy, entry_at};
 
 use crate::AnswerFault;
 use crate::answering::Answering;
@@ -34,7 +35,10 @@ fn owns_of<P: Placed>(
     table: &mut Table,
     asked: &[Where],
 ) -> Result<Vec<Option<OwnedFound>, Heap>, CheckFault>
-    ensures { ReadsStored P.whole P.failures device.old device.new result
+    ensures claim { OnOk result (table.new.pages.claim ≡ table.old.pages.claim) }
+    ensures keeps { OnOk result ((text : List ℕ) (t : TableParts) → P.whole device.old ≡ Some text
+        → IsOpened table.old text t → IsOpened table.new text t) }
+    ensures read { ReadsStored P.whole P.failures device.old device.new result
         (λ text owns. AllZip (IsOwnOpened table.old text) asked.now (map told_view owns.items))
         (λ text. (t : TableParts) → IsOpened table.old text t
         → AreStored text (claim_view table.old.pages.claim) (table_bytes t) → ⊥) }
@@ -49,23 +53,25 @@ fn owns_of<P: Placed>(
     Ok(owns)
 }
 
-/// What the table that a claim names tells of several places, after the `vmaddr` of the first segment named `__TEXT`.
+/// What the table that a claim names tells of several places, after the table, which is opened, and the `vmaddr` of the
+/// first segment named `__TEXT`.
 fn owns_by_claim<P: Placed>(
     heap: &Heap,
     device: &mut P,
     claim: Claim,
     asked: &[Where],
-) -> Result<(Option<u64>, Vec<Option<OwnedFound>, Heap>), CheckFault>
-    ensures { ReadsStored P.whole P.failures device.old device.new result
-        (λ text told. IsBaseBy text (claim_view claim) told.0
-        × AllZip (IsToldBy text (claim_view claim)) asked.now (map told_view told.1.items))
+) -> Result<(Table, Option<u64>, Vec<Option<OwnedFound>, Heap>), CheckFault>
+    ensures claim { IfOk result (λ told. told.0.pages.claim ≡ claim) }
+    ensures read { ReadsStored P.whole P.failures device.old device.new result
+        (λ text told. IsTableBy text (claim_view claim) told.0 × IsBaseBy text (claim_view claim) told.1
+        × AllZip (IsToldBy text (claim_view claim)) asked.now (map told_view told.2.items))
         (λ text. length text < 2 ^ 64 → (slice all : List ℕ) → IsSliceTable slice all
         → AreStored text (claim_view claim) all → ⊥) }
 {
     let mut table = Table::open(heap.share(), device, claim)?;
     let base = table.text_base();
     let owns = owns_of(heap, device, &mut table, asked)?;
-    Ok((base, owns))
+    Ok((table, base, owns))
 }
 
 /// What the table of an entry tells of several places, and if lines are wanted their frames; none if it has no lines
@@ -84,8 +90,8 @@ fn column_of<P: Placed>(
         (λ text. HasNoTable text (entry_at numbered.now).entry) }
 {
     let claim = numbered.entry.claim;
-    let (base, owns) = owns_by_claim(heap, device, claim, asked)?;
-    let Some(frames) = frames_if(heap, device, claim, lines, base, asked)? else {
+    let (table, base, owns) = owns_by_claim(heap, device, claim, asked)?;
+    let Some(frames) = frames_if(heap, device, table, lines, base, asked)? else {
         return Ok(None);
     };
     let digest = digest_in(&numbered.entry.bytes());

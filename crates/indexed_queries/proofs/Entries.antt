@@ -13,7 +13,7 @@ use Rattle.archive_core.specs.Part.{is_under}
 use Rattle.archive_core.specs.declared.find.FindRow.{FindRow}
 use Rattle.archive_core.proofs.Compare.{length_key_bytes}
 use Rattle.archive_records.specs.Entry.{IsEntry}
-use Rattle.archive_index.specs.declared.entry.PlacedEntry.{PlacedEntry}
+use Rattle.archive_index.specs.declared.entry.IndexEntry.{IndexEntry}
 use Rattle.archive_index.specs.Entry.{IsPlacedEntry, dsym_byte, offset_in, placed_bytes, tag_byte}
 use Rattle.archive_index.proofs.Entries.{offset_of_bytes}
 use Rattle.archive_index.proofs.Texts.{bytes_at}
@@ -45,7 +45,7 @@ module _ (t : ℕ) (kb d tail : List ℕ) (key : length kb ≡ 24) (digest : len
   pub kind_there : get_or laid 57 0 ≡ get_or tail 0 0
   kind_there = get_or-append_right (t ∷ (kb ++ d)) tail 57 0 (omega (arith, front_long)) ∙ (let none : 57 - length (t ∷ (kb ++ d)) ≡ 0 = omega (arith, front_long) in ap (λ (n : ℕ). get_or tail n 0) none)
 
-module _ (e : PlacedEntry) (is_key : IsKey e.row.key) (digest : length e.row.digest.0 ≡ 32) where
+module _ (e : IndexEntry) (is_key : IsKey e.row.key) (digest : length e.row.digest.0 ≡ 32) where
   abbrev kb : List ℕ
   kb = key_bytes e.row.key
 
@@ -99,7 +99,7 @@ are_entries (e ∷ es) all = (is_entry e all.0, are_entries es all.1)
 
 -- ---- entries one after another
 
-module _ (entries : List PlacedEntry) (i : ℕ) (e : PlacedEntry) (lt : i < length entries) (is : e ≡ get_or entries i e) where
+module _ (entries : List IndexEntry) (i : ℕ) (e : IndexEntry) (lt : i < length entries) (is : e ≡ get_or entries i e) where
   abbrev all : List (List ℕ)
   all = map placed_bytes entries
 
@@ -110,7 +110,7 @@ module _ (entries : List PlacedEntry) (i : ℕ) (e : PlacedEntry) (lt : i < leng
   at = bytes_at entries i e (placed_bytes e) lt is refl
 
   -- one more, which is under the prefix
-  pub one_picked : (prefix : List ℕ) (before after : List PlacedEntry) → after ≡ before ++ e ∷ [] → is_under prefix (placed_bytes e) ≡ true → map placed_bytes before ≡ filter (is_under prefix) (take i all)
+  pub one_picked : (prefix : List ℕ) (before after : List IndexEntry) → after ≡ before ++ e ∷ [] → is_under prefix (placed_bytes e) ≡ true → map placed_bytes before ≡ filter (is_under prefix) (take i all)
       → map placed_bytes after ≡ filter (is_under prefix) (take (i + 1) all)
   one_picked prefix before after grown under picked =
       let one : cond (is_under prefix (get_or all i [])) (get_or all i [] ∷ []) [] ≡ placed_bytes e ∷ [] = ap (λ (z : List ℕ). cond (is_under prefix z) (z ∷ []) []) (sym at) ∙ ap (λ (b : Bool). cond b (placed_bytes e ∷ []) []) under in
@@ -118,7 +118,7 @@ module _ (entries : List PlacedEntry) (i : ℕ) (e : PlacedEntry) (lt : i < leng
       ∙ sym (filter_more (is_under prefix) all i [] within ∙ ap (λ (ys : List (List ℕ)). filter (is_under prefix) (take i all) ++ ys) one)
 
   -- one more, which is not
-  pub one_passed : (prefix : List ℕ) (before : List PlacedEntry) → is_under prefix (placed_bytes e) ≡ false → map placed_bytes before ≡ filter (is_under prefix) (take i all)
+  pub one_passed : (prefix : List ℕ) (before : List IndexEntry) → is_under prefix (placed_bytes e) ≡ false → map placed_bytes before ≡ filter (is_under prefix) (take i all)
       → map placed_bytes before ≡ filter (is_under prefix) (take (i + 1) all)
   one_passed prefix before other picked =
       let none : cond (is_under prefix (get_or all i [])) (get_or all i [] ∷ []) [] ≡ [] = ap (λ (z : List ℕ). cond (is_under prefix z) (z ∷ []) []) (sym at) ∙ ap (λ (b : Bool). cond b (placed_bytes e ∷ []) []) other in

@@ -12,7 +12,7 @@ use Rattle.command_core.specs.Inputs.{Reader, reader, readers, EachUnfailed, IsR
 use Rattle.command_core.specs.declared.faults.CommandFault.{CommandFault}
 use Rattle.command_core.specs.declared.faults.CommandFault.TheVariants.{Input, OutOfMemory}
 use Rattle.command_core.proofs.Readers.{all_take, readers_long, rest_kept, set_one, unfailed_more, untouched_behind}
-use Rattle.table_index.specs.Text.{placed_of}
+use Rattle.archive_index.specs.Text.{placed_of}
 use Rattle.indexed_queries.specs.Prefixes.{HoldsNamed}
 use Rattle.indexed_queries.specs.Indexes.{IsRefusedByIndex}
 use Rattle.indexed_queries.specs.InnerParts.{HaveJoinedGroups, IsNamedIn}

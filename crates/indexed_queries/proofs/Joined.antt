@@ -19,7 +19,7 @@ use Rattle.command_core.proofs.Readers.{pairs_more}
 use Rattle.archive_index.specs.Gathering.{AreGatheredUnder, IsEntryFault}
 use Rattle.archive_index.proofs.Gathered.{along_both, known}
 use Rattle.indexed_queries.specs.declared.prefixes.KeyPrefix.{KeyPrefix}
-use Rattle.table_index.specs.Text.{placed_of}
+use Rattle.archive_index.specs.Text.{placed_of}
 use Rattle.indexed_queries.specs.Prefixes.{AreNamedUnder, IsReadFor, IsReadUnderOne, prefix_bytes}
 use Rattle.indexed_queries.specs.InnerParts.{HasJoinedNamed, HaveGathered, IsFaultAmong, IsFaultUnder, IsNamedIn, told_fault}
 use Rattle.indexed_queries.specs.Together.{IsRefusedAtPlaces}

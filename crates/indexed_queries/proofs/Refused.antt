@@ -15,8 +15,8 @@ use Rattle.command_core.specs.declared.faults.Why.TheVariants.{Index as IndexFau
 use Rattle.archive_index.specs.declared.index_fault.IndexFault.{IndexFault}
 use Rattle.archive_index.specs.declared.index_fault.IndexFaultKind.{IndexFaultKind}
 use Rattle.archive_index.specs.declared.index_fault.IndexFaultKind.TheVariants.{OutOfMemory as IndexOutOfMemory}
-use Rattle.table_index.specs.Reading.{Blames, ReadsIndex}
-use Rattle.table_index.specs.Text.{IsIndexText}
+use Rattle.archive_index.specs.Reading.{Blames, ReadsIndex}
+use Rattle.archive_index.specs.Text.{IsIndexText}
 use Rattle.indexed_queries.specs.Indexes.{HoldsIndex, HoldsTables, IsOfOtherLength, IsRefusedByIndex, IsUnreadIndex}
 use Rattle.indexed_queries.specs.Together.{IsKept}
 

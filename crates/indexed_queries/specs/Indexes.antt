@@ -5,8 +5,8 @@ use Rattle.archive_index.specs.Index.{AreIndexEntries}
 use Rattle.archive_index.specs.Places.{HasIndexedLength}
 use Rattle.archive_index.specs.declared.index_fault.IndexFault.{IndexFault}
 use Rattle.archive_index.specs.declared.index_fault.IndexFaultKind.TheVariants.{OutOfMemory as IndexOutOfMemory}
-use Rattle.table_index.specs.Reading.{ReadsIndex}
-use Rattle.table_index.specs.Text.{IsIndexText, placed_of}
+use Rattle.archive_index.specs.Reading.{ReadsIndex}
+use Rattle.archive_index.specs.Text.{IsIndexText, placed_of}
 use Rattle.command_core.specs.Inputs.{Reader, Gives, IsUnread, IsUntouched, Unfailed}
 use Rattle.command_core.specs.declared.faults.InputName.{InputName}
 use Rattle.command_core.specs.declared.faults.InputName.TheVariants.{Archive, Index}

@@ -4,7 +4,7 @@ use Rattle.std.specs.List.{AllZip}
 use Rattle.std.specs.FinSet as set
 use Rattle.archive_core.specs.Content.{Operations}
 use Rattle.archive_index.specs.Places.{HasIndexedLength}
-use Rattle.table_index.specs.Text.{placed_of}
+use Rattle.archive_index.specs.Text.{placed_of}
 use Rattle.command_core.specs.Archives.{merged}
 use Rattle.command_core.specs.Inputs.{Reader, Gives, EachUnfailed, EachUntouched, Unfailed}
 use Rattle.command_core.specs.declared.faults.InputName.{InputName}

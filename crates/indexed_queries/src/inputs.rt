@@ -4,7 +4,7 @@ ghost use Rattle.std.specs.Prelude.{◌≡◌, ◌≢◌, OnOk};
 ghost use Rattle.archive_index.specs.Index.{AreIndexEntries};
 ghost use Rattle.archive_index.specs.Places.{HasIndexedLength};
 ghost use Rattle.archive_index.specs.declared.index_fault.IndexFaultKind.TheVariants.{OutOfMemory as IndexOutOfMemory};
-ghost use Rattle.table_index.specs.Text.{placed_of};
+ghost use Rattle.archive_index.specs.Text.{placed_of};
 ghost use Rattle.command_core.specs.Inputs.{Gives, IsRefusal, ReadsInput, ReadsInputs, Unfailed, reader};
 ghost use Rattle.archive_records.specs.declared.fault.RecordFaultKind.TheVariants.{Device as DeviceFailed};
 ghost use Rattle.command_core.specs.declared.faults.CommandFault.TheVariants.{Input};
@@ -14,12 +14,11 @@ ghost use Rattle.indexed_queries.specs.Indexes.{HoldsTables, IsIndexOf, IsOfOthe
 ghost use Rattle.indexed_queries.specs.Indexes.{IsUnreadIndex};
 ghost use Rattle.indexed_queries.specs.Together.{IsKept, IsReadWith};
 
-use archive_index::{Index, IndexFault, IndexFaultKind, has_size};
+use archive_index::{Index, IndexFault, IndexFaultKind, PlaceFault, indexed_size, read_index};
 use archive_records::{RecordFault, RecordFaultKind};
-use byte_device::{Failed, Placed};
+use byte_device::Placed;
 use command_core::{CommandFault, InputName, Why};
 use memory::Heap;
-use table_index::{TableIndex, read_index};
 
 /// The refusal of an index, whose text has this fault or whose device failed.
 fn refusal(number: u64, fault: IndexFault) -> CommandFault
@@ -44,11 +43,7 @@ pub(crate) fn unread(number: u64, offset: u64) -> CommandFault
 }
 
 /// Reads the index with this number among those of the words.
-fn read_tables<I: Placed>(
-    heap: Heap,
-    number: u64,
-    index: &mut I,
-) -> Result<TableIndex, CommandFault>
+fn read_tables<I: Placed>(heap: Heap, number: u64, index: &mut I) -> Result<Index, CommandFault>
     ensures read { ReadsInput (reader I.whole I.failures index.old index.new) result HoldsTables
         (λ index at why. (at ≡ IndexPlace number) × IsUnreadIndex index why) }
     ensures kept { OnOk result (IsKept I.whole I.failures index.old index.new) }
@@ -60,22 +55,22 @@ fn read_tables<I: Placed>(
 }
 
 /// Tests that the archive with this number among those of the words has the length that its index tells.
-fn test_length<P: Placed>(
-    number: u64,
-    tables: &TableIndex,
-    archive: &mut P,
-) -> Result<(), CommandFault>
+fn test_length<P: Placed>(number: u64, tables: &Index, archive: &mut P) -> Result<(), CommandFault>
     ensures entries { AreIndexEntries (placed_of tables.now) }
     ensures tests { ReadsInput (reader P.whole P.failures archive.old archive.new) result
         (λ archive _. Gives archive (HasIndexedLength (placed_of tables.now)))
         (λ archive. IsOfOtherLength number archive (placed_of tables.now)) }
     ensures kept { OnOk result (IsKept P.whole P.failures archive.old archive.new) }
 {
-    let size = tables.archive_size();
-    match has_size(size, archive) {
-        Ok(true) => Ok(()),
-        Ok(false) => Err(CommandFault::Input(InputName::Index(number), Why::Stale(None))),
-        Err(Failed) => Err(unread(number, 0)),
+    let _count = tables.len();
+    match indexed_size(tables, archive) {
+        Ok(_) => Ok(()),
+        Err(PlaceFault::Stale(_)) => Err(CommandFault::Input(
+            InputName::Index(number),
+            Why::Stale(None),
+        )),
+        Err(PlaceFault::Device(_)) => Err(unread(number, 0)),
+        Err(PlaceFault::OutOfMemory) => Err(CommandFault::OutOfMemory),
     }
 }
 
@@ -86,7 +81,7 @@ pub(crate) fn read_with_tables<I: Placed, P: Placed>(
     number: u64,
     index: &mut I,
     archive: &mut P,
-) -> Result<TableIndex, CommandFault>
+) -> Result<Index, CommandFault>
     ensures read { let named = reader I.whole I.failures index.old index.new in
         let known = reader P.whole P.failures archive.old archive.new in
         ReadsInputs result (IsReadWith named known) (IsRefusedByIndex number named known)
@@ -100,17 +95,17 @@ pub(crate) fn read_with_tables<I: Placed, P: Placed>(
 }
 
 /// Reads the index of the first archive, and tests that this has the length that it tells.
-pub fn read_index_of<I: Placed, P: Placed>(
+pub(crate) fn read_index_of<I: Placed, P: Placed>(
     heap: &Heap,
     index: &mut I,
     archive: &mut P,
 ) -> Result<Index, CommandFault>
     ensures { let named = reader I.whole I.failures index.old index.new in
         let known = reader P.whole P.failures archive.old archive.new in
-        ReadsInputs result (IsIndexOf named known) (IsRefusedByIndex 0 named known) (Unfailed named × Unfailed known) }
+        ReadsInputs result (λ index. IsIndexOf named known (placed_of index)) (IsRefusedByIndex 0 named known)
+        (Unfailed named × Unfailed known) }
 {
     let tables = read_with_tables(heap, 0, index, archive)?;
-    let entries = tables.placed(heap.share())?;
-    let _count = entries.len();
-    Ok(entries)
+    let _count = tables.len();
+    Ok(tables)
 }

@@ -1,7 +1,7 @@
 //! Indexes of archives as inputs of a command, each read, and compared with the length of its archive; and the commands
 //! that ask an archive by its index and print an answer, over any devices and sinks.
 //!
-//! - `inputs`: an index that is read, and the archive that it is of ([`read_index_of`]);
+//! - `inputs`: an index that is read, and the archive that it is of;
 //! - `prefixes`: [`KeyPrefix`], what a key begins with; `parts`: what an index names there, read and joined;
 //! - `together`: indexes of several archives, read ([`read_indexes`]), and the slices that they name
 //!   ([`read_prefixes`]);
@@ -26,8 +26,7 @@ mod summary;
 mod together;
 
 pub use find::{run_find_at, run_find_together};
-pub use inputs::read_index_of;
 pub use list::run_list_at;
-pub use prefixes::{KeyPrefix, uuid_bytes};
+pub use prefixes::KeyPrefix;
 pub use summary::run_summary_at;
-pub use together::{read_indexes, read_prefixes, read_together};
+pub use together::{read_indexes, read_prefixes};

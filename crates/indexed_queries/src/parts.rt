@@ -6,7 +6,7 @@ ghost use Rattle.archive_core.specs.Content.{content_of, joined};
 ghost use Rattle.archive_core.specs.Record.{record_bytes};
 ghost use Rattle.byte_device.specs.Places.{HasSize};
 ghost use Rattle.archive_index.specs.Places.{HasIndexedLength, IsReadUnder};
-ghost use Rattle.table_index.specs.Text.{placed_of};
+ghost use Rattle.archive_index.specs.Text.{placed_of};
 ghost use Rattle.command_core.specs.Inputs.{ReadsInput, reader};
 ghost use Rattle.archive_index.specs.Gathering.{AreGatheredUnder, IsEntryFault, ReadsPlaces};
 ghost use Rattle.indexed_queries.specs.Prefixes.{IsReadFor, IsReadUnderOne, prefix_bytes};
@@ -21,28 +21,27 @@ use archive_index::{Index, PlaceFault, archive_of, gather_at, indexed_size};
 use byte_device::Placed;
 use command_core::{CommandFault, InputName, Why};
 use memory::{Heap, NoMemory};
-use table_index::TableIndex;
 
 /// Gathers the records under a prefix, at the places that an index names, after those that were gathered.
 fn gather_prefix<P: Placed>(
     heap: &Heap,
     gathered: &mut Vec<Operation, Heap>,
     prefix: &KeyPrefix,
-    entries: &Index,
+    index: &Index,
     device: &mut P,
     size: u64,
 ) -> Result<(), PlaceFault>
     requires { HasSize (P.whole device.old) size }
     ensures { ReadsPlaces P.whole P.failures device.old device.new result
-        (λ _. AreGatheredUnder (P.whole device.old) (prefix_bytes prefix.now) entries.now
+        (λ _. AreGatheredUnder (P.whole device.old) (prefix_bytes prefix.now) (placed_of index.now)
         (map record_bytes gathered.old.items) (map record_bytes gathered.new.items))
-        (IsEntryFault (prefix_bytes prefix.now) entries.now) (IsReadUnder (prefix_bytes prefix.now) entries.now) }
+        (IsEntryFault (prefix_bytes prefix.now) (placed_of index.now)) (IsReadUnder (prefix_bytes prefix.now) (placed_of index.now)) }
 {
     match prefix {
         KeyPrefix::Uuid(uuid) => {
-            gather_at(heap, gathered, &uuid_bytes(*uuid), entries, device, size)
+            gather_at(heap, gathered, &uuid_bytes(*uuid), index, device, size)
         }
-        KeyPrefix::Key(key) => gather_at(heap, gathered, &key_of(*key), entries, device, size),
+        KeyPrefix::Key(key) => gather_at(heap, gathered, &key_of(*key), index, device, size),
     }
 }
 
@@ -51,19 +50,19 @@ fn gather_prefixes<P: Placed>(
     heap: &Heap,
     gathered: &mut Vec<Operation, Heap>,
     prefixes: &[KeyPrefix],
-    entries: &Index,
+    index: &Index,
     device: &mut P,
     size: u64,
 ) -> Result<(), PlaceFault>
     requires { HasSize (P.whole device.old) size }
     ensures { ReadsPlaces P.whole P.failures device.old device.new result
-        (λ _. HaveGathered (P.whole device.old) (map prefix_bytes prefixes.now) entries.now
+        (λ _. HaveGathered (P.whole device.old) (map prefix_bytes prefixes.now) (placed_of index.now)
         (map record_bytes gathered.old.items) (map record_bytes gathered.new.items))
-        (IsFaultAmong (map prefix_bytes prefixes.now) entries.now)
-        (IsReadUnderOne (map prefix_bytes prefixes.now) entries.now) }
+        (IsFaultAmong (map prefix_bytes prefixes.now) (placed_of index.now))
+        (IsReadUnderOne (map prefix_bytes prefixes.now) (placed_of index.now)) }
 {
     'prefixes: for prefix in prefixes {
-        gather_prefix(heap, gathered, prefix, entries, device, size)?;
+        gather_prefix(heap, gathered, prefix, index, device, size)?;
     }
     Ok(())
 }
@@ -87,19 +86,19 @@ fn join_prefixes<A: Archive + Drop, P: Placed>(
     heap: &Heap,
     kept: &mut A,
     prefixes: &[KeyPrefix],
-    entries: &Index,
+    index: &Index,
     device: &mut P,
 ) -> Result<(), PlaceFault>
     ensures { ReadsPlaces P.whole P.failures device.old device.new result
-        (λ _. IfSome (P.whole device.old) (HasIndexedLength entries.now) × HasJoinedNamed (P.whole device.old)
-        (map prefix_bytes prefixes.now) entries.now (A.content kept.old) (A.content kept.new))
-        (IsFaultUnder (map prefix_bytes prefixes.now) entries.now)
-        (IsReadFor (map prefix_bytes prefixes.now) entries.now) }
+        (λ _. IfSome (P.whole device.old) (HasIndexedLength (placed_of index.now)) × HasJoinedNamed (P.whole device.old)
+        (map prefix_bytes prefixes.now) (placed_of index.now) (A.content kept.old) (A.content kept.new))
+        (IsFaultUnder (map prefix_bytes prefixes.now) (placed_of index.now))
+        (IsReadFor (map prefix_bytes prefixes.now) (placed_of index.now)) }
 {
     let _held = kept.len();
-    let size = indexed_size(entries, device)?;
+    let size = indexed_size(index, device)?;
     let mut gathered = Vec::new(heap.share());
-    gather_prefixes(heap, &mut gathered, prefixes, entries, device, size)?;
+    gather_prefixes(heap, &mut gathered, prefixes, index, device, size)?;
     match join_gathered(heap, kept, gathered) {
         Ok(()) => Ok(()),
         Err(NoMemory) => Err(PlaceFault::OutOfMemory),
@@ -127,7 +126,7 @@ pub(crate) fn join_archive<A: Archive + Drop, P: Placed>(
     kept: &mut A,
     number: u64,
     prefixes: &[KeyPrefix],
-    tables: &TableIndex,
+    tables: &Index,
     archive: &mut P,
 ) -> Result<(), CommandFault>
     ensures { let sought = map prefix_bytes prefixes.now in
@@ -135,8 +134,7 @@ pub(crate) fn join_archive<A: Archive + Drop, P: Placed>(
         (λ archive _. IsNamedIn archive sought (placed_of tables.now) (A.content kept.old) (A.content kept.new))
         (λ archive. IsRefusedAtPlaces sought number archive tables.now) }
 {
-    let entries = tables.placed(heap.share())?;
-    match join_prefixes(heap, kept, prefixes, &entries, archive) {
+    match join_prefixes(heap, kept, prefixes, tables, archive) {
         Ok(()) => Ok(()),
         Err(fault) => Err(told(number, fault)),
     }

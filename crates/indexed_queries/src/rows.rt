@@ -6,10 +6,11 @@ ghost use Rattle.std.specs.List.Sorted.{IsPermutation, IsSortedBy, IsStableBy};
 ghost use Rattle.archive_core.specs.Key.{IsKey};
 ghost use Rattle.archive_core.specs.Part.{is_under};
 ghost use Rattle.archive_index.specs.Entry.{offset_in, placed_bytes};
+ghost use Rattle.archive_index.specs.Text.{placed_of};
 ghost use Rattle.indexed_queries.specs.Rows.{AreIndexRows, IsEntryRow, has_lower_key, stands_before};
 
 use archive_core::{Digest, FindRow, FindState, SliceKey, compare_keys};
-use archive_index::{Index, PlacedEntry, is_under};
+use archive_index::{Index, IndexEntry, is_under};
 use memory::{Heap, NoMemory};
 
 /// The row with these parts.
@@ -22,7 +23,7 @@ fn row_with(key: SliceKey, digest: Digest, state: FindState) -> FindRow
 }
 
 /// The row that an entry tells.
-fn row_of(entry: &PlacedEntry) -> FindRow
+fn row_of(entry: &IndexEntry) -> FindRow
     ensures { IsEntryRow (placed_bytes entry.now) result }
 {
     row_with(entry.row.key, entry.row.digest, entry.row.state)
@@ -32,8 +33,8 @@ fn row_of(entry: &PlacedEntry) -> FindRow
 fn entries_under(
     heap: Heap,
     prefix: &[u8],
-    entries: &[PlacedEntry],
-) -> Result<Vec<PlacedEntry, Heap>, NoMemory>
+    entries: &[IndexEntry],
+) -> Result<Vec<IndexEntry, Heap>, NoMemory>
     ensures { IfOk result (λ picked. map placed_bytes picked.items
         ≡ filter (is_under prefix.now) (map placed_bytes entries.now)) }
 {
@@ -58,14 +59,14 @@ fn offset_with(row: FindRow, offset: u64) -> u64
 }
 
 /// Where the record of an entry stands.
-fn offset_of(entry: &PlacedEntry) -> u64
+fn offset_of(entry: &IndexEntry) -> u64
     ensures { result ≡ offset_in (placed_bytes entry.now) }
 {
     offset_with(entry.row, entry.offset)
 }
 
 /// Puts entries in the order in which their records stand.
-fn sort_by_offset(entries: &mut Vec<PlacedEntry, Heap>)
+fn sort_by_offset(entries: &mut Vec<IndexEntry, Heap>)
     ensures moved { IsPermutation (map placed_bytes entries.old.items) (map placed_bytes entries.new.items) }
     ensures sorted { IsSortedBy stands_before (map placed_bytes entries.new.items) }
 {
@@ -73,7 +74,7 @@ fn sort_by_offset(entries: &mut Vec<PlacedEntry, Heap>)
 }
 
 /// The rows that entries tell, in their order.
-fn rows_of(heap: Heap, entries: &[PlacedEntry]) -> Result<Vec<FindRow, Heap>, NoMemory>
+fn rows_of(heap: Heap, entries: &[IndexEntry]) -> Result<Vec<FindRow, Heap>, NoMemory>
     ensures { IfOk result (λ rows. AllZip IsEntryRow (map placed_bytes entries.now) rows.items) }
 {
     let mut rows = Vec::new(heap);
@@ -99,9 +100,8 @@ pub(crate) fn rows_under(
     prefix: &[u8],
     index: &Index,
 ) -> Result<Vec<FindRow, Heap>, NoMemory>
-    ensures { IfOk result (λ rows. AreIndexRows prefix.now index.now rows.items) }
+    ensures { IfOk result (λ rows. AreIndexRows prefix.now (placed_of index.now) rows.items) }
 {
-    let _count = index.len();
     let mut placed = entries_under(heap.share(), prefix, index.entries())?;
     sort_by_offset(&mut placed);
     let mut rows = rows_of(heap.share(), &placed)?;

@@ -3,11 +3,12 @@
 ghost use Rattle.std.specs.Prelude.{◌≡◌, ◌++◌, ◌∷◌, IfOk, length, map, take};
 ghost use Rattle.archive_core.specs.Key.{IsKey, key_bytes};
 ghost use Rattle.archive_index.specs.Entry.{placed_bytes, tag_byte};
+ghost use Rattle.archive_index.specs.Text.{placed_of};
 ghost use Rattle.archive_records.specs.Entry.{entry_bytes};
 ghost use Rattle.indexed_queries.specs.Summary.{summary_in};
 
 use archive_core::{Digest, FindState, SliceKey};
-use archive_index::{Index, PlacedEntry};
+use archive_index::{Index, IndexEntry};
 use archive_records::{Entry, Summary};
 use memory::{Heap, NoMemory};
 
@@ -24,14 +25,14 @@ fn entry_with(key: SliceKey, digest: Digest, state: FindState) -> Entry
 }
 
 /// The entry of a summary that an entry of an index has.
-fn entry_of(entry: &PlacedEntry) -> Entry
+fn entry_of(entry: &IndexEntry) -> Entry
     ensures { entry_bytes result ≡ take 57 (placed_bytes entry.now) }
 {
     entry_with(entry.row.key, entry.row.digest, entry.row.state)
 }
 
 /// The entries of a summary that entries of an index have, in their order.
-fn entries_of(heap: Heap, entries: &[PlacedEntry]) -> Result<Vec<Entry, Heap>, NoMemory>
+fn entries_of(heap: Heap, entries: &[IndexEntry]) -> Result<Vec<Entry, Heap>, NoMemory>
     ensures { IfOk result (λ made. map entry_bytes made.items ≡ map (take 57) (map placed_bytes entries.now)) }
 {
     let mut made = Vec::new(heap);
@@ -43,9 +44,8 @@ fn entries_of(heap: Heap, entries: &[PlacedEntry]) -> Result<Vec<Entry, Heap>, N
 
 /// The summary that an index tells. Refused for want of memory alone.
 pub(crate) fn summary_of(heap: Heap, index: &Index) -> Result<Summary, NoMemory>
-    ensures { IfOk result (λ summary. summary ≡ summary_in index.now) }
+    ensures { IfOk result (λ summary. summary ≡ summary_in (placed_of index.now)) }
 {
-    let _count = index.len();
     let entries = entries_of(heap, index.entries())?;
     Ok(Summary::of_entries(entries))
 }

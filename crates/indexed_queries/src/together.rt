@@ -12,10 +12,10 @@ use crate::inputs::read_with_tables;
 use crate::parts::join_archive;
 use crate::prefixes::KeyPrefix;
 use archive_core::Archive;
+use archive_index::Index;
 use byte_device::Placed;
 use command_core::CommandFault;
 use memory::Heap;
-use table_index::TableIndex;
 
 /// Reads the indexes of archives, and tests that these have the lengths that they tell, in the order of the words: each
 /// index, and then the length of its archive. The entries are held, of all of them.
@@ -27,7 +27,7 @@ pub fn read_indexes<I: Placed, P: Placed>(
     heap: &Heap,
     indexes: &mut [I],
     archives: &mut [P],
-) -> Result<Vec<TableIndex, Heap>, CommandFault>
+) -> Result<Vec<Index, Heap>, CommandFault>
     requires { length indexes.old ≡ length archives.old }
     ensures read { let named = readers I.whole I.failures indexes.old indexes.new in
         let known = readers P.whole P.failures archives.old archives.new in
@@ -55,7 +55,7 @@ fn join_each<A: Archive + Drop, P: Placed>(
     heap: &Heap,
     kept: &mut A,
     prefixes: &[KeyPrefix],
-    read: &[TableIndex],
+    read: &[Index],
     archives: &mut [P],
 ) -> Result<(), CommandFault>
     requires { length read.now ≡ length archives.old }
@@ -87,7 +87,7 @@ fn join_each<A: Archive + Drop, P: Placed>(
 pub fn read_prefixes<A: Archive + Drop, P: Placed>(
     heap: &Heap,
     prefixes: &[KeyPrefix],
-    read: &[TableIndex],
+    read: &[Index],
     archives: &mut [P],
 ) -> Result<A, CommandFault>
     requires { length read.now ≡ length archives.old }
@@ -107,7 +107,7 @@ pub fn read_prefixes<A: Archive + Drop, P: Placed>(
 /// # Errors
 ///
 /// Those of the two, in this order.
-pub fn read_together<A: Archive + Drop, I: Placed, P: Placed>(
+pub(crate) fn read_together<A: Archive + Drop, I: Placed, P: Placed>(
     heap: &Heap,
     prefixes: &[KeyPrefix],
     indexes: &mut [I],

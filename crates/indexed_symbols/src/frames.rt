@@ -15,13 +15,13 @@ ghost use Rattle.indexed_symbols.specs.InnerAsking.{AsksEither, AsksSlices, Asks
 use crate::places::asked_places;
 use crate::told::{answer_frames_by_tables, tell_keys};
 use archive_core::{Archive, SliceKey, compare_keys};
+use archive_index::Index;
 use archive_queries::answer_frames;
 use byte_device::{Placed, Sink, Source};
 use command_core::{CommandFault, Status, publish_bytes, read_crash};
 use indexed_queries::{KeyPrefix, read_indexes, read_prefixes};
 use line_inputs::Frame;
 use memory::{Heap, NoMemory};
-use table_index::TableIndex;
 
 /// The key of each frame.
 fn each_key(heap: Heap, frames: &[Frame]) -> Result<Vec<SliceKey, Heap>, NoMemory>
@@ -56,7 +56,7 @@ fn tell_by_tables<I: Placed>(
     heap: &Heap,
     lines: bool,
     frames: &[Frame],
-    read: &[TableIndex],
+    read: &[Index],
     indexes: &mut [I],
 ) -> Result<Option<(Status, Vec<u8, Heap>)>, CommandFault>
     requires { length read.now ≡ length indexes.old }
@@ -77,7 +77,7 @@ fn tell_by_slices<A: Archive + Drop, P: Placed>(
     heap: &Heap,
     lines: bool,
     frames: &[Frame],
-    read: &[TableIndex],
+    read: &[Index],
     archives: &mut [P],
 ) -> Result<(Status, Vec<u8, Heap>), CommandFault>
     requires { length read.now ≡ length archives.old }
@@ -97,7 +97,7 @@ fn tell_frames<A: Archive + Drop, I: Placed, P: Placed>(
     heap: &Heap,
     lines: bool,
     frames: &[Frame],
-    read: &[TableIndex],
+    read: &[Index],
     indexes: &mut [I],
     archives: &mut [P],
 ) -> Result<(Status, Vec<u8, Heap>), CommandFault>

@@ -13,13 +13,13 @@ ghost use Rattle.indexed_symbols.specs.Symbolicate.{symbolicate_at};
 
 use crate::tables::{push_told, tell_key};
 use archive_core::{Archive, SliceKey};
+use archive_index::Index;
 use archive_queries::{answer_each, places_of, status_behind};
 use byte_device::{Placed, Sink};
 use command_core::{CommandFault, Status, publish_report};
 use indexed_answers::Answers;
 use indexed_queries::{KeyPrefix, read_indexes, read_prefixes};
 use memory::{Heap, NoMemory};
-use table_index::TableIndex;
 
 /// The lines of the answers of tables to the addresses, with how a command ends that prints them.
 fn answer_by_tables(
@@ -44,7 +44,7 @@ fn answer_by_tables(
 /// none, if two slices are tied.
 fn tell_by_tables<I: Placed>(
     heap: &Heap,
-    read: &[TableIndex],
+    read: &[Index],
     indexes: &mut [I],
     key: &SliceKey,
     load: Option<u64>,
@@ -69,7 +69,7 @@ fn tell_by_tables<I: Placed>(
 /// them.
 fn tell_by_slices<A: Archive + Drop, P: Placed>(
     heap: &Heap,
-    read: &[TableIndex],
+    read: &[Index],
     archives: &mut [P],
     key: &SliceKey,
     load: Option<u64>,
@@ -90,7 +90,7 @@ fn tell_by_slices<A: Archive + Drop, P: Placed>(
 /// command ends that prints them.
 fn tell_addresses<A: Archive + Drop, I: Placed, P: Placed>(
     heap: &Heap,
-    read: &[TableIndex],
+    read: &[Index],
     indexes: &mut [I],
     archives: &mut [P],
     key: &SliceKey,

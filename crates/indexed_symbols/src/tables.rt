@@ -11,7 +11,7 @@ ghost use Rattle.indexed_symbols.specs.InnerAsking.{AsksTables, command_fault};
 ghost use Rattle.indexed_symbols.specs.InnerTold.{AreToldOf, shown_at};
 
 use archive_core::{Answer, SliceKey, Where};
-use archive_index::{IndexFault, IndexFaultKind};
+use archive_index::{Index, IndexFault, IndexFaultKind};
 use byte_device::Placed;
 use command_core::{CommandFault, InputName, Why};
 use indexed_answers::laws::each_told;
@@ -19,7 +19,6 @@ use indexed_answers::{AnswerFault, Answers, answer_among, answering_among};
 use memory::{Heap, NoMemory};
 use report_text::push_answer;
 use source_frames::Frame;
-use table_index::TableIndex;
 
 /// A fault of asking tables, as a command tells it.
 fn refusal(fault: AnswerFault) -> CommandFault
@@ -47,7 +46,7 @@ fn refusal(fault: AnswerFault) -> CommandFault
 /// if of two slices in two archives no entry says which comes first.
 pub(crate) fn tell_key<I: Placed>(
     heap: &Heap,
-    read: &[TableIndex],
+    read: &[Index],
     indexes: &mut [I],
     key: &SliceKey,
     lines: bool,

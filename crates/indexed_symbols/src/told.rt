@@ -16,13 +16,13 @@ ghost use Rattle.indexed_symbols.specs.InnerTold.{ShowsFrames, StandsAt};
 use crate::places::{AskedPlace, compare_places};
 use crate::tables::{push_told, tell_key};
 use archive_core::{SliceKey, Where, compare_keys};
+use archive_index::Index;
 use archive_queries::status_behind;
 use byte_device::Placed;
 use command_core::{CommandFault, Status};
 use indexed_answers::Answers;
 use line_inputs::Frame;
 use memory::{Heap, NoMemory};
-use table_index::TableIndex;
 
 /// What is told of places under a key. The places ascend.
 #[derive(Drop)]
@@ -54,7 +54,7 @@ fn places_in(heap: Heap, asked: &[AskedPlace]) -> Result<Vec<Where, Heap>, NoMem
 /// entry says which comes first.
 fn tell_run<I: Placed>(
     heap: &Heap,
-    read: &[TableIndex],
+    read: &[Index],
     indexes: &mut [I],
     key: SliceKey,
     lines: bool,
@@ -81,7 +81,7 @@ fn tell_run<I: Placed>(
 /// entry says which comes first. The places stand in the order of their keys, each once.
 pub(crate) fn tell_keys<I: Placed>(
     heap: &Heap,
-    read: &[TableIndex],
+    read: &[Index],
     indexes: &mut [I],
     lines: bool,
     asked: &[AskedPlace],

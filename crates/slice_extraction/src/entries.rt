@@ -4,9 +4,9 @@ ghost use Rattle.std.specs.Prelude.{◌≡◌, ◌∷◌, ◌≢◌, [], IfOk, I
 ghost use Rattle.slice_extraction.specs.InnerEntries.{IsEntryChoice};
 
 use archive_core::{Digest, FindRow, SliceKey};
+use archive_index::Index;
 use indexed_answers::{NamedSlice, named_among, named_with};
 use memory::{Heap, NoMemory};
-use table_index::TableIndex;
 
 /// What the entries of indexes have for who wants a slice.
 #[derive(Drop)]
@@ -39,7 +39,7 @@ fn rows_of(heap: Heap, named: &[NamedSlice]) -> Result<Vec<FindRow, Heap>, NoMem
 }
 
 /// The one slice that answers under a key, or the rows of all that do.
-fn answering(heap: &Heap, key: &SliceKey, read: &[TableIndex]) -> Result<EntryChoice, NoMemory>
+fn answering(heap: &Heap, key: &SliceKey, read: &[Index]) -> Result<EntryChoice, NoMemory>
     ensures { IfOk result (IsEntryChoice key.now None read.now) }
 {
     let Some(named) = named_among(heap, key, read)? else {
@@ -57,7 +57,7 @@ pub(crate) fn choose_entry(
     heap: &Heap,
     key: &SliceKey,
     digest: &Option<Digest>,
-    read: &[TableIndex],
+    read: &[Index],
 ) -> Result<EntryChoice, NoMemory>
     ensures { IfOk result (IsEntryChoice key.now digest.now read.now) }
 {

@@ -13,12 +13,12 @@ use crate::entries::{EntryChoice, choose_entry};
 use crate::publishing::{publish_rows, publish_wanted};
 use crate::sending::publish_named;
 use archive_core::{Archive, Digest, SliceKey};
+use archive_index::Index;
 use byte_device::{Output, Placed, Sink, Target};
 use command_core::{CommandFault, Status, bytes_of};
 use indexed_answers::NamedSlice;
 use indexed_queries::{KeyPrefix, read_indexes, read_prefixes};
 use memory::Heap;
-use table_index::TableIndex;
 
 /// Writes the bytes of the wanted slice to OUT, as [`run_extract`](crate::run_extract) does. The indexes are read, and
 /// their entries say which slice is wanted. It is gone through at its place, piece by piece: once to compare its SHA-256,
@@ -75,7 +75,7 @@ fn publish_from<P: Placed, T: Target, W: Sink>(
 fn publish_tied<A: Archive + Drop, P: Placed, T: Target, W: Sink>(
     heap: &Heap,
     key: &SliceKey,
-    read: &[TableIndex],
+    read: &[Index],
     archives: &mut [P],
     out: &mut Output<T::Draft, T>,
     report: &mut W,

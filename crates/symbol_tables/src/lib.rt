@@ -15,12 +15,12 @@
 //! Asked:
 //!
 //! - `row`: [`Row`], 21 bytes of a table;
-//! - `search`: [`row_for`], the row that an address belongs to;
-//! - `names`: [`name_from`], a name among the strings of a table;
+//! - `search`: the row that an address belongs to;
+//! - `names`: a name among the strings of a table;
 //! - `head`, `table`: [`Table`], a table whose head was read; `opening`: [`Table::open`];
 //! - `nearest`: [`NearestSymbol`], and [`Table::nearest`], the nearest symbol of an address;
 //! - `found`: [`OwnedFound`], a symbol with the names of its section; [`Table::found`];
-//! - `lines`: [`open_lines`], where the lines of a table begin;
+//! - `lines`: [`Table::into_lines`], where the lines of a table begin;
 //! - `laws`: what the definitions say of each other.
 //!
 //! Decided:
@@ -55,10 +55,7 @@ mod text;
 mod turns;
 
 pub use found::OwnedFound;
-pub use lines::open_lines;
 pub use making::TableText;
-pub use names::name_from;
 pub use nearest::NearestSymbol;
 pub use row::Row;
-pub use search::row_for;
 pub use table::Table;

@@ -1,32 +1,25 @@
 //! Where the lines stand in a stored table.
 
-ghost use Rattle.std.specs.Prelude.{◌≡◌, ◌<◌, ◌^◌, ℕ, List, IfOk, length};
-ghost use Rattle.checked_pages.specs.Pages.{AreStored, MayBeStored};
-ghost use Rattle.checked_pages.specs.Views.{ArePagesOf, claim_view};
-ghost use Rattle.checked_pages.specs.Reading.{ReadsStored};
+ghost use Rattle.std.specs.Prelude.{◌≡◌, ℕ, List};
+ghost use Rattle.checked_pages.specs.Views.{ArePagesOf};
 ghost use Rattle.checked_pages.specs.Standing.{IsRestFrom};
-ghost use Rattle.symbol_tables.specs.Table.{IsTableWith};
+ghost use Rattle.symbol_tables.specs.Opened.{IsOpened};
+ghost use Rattle.symbol_tables.specs.Table.{TableParts, table_bytes};
 
 use crate::Table;
-use byte_device::Placed;
-use checked_pages::{CheckFault, Claim, Pages};
-use memory::Heap;
+use checked_pages::Pages;
 
-/// The bytes of the table that a claim names, and the offset among them from which on they are its lines.
-pub fn open_lines<P: Placed>(
-    heap: Heap,
-    device: &mut P,
-    claim: Claim,
-) -> Result<(Pages, u64), CheckFault>
-    ensures claim { IfOk result (λ opened. opened.0.claim ≡ claim) }
-    ensures read { ReadsStored P.whole P.failures device.old device.new result
-        (λ text opened. (image lines all : List ℕ) → IsTableWith image lines all
-        → MayBeStored text (claim_view claim) all
-        → ArePagesOf opened.0 text all × IsRestFrom all opened.1 lines)
-        (λ text. length text < 2 ^ 64 → (image lines all : List ℕ) → IsTableWith image lines all
-        → AreStored text (claim_view claim) all → ⊥) }
-{
-    let table = Table::open(heap, device, claim)?;
-    let first = table.first_line();
-    Ok((table.pages, first))
+impl Table {
+    /// The bytes of the table, and the offset among them from which on they are its lines. Of the bytes that were read
+    /// for symbols none is kept.
+    pub fn into_lines(self) -> (Pages, u64)
+        ensures claim { result.0.claim ≡ self.pages.claim }
+        ensures lines { (text : List ℕ) (t : TableParts) → IsOpened self text t
+            → ArePagesOf result.0 text (table_bytes t) × IsRestFrom (table_bytes t) result.1 t.lines }
+    {
+        let first = self.first_line();
+        let mut pages = self.pages;
+        pages.forget();
+        (pages, first)
+    }
 }

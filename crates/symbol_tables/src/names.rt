@@ -28,7 +28,7 @@ fn push_all(name: &mut Vec<u8, Heap>, bytes: &[u8]) -> Result<(), CheckFault>
 
 /// The name from an offset on of the strings, `size` bytes that stand in the table from `first` on. It ends before the
 /// first NUL, or with the strings; past their end there is none, and it is empty.
-pub fn name_from<P: Placed>(
+pub(crate) fn name_from<P: Placed>(
     heap: Heap,
     device: &mut P,
     table: &mut Pages,

@@ -9,9 +9,11 @@ ghost use Rattle.symbol_tables.specs.Table.{IsTableOf, TableParts, table_bytes};
 ghost use Rattle.symbol_tables.specs.Found.{IsSaid};
 ghost use Rattle.symbol_tables.specs.Opened.{IsOpened};
 
+use crate::Table;
+use crate::names::name_from;
 use crate::opening::{HEAD_LEN, SECTION_LEN};
 use crate::row::{ROW_LEN, Row};
-use crate::{Table, name_from, row_for};
+use crate::search::row_for;
 use byte_device::Placed;
 use checked_pages::CheckFault;
 use memory::Heap;

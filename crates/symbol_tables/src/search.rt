@@ -35,7 +35,7 @@ fn row_at<P: Placed>(
 
 /// The row that an address belongs to, among so many rows, from an offset of the table on. It reads one row for each
 /// halving.
-pub fn row_for<P: Placed>(
+pub(crate) fn row_for<P: Placed>(
     device: &mut P,
     table: &mut Pages,
     first: u64,

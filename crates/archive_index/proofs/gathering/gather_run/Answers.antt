@@ -15,7 +15,7 @@ use Rattle.archive_index.proofs.gathering.gather_run.Goals as goal
 pub run-init : goal.run-init
 run-init g c = record {
   gathered = gathered_none (g.P.Placed.whole c.args.archive.now) (is_tagged c.args.tag c.args.prefix.now) (map placed_bytes c.args.entries.now) (c.run_under-start.result.0 + 0) (map record_bytes c.args.gathered.now.items)
-      (λ k d low high. c.run_under-start.ensures.before k d low (omega (arith, high)));
+      (λ k d low high. c.run_under-start.ensures.placed.before k d low (omega (arith, high)));
   keeps = refl;
   unfailed = refl;
 }
@@ -34,7 +34,7 @@ returns-in_err-gather_entry g c =
     let e = c.index-run-index.result in
     let k = run.result.0 + c.run.index in
     let there = in_run entries run.result.0 run.result.1 c.run.index e c.run-test.true c.index-run-index.is in
-    let passes = ap (is_tagged c.args.tag c.args.prefix.now) there.3 ∙ run.ensures.inside k [] (omega arith) there.0 in
+    let passes = ap (is_tagged c.args.tag c.args.prefix.now) there.3 ∙ run.ensures.placed.inside k [] (omega arith) there.0 in
     let fault = c.in_err-gather_entry.field-0.0 in
     rw (failed c.from_residual.result fault c.from_residual.ensures.1)
     (refused_behind g.P.Placed.whole g.P.Placed.failures c.args.archive.now c.run.archive _ c.run.invariant.keeps c.run.invariant.unfailed
@@ -51,7 +51,7 @@ run-preserved g c =
     let e = c.index-run-index.result in
     let k = run.result.0 + c.run.index in
     let there = in_run entries run.result.0 run.result.1 c.run.index e c.run-test.true c.index-run-index.is in
-    let passes = ap (is_tagged c.args.tag c.args.prefix.now) there.3 ∙ run.ensures.inside k [] (omega arith) there.0 in
+    let passes = ap (is_tagged c.args.tag c.args.prefix.now) there.3 ∙ run.ensures.placed.inside k [] (omega arith) there.0 in
     let one = c.in_ok-gather_entry.ensures in
     let next : k + 1 ≡ run.result.0 + (c.run.index + 1) = omega arith in
     record {
@@ -69,10 +69,10 @@ returns g c =
     let run = c.run_under-start in
     let bytes = map placed_bytes entries in
     let all : length bytes ≡ length entries = length-map entries placed_bytes in
-    let long = length_run entries run.result.0 run.result.1 run.ensures.ordered (omega (arith, all, run.ensures.within)) in (
+    let long = length_run entries run.result.0 run.result.1 run.ensures.placed.ordered (omega (arith, all, run.ensures.placed.within)) in (
       gathered_rest (g.P.Placed.whole c.args.archive.now) (is_tagged c.args.tag c.args.prefix.now) bytes (run.result.0 + c.run.index) (length entries) (map record_bytes c.args.gathered.now.items) (map record_bytes c.run.gathered.items)
-          (omega (arith, all, long, c.run.auto.index-end, run.ensures.within, run.ensures.ordered))
-          (λ k d low high. run.ensures.behind k d (omega (arith, long, c.run-test.false, low, run.ensures.ordered)) (omega (arith, all, high)))
+          (omega (arith, all, long, c.run.auto.index-end, run.ensures.placed.within, run.ensures.placed.ordered))
+          (λ k d low high. run.ensures.placed.behind k d (omega (arith, long, c.run-test.false, low, run.ensures.placed.ordered)) (omega (arith, all, high)))
           c.run.invariant.gathered,
       c.run.invariant.keeps,
       c.run.invariant.unfailed,

@@ -2,8 +2,8 @@ use Rattle.std.proofs.Common.{Ok, Err, length, map, refl}
 use Rattle.std.specs.List.{concat}
 use Rattle.byte_device.proofs.Gains.{puts_then, stops_before}
 use Rattle.archive_records.proofs.Blamed.{failed}
-use Rattle.table_index.specs.Entry.{entry_bytes}
-use Rattle.table_index.specs.Text.{end_of}
+use Rattle.archive_index.specs.Entry.{entry_bytes}
+use Rattle.archive_index.specs.Text.{end_of}
 use Rattle.index_writing.proofs.Sorted.{end_is}
 use Rattle.index_writing.proofs.entries.put_entries.Goals as goal
 

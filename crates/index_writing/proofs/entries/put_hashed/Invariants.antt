@@ -2,7 +2,7 @@ use Rattle.std.proofs.Common.{◌≤◌, ◌+◌, ◌*◌, ◌^◌, take, map}
 use Rattle.std.specs.List.{concat}
 use Rattle.byte_device.specs.Writes.{IsPut}
 use Rattle.sha2.specs.Hashers.{Holds256}
-use Rattle.table_index.specs.Entry.{entry_bytes}
+use Rattle.archive_index.specs.Entry.{entry_bytes}
 use Rattle.index_writing.proofs.entries.put_hashed.Given as goal
 
 abbrev pub invariant-putting : goal.invariant-putting

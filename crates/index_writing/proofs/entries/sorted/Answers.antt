@@ -3,7 +3,7 @@ use Rattle.std.specs.Ordering.{nat_cmp, is_lt, eq_by_cmp}
 use Rattle.std.specs.Cmp.Lexicographic.{slice_cmp, nat_list_cmp_total}
 use Rattle.std.proofs.lemmas.Fn.{always_returns_same, dedup_same}
 use Rattle.std.proofs.lemmas.List.MinMax.{ranks_by}
-use Rattle.table_index.specs.Entry.{entry_bytes}
+use Rattle.archive_index.specs.Entry.{entry_bytes}
 use Rattle.index_writing.proofs.Sorted.{listing_kept}
 use Rattle.index_writing.proofs.entries.sorted.Goals as goal
 

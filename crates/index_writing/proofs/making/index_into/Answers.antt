@@ -1,6 +1,6 @@
 use Rattle.std.proofs.Common.{◌∙◌, ap, map}
 use Rattle.archive_records.proofs.Blamed.{failed}
-use Rattle.table_index.specs.Entry.{entry_bytes}
+use Rattle.archive_index.specs.Entry.{entry_bytes}
 use Rattle.index_writing.proofs.Made.{made, stopped, stopped_behind}
 use Rattle.index_writing.proofs.making.index_into.Goals as goal
 

@@ -1,6 +1,6 @@
 use Rattle.std.proofs.Common.{◌≡◌, ℕ, ◌<◌, ◌^◌, ◌∙◌, ap, subst, sym, arith, refl}
 use Rattle.archive_records.proofs.Blamed.{failed}
-use Rattle.table_index.specs.Entry.{entry_bytes}
+use Rattle.archive_index.specs.Entry.{entry_bytes}
 use Rattle.index_writing.specs.Content.{table_entry}
 use Rattle.index_writing.specs.InnerMaking.{HasPut, StopsRecord}
 use Rattle.index_writing.proofs.Grown.{put_all, put_more, put_none, next_stopped, record_stopped, unkept}

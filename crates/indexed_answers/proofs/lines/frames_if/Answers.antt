@@ -9,7 +9,7 @@ found_if (Some value) IsNone IsTrue wanted told = λ _. told
 
 pub returns-then-lines-clause-read : goal.returns-then-lines-clause-read
 returns-then-lines-clause-read g c =
-    read_as _ _ _ _ _ _ _ _ _ (λ text known found told. found_if found _ _ c.args.lines told) (λ text known absent. absent) c.frames_by_claim.ensures
+    read_as _ _ _ _ _ _ _ _ _ (λ text known found told opened. found_if found _ _ c.args.lines (told opened)) (λ text known absent. absent) c.frames_by_table.ensures
 
 pub returns-clause-read : goal.returns-clause-read
-returns-clause-read g c = record { says = λ text known wanted. absurd (cc (wanted, c.if-lines.false)); keeps = refl; counts = refl }
+returns-clause-read g c = record { says = λ text known opened wanted. absurd (cc (wanted, c.if-lines.false)); keeps = refl; counts = refl }

@@ -1,7 +1,7 @@
 use Rattle.std.proofs.Common.{◌≡◌, map, sym, ap, ◌∙◌}
 use Rattle.std.specs.Prelude.{filter}
 use Rattle.std.specs.List.{list_any}
-use Rattle.table_index.specs.Entry.{entry_bytes}
+use Rattle.archive_index.specs.Entry.{entry_bytes}
 use Rattle.indexed_answers.specs.Among.{EntryAt, all_of, has_live_companion}
 use Rattle.indexed_answers.specs.Told.{is_companion}
 use Rattle.indexed_answers.specs.InnerAnswering.{entry_at}

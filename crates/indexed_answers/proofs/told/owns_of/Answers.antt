@@ -25,15 +25,15 @@ asked-preserved g c =
           (λ slice t bytes is opened. own.read.says text (c.asked.invariant.whole ∙ known) slice t bytes is (c.asked.invariant.keeps text t known opened));
     }
 
-pub returns-in_err-found : goal.returns-in_err-found
-returns-in_err-found g c =
+pub returns-in_err-found-clause-read : goal.returns-in_err-found-clause-read
+returns-in_err-found-clause-read g c =
     passed_on _ _ _ _ _ _ _ _ _ _ _ c.in_err-found.was c.from_residual.ensures.1
     (λ text known absent t opened stored.
     absent t (c.asked.invariant.keeps text t known opened) (subst (λ claim. AreStored text (claim_view claim) (table_bytes t)) (sym c.asked.invariant.claim) stored))
     (after_ok _ _ _ _ _ _ _ _ c.asked.invariant.whole c.asked.invariant.unfailed c.own_of.ensures.read)
 
-pub returns : goal.returns
-returns g c = record {
+pub returns-clause-read : goal.returns-clause-read
+returns-clause-read g c = record {
   says = λ text known. subst (λ xs. AllZip (IsOwnOpened c.args.table.now text) xs (map told_view c.asked.owns.items)) (take_all c.asked.place-index c.args.asked.now (omega (arith, c.asked-test.false))) (c.asked.invariant.told text known);
   keeps = c.asked.invariant.whole;
   counts = c.asked.invariant.unfailed;

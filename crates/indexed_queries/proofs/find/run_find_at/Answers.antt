@@ -5,6 +5,7 @@ use Rattle.std.proofs.lemmas.Result.{err_from_is_err_and}
 use Rattle.byte_device.proofs.Known.{Appends-none}
 use Rattle.command_core.proofs.Endings.{reported}
 use Rattle.indexed_queries.specs.Rows.{AreIndexRows}
+use Rattle.archive_index.specs.Text.{placed_of}
 use Rattle.indexed_queries.proofs.find.run_find_at.Goals as goal
 
 pub returns-in_err-rows : goal.returns-in_err-rows
@@ -22,11 +23,11 @@ returns g c =
     let rows = c.in_ok-rows.rows.items in
     reported _ _ _ _ c.publish_report.result _ _ c.in_ok-entries.ensures.unfailed
     (record {
-      entries = c.in_ok-entries.entries;
+      entries = placed_of c.in_ok-entries.entries;
       index_of = c.in_ok-entries.ensures.is;
       tells = record {
         rows = rows;
-        are_rows = subst (λ (prefix : List ℕ). AreIndexRows prefix c.in_ok-entries.entries rows) c.uuid_bytes-prefix.ensures.bytes c.in_ok-rows.ensures;
+        are_rows = subst (λ (prefix : List ℕ). AreIndexRows prefix (placed_of c.in_ok-entries.entries) rows) c.uuid_bytes-prefix.ensures.bytes c.in_ok-rows.ensures;
         status_is = c.found_status.ensures ∙ ap found_status c.deref-2.ensures.value;
         text_is = c.deref-3.ensures ∙ c.in_ok-text.ensures ∙ ap find_lines c.deref.ensures.value;
       };

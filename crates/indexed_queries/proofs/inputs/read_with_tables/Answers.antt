@@ -1,6 +1,6 @@
 use Rattle.std.proofs.Common.{refl}
 use Rattle.std.proofs.lemmas.Result.{err_from_is_err_and}
-use Rattle.table_index.specs.Text.{placed_of}
+use Rattle.archive_index.specs.Text.{placed_of}
 use Rattle.command_core.specs.Inputs.{reader}
 use Rattle.indexed_queries.proofs.Refused.{archive_refused}
 use Rattle.indexed_queries.proofs.inputs.read_with_tables.Goals as goal

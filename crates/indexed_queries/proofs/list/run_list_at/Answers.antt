@@ -4,6 +4,7 @@ use Rattle.command_core.specs.Found.{found_status}
 use Rattle.std.proofs.lemmas.Result.{err_from_is_err_and}
 use Rattle.byte_device.proofs.Known.{Appends-none}
 use Rattle.command_core.proofs.Endings.{reported}
+use Rattle.archive_index.specs.Text.{placed_of}
 use Rattle.indexed_queries.proofs.list.run_list_at.Goals as goal
 
 pub returns-in_err-rows : goal.returns-in_err-rows
@@ -20,7 +21,7 @@ pub returns : goal.returns
 returns g c =
     reported _ _ _ _ c.publish_report.result _ _ c.in_ok-entries.ensures.unfailed
     (record {
-      entries = c.in_ok-entries.entries;
+      entries = placed_of c.in_ok-entries.entries;
       index_of = c.in_ok-entries.ensures.is;
       tells = record {
         rows = c.in_ok-rows.rows.items;

@@ -3,7 +3,7 @@ use Rattle.std.specs.Ordering.{nat_cmp, is_lt}
 use Rattle.std.proofs.lemmas.Cmp.{nat_cmp_total}
 use Rattle.std.proofs.lemmas.Fn.{always_returns_same}
 use Rattle.std.proofs.lemmas.List.Sorted.{IsPermutation-map, ranks_by}
-use Rattle.archive_index.specs.declared.entry.PlacedEntry.{PlacedEntry}
+use Rattle.archive_index.specs.declared.entry.IndexEntry.{IndexEntry}
 use Rattle.archive_index.specs.Entry.{offset_in, placed_bytes}
 use Rattle.indexed_queries.specs.Rows.{stands_before}
 use Rattle.indexed_queries.proofs.Entries.{sorted_made}
@@ -15,4 +15,4 @@ returns-clause-moved c = IsPermutation-map placed_bytes _ _ c.sort_unstable_by.e
 pub returns-clause-sorted : goal.returns-clause-sorted
 returns-clause-sorted c =
     sorted_made placed_bytes stands_before c.sort_unstable_by.new.self.items
-    (c.sort_unstable_by.ensures.sorted (λ x y. is_lt (nat_cmp (offset_in (placed_bytes x)) (offset_in (placed_bytes y)))) (ranks_by nat_cmp_total (λ (x : PlacedEntry). offset_in (placed_bytes x))) (always_returns_same _ _ _ (λ a r f called. (search rules, search rules))))
+    (c.sort_unstable_by.ensures.sorted (λ x y. is_lt (nat_cmp (offset_in (placed_bytes x)) (offset_in (placed_bytes y)))) (ranks_by nat_cmp_total (λ (x : IndexEntry). offset_in (placed_bytes x))) (always_returns_same _ _ _ (λ a r f called. (search rules, search rules))))

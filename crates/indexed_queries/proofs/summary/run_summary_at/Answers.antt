@@ -4,6 +4,7 @@ use Rattle.byte_device.proofs.Known.{Appends-none}
 use Rattle.archive_records.specs.Text.{summary_text}
 use Rattle.command_core.specs.Outputs.{summary_report_of}
 use Rattle.command_core.proofs.Endings.{given_out}
+use Rattle.archive_index.specs.Text.{placed_of}
 use Rattle.indexed_queries.proofs.summary.run_summary_at.Goals as goal
 
 pub returns-in_err-summary : goal.returns-in_err-summary
@@ -15,7 +16,7 @@ pub returns : goal.returns
 returns g c =
     given_out _ _ _ _ _ c.publish_summary.result _ _ c.in_ok-entries.ensures.unfailed
     (record {
-      entries = c.in_ok-entries.entries;
+      entries = placed_of c.in_ok-entries.entries;
       index_of = c.in_ok-entries.ensures.is;
       text_is = ap summary_text c.in_ok-summary.ensures;
       told_is = ap summary_report_of c.in_ok-summary.ensures;

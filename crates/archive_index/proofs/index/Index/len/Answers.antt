@@ -1,19 +1,24 @@
-use Rattle.std.proofs.Common.{◌≡◌, arith, map, length, subst}
+use Rattle.std.proofs.Common.{◌≡◌, ℕ, List, arith, length, map, subst, take}
+use Rattle.std.specs.List.{AllByRecursion}
 use Rattle.std.proofs.Math.ListN.{length-map}
-use Rattle.std.specs.Cmp.Lexicographic.{nat_list_cmp_total}
-use Rattle.join_core.proofs.Place.{len_listed}
-use Rattle.archive_index.specs.Entry.{placed_bytes}
+use Rattle.std.proofs.lemmas.List.Elements.{recursion_from_All}
+use Rattle.archive_index.specs.Entry.{HasItsFields, IsPlacedEntry, entry_bytes}
 use Rattle.archive_index.specs.Index.{AreIndexEntries}
+use Rattle.archive_index.specs.Text.{placed_of}
+use Rattle.archive_index.specs.declared.entry.IndexEntry.{IndexEntry}
+use Rattle.archive_index.proofs.Fronts.{each_placed, fronts}
 use Rattle.archive_index.proofs.Kept.{are_listed}
 use Rattle.archive_index.proofs.index.Index.len.Goals as goal
-use Rattle.archive_core.proofs.Made.{bytes_same}
 
 pub returns-clause-len : goal.returns-clause-len
 returns-clause-len c =
     let items = c.self.inside.entries.items in
-    let listed = len_listed nat_list_cmp_total bytes_same (map placed_bytes items) c.self.invariant.ascending in
-    let as_long : length (map placed_bytes items) ≡ length items = length-map items placed_bytes in
-    rw (← c.self.view_is) (omega (arith, listed, as_long, c.self.inside.entries.ok.0))
+    let as_long : length (map entry_bytes items) ≡ length items = length-map items entry_bytes in
+    rw (← c.self.view_is) (omega (arith, as_long, c.self.inside.entries.ok.0))
 
 pub returns-clause-entries : goal.returns-clause-entries
-returns-clause-entries c = subst AreIndexEntries c.self.view_is (are_listed (map placed_bytes c.self.inside.entries.items) c.self.invariant.are)
+returns-clause-entries c =
+    let items : List IndexEntry = c.self.inside.entries.items in
+    let fields = recursion_from_All HasItsFields items c.self.invariant.fields in
+    let are : AllByRecursion IsPlacedEntry (map (take 74) (map entry_bytes items)) = subst (AllByRecursion IsPlacedEntry) (fronts items fields) (each_placed items fields) in
+    subst (λ (xs : List (List ℕ)). AreIndexEntries (placed_of xs)) c.self.view_is (are_listed (map (take 74) (map entry_bytes items)) are)

@@ -1,5 +1,0 @@
-pub mod Entry
-pub mod Text
-pub mod Fault
-pub mod Reading
-pub mod InnerReading
