@@ -1,6 +1,5 @@
 //! `retire IN OUT UUID ARCH DIGEST`.
-ghost use Rattle.std.specs.Prelude.{◌≡◌, OnOk};
-ghost use Rattle.archive_core.specs.Record.{IsOperation};
+ghost use Rattle.std.specs.Prelude.{OnOk};
 ghost use Rattle.byte_device.specs.Devices.{stream};
 ghost use Rattle.command_core.specs.Ends.{EndsStreamed};
 ghost use Rattle.command_core.specs.Inputs.{reader};
@@ -12,19 +11,12 @@ ghost use Rattle.archive_writing.specs.Retire.{retire, retire_as_it_comes};
 
 use crate::notes::{Note, note_missing};
 use crate::telling::tell_operations;
-use archive_core::{Digest, Operation, SliceKey};
+use archive_core::{Digest, SliceKey, retirement};
 use archive_records::Sizes;
 use byte_device::{Output, Sink, Source, Target};
 use command_core::{CommandFault, Status, publish_draft};
 use memory::Heap;
 use report_text::retire_line;
-
-fn retirement(key: SliceKey, digest: Digest) -> Operation
-    ensures is { result ≡ Operation.Retire key digest }
-    ensures operation { IsOperation result }
-{
-    Operation::Retire(key, digest)
-}
 
 /// IN's archive with a retirement, as it was written.
 #[derive(Clone, Copy)]
