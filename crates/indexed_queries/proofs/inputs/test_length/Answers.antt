@@ -1,4 +1,4 @@
-use Rattle.std.proofs.Common.{◌≡◌, ℕ, List, Option, refl, inl, inr}
+use Rattle.std.proofs.Common.{ℕ, List, Option, refl, inr}
 use Rattle.std.specs.Prelude.{None, Some}
 use Rattle.std.proofs.lemmas.Option.{IfSome_then}
 use Rattle.archive_core.specs.Summary.{Entries}
@@ -23,4 +23,4 @@ other_length entries text (Some k) h = absurd h
 pub returns-in-Err-Stale-clause-tests : goal.returns-in-Err-Stale-clause-tests
 returns-in-Err-Stale-clause-tests g c =
     let h = rw c.in-Err-Stale.field-0-is at c.in-Err-Stale.ensures in
-    (refl, h.2, refl, IfSome_then (g.P.Placed.whole c.args.archive.now) h.0 (λ text fault. other_length (placed_of c.args.tables.now) text _ fault))
+    inr (refl, h.2, refl, IfSome_then (g.P.Placed.whole c.args.archive.now) h.0 (λ text fault. other_length (placed_of c.args.tables.now) text _ fault))
