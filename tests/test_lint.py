@@ -39,7 +39,7 @@ class Lint(unittest.TestCase):
     def test_mypy(self) -> None:
         scripts = [str(it.relative_to(TOP)) for it in sources() if it.suffix == "" and it.parent != TOP / "bench"]
         words = ["--scripts-are-modules", "--cache-dir=/dev/null"]
-        self.says_nothing("mypy", *words, "tools/symarch_tools", "tests", *scripts)
+        self.says_nothing("mypy", *words, "tools/symarch_tools", "tools/symarch_server", "tests", *scripts)
 
     def test_pyflakes(self) -> None:
         self.says_nothing("pyflakes3", *map(str, sources()))

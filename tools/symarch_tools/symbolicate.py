@@ -237,12 +237,17 @@ class Reader:
         self.status = status
 
 
-def print_missing(reports: Iterable[Report]) -> None:
-    """Prints the UUID and the name of each image for which no dSYM answers, unless the report names all its frames."""
+def missing_in(reports: Iterable[Report]) -> Dict[uuid.UUID, str]:
+    """The UUID and the name of each image for which no dSYM answers, unless the report names all its frames."""
     names: Dict[uuid.UUID, str] = {}
     for image in (image for report in reports for image in report.images.with_frames()):
         if image.lacks_names and image.origin() in (Origin.IMAGE, Origin.OTHERS, Origin.ABSENT):
             names[image.uuid] = names.get(image.uuid) or line_shown(" ".join((image.name or "").split()))
+    return names
+
+
+def print_missing(reports: Iterable[Report]) -> None:
+    names = missing_in(reports)
     with printing() as stream:
         stream.write(encoded("".join(f"{number} {name}".rstrip() + "\n" for number, name in names.items())))
 
@@ -343,11 +348,12 @@ def look_up(archives: Archives, reports: Sequence[Report]) -> None:
         archives.look_up(images)
 
 
-def carry_out(words: Words) -> int:
+def carry_out(words: Words, reader: Optional[Reader] = None) -> int:
+    """Prints what the words ask for. A caller that needs the reports, with their answers, gives the reader of them."""
     named = [path for path in words.reports if not is_folder(path)]
     refuse_file(words.out)
     refuse_clash(words, named)
-    reader = Reader(words)
+    reader = reader or Reader(words)
     reader.read_all()
     reports, status = reader.found, reader.status
     if len(named) < len(words.reports):

@@ -1,0 +1,143 @@
+"""What can be taken of an archive: slices, as debuginfod and Symbolicator ask for them, and dSYM bundles for lldb. They
+are sent out of open files, whatever their size."""
+from __future__ import annotations
+
+import os
+from typing import List, Optional
+
+from flask import Blueprint, Response, request
+from werkzeug.wsgi import wrap_file
+
+from .app import site
+from .control import Members
+from .forms import arch_of, argument, checked_words, hex_uuid_of, refuse_others, uuid_of
+from .refusals import Refusal
+from .segments import Segments
+
+routes = Blueprint("fetching", __name__)
+BINARY = "application/octet-stream"
+KINDS = "debuginfo", "executable"
+# So many bytes at once, where a server does not send files itself.
+BLOCK = 1 << 18
+TAR_BLOCK, TAR_END = 512, bytes(1024)
+FOR_EVER = "public, max-age=31536000, immutable"
+
+
+def sent(segments: Segments, content_type: str, status: int = 200, length: Optional[int] = None) -> Response:
+    """An answer of bytes from where they stand now, so many of them."""
+    made = Response(wrap_file(request.environ, segments, BLOCK), status, direct_passthrough=True)
+    made.content_type = content_type
+    made.content_length = segments.size() - segments.tell() if length is None else length
+    return made
+
+
+def file_of_room(path: str, content_type: str) -> Response:
+    """An answer of a file, which may be removed before it is sent."""
+    segments = Segments()
+    descriptor = os.open(path, os.O_RDONLY | os.O_CLOEXEC)
+    segments.add_file(descriptor, 0, os.fstat(descriptor).st_size)
+    return sent(segments, content_type)
+
+
+# ---- slices
+
+
+@routes.get("/buildid/<build_id>/<any(debuginfo, executable):kind>")
+def by_build_id(build_id: str, kind: str) -> Response:
+    return slice_of(hex_uuid_of(build_id), kind)
+
+
+@routes.get("/<string(length=2):first>/<string(length=30):rest>/<any(debuginfo, executable):kind>")
+def by_unified_layout(first: str, rest: str, kind: str) -> Response:
+    return slice_of(hex_uuid_of(first + rest), kind)
+
+
+def slice_of(number: str, kind: str) -> Response:
+    refuse_others(["arch", "digest"])
+    digest = checked_words({"digest": argument("digest")})["digest"]
+    words = {"uuid": number, "kind": kind, "arch": arch_of(argument("arch")), "digest": digest and digest.lower()}
+    with site().rooms.room() as room, site().work("slice", room, False, **words) as work:
+        refuse_candidates(number, kind, work.members)
+        segments = Segments()
+        segments.add_file(work.descriptors[0], work.members["at"], work.members["bytes"])
+        return conditional(segments, work.members["digest"], bool(digest))
+
+
+def refuse_candidates(number: str, kind: str, found: Members) -> None:
+    """Refuses what is not one slice: none, or several."""
+    some = found.get("candidates")
+    if some is None:
+        return
+    if not some:
+        other = ", but for something else" if found["has_others"] else ""
+        raise Refusal(404, f"nothing answers as {kind} of {number}{other}")
+    archs = sorted({one["arch"] for one in some})
+    lines = [f"{one['arch']} {one['digest']}" for one in some]
+    how = "?arch= chooses one" if len(archs) == len(some) else "?digest= chooses one"
+    raise Refusal(409, f"{len(some)} slices answer as {kind} of {number}: {how}", lines)
+
+
+def conditional(segments: Segments, digest: str, is_named: bool) -> Response:
+    """The bytes, a range of them, or that the client has them. An answer to a UUID alone may be another one later."""
+    size, condition = segments.size(), request.if_range
+    wanted = request.range if not condition.etag or condition.etag == digest else None
+    if condition.date is not None:
+        wanted = None
+    span = wanted.range_for_length(size) if wanted and len(wanted.ranges) == 1 else None
+    if request.if_none_match.contains(digest):
+        segments.close()
+        response = Response(status=304)
+    elif wanted and len(wanted.ranges) == 1 and span is None:
+        segments.close()
+        response = Response(status=416)
+        response.headers["Content-Range"] = f"bytes */{size}"
+    elif span:
+        segments.seek(span[0])
+        response = sent(segments, BINARY, 206, span[1] - span[0])
+        response.headers["Content-Range"] = f"bytes {span[0]}-{span[1] - 1}/{size}"
+    else:
+        response = sent(segments, BINARY)
+        # As debuginfod has it, by which some clients say how far they are.
+        response.headers["X-DEBUGINFOD-SIZE"] = str(size)
+    response.set_etag(digest)
+    response.headers["Accept-Ranges"] = "bytes"
+    response.headers["Cache-Control"] = FOR_EVER if is_named else "no-cache"
+    return response
+
+
+# ---- bundles
+
+
+@routes.get("/builds/<word>/dsym")
+def dsym(word: str) -> Response:
+    """The files that `symarch-keep get` makes, as a tar."""
+    refuse_others(["digest"])
+    number, digests = uuid_of(word), request.args.getlist("digest")
+    for digest in digests:
+        checked_words({"digest": digest})
+    with site().rooms.room() as room:
+        with site().work("bundle", room, is_long=True, uuid=number, digests=digests) as work:
+            refuse_bundle(number, work.members, work.printed().splitlines(), work.said())
+            return sent(tar_of(room, work.members["pieces"]), "application/x-tar")
+
+
+def refuse_bundle(number: str, found: Members, printed: List[str], said: List[str]) -> None:
+    conflicts = [line.partition(" ")[2] for line in printed if line.startswith("conflict ")]
+    if found["status"] not in (0, 1):
+        raise Refusal(503, said[0] if said else "the archive could not be asked", said[1:])
+    if conflicts:
+        raise Refusal(409, f"several slices answer for {number}: ?digest= chooses one", conflicts)
+    if found["status"] or not found["has_dsym"]:
+        raise Refusal(404, f"the archive has no dSYM of {number}", said)
+
+
+def tar_of(room: str, pieces: List[Members]) -> Segments:
+    made = Segments()
+    for piece in pieces:
+        made.add(bytes.fromhex(piece["head"]))
+        if piece["path"] is not None:
+            descriptor = os.open(os.path.join(room, piece["path"]), os.O_RDONLY | os.O_CLOEXEC)
+            made.add_file(descriptor, 0, piece["bytes"])
+            made.add(bytes(-piece["bytes"] % TAR_BLOCK))
+    made.add(TAR_END)
+    return made

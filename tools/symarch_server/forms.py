@@ -1,0 +1,80 @@
+"""The words of a request: what each means, and which are taken."""
+from __future__ import annotations
+
+import re
+import uuid
+from typing import Dict, Iterable, List, Optional
+
+from flask import request
+
+from symarch_tools.keeping import forms
+from symarch_tools.keeping.contents import arch_in
+from symarch_tools.keeping.screen import Failed, shown
+
+from .refusals import Refusal
+
+# What the file of an upload or of a report may be called, since that stands in lines and names of builds.
+PLAIN = re.compile(r"[^\w.+ -]", re.ASCII)
+MOST_OF_NAME = 128
+HEX = re.compile("[0-9a-fA-F]{32}")
+
+
+def refuse_others(known: Iterable[str]) -> None:
+    """Refuses parameters that mean nothing, so that none that is misspelled is passed over."""
+    others = [name for name in request.args if name not in known]
+    if others:
+        raise Refusal(400, f"there is no parameter `{shown(others[0])}` here: expected {', '.join(known) or 'none'}")
+
+
+def flags_of(names: Iterable[str]) -> List[str]:
+    """The parameters that are given without a value, as options of a tool."""
+    refuse_others(list(names))
+    valued = [name for name, value in request.args.items() if value not in ("", "1")]
+    if valued:
+        raise Refusal(400, f"`{shown(valued[0])}` has no value here")
+    return [f"--{name}" for name in names if name in request.args]
+
+
+def uuid_of(word: str) -> str:
+    try:
+        return str(forms.uuid_of(word))
+    except Failed as failed:
+        raise Refusal(400, failed.text) from None
+
+
+def hex_uuid_of(word: str) -> str:
+    """A UUID of 32 hex digits, as debuginfod has it."""
+    if not HEX.fullmatch(word):
+        raise Refusal(400, f"a build id is `{shown(word)}`: expected 32 hex digits")
+    return str(uuid.UUID(word))
+
+
+def argument(name: str) -> Optional[str]:
+    return request.args.get(name) or None
+
+
+def checked_words(words: Dict[str, Optional[str]]) -> Dict[str, Optional[str]]:
+    """Words that are given in their forms, by their names."""
+    check = {"digest": forms.digest_of, "since": forms.day_of, "until": forms.day_of, "app": forms.app_of}
+    try:
+        for name, word in words.items():
+            if word is not None and name in check:
+                check[name](word)
+    except (Failed, UnicodeError) as failed:
+        raise Refusal(400, str(failed)) from None
+    return words
+
+
+def arch_of(word: Optional[str]) -> Optional[str]:
+    """An architecture, as it is printed."""
+    try:
+        return word and arch_in(forms.arch_of(word))
+    except Failed as failed:
+        raise Refusal(400, failed.text) from None
+
+
+def file_name(word: Optional[str], otherwise: str) -> str:
+    """A name that a file of a room may have, and that is no option: of a path its last part."""
+    last = (word or "").replace("\\", "/").rstrip("/").rpartition("/")[2]
+    plain = PLAIN.sub("_", last)[-MOST_OF_NAME:].lstrip(".-")
+    return plain.strip() or otherwise

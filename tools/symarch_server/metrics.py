@@ -1,0 +1,73 @@
+"""What is counted, as Prometheus reads it."""
+from __future__ import annotations
+
+import threading
+from collections import defaultdict
+from typing import DefaultDict, Dict, Iterator, List, Mapping, Tuple
+
+# The upper ends of the classes of seconds.
+BUCKETS = (0.01, 0.03, 0.1, 0.3, 1.0, 3.0, 10.0, 30.0)
+NUMBERS = {
+    "images": "slices that are no companions",
+    "companions": "slices of dSYMs",
+    "retirements": "slices that were withdrawn",
+    "conflicts": "UUIDs and architectures for which several slices answer",
+    "bytes": "bytes of the archive",
+    "today": "bytes of what came in since the last fold",
+    "levels": "bytes of the levels",
+    "waiting": "bytes of retired slices that a fold takes out",
+}
+
+
+class Metrics:
+    """Counts of a process."""
+
+    def __init__(self) -> None:
+        self.lock = threading.Lock()
+        self.requests: DefaultDict[Tuple[str, str, int], int] = defaultdict(int)
+        self.seconds: DefaultDict[str, float] = defaultdict(float)
+        self.classes: Dict[str, List[int]] = {}
+        self.frames: DefaultDict[str, int] = defaultdict(int)
+        self.uploads = 0
+
+    def add_request(self, route: str, method: str, status: int, seconds: float) -> None:
+        with self.lock:
+            self.requests[route, method, status] += 1
+            self.seconds[route] += seconds
+            counts = self.classes.setdefault(route, [0] * (len(BUCKETS) + 1))
+            for at, most in enumerate(BUCKETS):
+                counts[at] += seconds <= most
+            counts[-1] += 1
+
+    def add_frames(self, counts: Mapping[str, int]) -> None:
+        with self.lock:
+            for kind, count in counts.items():
+                self.frames[kind] += count
+
+    def lines(self, status: Mapping[str, object]) -> Iterator[str]:
+        """All, with the numbers that `status` prints of the archive."""
+        with self.lock:
+            yield from family("symarch_requests_total", "counter", "requests by their route and status")
+            for (route, method, code), count in sorted(self.requests.items()):
+                yield f'symarch_requests_total{{route="{route}",method="{method}",status="{code}"}} {count}'
+            yield from family("symarch_request_seconds", "histogram", "how long requests took")
+            for route in sorted(self.classes):
+                yield from self.histogram(route)
+            yield from family("symarch_frames_total", "counter", "frames of reports by what came of them")
+            for kind, count in sorted(self.frames.items()):
+                yield f'symarch_frames_total{{kind="{kind}"}} {count}'
+        for name, about in NUMBERS.items():
+            if isinstance(status.get(name), int):
+                yield from family(f"symarch_archive_{name}", "gauge", about)
+                yield f"symarch_archive_{name} {status[name]}"
+
+    def histogram(self, route: str) -> Iterator[str]:
+        counts = self.classes[route]
+        for most, count in zip([*map(str, BUCKETS), "+Inf"], counts):
+            yield f'symarch_request_seconds_bucket{{route="{route}",le="{most}"}} {count}'
+        yield f'symarch_request_seconds_sum{{route="{route}"}} {self.seconds[route]:.6f}'
+        yield f'symarch_request_seconds_count{{route="{route}"}} {counts[-1]}'
+
+
+def family(name: str, kind: str, about: str) -> List[str]:
+    return [f"# HELP {name} {about}", f"# TYPE {name} {kind}"]

@@ -1,0 +1,74 @@
+"""ARCHIVE.missing: of which images reports had frames that no dSYM named. It has the name of an image, its UUID, how
+often it was so and on which days, and no report."""
+from __future__ import annotations
+
+import contextlib
+import sqlite3
+import threading
+import time
+from typing import Dict, Iterator, List, NamedTuple, Optional
+
+ENDING = ".missing"
+TABLE = """CREATE TABLE IF NOT EXISTS missing (
+    uuid TEXT PRIMARY KEY, name TEXT NOT NULL, count INTEGER NOT NULL, first TEXT NOT NULL, last TEXT NOT NULL
+) WITHOUT ROWID"""
+ADD = """INSERT INTO missing VALUES (?, ?, 1, ?, ?) ON CONFLICT (uuid) DO UPDATE
+SET count = count + 1, last = excluded.last, name = CASE excluded.name WHEN '' THEN name ELSE excluded.name END"""
+# Those that were seen last stay.
+BOUND = """DELETE FROM missing WHERE uuid IN
+(SELECT uuid FROM missing ORDER BY last DESC, count DESC, uuid LIMIT -1 OFFSET ?)"""
+LIST = "SELECT uuid, name, count, first, last FROM missing ORDER BY count DESC, last DESC, uuid"
+# So many rows are kept, and so many characters of a name. A report has so many.
+MOST, MOST_OF_NAME, MOST_OF_REPORT = 10_000, 255, 1_000
+# How many seconds a request waits for another process that writes it.
+WAIT = 1.0
+
+
+class Row(NamedTuple):
+    """An image that lacked a dSYM: how often, and the first and the last day."""
+
+    uuid: str
+    name: str
+    reports: int
+    first: str
+    last: str
+
+
+class Missing:
+    """The file beside an archive. Whoever may not write it remembers nothing, and answers all the same."""
+
+    def __init__(self, archive: str, is_kept: bool) -> None:
+        self.path, self.is_kept = archive + ENDING, is_kept
+        self.lock = threading.Lock()
+        # Why it is not kept, if something keeps it from being so.
+        self.fault: Optional[str] = None
+
+    @contextlib.contextmanager
+    def opened(self) -> Iterator[sqlite3.Connection]:
+        with self.lock, contextlib.closing(sqlite3.connect(self.path, timeout=WAIT)) as connection, connection:
+            connection.execute(TABLE)
+            yield connection
+
+    def add(self, images: Dict[str, str]) -> None:
+        """Counts the images of a report, by their UUIDs."""
+        if not self.is_kept or not images:
+            return
+        day = time.strftime("%Y-%m-%d", time.gmtime())
+        some = list(images.items())[:MOST_OF_REPORT]
+        try:
+            with self.opened() as connection:
+                connection.executemany(ADD, [(number, name[:MOST_OF_NAME], day, day) for number, name in some])
+                connection.execute(BOUND, (MOST,))
+            self.fault = None
+        except sqlite3.Error as error:
+            self.fault = str(error)
+
+    def rows(self) -> List[Row]:
+        if not self.is_kept:
+            return []
+        try:
+            with self.opened() as connection:
+                return [Row(*row) for row in connection.execute(LIST)]
+        except sqlite3.Error as error:
+            self.fault = str(error)
+            return []

@@ -1,0 +1,44 @@
+"""Reports with names, as symbolicate-report makes them."""
+from __future__ import annotations
+
+import os
+import sys
+from typing import List
+
+from symarch_tools import symbolicate
+from symarch_tools.reports.account import members_of
+from symarch_tools.reports.faults import Status
+from symarch_tools.reports.report import Report
+from symarch_tools.reports.streams import noted
+from symarch_tools.reports.words import Words, is_archive
+
+from .control import Members
+from .report_pages import blocks_of
+
+
+def report(job: Members, _: List[int]) -> Members:
+    """The report that is a file of the room, in `out`; what answered for its images; and what a page has of it."""
+    name = job["name"]
+    if is_archive(name):
+        return {"status": int(Status.REFUSED), "refused": f"{name}: an archive, and no report"}
+    words = Words([*job["options"], "--", name, job["archive"]], None)
+    reader = symbolicate.Reader(words)
+    if job["is_page"]:
+        with open(os.devnull, "wb") as nothing:
+            os.dup2(nothing.fileno(), 1)
+    status = symbolicate.carry_out(words, reader)
+    if not reader.found:
+        return {"status": int(status), "refused": "; ".join(noted) or f"{name}: no report"}
+    sys.stdout.flush()
+    found = reader.found[0]
+    images = [members_of(image) for image in found.images.with_frames()]
+    missing = {str(number): its for number, its in symbolicate.missing_in([found]).items()}
+    answer = {"status": int(status), "frames": vars(found.count()), "images": images, "missing": missing}
+    return {**answer, "faults": list(noted), "page": page(found) if job["is_page"] else None}
+
+
+def page(found: Report) -> Members:
+    """What stands on a page: the blocks of the report, and what its counts say."""
+    pieces = (piece for part in found.parts for piece in part.pieces())
+    blocks, is_cut = blocks_of(pieces)
+    return {"blocks": blocks, "is_cut": is_cut, "account": found.count().text()}

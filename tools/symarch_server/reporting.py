@@ -1,0 +1,117 @@
+"""Reports, as symbolicate-report prints them, and as pages."""
+from __future__ import annotations
+
+import os
+from typing import IO, Any, Dict, List, Union
+
+from flask import Blueprint, Response, render_template, request
+
+from .app import site, wants_page
+from .fetching import file_of_room
+from .forms import file_name, flags_of
+from .refusals import Refusal
+from .site import Work
+
+routes = Blueprint("reporting", __name__)
+OPTIONS = ("text", "paths", "no-lines", "json", "raw", "no-demangle")
+# How long a report may be, and one that is pasted into the page.
+MOST, MOST_PASTED = 64_000_000, 16_000_000
+OTHERWISE = "report"
+CHUNK = 1 << 20
+MEMBERS = {False: "text/plain; charset=utf-8", True: "application/x-ndjson"}
+
+
+@routes.post("/reports")
+def reports() -> Union[str, Response]:
+    options, is_page = flags_of(OPTIONS), wants_page()
+    if is_page and "--json" in options:
+        raise Refusal(400, "--json is no page")
+    if is_page and "--text" not in options:
+        options.append("--text")
+    refuse_length(MOST)
+    with site().rooms.room() as room:
+        name = taken(room)
+        with site().work("report", room, name=name, options=options, is_page=is_page) as work:
+            members = work.members
+            if "refused" in members:
+                raise Refusal(503 if members["status"] == 126 else 422, without_tool(members["refused"]))
+            site().metrics.add_frames(members["frames"])
+            site().missing.add(members["missing"])
+            if is_page:
+                return page_of(name, members)
+            return answer_of(work, "--json" in options)
+
+
+def answer_of(work: Work, is_json: bool) -> Response:
+    """The report, with what symbolicate-report says of it in headers."""
+    made = file_of_room(work.path("out"), MEMBERS[is_json])
+    made.headers["Symarch-Status"] = str(work.members["status"])
+    made.headers["Symarch-Frames"] = " ".join(f"{kind}={count}" for kind, count in work.members["frames"].items())
+    return made
+
+
+def page_of(name: str, members: Dict[str, Any]) -> str:
+    """The page: what answered for each image, those without a dSYM first, and the threads."""
+    missing = members["missing"]
+    images = sorted(members["images"], key=lambda one: (one["uuid"] not in missing, one["name"] or ""))
+    uuids: Dict[str, List[str]] = {}
+    for one in images:
+        uuids.setdefault(one["name"] or "", []).append(one["uuid"])
+    links = {its: found[0] for its, found in uuids.items() if len(found) == 1}
+    about = {"name": name, "images": images, "missing": missing, "links": links, "faults": members["faults"]}
+    return render_template("report.html", **about, **members["page"])
+
+
+def without_tool(line: str) -> str:
+    """A line of symbolicate-report without its name."""
+    return line.partition("symbolicate-report: ")[2] or line
+
+
+# ---- what comes in
+
+
+def refuse_length(most: int) -> None:
+    if (request.content_length or 0) > most:
+        raise Refusal(413, f"expected {most} bytes at most")
+
+
+def taken(room: str) -> str:
+    """Puts the report of a request into a file of a room, and returns its name."""
+    if request.mimetype != "multipart/form-data":
+        return saved(room, file_name(None, OTHERWISE), request.stream, MOST)
+    for file in request.files.values():
+        if file.filename:
+            return saved(room, file_name(file.filename, OTHERWISE), file.stream, MOST)
+    pasted = next((value for value in request.form.values() if value.strip()), None)
+    if pasted is None:
+        raise Refusal(400, "there is no report: choose a file, or paste one")
+    with open(os.path.join(room, OTHERWISE), "xb") as written:
+        written.write(pasted.encode(errors="replace"))
+    return OTHERWISE
+
+
+def saved(room: str, name: str, stream: IO[bytes], most: int) -> str:
+    """Copies what comes in into a file. Its name is none that a worker writes."""
+    name = f"_{name}" if name in ("out", "err") else name
+    try:
+        with open(os.path.join(room, name), "xb") as written:
+            size = copied(stream, written, most)
+    except OSError as error:
+        raise Refusal(507, f"the body could not be stored: {error.strerror or 'it was cut'}") from None
+    if not size:
+        raise Refusal(400, "the body is empty")
+    expected = request.content_length
+    if expected is not None and request.mimetype != "multipart/form-data" and size != expected:
+        raise Refusal(400, "the body was cut")
+    return name
+
+
+def copied(stream: IO[bytes], written: IO[bytes], most: int) -> int:
+    """How many bytes were copied."""
+    size = 0
+    for chunk in iter(lambda: stream.read(CHUNK), b""):
+        size += len(chunk)
+        if size > most:
+            raise Refusal(413, f"expected {most} bytes at most")
+        written.write(chunk)
+    return size

@@ -1,0 +1,186 @@
+"""How connections are held, by waitress: how long a body may be before anybody looks at it, how long a client may take,
+and how the server ends. Requests are read and answers are sent by one loop, so that a slow client keeps nobody out."""
+from __future__ import annotations
+
+import contextlib
+import copy
+import functools
+import logging
+import resource
+import signal
+import socket
+import time
+import weakref
+from typing import Any, Callable, List
+
+from flask import Flask
+from waitress import wasyncore
+from waitress.adjustments import Adjustments
+from waitress.channel import HTTPChannel
+from waitress.parser import HTTPRequestParser
+from waitress.server import TcpWSGIServer
+from waitress.utilities import Error
+
+from . import reporting
+from .refusals import Refusal
+from .site import Site
+
+# What stands around a file in a form.
+AROUND = 100_000
+# How many bytes of reports are held at once, of all requests that are being received or answered.
+MOST_HELD = 1 << 30
+# How many connections are open at once, and how long one may be without a sign of life, in seconds.
+MOST_CONNECTIONS, MOST_SILENCE = 2_000, 60
+# How long a client may take for a request's head, for its body, and for an upload.
+OF_HEAD, OF_BODY, OF_UPLOAD = 60, 900, 86_400
+MOST_OF_HEAD = 32 << 10
+UPLOADS = "/images"
+
+
+class Full(Error):
+    """Refuses a body where others are held."""
+
+    code, reason = 503, "Service Unavailable"
+
+
+class Held:
+    """How many bytes of bodies are held at once. The loop alone counts them, and requests that are gone."""
+
+    def __init__(self) -> None:
+        self.size = 0
+
+    def release(self, counted: List[int]) -> None:
+        self.size -= counted[0]
+        counted[0] = 0
+
+
+class Parser(HTTPRequestParser):
+    """A request while it is received."""
+
+    def __init__(self, site: Site, held: Held, adj: Any) -> None:
+        super().__init__(adj)
+        self.site, self.held = site, held
+        self.is_upload = False
+        self.deadline = time.monotonic() + OF_HEAD
+        self.counted = [0]
+        weakref.finalize(self, held.release, self.counted)
+
+    def parse_header(self, header_plus: bytes) -> None:
+        """Says how long the body may be: one that nobody may upload is not received."""
+        super().parse_header(header_plus)
+        self.is_upload = self.may_upload()
+        self.deadline = time.monotonic() + (OF_UPLOAD if self.is_upload else OF_BODY)
+        self.adj = copy.copy(self.adj)
+        most = self.site.settings.most if self.is_upload else reporting.MOST + AROUND
+        self.adj.max_request_body_size = most + 1
+
+    def may_upload(self) -> bool:
+        path = getattr(self, "path", "")
+        if getattr(self, "command", "") != "PUT" or not (path == UPLOADS or path.startswith(f"{UPLOADS}/")):
+            return False
+        kind, _, word = self.headers.get("AUTHORIZATION", "").partition(" ")
+        with contextlib.suppress(Refusal):
+            return kind.lower() == "bearer" and self.site.uploader_of(word.strip()) is not None
+        return False
+
+    def received(self, data: bytes) -> int:
+        before = self.body_bytes_received
+        consumed: int = super().received(data)
+        if not self.is_upload:
+            self.count(self.body_bytes_received - before)
+        return consumed
+
+    def count(self, size: int) -> None:
+        self.counted[0] += size
+        self.held.size += size
+        if self.held.size > MOST_HELD and size and not self.error:
+            self.error, self.completed = Full("other reports are being received: ask again"), True
+
+
+class Channel(HTTPChannel):
+    """A connection."""
+
+    def is_late(self, now: float) -> bool:
+        """Whether its client takes too long for a request."""
+        return self.request is not None and now > self.request.deadline
+
+    def is_busy(self) -> bool:
+        """Whether an answer is under way."""
+        return bool(self.requests or self.total_outbufs_len)
+
+
+class Server(TcpWSGIServer):
+    """The connections of an address."""
+
+    channel_class = Channel
+
+    def maintenance(self, now: float) -> None:
+        super().maintenance(now)
+        late = [one for one in self.active_channels.values() if one.is_late(time.monotonic())]
+        for channel in late:
+            channel.will_close = True
+
+    def stop(self) -> None:
+        """Takes no further connection."""
+        self.accepting = False
+        self.del_channel()
+        self.socket.close()
+
+    def is_busy(self) -> bool:
+        return any(channel.is_busy() for channel in list(self.active_channels.values()))
+
+
+class Ending:
+    """The end of the server: a signal asks for it, and answers that are under way come before."""
+
+    def __init__(self, server: Server, grace: float) -> None:
+        self.server, self.grace = server, grace
+        self.is_asked, self.deadline = False, 0.0
+
+    def ask(self, *_: object) -> None:
+        self.is_asked = True
+        self.server.pull_trigger()
+
+    def has_come(self) -> bool:
+        if not self.is_asked:
+            return False
+        if not self.deadline:
+            self.deadline = time.monotonic() + self.grace
+            self.server.stop()
+        return not self.server.is_busy() or time.monotonic() > self.deadline
+
+
+def serve(app: Flask, site: Site, bound: socket.socket, begun: Callable[[], None]) -> None:
+    """Answers requests until a signal ends it."""
+    logging.getLogger("waitress.queue").setLevel(logging.ERROR)
+    allow_files()
+    adj = Adjustments(
+        threads=4 * site.settings.workers + 8,
+        connection_limit=MOST_CONNECTIONS,
+        channel_timeout=MOST_SILENCE,
+        cleanup_interval=5,
+        max_request_header_size=MOST_OF_HEAD,
+        max_request_body_size=reporting.MOST + AROUND,
+        asyncore_use_poll=True,
+        clear_untrusted_proxy_headers=True,
+        ident=None,
+        sockets=[bound],
+    )
+    about = (bound.family, bound.type, bound.proto, bound.getsockname())
+    server = Server(app, {}, _sock=bound, adj=adj, sockinfo=about, bind_socket=False)
+    Channel.parser_class = functools.partial(Parser, site, Held())
+    ending = Ending(server, site.settings.seconds)
+    for number in (signal.SIGTERM, signal.SIGINT):
+        signal.signal(number, ending.ask)
+    begun()
+    while not ending.has_come():
+        wasyncore.loop(timeout=1, map=server._map, use_poll=True, count=1)
+    server.task_dispatcher.shutdown(timeout=1)
+
+
+def allow_files() -> None:
+    """As many open files as the system lets this process have."""
+    soft, hard = resource.getrlimit(resource.RLIMIT_NOFILE)
+    if soft != hard:
+        with contextlib.suppress(OSError, ValueError):
+            resource.setrlimit(resource.RLIMIT_NOFILE, (hard, hard))

@@ -1,0 +1,153 @@
+"""What the words of a call say."""
+from __future__ import annotations
+
+import argparse
+import ipaddress
+import os
+import re
+import sys
+from dataclasses import dataclass
+from typing import Any, List, NoReturn, Optional, Sequence, Tuple
+
+from symarch_tools.keeping.forms import size_in
+from symarch_tools.keeping.screen import Failed, shown
+from symarch_tools.version import PrintVersion
+
+NAME = "symarch-server"
+LISTEN = re.compile(r"(\[[0-9a-fA-F:.]+\]|[^:\[\]/@\s]+):([0-9]{1,5})")
+ORIGIN = re.compile(r"https?://[^/\s?#@]+")
+MOST_WORKERS, MOST_SECONDS = 256, 86_400
+
+LISTEN_HELP = "where it listens; without it 127.0.0.1:8080. Port 0 is any that is free, which is printed"
+HOST_HELP = "a name by which it is asked; without one the address of --listen. It may stand again and again"
+ORIGIN_HELP = "a web page, as https://profiler.firefox.com, that may ask /symbolicate/v5. It may stand again and again"
+READERS_HELP = "who may read: a line NAME SHA256-OF-TOKEN for each; without it everybody who reaches it"
+UPLOADS_HELP = "who may upload, in the same form; without it nobody"
+MOST_HELP = "the largest upload; without it 4G. It may end in k, M, G or T"
+MISSING_HELP = "keep no ARCHIVE.missing"
+WORKERS_HELP = "how many answers are worked on at once; without it one for each processor, and 2 at least"
+SECONDS_HELP = "how long an answer may take; without it 60. Uploads and searches by name have ten times that"
+MEMORY_HELP = "how much memory the process of an answer may have; without it 4G"
+
+
+@dataclass(frozen=True)
+class Settings:
+    """What is served, where, and to whom."""
+
+    archive: str
+    address: str
+    port: int
+    hosts: Tuple[str, ...]
+    origins: Tuple[str, ...]
+    readers: Optional[str]
+    uploads: Optional[str]
+    most: int
+    has_missing: bool
+    workers: int
+    seconds: int
+    memory: int
+
+    def is_open(self) -> bool:
+        """Whether others than this machine reach it, and need no token to read."""
+        return not is_loopback(self.address) and self.readers is None
+
+
+class Parser(argparse.ArgumentParser):
+    """Words. Others end with status 3, as with the other tools."""
+
+    def error(self, message: str) -> NoReturn:
+        self.print_usage(sys.stderr)
+        self.exit(3, f"{NAME}: {message}\n")
+
+
+def parser_of_words(description: Optional[str]) -> Parser:
+    shape = argparse.RawDescriptionHelpFormatter
+    parser = Parser(NAME, usage=USAGE, description=description, formatter_class=shape, allow_abbrev=False)
+    parser.add_argument("archive", metavar="ARCHIVE", help="the archive that symarch-keep keeps")
+    parser.add_argument("--listen", metavar="ADDRESS", default="127.0.0.1:8080", help=LISTEN_HELP)
+    repeated: Any = {"action": "append", "default": []}
+    parser.add_argument("--host", metavar="NAME", help=HOST_HELP, **repeated)
+    parser.add_argument("--origin", metavar="ORIGIN", help=ORIGIN_HELP, **repeated)
+    parser.add_argument("--readers", metavar="FILE", help=READERS_HELP)
+    parser.add_argument("--uploads", metavar="FILE", help=UPLOADS_HELP)
+    parser.add_argument("--most", metavar="BYTES", default="4G", help=MOST_HELP)
+    parser.add_argument("--no-missing", action="store_true", help=MISSING_HELP)
+    parser.add_argument("--workers", metavar="N", type=int, default=max(os.cpu_count() or 1, 2), help=WORKERS_HELP)
+    parser.add_argument("--seconds", metavar="N", type=int, default=60, help=SECONDS_HELP)
+    parser.add_argument("--memory", metavar="BYTES", default="4G", help=MEMORY_HELP)
+    parser.add_argument("--version", action=PrintVersion, nargs=0, help="print the version and exit")
+    return parser
+
+
+OPTIONS = "[--listen ADDRESS] [--host NAME]... [--origin ORIGIN]... [--readers FILE] [--uploads FILE]"
+LIMITS = "[--most BYTES] [--no-missing] [--workers N] [--seconds N] [--memory BYTES]"
+USAGE = f"{NAME} {OPTIONS} {LIMITS} ARCHIVE"
+
+
+def settings_of(words: Sequence[str], description: Optional[str] = None) -> Settings:
+    parser = parser_of_words(description)
+    asked = parser.parse_args(list(words))
+    try:
+        address, port = address_of(asked.listen)
+        most, memory = size_in(asked.most), size_in(asked.memory)
+    except Failed as failed:
+        parser.error(failed.text)
+    fault = fault_of(asked, address)
+    if fault:
+        parser.error(fault)
+    hosts = tuple(name.lower() for name in asked.host) or names_of(address)
+    return Settings(
+        archive=os.path.abspath(asked.archive),
+        address=address,
+        port=port,
+        hosts=hosts,
+        origins=tuple(origin.lower() for origin in asked.origin),
+        readers=asked.readers and os.path.abspath(asked.readers),
+        uploads=asked.uploads and os.path.abspath(asked.uploads),
+        most=most,
+        has_missing=not asked.no_missing,
+        workers=asked.workers,
+        seconds=asked.seconds,
+        memory=memory,
+    )
+
+
+def fault_of(asked: argparse.Namespace, address: str) -> Optional[str]:
+    """What is wrong with the words, if something is."""
+    others: List[str] = [one for one in asked.origin if not ORIGIN.fullmatch(one)]
+    if others:
+        return f"--origin is `{shown(others[0])}`: expected one as https://profiler.firefox.com"
+    if not 1 <= asked.workers <= MOST_WORKERS:
+        return f"--workers is {asked.workers}: expected 1 to {MOST_WORKERS}"
+    if not 1 <= asked.seconds <= MOST_SECONDS:
+        return f"--seconds is {asked.seconds}: expected 1 to {MOST_SECONDS}"
+    if is_every(address) and not asked.host:
+        return f"{address} stands for every address: --host NAME says by which names it is asked"
+    return None
+
+
+def address_of(word: str) -> Tuple[str, int]:
+    found = LISTEN.fullmatch(word)
+    if not found or int(found[2]) > 65_535:
+        raise Failed(f"--listen is `{shown(word)}`: expected ADDRESS:PORT, as 127.0.0.1:8080 or [::1]:8080", 3)
+    return found[1].strip("[]"), int(found[2])
+
+
+def is_loopback(address: str) -> bool:
+    try:
+        return ipaddress.ip_address(address).is_loopback
+    except ValueError:
+        return address == "localhost"
+
+
+def is_every(address: str) -> bool:
+    try:
+        return ipaddress.ip_address(address).is_unspecified
+    except ValueError:
+        return False
+
+
+def names_of(address: str) -> Tuple[str, ...]:
+    """The names by which an address is asked, as they stand in a Host."""
+    name = f"[{address}]" if ":" in address else address
+    return (name.lower(), "localhost") if is_loopback(address) else (name.lower(),)

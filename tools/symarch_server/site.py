@@ -1,0 +1,137 @@
+"""All that requests share: the words of the call, the workers, the rooms, the tokens, and what is remembered and
+counted."""
+from __future__ import annotations
+
+import atexit
+import contextlib
+import json
+import os
+import sys
+import threading
+import time
+from typing import Any, Dict, Iterator, List, NamedTuple, Optional, Sequence, Tuple
+
+from symarch_tools.keeping.screen import shown
+
+from .control import Members
+from .metrics import Metrics
+from .missing import Missing
+from .pool import Busy, Ended, Limits, Pool
+from .refusals import Refusal
+from .rooms import Rooms
+from .settings import Settings
+from .tokens import BadTokens, Tokens
+
+# Uploads and searches by name, which read all slices, have workers of their own, and so much more time.
+LONG_WORKERS, LONGER = 2, 10
+# So much is read of what a word says on standard error.
+MOST_SAID = 100_000
+UPLOADER = Tuple[str, str]
+
+
+class Work(NamedTuple):
+    """What a worker answered, in its room, and the files that it opened."""
+
+    members: Members
+    room: str
+    descriptors: List[int]
+
+    def path(self, name: str) -> str:
+        return os.path.join(self.room, name)
+
+    def said(self) -> List[str]:
+        """The lines on standard error."""
+        with open(self.path("err"), "rb") as file:
+            return file.read(MOST_SAID).decode(errors="replace").splitlines()
+
+    def printed(self) -> str:
+        with open(self.path("out"), "rb") as file:
+            return file.read().decode(errors="replace")
+
+
+class Site:
+    """An archive that is served by this process."""
+
+    def __init__(self, settings: Settings) -> None:
+        self.settings = settings
+        self.ends = contextlib.ExitStack()
+        self.rooms = Rooms(self.ends)
+        self.metrics, self.missing = Metrics(), Missing(settings.archive, settings.has_missing)
+        self.readers = Tokens(settings.readers) if settings.readers else None
+        self.uploads = Tokens(settings.uploads) if settings.uploads else None
+        self.workers = Pool(settings.workers, Limits(settings.memory, settings.seconds))
+        self.long_workers = Pool(LONG_WORKERS, Limits(settings.memory, settings.seconds * LONGER))
+        self.lock = threading.Lock()
+        atexit.register(self.end)
+
+    def end(self) -> None:
+        """Ends the workers, and removes the rooms."""
+        self.workers.end()
+        self.long_workers.end()
+        self.ends.close()
+
+    @contextlib.contextmanager
+    def work(self, job: str, room: str, is_long: bool = False, **members: Any) -> Iterator[Work]:
+        """What a worker answers. What keeps it from that refuses the request."""
+        pool = self.long_workers if is_long else self.workers
+        try:
+            answer, descriptors = pool.ask({"job": job, "room": room, "archive": self.settings.archive, **members})
+        except Busy:
+            raise Refusal(503, "all workers are busy: ask again", headers={"Retry-After": "10"}) from None
+        except Ended as ended:
+            raise Refusal(503, str(ended)) from None
+        kept = list(descriptors)
+        try:
+            refuse_fault(answer)
+            yield Work(answer, room, descriptors)
+        except BaseException:
+            for descriptor in kept:
+                with contextlib.suppress(OSError):
+                    os.close(descriptor)
+            raise
+
+    def keep(self, words: Sequence[str], room: str, is_long: bool = False) -> contextlib.AbstractContextManager[Work]:
+        """What comes of words of symarch-keep."""
+        return self.work("keep", room, is_long, words=list(words))
+
+    # ---- who asks
+
+    def reader_of(self, token: Optional[str]) -> Optional[str]:
+        """The name of a token that may read."""
+        return name_in(self.readers, token)
+
+    def uploader_of(self, token: Optional[str]) -> Optional[str]:
+        return name_in(self.uploads, token)
+
+
+def name_in(tokens: Optional[Tokens], token: Optional[str]) -> Optional[str]:
+    if tokens is None or token is None:
+        return None
+    try:
+        return tokens.name_of(token)
+    except (OSError, BadTokens) as fault:
+        log(f"nobody has a token: {fault}")
+        raise Refusal(503, "the file of tokens could not be read") from None
+
+
+def refuse_fault(answer: Members) -> None:
+    """Refuses a request whose work failed, by what the worker says of it."""
+    fault = answer.get("fault")
+    if fault is None:
+        return
+    if answer.get("is_bug"):
+        raise Refusal(500, "the server has a fault, which its log describes")
+    status = answer.get("status")
+    raise Refusal(400 if status == 3 else 503, fault or "the archive could not be asked")
+
+
+def log(text: str) -> None:
+    """Writes a line of the log, which is standard error."""
+    with contextlib.suppress(OSError, AttributeError):
+        sys.stderr.write(f"{time.strftime('%Y-%m-%dT%H:%M:%SZ', time.gmtime())} {shown(text)}\n")
+        sys.stderr.flush()
+
+
+def objects_in(text: str) -> List[Dict[str, Any]]:
+    """The objects of JSON in lines."""
+    return [json.loads(line) for line in text.splitlines() if line]

@@ -1,0 +1,99 @@
+"""A process that works: it answers jobs one after another, each within its limits, until it has used much memory."""
+from __future__ import annotations
+
+import os
+import resource
+import socket
+import sys
+import traceback
+from typing import List, Tuple
+
+from symarch_tools.keeping.screen import Failed, system_text
+from symarch_tools.reports.faults import Failure, Status
+from symarch_tools.reports.streams import noted
+
+from . import jobs, profile_jobs, report_jobs
+from .control import Members, receive, send
+
+JOBS = {
+    "keep": jobs.keep,
+    "builds": jobs.builds,
+    "held": jobs.held,
+    "slice": jobs.slice_of,
+    "bundle": jobs.bundle,
+    "dsyms": jobs.dsyms,
+    "report": report_jobs.report,
+    "profile": profile_jobs.profile,
+}
+# One that had more KiB of memory is not asked again, so that the system has them back.
+MOST_KEPT = 256 << 10
+
+
+def main() -> None:
+    memory, seconds = map(int, sys.argv[2:4])
+    control = socket.socket(fileno=os.dup(0))
+    nothing = os.open(os.devnull, os.O_RDWR)
+    for descriptor in (0, 1):
+        os.dup2(nothing, descriptor)
+    log = os.dup(2)
+    resource.setrlimit(resource.RLIMIT_CORE, (0, 0))
+    resource.setrlimit(resource.RLIMIT_AS, (memory, resource.getrlimit(resource.RLIMIT_AS)[1]))
+    is_last = False
+    while not is_last:
+        received = receive(control)
+        if received is None:
+            break
+        limit_seconds(seconds)
+        members, descriptors = answered(received[0], log)
+        for descriptor in (1, 2):
+            os.dup2(nothing if descriptor == 1 else log, descriptor)
+        is_last = resource.getrusage(resource.RUSAGE_SELF).ru_maxrss > MOST_KEPT or members.get("out_of_memory", False)
+        send(control, {**members, "is_last": is_last}, descriptors)
+        for descriptor in descriptors:
+            os.close(descriptor)
+    # What Python would do at its end was done by then.
+    os._exit(0)
+
+
+def limit_seconds(seconds: int) -> None:
+    """Ends this process when it has worked so long from now on."""
+    used = resource.getrusage(resource.RUSAGE_SELF)
+    hard = resource.getrlimit(resource.RLIMIT_CPU)[1]
+    resource.setrlimit(resource.RLIMIT_CPU, (int(used.ru_utime + used.ru_stime) + seconds + 1, hard))
+
+
+def answered(job: Members, log: int) -> Tuple[Members, List[int]]:
+    """What comes of a job, whose standard output and error are files of its room."""
+    noted.clear()
+    descriptors: List[int] = []
+    try:
+        os.chdir(job["room"])
+        for descriptor, name in ((1, "out"), (2, "err")):
+            file = os.open(name, os.O_WRONLY | os.O_CREAT | os.O_TRUNC | os.O_CLOEXEC, 0o600)
+            os.dup2(file, descriptor)
+            os.close(file)
+        members = JOBS[job["job"]](job, descriptors)
+        sys.stdout.flush()
+        sys.stderr.flush()
+        return members, descriptors
+    except MemoryError:
+        return {"fault": "the work needs more memory than it may have", "out_of_memory": True}, []
+    except Failed as failed:
+        return {"fault": failed.text, "status": failed.status}, []
+    except Failure as failure:
+        if failure.status == Status.NO_MEMORY:
+            return {"fault": "the work needs more memory than it may have", "out_of_memory": True}, []
+        return {"fault": failure.reason or said(), "status": failure.status}, []
+    except OSError as error:
+        return {"fault": system_text(error), "status": 2}, []
+    except BaseException:
+        os.dup2(log, 2)
+        traceback.print_exc()
+        return {"fault": "", "status": 2, "is_bug": True}, []
+
+
+def said() -> str:
+    """The last lines that were written on standard error."""
+    sys.stderr.flush()
+    with open("err", "rb") as file:
+        return file.read(10_000).decode(errors="replace").strip()
