@@ -10,13 +10,15 @@ from typing import Dict, Iterator, List, NamedTuple, Optional
 
 ENDING = ".missing"
 TABLE = """CREATE TABLE IF NOT EXISTS missing (
-    uuid TEXT PRIMARY KEY, name TEXT NOT NULL, count INTEGER NOT NULL, first TEXT NOT NULL, last TEXT NOT NULL
+    uuid TEXT PRIMARY KEY, name TEXT NOT NULL, count INTEGER NOT NULL, first TEXT NOT NULL, last TEXT NOT NULL,
+    turn INTEGER NOT NULL
 ) WITHOUT ROWID"""
-ADD = """INSERT INTO missing VALUES (?, ?, 1, ?, ?) ON CONFLICT (uuid) DO UPDATE
-SET count = count + 1, last = excluded.last, name = CASE excluded.name WHEN '' THEN name ELSE excluded.name END"""
-# Those that were seen last stay.
-BOUND = """DELETE FROM missing WHERE uuid IN
-(SELECT uuid FROM missing ORDER BY last DESC, count DESC, uuid LIMIT -1 OFFSET ?)"""
+# In which order they were seen last.
+TURNS = "CREATE INDEX IF NOT EXISTS turns ON missing (turn)"
+ADD = """INSERT INTO missing VALUES (?, ?, 1, ?, ?, (SELECT COALESCE(MAX(turn), 0) + 1 FROM missing))
+ON CONFLICT (uuid) DO UPDATE SET count = count + 1, last = excluded.last, turn = excluded.turn,
+name = CASE excluded.name WHEN '' THEN name ELSE excluded.name END"""
+BOUND = "DELETE FROM missing WHERE turn IN (SELECT turn FROM missing ORDER BY turn DESC LIMIT -1 OFFSET ?)"
 LIST = "SELECT uuid, name, count, first, last FROM missing ORDER BY count DESC, last DESC, uuid"
 # So many rows are kept, and so many characters of a name. A report has so many.
 MOST, MOST_OF_NAME, MOST_OF_REPORT = 10_000, 255, 1_000
@@ -47,6 +49,7 @@ class Missing:
     def opened(self) -> Iterator[sqlite3.Connection]:
         with self.lock, contextlib.closing(sqlite3.connect(self.path, timeout=WAIT)) as connection, connection:
             connection.execute(TABLE)
+            connection.execute(TURNS)
             yield connection
 
     def add(self, images: Dict[str, str]) -> None:

@@ -28,7 +28,17 @@ def blocks_of(pieces: Iterable[bytes]) -> Tuple[List[Members], bool]:
     made: List[Members] = []
     for line in data.splitlines():
         add_line(made, line[:MOST_OF_LINE])
-    return [one for one in made if any(one["lines"]) or one["kind"] == "thread"], is_cut
+    for one in made:
+        one["lines"] = without_end(one["lines"])
+    return [one for one in made if one["lines"] or one["kind"] == "thread"], is_cut
+
+
+def without_end(lines: List[Any]) -> List[Any]:
+    """Lines without empty ones at their end."""
+    count = len(lines)
+    while count and not lines[count - 1]:
+        count -= 1
+    return lines[:count]
 
 
 def beginning(pieces: Iterable[bytes]) -> Tuple[bytes, bool]:

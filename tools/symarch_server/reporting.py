@@ -55,7 +55,7 @@ def page_of(name: str, members: Dict[str, Any]) -> str:
     missing = members["missing"]
     images = sorted(members["images"], key=lambda one: (one["uuid"] not in missing, one["name"] or ""))
     uuids: Dict[str, List[str]] = {}
-    for one in images:
+    for one in (it for it in images if it["answered_by"] != "absent"):
         uuids.setdefault(one["name"] or "", []).append(one["uuid"])
     links = {its: found[0] for its, found in uuids.items() if len(found) == 1}
     about = {"name": name, "images": images, "missing": missing, "links": links, "faults": members["faults"]}

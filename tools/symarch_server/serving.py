@@ -19,7 +19,7 @@ from waitress.adjustments import Adjustments
 from waitress.channel import HTTPChannel
 from waitress.parser import HTTPRequestParser
 from waitress.server import TcpWSGIServer
-from waitress.utilities import Error
+from waitress.utilities import BadRequest, Error
 
 from . import reporting
 from .refusals import Refusal
@@ -34,6 +34,8 @@ MOST_CONNECTIONS, MOST_SILENCE = 2_000, 60
 # How long a client may take for a request's head, for its body, and for an upload.
 OF_HEAD, OF_BODY, OF_UPLOAD = 60, 900, 86_400
 MOST_OF_HEAD = 32 << 10
+# The lines between the chunks of a body, which waitress looks through anew with each byte that comes.
+MOST_BETWEEN = 4 << 10
 UPLOADS = "/images"
 
 
@@ -56,6 +58,9 @@ class Held:
 
 class Parser(HTTPRequestParser):
     """A request while it is received."""
+
+    adj: Any
+    error: Any
 
     def __init__(self, site: Site, held: Held, adj: Any) -> None:
         super().__init__(adj)
@@ -86,6 +91,9 @@ class Parser(HTTPRequestParser):
     def received(self, data: bytes) -> int:
         before = self.body_bytes_received
         consumed: int = super().received(data)
+        between = len(getattr(self.body_rcv, "control_line", b"")) + len(getattr(self.body_rcv, "trailer", b""))
+        if between > MOST_BETWEEN and not self.error:
+            self.error, self.completed = BadRequest("a line between chunks is too long"), True
         if not self.is_upload:
             self.count(self.body_bytes_received - before)
         return consumed

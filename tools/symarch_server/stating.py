@@ -5,7 +5,7 @@ from typing import Union
 
 from flask import Blueprint, Response, jsonify, render_template
 
-from .app import site, text, wants_json, wants_page
+from .app import site, text, visible, wants_json, wants_page
 from .building import lines_of
 from .forms import refuse_others
 from .site import objects_in
@@ -41,7 +41,8 @@ def missing() -> Union[str, Response]:
     if wants_json():
         return jsonify(every)
     if not wants_page():
-        return text([" ".join([row.uuid, str(row.reports), row.last, said(row.uuid in came), row.name]) for row in rows])
+        lines = (f"{row.uuid} {row.reports} {row.last} {said(row.uuid in came)} {visible(row.name)}" for row in rows)
+        return text([line.rstrip() for line in lines])
     return render_template("missing.html", rows=every, is_kept=site().settings.has_missing)
 
 
