@@ -120,7 +120,7 @@ class Contents(PackageCase):
     seconds = 8
 
     def test_names(self) -> None:
-        packages = sorted(self.made.names.values())
+        packages = sorted([*self.made.names.values(), self.made.server])
         wanted = [*packages, "SHA256SUMS"]
         self.assertEqual(sorted(self.made.files), sorted(wanted))
         self.assertEqual(sorted(self.made.done.stdout.split()), sorted(str(self.made.folder / it) for it in wanted))

@@ -248,7 +248,8 @@ class Builds(ServerCase):
         number = uuid.UUID(bytes=number_uuid(7))
         (found,) = server.ask(f"/builds/{number}", headers=JSON).json()["architectures"]
         same("conflict", found["conflict"], True)
-        same("slices", sorted(it["digest"] for it in found["slices"]), sorted(slice_words(it)[2] for it in (one, other)))
+        wanted = sorted(slice_words(it)[2] for it in (one, other))
+        same("slices", sorted(it["digest"] for it in found["slices"]), wanted)
         same("retired", found["retired"], [slice_words(gone)[2]])
         self.assertIn("conflict", server.ask(f"/builds/{number}", headers=HTML).text)
 

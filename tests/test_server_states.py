@@ -1,6 +1,7 @@
 """symarch-server while its archive changes, under many and slow clients, at its limits, and at its end."""
 import contextlib
 import os
+import pathlib
 import random
 import signal
 import socket
@@ -113,7 +114,26 @@ class Changing(ServerCase):
         same("both", east.has(), west.has())
 
 
-class Clients(ServerCase):
+def slow_connection(server: Server) -> socket.socket:
+    """A connection whose client takes little before it reads."""
+    made = socket.socket()
+    made.setsockopt(socket.SOL_SOCKET, socket.SO_RCVBUF, 4096)
+    made.connect(("127.0.0.1", server.port))
+    return made
+
+
+class LargeCase(ServerCase):
+    """Cases over an image that no buffer of a connection has room for."""
+
+    def begin_with_a_large_one(self) -> Tuple[Server, bytes, str]:
+        """A server, the image, and the path that it is asked by."""
+        large = image(70, more=bytes(6_000_000))
+        self.room.file("large", large)
+        self.room.add("large")
+        return self.serve(), large, f"/buildid/{slice_words(large)[0].replace('-', '')}/executable"
+
+
+class Clients(LargeCase):
     """Many clients, and slow ones."""
 
     def test_two_hundred_at_once(self) -> None:
@@ -125,11 +145,7 @@ class Clients(ServerCase):
 
     def test_a_hundred_slow_ones(self) -> None:
         """They have sent half a head, half a body, or read nothing of an answer; others are answered."""
-        large = image(70, more=bytes(8_000_000))
-        self.room.file("large", large)
-        self.room.add("large")
-        server = self.serve()
-        path = f"/buildid/{slice_words(large)[0].replace('-', '')}/executable"
+        server, large, path = self.begin_with_a_large_one()
         host = f"Host: 127.0.0.1:{server.port}\r\n"
         begun = (
             f"GET / HTTP/1.1\r\n{host}X: ",
@@ -138,7 +154,7 @@ class Clients(ServerCase):
         )
         with contextlib.ExitStack() as ends:
             for number in range(105):
-                connection = ends.enter_context(socket.create_connection(("127.0.0.1", server.port)))
+                connection = ends.enter_context(slow_connection(server))
                 connection.sendall(begun[number % 3].encode())
             for _ in range(3):
                 same("report", server.ask("/reports", REPORT, seconds=30).status, 200)
@@ -182,16 +198,17 @@ class Limits(ServerCase):
         slow = self.room.program(f'cd {self.folder}\n{spun}\nulimit -S -v unlimited\nexec $symarch "$@"')
         server = self.serve("--seconds", "2", environment=slow)
         same("status", server.ask("/reports", REPORT).status, 503)
-        number = int((self.folder / "spun.pid").read_text())
-        with self.assertRaises(ProcessLookupError):
-            os.kill(number, 0)
+        path = pathlib.Path("/proc", (self.folder / "spun.pid").read_text().strip(), "stat")
+        # It may be there as long as nobody asks how it ended.
+        state = path.read_text().rpartition(") ")[2][0] if path.exists() else "Z"
+        same("state", state, "Z")
 
     def test_memory(self) -> None:
         """A report that needs more than a worker may have is refused; others are named."""
         lines = b"".join(b"%-4dspool   0x%016x 0x104d38000 + 1040\n" % (at % 500, 0x104D38410) for at in range(400_000))
         begin, _, rest = REPORT.partition(b"0   spool")
         report = begin + lines + rest[rest.index(b"\n\nBinary") :]
-        server = self.serve("--memory", "120M")
+        server = self.serve("--memory", "64M")
         came = server.ask("/reports", report)
         same(came.text[:200], came.status, 503)
         self.assertIn("memory", came.text)
@@ -207,7 +224,7 @@ class Limits(ServerCase):
         same("then", [server.ask("/reports", REPORT).status for _ in range(3)][1:], [200, 200])
 
 
-class Ending(ServerCase):
+class Ending(LargeCase):
     """SIGTERM ends it after the answers that are under way."""
 
     def test_an_answer_that_is_under_way(self) -> None:
@@ -220,12 +237,8 @@ class Ending(ServerCase):
             same("answer", came.result().status, 200)
 
     def test_a_large_answer_that_is_under_way(self) -> None:
-        large = image(70, more=bytes(30_000_000))
-        self.room.file("large", large)
-        self.room.add("large")
-        server = self.serve()
-        path = f"/buildid/{slice_words(large)[0].replace('-', '')}/executable"
-        with socket.create_connection(("127.0.0.1", server.port)) as connection:
+        server, large, path = self.begin_with_a_large_one()
+        with slow_connection(server) as connection:
             connection.sendall(f"GET {path} HTTP/1.0\r\nHost: 127.0.0.1\r\n\r\n".encode())
             time.sleep(1)
             server.process.send_signal(signal.SIGTERM)
@@ -254,13 +267,13 @@ class Words(ServerCase):
             ((), 3, "symarch-server: the following arguments are required: ARCHIVE"),
             (("--listen", "x", archive), 3, "symarch-server: --listen is `x`: expected ADDRESS:PORT, as 127.0.0.1:8080 "
              "or [::1]:8080"),
-            (("--listen", "0.0.0.0:0", archive), 3, "symarch-server: 0.0.0.0 stands for every address: --host NAME says "
-             "by which names it is asked"),
+            (("--listen", "0.0.0.0:0", archive), 3, "symarch-server: 0.0.0.0 stands for every address: --host NAME "
+             "says by which names it is asked"),
             (("--workers", "0", archive), 3, "symarch-server: --workers is 0: expected 1 to 256"),
             (("--origin", "x", archive), 3, "symarch-server: --origin is `x`: expected one as "
              "https://profiler.firefox.com"),
-            (("--most", "x", archive), 3, "symarch-server: BYTES is `x`: expected a number of bytes, which may end in k, "
-             "M, G or T"),
+            (("--most", "x", archive), 3, "symarch-server: BYTES is `x`: expected a number of bytes, which may end in "
+             "k, M, G or T"),
             (("none.sym",), 2, f"symarch-server: {self.folder}/none.sym: No such file or directory"),
             ((str(CRASH / "spool.c"),), 2, f"symarch-server: {CRASH}/spool.c is no archive"),
             (("--readers", "none", archive), 2, f"symarch-server: {self.folder}/none: No such file or directory"),

@@ -52,7 +52,7 @@ class Uploads(ServerCase):
 
     def test_who_may_not(self) -> None:
         server = self.begin()
-        for headers in ({}, bearer("wrong"), bearer(""), {"Authorization": "Bearer"}, {"Authorization": "Basic eDp5"}):
+        for headers in ({"X": ""}, bearer("wrong"), bearer(""), {"Authorization": "Bearer"}, {"Authorization": "Basic eDp5"}):
             came = server.ask("/images/x", GIVEN, "PUT", headers)
             self.refuses(came, 401, "a token is needed: Authorization: Bearer TOKEN")
         same("found", self.found(), [])

@@ -85,10 +85,11 @@ class Packages:
         if self.done.returncode:
             raise AssertionError(f"packaging/package: {self.done.stdout}{self.done.stderr}")
         self.files = {it.name: it.read_bytes() for it in sorted(folder.iterdir())}
-        (deb,) = (name for name in self.files if name.endswith(".deb"))
+        (deb,) = (name for name in self.files if name.startswith("symarch_"))
         self.version = deb.split("_")[1]
         self.top = f"symarch-{self.version}-linux-x86_64"
         self.names = {"tar": f"{self.top}.tar.gz", "deb": deb}
+        self.server = f"symarch-server_{self.version}_all.deb"
         self.parts = ar_members(self.files[deb])
         packed = {"tar": self.files[self.names["tar"]], "deb": self.parts["data.tar.gz"]}
         self.members = {kind: tar_members(data) for kind, data in packed.items()}

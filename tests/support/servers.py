@@ -154,6 +154,7 @@ class ServerCase(RoomCase):
 
     def setUp(self) -> None:
         super().setUp()
+        self.servers: List[Server] = []
         for number in (1, 2):
             self.room.file(f"{number}/spool.app/spool", (CRASH / f"spool-{number}").read_bytes())
             self.room.file(f"{number}/spool.dSYM/{DWARF}/spool", (CRASH / f"spool-{number}.dSYM").read_bytes())
@@ -162,13 +163,15 @@ class ServerCase(RoomCase):
     def serve(self, *words: Any, archive: Any = None, **how: Any) -> Server:
         """A server, which is ended after the case; it leaves no room and no traceback."""
         server = Server(self.room, archive or self.room.archive, *words, **how)
+        self.servers.append(server)
         self.addCleanup(self.ended, server)
         return server
 
     def ended(self, server: Server) -> None:
         if server.process.poll() is None:
             same("status of the server", server.end(), 0)
-        same("rooms that are left", os.listdir(temporary(self.folder)), [])
+        if all(one.process.poll() is not None for one in self.servers):
+            same("rooms that are left", os.listdir(temporary(self.folder)), [])
         self.assertNotIn("Traceback", server.said())
 
     def tool(self, name: str, *words: Any) -> Ended:

@@ -80,14 +80,14 @@ def refuse_candidates(number: str, kind: str, found: Members) -> None:
 def conditional(segments: Segments, digest: str, is_named: bool) -> Response:
     """The bytes, a range of them, or that the client has them. An answer to a UUID alone may be another one later."""
     size, condition = segments.size(), request.if_range
-    wanted = request.range if not condition.etag or condition.etag == digest else None
-    if condition.date is not None:
-        wanted = None
-    span = wanted.range_for_length(size) if wanted and len(wanted.ranges) == 1 else None
+    is_its = condition.date is None and condition.etag in (None, digest)
+    asked = request.range if is_its else None
+    wanted = asked if asked and asked.units == "bytes" and len(asked.ranges) == 1 else None
+    span = wanted.range_for_length(size) if wanted else None
     if request.if_none_match.contains(digest):
         segments.close()
         response = Response(status=304)
-    elif wanted and len(wanted.ranges) == 1 and span is None:
+    elif wanted and span is None:
         segments.close()
         response = Response(status=416)
         response.headers["Content-Range"] = f"bytes */{size}"

@@ -5,6 +5,7 @@ import os
 import resource
 import socket
 import sys
+import tempfile
 import traceback
 from typing import List, Tuple
 
@@ -48,7 +49,11 @@ def main() -> None:
         for descriptor in (1, 2):
             os.dup2(nothing if descriptor == 1 else log, descriptor)
         is_last = resource.getrusage(resource.RUSAGE_SELF).ru_maxrss > MOST_KEPT or members.get("out_of_memory", False)
-        send(control, {**members, "is_last": is_last}, descriptors)
+        try:
+            send(control, {**members, "is_last": is_last}, descriptors)
+        except OSError:
+            # The server is gone.
+            is_last = True
         for descriptor in descriptors:
             os.close(descriptor)
     # What Python would do at its end was done by then.
@@ -68,6 +73,8 @@ def answered(job: Members, log: int) -> Tuple[Members, List[int]]:
     descriptors: List[int] = []
     try:
         os.chdir(job["room"])
+        # What a kill leaves is removed with the room.
+        tempfile.tempdir = os.environ["TMPDIR"] = job["room"]
         for descriptor, name in ((1, "out"), (2, "err")):
             file = os.open(name, os.O_WRONLY | os.O_CREAT | os.O_TRUNC | os.O_CLOEXEC, 0o600)
             os.dup2(file, descriptor)
