@@ -160,7 +160,7 @@ class Lldb(ServerCase):
         super().setUp()
         installed("curl", "curl")
         text = (TOP / "docs" / "OPERATING.md").read_text(encoding="utf-8")
-        found = re.search(r"^```\n(#!/bin/sh\n.*curl(?:.*\n)+?)```", text, re.M)
+        found = re.search(r"^```\n(#!/bin/sh\n(?:(?!```).*\n)*?.*curl (?:.*\n)+?)```", text, re.M)
         assert found
         self.server = self.serve()
         path = self.folder / "dsymForUUID"
