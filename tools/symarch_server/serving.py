@@ -183,6 +183,9 @@ def serve(app: Flask, site: Site, bound: socket.socket, begun: Callable[[], None
     begun()
     while not ending.has_come():
         wasyncore.loop(timeout=1, map=server._map, use_poll=True, count=1)
+    # Another signal would end what is being ended.
+    for number in (signal.SIGTERM, signal.SIGINT):
+        signal.signal(number, signal.SIG_IGN)
     server.task_dispatcher.shutdown(timeout=1)
 
 
