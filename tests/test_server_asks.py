@@ -143,7 +143,7 @@ class Reports(ServerCase):
 class Escaped(ServerCase):
     """Nothing of a report or a build reaches a page as it is."""
 
-    HOSTILE = "<script>alert(1)</script>\"'&\x1b[31m\u202e"
+    HOSTILE = "<script>alert(1)</script>\"'&\x1b[31m\u202e\ud800\udc41\udfff"
 
     def test_a_report(self) -> None:
         report = json.loads((CRASH / "arm64.ips").read_bytes().partition(b"\n")[2])
@@ -159,6 +159,16 @@ class Escaped(ServerCase):
         came = self.serve().ask("/reports", body, headers={**headers, **HTML})
         same("status", came.status, 200)
         self.is_escaped(came.text)
+
+    def test_a_missing_image(self) -> None:
+        """Its name is kept, and printed as one line."""
+        report = json.loads((CRASH / "arm64.ips").read_bytes().partition(b"\n")[2])
+        report["usedImages"][0].update({"uuid": ABSENT, "name": self.HOSTILE})
+        server = self.serve()
+        came = server.ask("/reports", b'{"app_name":"x"}\n' + json.dumps(report).encode(), headers=HTML)
+        self.is_escaped(came.text)
+        self.is_escaped(server.ask("/missing", headers=HTML).text)
+        same("lines", [line.split(" ")[0] for line in server.ask("/missing").lines], [ABSENT])
 
     def test_names_of_builds_and_symbols(self) -> None:
         named = {**SHOP, "CFBundleIdentifier": "com.<script>alert(1)</script>", "CFBundleVersion": "\"'><b>"}

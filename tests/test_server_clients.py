@@ -147,7 +147,8 @@ class Debuginfod(ServerCase):
     def symbolizer() -> str:
         """An llvm-symbolizer that asks by build ids."""
         names = ["llvm-symbolizer", *(f"llvm-symbolizer-{number}" for number in range(30, 14, -1))]
-        for path in filter(None, map(shutil.which, names)):
+        paths = [path for path in (shutil.which(name) for name in names) if path]
+        for path in paths:
             if b"--build-id" in call([path, "--help"]).out:
                 return path
         raise Without("no llvm-symbolizer that asks by build ids: apt-get install llvm-19")
@@ -216,7 +217,7 @@ class Browser(ServerCase):
         report["threads"][0]["frames"][-1]["symbol"] = self.HOSTILE
         report["procName"] = self.HOSTILE
         path = self.file("hostile.ips", head + b"\n" + json.dumps(report).encode())
-        words = [self.serve().url, CRASH / "arm64.crash", chromium, driver, path, FIRST]
+        words = [self.serve().url, str(CRASH / "arm64.crash"), chromium, driver, str(path), FIRST]
         home = {"HOME": str(self.folder), "XDG_CONFIG_HOME": str(self.folder), "XDG_CACHE_HOME": str(self.folder)}
         came = call([module, "-BI", "-c", BROWSER, *words], environment=home, cwd=self.folder)
         same(came.errors.decode()[-2000:], came.status, 0)

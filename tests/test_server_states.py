@@ -182,6 +182,22 @@ class Clients(LargeCase):
         same("status", server.ask("/status").status, 200)
 
 
+class Busy(ServerCase):
+    """Searches that take long keep nobody else out."""
+
+    def test_searches(self) -> None:
+        slow = self.room.program('[ "$1" = name ] && sleep 4\nulimit -S -v unlimited\nexec $symarch "$@"')
+        server = self.serve("--workers", "2", environment=slow)
+        with ThreadPoolExecutor(40) as threads:
+            came = [threads.submit(server.ask, f"/symbols/_none{number}") for number in range(40)]
+            time.sleep(1)
+            start = time.monotonic()
+            same("another one", server.ask("/reports", REPORT).status, 200)
+            statuses = sorted(one.result().status for one in came)
+        same("statuses", sorted(set(statuses)), [404, 503])
+        self.assertLess(time.monotonic() - start, 40)
+
+
 class Limits(ServerCase):
     """Each answer has so much memory and so many seconds; the server goes on."""
 
@@ -221,7 +237,7 @@ class Limits(ServerCase):
         said = subprocess.run(["ps", "-o", "pid=", "--ppid", str(server.process.pid)], capture_output=True, check=True)
         for number in map(int, said.stdout.split()):
             os.kill(number, signal.SIGKILL)
-        same("then", [server.ask("/reports", REPORT).status for _ in range(3)][1:], [200, 200])
+        same("then", [server.ask("/reports", REPORT).status for _ in range(2)], [200, 200])
 
 
 class Ending(LargeCase):

@@ -1,5 +1,7 @@
 """What comes in by symarch-server: who may add, what is refused, and what a cut or a kill leaves."""
 import base64
+import contextlib
+import http.client
 import os
 import signal
 import socket
@@ -52,8 +54,8 @@ class Uploads(ServerCase):
 
     def test_who_may_not(self) -> None:
         server = self.begin()
-        for headers in ({"X": ""}, bearer("wrong"), bearer(""), {"Authorization": "Bearer"}, {"Authorization": "Basic eDp5"}):
-            came = server.ask("/images/x", GIVEN, "PUT", headers)
+        for word in ("", "Bearer wrong", "Bearer ", "Bearer", "Basic eDp5", f"Digest {TOKEN}"):
+            came = server.ask("/images/x", GIVEN, "PUT", {"Authorization": word} if word else {})
             self.refuses(came, 401, "a token is needed: Authorization: Bearer TOKEN")
         same("found", self.found(), [])
         other = self.serve()
@@ -128,6 +130,9 @@ class Uploads(ServerCase):
         server = self.serve("--uploads", path, before=["/bin/sh", "-c", 'ulimit -f 64; exec "$@"', "sh"])
         came = server.ask("/images/x", bytes(200_000), "PUT", bearer(TOKEN))
         same("status", came.status, 507)
+        # This one does not even reach the disk on its way.
+        with contextlib.suppress(OSError, http.client.HTTPException):
+            self.assertGreaterEqual(server.ask("/images/x", bytes(2_000_000), "PUT", bearer(TOKEN)).status, 500)
         same("status", server.ask("/status").status, 200)
         same("found", self.found(), [])
 
@@ -166,6 +171,9 @@ class Reading(ServerCase):
         same("by its name", server.ask("/status", headers={"Host": "builds.example.com:8080"}).status, 200)
         for name in ("127.0.0.1", "evil.example.com", "builds.example.com.evil", "", "builds.example.com@evil", "a/b"):
             same(name, server.ask("/status", headers={"Host": name}).status, 421)
+        within = {"Sec-Fetch-Site": "cross-site", "Sec-Fetch-Mode": "no-cors", "Host": "builds.example.com"}
+        same("a part of a page of elsewhere", server.ask("/status", headers=within).status, 403)
+        same("a link", server.ask("/status", headers={**within, "Sec-Fetch-Mode": "navigate"}).status, 200)
         other = self.serve()
         for name in ("127.0.0.1", "localhost", f"LOCALHOST:{other.port}"):
             same(name, other.ask("/status", headers={"Host": name}).status, 200)

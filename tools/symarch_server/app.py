@@ -9,10 +9,8 @@ import traceback
 from typing import Any, Dict, List, Optional, cast
 from urllib.parse import urlsplit
 
-from flask import Flask, Response, current_app, g, render_template, request
+from flask import Flask, Request, Response, current_app, g, render_template, request
 from werkzeug.exceptions import HTTPException
-
-from symarch_tools.keeping.screen import shown
 
 from .refusals import Refusal
 from .settings import Settings
@@ -38,6 +36,13 @@ OF_PROFILERS = "/symbolicate/v5"
 TEXT = "text/plain; charset=utf-8"
 
 
+class Asked(Request):
+    """A request. What stands in a form beside files is held in memory."""
+
+    max_form_memory_size = 16_000_000
+    max_form_parts = 20
+
+
 class Sites:
     """The site of each process: a server may fork after the application was made."""
 
@@ -61,10 +66,10 @@ def make_app(settings: Settings) -> Flask:
     from . import building, fetching, profiling, reporting, stating, uploading
 
     app = Flask(__name__)
+    app.request_class = Asked
     app.extensions["symarch"] = Sites(settings)
-    # What stands in a form beside a file; files have caps of their own.
-    app.config["MAX_FORM_MEMORY_SIZE"] = reporting.MOST_PASTED
-    app.url_map.strict_slashes = False
+    # The name of a symbol may have several slashes.
+    app.url_map.strict_slashes = app.url_map.merge_slashes = False
     app.jinja_env.filters["visible"] = visible
     app.jinja_env.globals["version"] = version_text()
     app.before_request(begin)
@@ -85,7 +90,11 @@ def version_text() -> str:
 
 def visible(text: Any) -> str:
     """A text of which each character is seen: others stand as \\x and hex digits."""
-    return "".join(it if it.isprintable() else shown(it) for it in str(text))
+    return "".join(it if it.isprintable() else escaped(it) for it in str(text))
+
+
+def escaped(character: str) -> str:
+    return "".join(f"\\x{byte:02x}" for byte in character.encode(errors="surrogatepass"))
 
 
 # ---- before a request
@@ -118,7 +127,9 @@ def refuse_host() -> None:
 def refuse_origin() -> None:
     """Refuses a page of elsewhere, but for those that may ask for names."""
     origin = request.headers.get("Origin", "").lower()
-    if not origin or is_own(origin):
+    is_within = request.headers.get("Sec-Fetch-Mode", "navigate") != "navigate"
+    is_foreign = request.headers.get("Sec-Fetch-Site") == "cross-site" and is_within
+    if is_own(origin) if origin else not is_foreign:
         return
     if request.path != OF_PROFILERS or origin not in site().settings.origins:
         raise Refusal(403, "a page of another origin may not ask this: --origin says which may")
@@ -175,7 +186,8 @@ def wants_json() -> bool:
 
 
 def text(lines: List[str], status: int = 200) -> Response:
-    return Response("".join(f"{line}\n" for line in lines), status, content_type=TEXT)
+    data = "".join(f"{line}\n" for line in lines).encode(errors="replace")
+    return Response(data, status, content_type=TEXT)
 
 
 def refused(refusal: Refusal) -> Response:

@@ -8,6 +8,7 @@ from flask import Blueprint, Response, jsonify, redirect, render_template, url_f
 from werkzeug.wrappers import Response as Answer
 
 from .app import site, text, wants_json, wants_page
+from .control import OUT
 from .fetching import file_of_room
 from .forms import argument, checked_words, refuse_others, uuid_of
 from .refusals import Refusal
@@ -36,7 +37,7 @@ def builds() -> Page:
     is_json = wants_json()
     with site().rooms.room() as room, builds_in(room, MOST, is_json, words) as work:
         if is_json:
-            return file_of_room(work.path("out"), "application/json")
+            return file_of_room(work.path(OUT), "application/json")
         members = work.members
         return render_template("builds.html", rows=members["rows"], count=members["count"], asked=words, most=MOST)
 
@@ -85,7 +86,7 @@ def symbols(name: str) -> Page:
         if not wants_page():
             if status:
                 raise Refusal(404, "no slice has a symbol of this name")
-            return file_of_room(work.path("out"), "text/plain; charset=utf-8")
+            return file_of_room(work.path(OUT), "text/plain; charset=utf-8")
         lines = work.printed().splitlines()
     rows = [one.groups() for one in map(FOUND.fullmatch, lines[:MOST_FOUND]) if one]
     page = render_template("symbols.html", name=name, rows=rows, count=len(lines))

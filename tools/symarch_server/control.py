@@ -10,6 +10,8 @@ import time
 from typing import Any, Dict, List, Optional, Tuple
 
 Members = Dict[str, Any]
+# What a word prints, in the room of a job. Nothing that comes in has such a name.
+OUT, ERR = ".out", ".err"
 CHUNK, MOST_DESCRIPTORS = 1 << 16, 8
 
 

@@ -33,10 +33,17 @@ def sent(segments: Segments, content_type: str, status: int = 200, length: Optio
 
 def file_of_room(path: str, content_type: str) -> Response:
     """An answer of a file, which may be removed before it is sent."""
-    segments = Segments()
-    descriptor = os.open(path, os.O_RDONLY | os.O_CLOEXEC)
-    segments.add_file(descriptor, 0, os.fstat(descriptor).st_size)
+    size = os.stat(path).st_size
+    segments = counted(size)
+    segments.add_file(os.open(path, os.O_RDONLY | os.O_CLOEXEC), 0, size)
     return sent(segments, content_type)
+
+
+def counted(size: int) -> Segments:
+    """Bytes of files of a room, which are counted until they are sent."""
+    here = site()
+    here.begin_sending(size)
+    return Segments(lambda: here.end_sending(size))
 
 
 # ---- slices
@@ -132,7 +139,7 @@ def refuse_bundle(number: str, found: Members, printed: List[str], said: List[st
 
 
 def tar_of(room: str, pieces: List[Members]) -> Segments:
-    made = Segments()
+    made = counted(sum(piece["bytes"] for piece in pieces))
     for piece in pieces:
         made.add(bytes.fromhex(piece["head"]))
         if piece["path"] is not None:

@@ -18,7 +18,7 @@ from symarch_tools.keeping.screen import Failed, Screen, shown, unshown
 from symarch_tools.reports.archives import with_levels
 from symarch_tools.reports.kept import Kept, Slice, digest_of, key_in
 
-from .control import Members
+from .control import OUT, Members
 
 DSYM, IMAGE = "debuginfo", "executable"
 # How files that `get` made stand in a tar.
@@ -60,7 +60,7 @@ def builds(job: Members, _: List[int]) -> Members:
 def write_builds(found: Sequence[Listed], screen: Screen) -> None:
     """The objects of `list --json`, as an array."""
     end = {"builds": len(found), "faults": screen.faults, "status": screen.status(0 if found else 1)}
-    with open("out", "w", encoding="utf-8") as file:
+    with open(OUT, "w", encoding="utf-8") as file:
         file.write("[")
         file.writelines(f"{encoded({'type': 'build', **one.members()})},\n" for one in found)
         file.write(f"{encoded({'type': 'end', **end})}]\n")

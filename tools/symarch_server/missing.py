@@ -36,6 +36,11 @@ class Row(NamedTuple):
     last: str
 
 
+def text_of(name: str) -> str:
+    """A name as a database may have it."""
+    return name[:MOST_OF_NAME].encode(errors="replace").decode()
+
+
 class Missing:
     """The file beside an archive. Whoever may not write it remembers nothing, and answers all the same."""
 
@@ -60,7 +65,7 @@ class Missing:
         some = list(images.items())[:MOST_OF_REPORT]
         try:
             with self.opened() as connection:
-                connection.executemany(ADD, [(number, name[:MOST_OF_NAME], day, day) for number, name in some])
+                connection.executemany(ADD, [(number, text_of(name), day, day) for number, name in some])
                 connection.execute(BOUND, (MOST,))
             self.fault = None
         except sqlite3.Error as error:

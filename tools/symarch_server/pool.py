@@ -10,6 +10,7 @@ import signal
 import socket
 import subprocess
 import sys
+import threading
 from typing import List, NamedTuple, Optional, Tuple
 
 from .control import Members, encoded, receive
@@ -58,6 +59,9 @@ class Worker:
             raise Ended("the work passed its limits of memory or time, and was ended")
         return answer
 
+    def has_ended(self) -> bool:
+        return self.process.poll() is not None
+
     def end(self) -> None:
         """Ends it, and what it called."""
         self.control.close()
@@ -67,38 +71,54 @@ class Worker:
 
 
 class Pool:
-    """So many workers with the same limits."""
+    """So many workers with the same limits, for which so many more requests wait."""
 
-    def __init__(self, count: int, limits: Limits, wait: float = MOST_WAIT) -> None:
+    def __init__(self, count: int, limits: Limits, most_waiting: int, wait: float = MOST_WAIT) -> None:
         self.limits, self.wait, self.is_ended = limits, wait, False
-        # The one that worked last works next: its files are known.
-        self.idle: queue.LifoQueue[Worker] = queue.LifoQueue()
+        self.asking = threading.BoundedSemaphore(count + most_waiting)
+        # The one that worked last works next: its files are known. None stands for one that could not be begun.
+        self.idle: queue.LifoQueue[Optional[Worker]] = queue.LifoQueue()
         for _ in range(count):
             self.idle.put(Worker(limits))
 
     def ask(self, job: Members) -> Tuple[Members, List[int]]:
         """What a worker answers, once one is free."""
+        if not self.asking.acquire(blocking=False):
+            raise Busy()
         try:
-            worker = self.idle.get(timeout=self.wait)
+            return self.ask_one(self.idle.get(timeout=self.wait), job)
         except queue.Empty:
             raise Busy() from None
+        finally:
+            self.asking.release()
+
+    def ask_one(self, worker: Optional[Worker], job: Members) -> Tuple[Members, List[int]]:
+        """What a worker answers, or its successor if it has ended. One of them is idle again after this."""
         is_good = False
         try:
+            if worker is None or worker.has_ended():
+                worker = self.successor(worker)
+            if worker is None:
+                raise Busy()
             answer = worker.ask(job)
             is_good = not answer[0].pop("is_last", False)
             return answer
         finally:
             self.idle.put(worker if is_good else self.successor(worker))
 
-    def successor(self, worker: Worker) -> Worker:
-        worker.end()
-        return worker if self.is_ended else Worker(self.limits)
+    def successor(self, worker: Optional[Worker]) -> Optional[Worker]:
+        """Ends a worker, and begins another one, if the system lets it."""
+        if worker is not None:
+            worker.end()
+        with contextlib.suppress(OSError):
+            return None if self.is_ended else Worker(self.limits)
+        return None
 
     def end(self) -> None:
         """Ends the workers, also those that work."""
         self.is_ended = True
-        worker: Optional[Worker] = None
         with contextlib.suppress(queue.Empty):
             while True:
                 worker = self.idle.get_nowait()
-                worker.end()
+                if worker is not None:
+                    worker.end()

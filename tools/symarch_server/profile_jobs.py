@@ -10,7 +10,7 @@ from symarch_tools.reports.source_lines import Source
 from symarch_tools.reports.words import Words
 from symarch_tools import symbolicate
 
-from .control import Members
+from .control import OUT, Members
 
 # A UUID, and after it an age, which is 0 for Mach-O.
 DEBUG_ID = re.compile("[0-9A-Fa-f]{32}[0-9A-Fa-f]{0,8}")
@@ -125,7 +125,7 @@ def profile(job: Members, _: List[int]) -> Members:
     archives.look_up(asking.images.with_frames())
     symbolicate.show_names(Words(["-", job["archive"]], None), archives.names, archives.chains.names)
     results = [one.answer(asking.frames, offsets) for one in stacks]
-    with open("out", "w", encoding="utf-8", errors="replace") as made:
+    with open(OUT, "w", encoding="utf-8", errors="replace") as made:
         json.dump({"results": results}, made)
     named = sum(frames_named(asking.frames))
     return {"status": 0, "named": named, "every": len(asking.frames)}

@@ -4,6 +4,7 @@ from __future__ import annotations
 from flask import Blueprint, Response, request
 
 from .app import OF_PROFILERS, site
+from .control import OUT
 from .fetching import file_of_room
 from .forms import refuse_others
 from .refusals import Refusal
@@ -26,7 +27,7 @@ def symbolicate() -> Response:
                 raise Refusal(400, work.members["bad"])
             named = work.members["named"]
             site().metrics.add_frames({"profiled": named, "profiled_not_named": work.members["every"] - named})
-            return allowed(file_of_room(work.path("out"), "application/json"))
+            return allowed(file_of_room(work.path(OUT), "application/json"))
 
 
 def allowed(response: Response) -> Response:

@@ -13,7 +13,11 @@ from symarch_tools.reports.streams import noted
 from symarch_tools.reports.words import Words, is_archive
 
 from .control import Members
+from .missing import MOST_OF_REPORT
 from .report_pages import blocks_of
+
+# So many images stand on a page.
+MOST_IMAGES = 1_000
 
 
 def report(job: Members, _: List[int]) -> Members:
@@ -31,14 +35,16 @@ def report(job: Members, _: List[int]) -> Members:
         return {"status": int(status), "refused": "; ".join(noted) or f"{name}: no report"}
     sys.stdout.flush()
     found = reader.found[0]
-    images = [members_of(image) for image in found.images.with_frames()]
-    missing = {str(number): its for number, its in symbolicate.missing_in([found]).items()}
-    answer = {"status": int(status), "frames": vars(found.count()), "images": images, "missing": missing}
-    return {**answer, "faults": list(noted), "page": page(found) if job["is_page"] else None}
+    count = found.count()
+    missing = list(symbolicate.missing_in([found]).items())[:MOST_OF_REPORT]
+    answer = {"status": int(status), "frames": vars(count), "missing": {str(it): name for it, name in missing}}
+    return {**answer, "page": {**page(found), "account": count.text()} if job["is_page"] else None}
 
 
 def page(found: Report) -> Members:
-    """What stands on a page: the blocks of the report, and what its counts say."""
+    """What stands on a page: the blocks of the report, what answered for its images, and what is wrong with it."""
     pieces = (piece for part in found.parts for piece in part.pieces())
     blocks, is_cut = blocks_of(pieces)
-    return {"blocks": blocks, "is_cut": is_cut, "account": found.count().text()}
+    images = found.images.with_frames()
+    some = [members_of(image) for image in images[:MOST_IMAGES]]
+    return {"blocks": blocks, "is_cut": is_cut, "images": some, "count": len(images), "faults": list(noted)}

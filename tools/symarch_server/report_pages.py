@@ -11,8 +11,8 @@ from symarch_tools.reports.text_report import CRASH, EXCEPTION, NO_NAME, frames_
 from .control import Members
 
 # So many bytes of a report stand on a page, and no longer lines.
-MOST_OF_PAGE, MOST_OF_LINE = 2 << 20, 2_000
-THREAD = re.compile(rb"Thread \S+.*?:.*|" + re.escape(EXCEPTION) + rb":.*")
+MOST_OF_PAGE, MOST_OF_LINE = 1 << 19, 2_000
+THREAD = re.compile(rb"Thread \S[^:]*:.*|" + re.escape(EXCEPTION) + rb":.*")
 # A heading before that of the thread itself, as older reports have it.
 NAME = re.compile(r"Thread \S+ name:\s*")
 STATE, IMAGES = re.compile(rb"Thread \S+ crashed with .*"), re.compile(rb"\s*Binary Images:")

@@ -7,6 +7,7 @@ from typing import IO, Any, Dict, List, Union
 from flask import Blueprint, Response, render_template, request
 
 from .app import site, wants_page
+from .control import OUT
 from .fetching import file_of_room
 from .forms import file_name, flags_of
 from .refusals import Refusal
@@ -14,8 +15,8 @@ from .site import Work
 
 routes = Blueprint("reporting", __name__)
 OPTIONS = ("text", "paths", "no-lines", "json", "raw", "no-demangle")
-# How long a report may be, and one that is pasted into the page.
-MOST, MOST_PASTED = 64_000_000, 16_000_000
+# How long a report may be.
+MOST = 64_000_000
 OTHERWISE = "report"
 CHUNK = 1 << 20
 MEMBERS = {False: "text/plain; charset=utf-8", True: "application/x-ndjson"}
@@ -44,7 +45,7 @@ def reports() -> Union[str, Response]:
 
 def answer_of(work: Work, is_json: bool) -> Response:
     """The report, with what symbolicate-report says of it in headers."""
-    made = file_of_room(work.path("out"), MEMBERS[is_json])
+    made = file_of_room(work.path(OUT), MEMBERS[is_json])
     made.headers["Symarch-Status"] = str(work.members["status"])
     made.headers["Symarch-Frames"] = " ".join(f"{kind}={count}" for kind, count in work.members["frames"].items())
     return made
@@ -52,14 +53,13 @@ def answer_of(work: Work, is_json: bool) -> Response:
 
 def page_of(name: str, members: Dict[str, Any]) -> str:
     """The page: what answered for each image, those without a dSYM first, and the threads."""
-    missing = members["missing"]
-    images = sorted(members["images"], key=lambda one: (one["uuid"] not in missing, one["name"] or ""))
+    missing, page = members["missing"], members["page"]
+    images = sorted(page.pop("images"), key=lambda one: (one["uuid"] not in missing, one["name"] or ""))
     uuids: Dict[str, List[str]] = {}
     for one in (it for it in images if it["answered_by"] != "absent"):
         uuids.setdefault(one["name"] or "", []).append(one["uuid"])
     links = {its: found[0] for its, found in uuids.items() if len(found) == 1}
-    about = {"name": name, "images": images, "missing": missing, "links": links, "faults": members["faults"]}
-    return render_template("report.html", **about, **members["page"])
+    return render_template("report.html", name=name, images=images, missing=missing, links=links, **page)
 
 
 def without_tool(line: str) -> str:
@@ -91,8 +91,7 @@ def taken(room: str) -> str:
 
 
 def saved(room: str, name: str, stream: IO[bytes], most: int) -> str:
-    """Copies what comes in into a file. Its name is none that a worker writes."""
-    name = f"_{name}" if name in ("out", "err") else name
+    """Copies what comes in into a file."""
     try:
         with open(os.path.join(room, name), "xb") as written:
             size = copied(stream, written, most)

@@ -4,7 +4,7 @@ from __future__ import annotations
 import bisect
 import io
 import os
-from typing import List, NamedTuple, Optional, Union
+from typing import Callable, List, NamedTuple, Optional, Union
 
 
 class Segment(NamedTuple):
@@ -19,8 +19,9 @@ class Segment(NamedTuple):
 class Segments(io.RawIOBase):
     """Bytes one after another. It closes the files at its end."""
 
-    def __init__(self) -> None:
+    def __init__(self, at_end: Callable[[], None] = lambda: None) -> None:
         super().__init__()
+        self.at_end = at_end
         self.parts: List[Segment] = []
         self.ends: List[int] = []
         self.descriptors: List[int] = []
@@ -79,4 +80,5 @@ class Segments(io.RawIOBase):
         if not self.closed:
             for descriptor in self.descriptors:
                 os.close(descriptor)
+            self.at_end()
         super().close()

@@ -31,6 +31,8 @@ AROUND = 100_000
 MOST_HELD = 1 << 30
 # How many connections are open at once, and how long one may be without a sign of life, in seconds.
 MOST_CONNECTIONS, MOST_SILENCE = 2_000, 60
+# So many files are open beside connections.
+OF_ITSELF = 300
 # How long a client may take for a request's head, for its body, and for an upload.
 OF_HEAD, OF_BODY, OF_UPLOAD = 60, 900, 86_400
 MOST_OF_HEAD = 32 << 10
@@ -164,7 +166,7 @@ def serve(app: Flask, site: Site, bound: socket.socket, begun: Callable[[], None
     allow_files()
     adj = Adjustments(
         threads=4 * site.settings.workers + 8,
-        connection_limit=MOST_CONNECTIONS,
+        connection_limit=min(MOST_CONNECTIONS, max(resource.getrlimit(resource.RLIMIT_NOFILE)[0] - OF_ITSELF, 16)),
         channel_timeout=MOST_SILENCE,
         cleanup_interval=5,
         max_request_header_size=MOST_OF_HEAD,

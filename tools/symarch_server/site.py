@@ -13,7 +13,7 @@ from typing import Any, Dict, Iterator, List, NamedTuple, Optional, Sequence, Tu
 
 from symarch_tools.keeping.screen import shown
 
-from .control import Members
+from .control import ERR, OUT, Members
 from .metrics import Metrics
 from .missing import Missing
 from .pool import Busy, Ended, Limits, Pool
@@ -24,6 +24,10 @@ from .tokens import BadTokens, Tokens
 
 # Uploads and searches by name, which read all slices, have workers of their own, and so much more time.
 LONG_WORKERS, LONGER = 2, 10
+# So many requests wait for them, so that others are answered meanwhile; and for the other workers.
+LONG_WAITING, MOST_WAITING = 4, 1_000
+# So many bytes of files that stand in no archive are sent at once, since slow clients have them kept on the disk.
+MOST_SENDING = 16 << 30
 # So much is read of what a word says on standard error.
 MOST_SAID = 100_000
 UPLOADER = Tuple[str, str]
@@ -41,11 +45,11 @@ class Work(NamedTuple):
 
     def said(self) -> List[str]:
         """The lines on standard error."""
-        with open(self.path("err"), "rb") as file:
+        with open(self.path(ERR), "rb") as file:
             return file.read(MOST_SAID).decode(errors="replace").splitlines()
 
     def printed(self) -> str:
-        with open(self.path("out"), "rb") as file:
+        with open(self.path(OUT), "rb") as file:
             return file.read().decode(errors="replace")
 
 
@@ -59,8 +63,10 @@ class Site:
         self.metrics, self.missing = Metrics(), Missing(settings.archive, settings.has_missing)
         self.readers = Tokens(settings.readers) if settings.readers else None
         self.uploads = Tokens(settings.uploads) if settings.uploads else None
-        self.workers = Pool(settings.workers, Limits(settings.memory, settings.seconds))
-        self.long_workers = Pool(LONG_WORKERS, Limits(settings.memory, settings.seconds * LONGER))
+        self.workers = Pool(settings.workers, Limits(settings.memory, settings.seconds), MOST_WAITING)
+        self.long_workers = Pool(LONG_WORKERS, Limits(settings.memory, settings.seconds * LONGER), LONG_WAITING)
+        # How many bytes of files are being sent that stand in no archive.
+        self.sending = 0
         self.lock = threading.Lock()
         atexit.register(self.end)
 
@@ -93,6 +99,17 @@ class Site:
     def keep(self, words: Sequence[str], room: str, is_long: bool = False) -> contextlib.AbstractContextManager[Work]:
         """What comes of words of symarch-keep."""
         return self.work("keep", room, is_long, words=list(words))
+
+    def begin_sending(self, size: int) -> None:
+        """Counts bytes of a file that is sent."""
+        with self.lock:
+            if self.sending and self.sending + size > MOST_SENDING:
+                raise Refusal(503, "others are being sent much: ask again", headers={"Retry-After": "10"})
+            self.sending += size
+
+    def end_sending(self, size: int) -> None:
+        with self.lock:
+            self.sending -= size
 
     # ---- who asks
 
@@ -128,7 +145,8 @@ def refuse_fault(answer: Members) -> None:
 def log(text: str) -> None:
     """Writes a line of the log, which is standard error."""
     with contextlib.suppress(OSError, AttributeError):
-        sys.stderr.write(f"{time.strftime('%Y-%m-%dT%H:%M:%SZ', time.gmtime())} {shown(text)}\n")
+        line = shown(text.encode(errors="replace"))
+        sys.stderr.write(f"{time.strftime('%Y-%m-%dT%H:%M:%SZ', time.gmtime())} {line}\n")
         sys.stderr.flush()
 
 

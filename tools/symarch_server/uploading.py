@@ -6,6 +6,7 @@ import os
 from flask import Blueprint, Response, g, request
 
 from .app import refuse_token, site, token
+from .control import OUT
 from .fetching import file_of_room
 from .forms import argument, file_name, refuse_others
 from .refusals import Refusal
@@ -37,7 +38,7 @@ def images(name: str = "") -> Response:
             status = work.members["status"]
             for line in work.said():
                 log(f"{uploader} {its}: {line}")
-            response = file_of_room(work.path("out"), "application/x-ndjson")
+            response = file_of_room(work.path(OUT), "application/x-ndjson")
             response.status_code = STATUSES.get(status, 503)
             response.headers["Symarch-Status"] = str(status)
             return response

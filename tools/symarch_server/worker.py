@@ -14,7 +14,7 @@ from symarch_tools.reports.faults import Failure, Status
 from symarch_tools.reports.streams import noted
 
 from . import jobs, profile_jobs, report_jobs
-from .control import Members, receive, send
+from .control import ERR, OUT, Members, receive, send
 
 JOBS = {
     "keep": jobs.keep,
@@ -75,7 +75,7 @@ def answered(job: Members, log: int) -> Tuple[Members, List[int]]:
         os.chdir(job["room"])
         # What a kill leaves is removed with the room.
         tempfile.tempdir = os.environ["TMPDIR"] = job["room"]
-        for descriptor, name in ((1, "out"), (2, "err")):
+        for descriptor, name in ((1, OUT), (2, ERR)):
             file = os.open(name, os.O_WRONLY | os.O_CREAT | os.O_TRUNC | os.O_CLOEXEC, 0o600)
             os.dup2(file, descriptor)
             os.close(file)
@@ -102,5 +102,5 @@ def answered(job: Members, log: int) -> Tuple[Members, List[int]]:
 def said() -> str:
     """The last lines that were written on standard error."""
     sys.stderr.flush()
-    with open("err", "rb") as file:
+    with open(ERR, "rb") as file:
         return file.read(10_000).decode(errors="replace").strip()
