@@ -1,0 +1,90 @@
+"""The package of symarch-server: what it has and needs, its manual page and unit, and the server that runs out of
+it."""
+import os
+import re
+import stat
+import subprocess
+from pathlib import Path
+from typing import Dict
+
+from .support.packages import PackageCase, ar_members, needs, ran, said, tar_members
+from .support.program import TOP, symarch
+from .support.servers import SERVES, lifted, python
+
+SOURCES = TOP / "tools" / "symarch_server"
+
+
+class Package(PackageCase):
+    """What is in it."""
+
+    seconds = 20
+    tree: Dict[str, bytes]
+
+    def setUp(self) -> None:
+        super().setUp()
+        parts = ar_members(self.made.files[self.made.server])
+        self.members = tar_members(parts["data.tar.gz"])
+        self.tree = {it.name[len("./usr/") :]: data for it, data in self.members if data is not None}
+        about = {it.name: data.decode() for it, data in tar_members(parts["control.tar.gz"]) if data is not None}
+        self.fields = dict(re.findall(r"^([A-Z][\w-]*): (.*)$", about["./control"], re.M))
+
+    def test_needs(self) -> None:
+        version = self.made.version
+        self.assertEqual((self.fields["Package"], self.fields["Version"]), ("symarch-server", version))
+        self.assertEqual(self.fields["Architecture"], "all")
+        wanted = f"symarch (= {version}), python3 (>= 3.8), python3-flask (>= 2.0), python3-waitress (>= 2.0)"
+        self.assertEqual(self.fields["Depends"], wanted)
+
+    def test_files(self) -> None:
+        """All modules, pages and styles, and nothing of the other package."""
+        every = [path for path in SOURCES.rglob("*") if path.is_file() and "__pycache__" not in path.parts]
+        wanted = {f"lib/symarch/{path.relative_to(TOP / 'tools')}": path.read_bytes() for path in every}
+        found = {name: data for name, data in self.tree.items() if name.startswith("lib/symarch/symarch_server/")}
+        self.assertEqual(sorted(found), sorted(wanted))
+        self.assertEqual([name for name in found if found[name] != wanted[name]], [])
+        self.assertEqual(set(self.tree) & set(self.made.tree("deb")), set())
+        programs = [it.name for it, _ in self.members if it.isfile() and it.mode & stat.S_IXUSR]
+        self.assertEqual(sorted(programs), ["./usr/bin/symarch-server", "./usr/lib/symarch/symarch-server"])
+
+    def test_manual(self) -> None:
+        """It has each route that is served, and each option."""
+        page = self.tree["share/man/man1/symarch-server.1"].decode().replace("\\-", "-")
+        routes = re.findall(r'@routes\.\w+\("([^"<]+)', "".join(it.read_text() for it in SOURCES.glob("*.py")))
+        self.assertGreater(len(routes), 10)
+        for route in {it.rstrip("/") for it in routes} - {"", "/search"}:
+            self.assertIn(route, page)
+        for option in re.findall(r'add_argument\("(--[\w-]+)"', (SOURCES / "settings.py").read_text()):
+            self.assertIn(option, page)
+
+    def test_unit(self) -> None:
+        unit = self.tree["lib/systemd/system/symarch-server.service"].decode()
+        self.assertIn("ExecStart=/usr/bin/symarch-server $SERVES\n", unit)
+        needs("systemd-analyze")
+        path = self.room / "symarch-server.service"
+        path.write_text(unit.replace("/usr/bin/symarch-server", "/bin/true"))
+        done = ran("systemd-analyze", "verify", path)
+        self.assertEqual([it for it in done.stderr.splitlines() if "symarch-server" in it and "Unit" not in it], [])
+
+    def unpacked(self) -> Path:
+        """A folder that has both packages."""
+        folder = self.room / "both"
+        if not folder.exists():
+            needs("dpkg-deb")
+            for name in (self.made.names["deb"], self.made.server):
+                said("dpkg-deb", "--extract", self.made.folder / name, folder)
+        return folder / "usr"
+
+    def test_it_serves(self) -> None:
+        """With the tools of the other package, by the program beside them."""
+        usr, archive = self.unpacked(), self.room / "site.sym"
+        self.assertEqual(said(usr / "bin/symarch-server", "--version"), f"symarch-server {self.made.version}\n")
+        python()
+        said(symarch, "new", archive)
+        words = [str(usr / "bin/symarch-server"), "--listen", "127.0.0.1:0", str(archive)]
+        environment = {**os.environ, "SYMARCH": lifted(self.room)}
+        with subprocess.Popen(words, stdout=subprocess.PIPE, stderr=subprocess.DEVNULL, env=environment) as process:
+            assert process.stdout
+            line = process.stdout.readline().decode()
+            process.terminate()
+        self.assertRegex(line, SERVES)
+        self.assertEqual(process.returncode, 0)
