@@ -78,6 +78,16 @@ class Changing(ServerCase):
             found = server.ask(f"/buildid/{slice_words(made)[0].replace('-', '')}/executable")
             same(f"image {number}", found.body, made)
 
+    def test_no_lock_is_kept(self) -> None:
+        """A word that writes does not wait for what was asked before."""
+        server = self.serve()
+        for path in ("/status", "/metrics", "/builds", "/symbols/_copy_body", f"/builds/{FIRST}/dsym"):
+            same(path, server.ask(path).status, 200)
+        self.room.file("more/one", image(50))
+        said = self.room.add("more")[1]
+        same("said", [line for line in said if "waiting" in line], [])
+        self.room.call("fold", "--all", self.room.archive)
+
     def test_a_month_of_two_sites(self) -> None:
         """East is asked while it adds, retires, exchanges and folds; in the end both have the same, and so it says."""
         dice = random.Random(96)

@@ -8,6 +8,7 @@ import uuid
 from typing import Any, Dict, Iterator, List, NamedTuple, Optional, Sequence, Tuple
 
 from symarch_tools import keep as tool
+from symarch_tools.keeping import lock
 from symarch_tools.keeping.asking import Asked, opened_archive
 from symarch_tools.keeping.builds import UNKNOWN, Build, Lines, Named, field, field_shown
 from symarch_tools.keeping.contents import digest_in
@@ -31,10 +32,13 @@ def words_of_keep(words: Sequence[str]) -> int:
         return tool.carry_out(tool.parse(words))
     except SystemExit as ended:
         return ended.code if isinstance(ended.code, int) else 3
+    finally:
+        lock.close_all()
 
 
 def keep(job: Members, _: List[int]) -> Members:
-    return {"status": words_of_keep(job["words"])}
+    """What comes of words. A process that wrote is not asked again: it keeps what a word has until it ends."""
+    return {"status": words_of_keep(job["words"]), "is_last": job["words"][0] == "add"}
 
 
 # ---- builds

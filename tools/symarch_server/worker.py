@@ -48,7 +48,8 @@ def main() -> None:
         members, descriptors = answered(received[0], log)
         for descriptor in (1, 2):
             os.dup2(nothing if descriptor == 1 else log, descriptor)
-        is_last = resource.getrusage(resource.RUSAGE_SELF).ru_maxrss > MOST_KEPT or members.get("out_of_memory", False)
+        has_grown = resource.getrusage(resource.RUSAGE_SELF).ru_maxrss > MOST_KEPT
+        is_last = has_grown or bool(members.get("is_last") or members.get("out_of_memory"))
         try:
             send(control, {**members, "is_last": is_last}, descriptors)
         except OSError:

@@ -19,6 +19,9 @@ LOCKS, MOST_NAMED = "/proc/locks", 3
 # Of what was called so many bytes are named.
 MOST_OF_CALL = 200
 
+# Those of all locks. A process that carries out several words closes them after each.
+descriptors: List[int] = []
+
 
 class Lock:
     """The lock of an archive of a path."""
@@ -58,6 +61,8 @@ class Lock:
             self.descriptor = opened(self.path, self.writes)
         if self.descriptor is None:
             return False
+        if self.descriptor not in descriptors:
+            descriptors.append(self.descriptor)
         try:
             fcntl.flock(self.descriptor, self.how | fcntl.LOCK_NB)
             return True
@@ -74,6 +79,12 @@ class Lock:
     def release(self) -> None:
         if self.descriptor is not None:
             fcntl.flock(self.descriptor, fcntl.LOCK_UN)
+
+
+def close_all() -> None:
+    """Gives up all locks of this process."""
+    while descriptors:
+        os.close(descriptors.pop())
 
 
 def opened(path: bytes, writes: bool) -> Optional[int]:
