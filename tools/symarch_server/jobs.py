@@ -2,8 +2,10 @@
 name and its room, the folder in which it is carried out."""
 from __future__ import annotations
 
+import math
 import os
 import tarfile
+import time
 import uuid
 from typing import Any, Dict, Iterator, List, NamedTuple, Optional, Sequence, Tuple
 
@@ -22,6 +24,9 @@ from symarch_tools.reports.kept import Kept, Slice, digest_of, key_in
 from .control import OUT, Members
 
 DSYM, IMAGE = "debuginfo", "executable"
+# When slices were compared with their digests, by the state of their file; and for how many seconds that counts.
+compared: Dict[Tuple[object, ...], float] = {}
+REMEMBERED = 60.0
 # How files that `get` made stand in a tar.
 BUNDLES = "got"
 
@@ -169,10 +174,26 @@ def slice_of(job: Members, descriptors: List[int]) -> Members:
         key, one, digest = found[0]
         descriptor = os.open(one.path, os.O_RDONLY | os.O_CLOEXEC)
         descriptors.append(descriptor)
-        with open(descriptor, "rb", closefd=False) as file:
-            if digest_in(file, one.at, one.length) != digest:
-                raise asked.changed(f"{wanted.number} {key_in(key)[1]} {digest.hex()}")
+        if not is_as_it_came(descriptor, one, digest):
+            raise asked.changed(f"{wanted.number} {key_in(key)[1]} {digest.hex()}")
     return {"status": 0, "at": one.at, "bytes": one.length, **candidate(key, one, digest)}
+
+
+def is_as_it_came(descriptor: int, one: Slice, digest: bytes) -> bool:
+    """Whether the bytes of a slice in an open file have its digest. They are not read again within a minute, as for the
+    ranges of one download, unless somebody wrote to the file."""
+    found = os.fstat(descriptor)
+    state = found.st_dev, found.st_ino, found.st_size, found.st_mtime_ns, found.st_ctime_ns, one.at, one.length, digest
+    now = time.monotonic()
+    if now - compared.get(state, -math.inf) < REMEMBERED:
+        return True
+    with open(descriptor, "rb", closefd=False) as file:
+        is_same = digest_in(file, one.at, one.length) == digest
+    if is_same:
+        for other in [it for it, then in compared.items() if now - then >= REMEMBERED]:
+            del compared[other]
+        compared[state] = now
+    return is_same
 
 
 def candidate(key: bytes, _: Slice, digest: bytes) -> Members:
