@@ -79,7 +79,7 @@ def symbols(name: str) -> Page:
     if "\0" in name:
         raise Refusal(400, "a name has no character 0")
     words = ["name", "--", site().settings.archive, name]
-    with site().rooms.room() as room, site().keep(words, room, is_long=True) as work:
+    with site().rooms.room() as room, site().keep(words, room, site().long_workers) as work:
         status, said = work.members["status"], work.said()
         if status not in (0, 1):
             raise Refusal(400 if status == 3 else 503, said[0] if said else "the archive could not be asked", said[1:])

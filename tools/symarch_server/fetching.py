@@ -63,7 +63,7 @@ def slice_of(number: str, kind: str) -> Response:
     refuse_others(["arch", "digest"])
     digest = checked_words({"digest": argument("digest")})["digest"]
     words = {"uuid": number, "kind": kind, "arch": arch_of(argument("arch")), "digest": digest and digest.lower()}
-    with site().rooms.room() as room, site().work("slice", room, False, **words) as work:
+    with site().rooms.room() as room, site().work("slice", room, None, **words) as work:
         refuse_candidates(number, kind, work.members)
         segments = Segments()
         segments.add_file(work.descriptors[0], work.members["at"], work.members["bytes"])
@@ -123,7 +123,7 @@ def dsym(word: str) -> Response:
     for digest in digests:
         checked_words({"digest": digest})
     with site().rooms.room() as room:
-        with site().work("bundle", room, is_long=True, uuid=number, digests=digests) as work:
+        with site().work("bundle", room, site().long_workers, uuid=number, digests=digests) as work:
             refuse_bundle(number, work.members, work.printed().splitlines(), work.said())
             return sent(tar_of(room, work.members["pieces"]), "application/x-tar")
 

@@ -1,5 +1,5 @@
-"""Serves an archive that symarch-keep keeps: reports get names over HTTP, and builds, dSYMs and symbols are asked for
-by browsers, curl, lldb, debuginfod's clients, Symbolicator and profilers.
+"""Serves an archive that symarch-keep keeps over HTTP. Browsers, curl, lldb, clients of debuginfod, Symbolicator and
+profilers get names for reports, and builds, dSYMs and symbols.
 
 Examples:
 

@@ -165,7 +165,7 @@ def serve(app: Flask, site: Site, bound: socket.socket, begun: Callable[[], None
     logging.getLogger("waitress.queue").setLevel(logging.ERROR)
     allow_files()
     adj = Adjustments(
-        threads=4 * site.settings.workers + 8,
+        threads=4 * site.settings.workers + 16,
         connection_limit=min(MOST_CONNECTIONS, max(resource.getrlimit(resource.RLIMIT_NOFILE)[0] - OF_ITSELF, 16)),
         channel_timeout=MOST_SILENCE,
         cleanup_interval=5,

@@ -17,17 +17,19 @@ NAME = "symarch-server"
 LISTEN = re.compile(r"(\[[0-9a-fA-F:.]+\]|[^:\[\]/@\s]+):([0-9]{1,5})")
 ORIGIN = re.compile(r"https?://[^/\s?#@]+")
 MOST_WORKERS, MOST_SECONDS = 256, 86_400
+# The bytes of an upload, and of memory, if nothing else is said.
+OTHERWISE = 4 << 30
 
 LISTEN_HELP = "where it listens; without it 127.0.0.1:8080. Port 0 is any that is free, which is printed"
 HOST_HELP = "a name by which it is asked; without one the address of --listen. It may stand again and again"
 ORIGIN_HELP = "a web page, as https://profiler.firefox.com, that may ask /symbolicate/v5. It may stand again and again"
 READERS_HELP = "who may read: a line NAME SHA256-OF-TOKEN for each; without it everybody who reaches it"
 UPLOADS_HELP = "who may upload, in the same form; without it nobody"
-MOST_HELP = "the largest upload; without it 4G. It may end in k, M, G or T"
+MOST_HELP = "the largest upload; without it 4 GiB. It may end in k, M, G or T"
 MISSING_HELP = "keep no ARCHIVE.missing"
 WORKERS_HELP = "how many answers are worked on at once; without it one for each processor, and 2 at least"
-SECONDS_HELP = "how long an answer may take; without it 60. Uploads and searches by name have ten times that"
-MEMORY_HELP = "how much memory the process of an answer may have; without it 4G"
+SECONDS_HELP = "how long an answer may take; without it 60. Uploads, bundles and searches by name have ten times that"
+MEMORY_HELP = "how much memory the process of an answer may have; without it 4 GiB"
 
 
 @dataclass(frozen=True)
@@ -70,11 +72,11 @@ def parser_of_words(description: Optional[str]) -> Parser:
     parser.add_argument("--origin", metavar="ORIGIN", help=ORIGIN_HELP, **repeated)
     parser.add_argument("--readers", metavar="FILE", help=READERS_HELP)
     parser.add_argument("--uploads", metavar="FILE", help=UPLOADS_HELP)
-    parser.add_argument("--most", metavar="BYTES", default="4G", help=MOST_HELP)
+    parser.add_argument("--most", metavar="BYTES", help=MOST_HELP)
     parser.add_argument("--no-missing", action="store_true", help=MISSING_HELP)
     parser.add_argument("--workers", metavar="N", type=int, default=max(os.cpu_count() or 1, 2), help=WORKERS_HELP)
     parser.add_argument("--seconds", metavar="N", type=int, default=60, help=SECONDS_HELP)
-    parser.add_argument("--memory", metavar="BYTES", default="4G", help=MEMORY_HELP)
+    parser.add_argument("--memory", metavar="BYTES", help=MEMORY_HELP)
     parser.add_argument("--version", action=PrintVersion, nargs=0, help="print the version and exit")
     return parser
 
@@ -89,7 +91,7 @@ def settings_of(words: Sequence[str], description: Optional[str] = None) -> Sett
     asked = parser.parse_args(list(words))
     try:
         address, port = address_of(asked.listen)
-        most, memory = size_in(asked.most), size_in(asked.memory)
+        most, memory = (size_in(word) if word is not None else OTHERWISE for word in (asked.most, asked.memory))
     except Failed as failed:
         parser.error(failed.text)
     fault = fault_of(asked, address)

@@ -22,7 +22,8 @@ from .rooms import Rooms
 from .settings import Settings
 from .tokens import BadTokens, Tokens
 
-# Uploads and searches by name, which read all slices, have workers of their own, and so much more time.
+# Bundles and searches by name, which read all slices, have workers of their own, and so much more time. So have
+# uploads, of which one is added after another.
 LONG_WORKERS, LONGER = 2, 10
 # So many requests wait for them, so that others are answered meanwhile; and for the other workers.
 LONG_WAITING, MOST_WAITING = 4, 1_000
@@ -64,7 +65,8 @@ class Site:
         self.readers = Tokens(settings.readers) if settings.readers else None
         self.uploads = Tokens(settings.uploads) if settings.uploads else None
         self.workers = Pool(settings.workers, Limits(settings.memory, settings.seconds), MOST_WAITING)
-        self.long_workers = Pool(LONG_WORKERS, Limits(settings.memory, settings.seconds * LONGER), LONG_WAITING)
+        longer = Limits(settings.memory, settings.seconds * LONGER)
+        self.long_workers, self.adding = Pool(LONG_WORKERS, longer, LONG_WAITING), Pool(1, longer, LONG_WAITING)
         # How many bytes of files are being sent that stand in no archive.
         self.sending = 0
         self.lock = threading.Lock()
@@ -72,16 +74,16 @@ class Site:
 
     def end(self) -> None:
         """Ends the workers, and removes the rooms."""
-        self.workers.end()
-        self.long_workers.end()
+        for pool in (self.workers, self.long_workers, self.adding):
+            pool.end()
         self.ends.close()
 
     @contextlib.contextmanager
-    def work(self, job: str, room: str, is_long: bool = False, **members: Any) -> Iterator[Work]:
+    def work(self, job: str, room: str, pool: Optional[Pool] = None, **members: Any) -> Iterator[Work]:
         """What a worker answers. What keeps it from that refuses the request."""
-        pool = self.long_workers if is_long else self.workers
+        asked = {"job": job, "room": room, "archive": self.settings.archive, **members}
         try:
-            answer, descriptors = pool.ask({"job": job, "room": room, "archive": self.settings.archive, **members})
+            answer, descriptors = (pool or self.workers).ask(asked)
         except Busy:
             raise Refusal(503, "all workers are busy: ask again", headers={"Retry-After": "10"}) from None
         except Ended as ended:
@@ -96,9 +98,11 @@ class Site:
                     os.close(descriptor)
             raise
 
-    def keep(self, words: Sequence[str], room: str, is_long: bool = False) -> contextlib.AbstractContextManager[Work]:
+    def keep(
+        self, words: Sequence[str], room: str, pool: Optional[Pool] = None
+    ) -> contextlib.AbstractContextManager[Work]:
         """What comes of words of symarch-keep."""
-        return self.work("keep", room, is_long, words=list(words))
+        return self.work("keep", room, pool, words=list(words))
 
     def begin_sending(self, size: int) -> None:
         """Counts bytes of a file that is sent."""

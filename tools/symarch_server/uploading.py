@@ -34,7 +34,7 @@ def images(name: str = "") -> Response:
         os.mkdir(os.path.join(room, uploader))
         its = saved(os.path.join(room, uploader), file_name(name or argument("name"), OTHERWISE), request.stream, most)
         words = ["add", "--json", *options, "--", site().settings.archive, f"{uploader}/{its}"]
-        with site().keep(words, room, is_long=True) as work:
+        with site().keep(words, room, site().adding) as work:
             status = work.members["status"]
             for line in work.said():
                 log(f"{uploader} {its}: {line}")
