@@ -13,5 +13,6 @@
 - fresh_root        a system of Debian's essential packages
 - reports           cases over symbolicate-report, and archives of the images of examples/crash
 - packages          what packaging/package makes
+- servers           a server of an archive, and what it answers
 - command_table     the commands of the program and their arguments, by its table
 """

@@ -66,7 +66,7 @@ def slice_of(number: str, kind: str) -> Response:
     with site().rooms.room() as room, site().work("slice", room, None, **words) as work:
         refuse_candidates(number, kind, work.members)
         segments = Segments()
-        segments.add_file(work.descriptors[0], work.members["at"], work.members["bytes"])
+        segments.add_file(work.descriptors.pop(), work.members["at"], work.members["bytes"])
         return conditional(segments, work.members["digest"], bool(digest))
 
 

@@ -35,7 +35,7 @@ UPLOADER = Tuple[str, str]
 
 
 class Work(NamedTuple):
-    """What a worker answered, in its room, and the files that it opened."""
+    """What a worker answered, in its room, and the files that it opened. Who takes one of these closes it."""
 
     members: Members
     room: str
@@ -88,15 +88,12 @@ class Site:
             raise Refusal(503, "all workers are busy: ask again", headers={"Retry-After": "10"}) from None
         except Ended as ended:
             raise Refusal(503, str(ended)) from None
-        kept = list(descriptors)
         try:
             refuse_fault(answer)
             yield Work(answer, room, descriptors)
-        except BaseException:
-            for descriptor in kept:
-                with contextlib.suppress(OSError):
-                    os.close(descriptor)
-            raise
+        finally:
+            for descriptor in descriptors:
+                os.close(descriptor)
 
     def keep(
         self, words: Sequence[str], room: str, pool: Optional[Pool] = None
