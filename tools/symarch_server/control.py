@@ -7,7 +7,7 @@ import json
 import os
 import socket
 import time
-from typing import Any, Dict, List, Optional, Tuple
+from typing import Any, Dict, List, Optional, Sequence, Tuple
 
 Members = Dict[str, Any]
 # What a word prints, in the room of a job. Nothing that comes in has such a name.
@@ -43,9 +43,13 @@ def receive(control: socket.socket, seconds: Optional[float] = None) -> Optional
             pieces.append(data)
         return json.loads(b"".join(pieces)), descriptors
     except BaseException:
-        for descriptor in descriptors:
-            os.close(descriptor)
+        close(descriptors)
         raise
+
+
+def close(descriptors: Sequence[int]) -> None:
+    for descriptor in descriptors:
+        os.close(descriptor)
 
 
 def descriptors_in(level: int, kind: int, data: bytes) -> List[int]:

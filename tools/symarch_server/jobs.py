@@ -105,13 +105,12 @@ class OfUuid:
 
     def answering(self) -> Iterator[Tuple[bytes, Slice, bytes]]:
         """The key of each slice that is not retired, the slice, and its digest, each of them once."""
-        seen = set()
-        for key, slices in sorted(self.kept.slices.items()):
-            for one in slices:
-                digest = one.digest or digest_of(one)
-                if digest not in self.kept.retired.get(key, ()) and (key, digest) not in seen:
-                    seen.add((key, digest))
-                    yield key, one, digest
+        found: Dict[Tuple[bytes, bytes], Slice] = {}
+        for key, one in [(key, one) for key, slices in sorted(self.kept.slices.items()) for one in slices]:
+            digest = one.digest or digest_of(one)
+            if digest not in self.kept.retired.get(key, ()):
+                found.setdefault((key, digest), one)
+        return ((key, one, digest) for (key, digest), one in found.items())
 
     def lines(self) -> Lines:
         """What is known of the builds of its slices."""

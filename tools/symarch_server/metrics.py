@@ -3,6 +3,7 @@ from __future__ import annotations
 
 import threading
 from collections import defaultdict
+from itertools import chain, starmap
 from typing import DefaultDict, Dict, Iterator, List, Mapping, Tuple
 
 # The upper ends of the classes of seconds.
@@ -48,14 +49,11 @@ class Metrics:
         """All, with the numbers that `status` prints of the archive."""
         with self.lock:
             yield from family("symarch_requests_total", "counter", "requests by their route and status")
-            for (route, method, code), count in sorted(self.requests.items()):
-                yield f'symarch_requests_total{{route="{route}",method="{method}",status="{code}"}} {count}'
+            yield from starmap(request_line, sorted(self.requests.items()))
             yield from family("symarch_request_seconds", "histogram", "how long requests took")
-            for route in sorted(self.classes):
-                yield from self.histogram(route)
+            yield from chain.from_iterable(map(self.histogram, sorted(self.classes)))
             yield from family("symarch_frames_total", "counter", "frames of reports by what came of them")
-            for kind, count in sorted(self.frames.items()):
-                yield f'symarch_frames_total{{kind="{kind}"}} {count}'
+            yield from (f'symarch_frames_total{{kind="{kind}"}} {count}' for kind, count in sorted(self.frames.items()))
         for name, about in NUMBERS.items():
             if isinstance(status.get(name), int):
                 yield from family(f"symarch_archive_{name}", "gauge", about)
@@ -67,6 +65,11 @@ class Metrics:
             yield f'symarch_request_seconds_bucket{{route="{route}",le="{most}"}} {count}'
         yield f'symarch_request_seconds_sum{{route="{route}"}} {self.seconds[route]:.6f}'
         yield f'symarch_request_seconds_count{{route="{route}"}} {counts[-1]}'
+
+
+def request_line(key: Tuple[str, str, int], count: int) -> str:
+    route, method, status = key
+    return f'symarch_requests_total{{route="{route}",method="{method}",status="{status}"}} {count}'
 
 
 def family(name: str, kind: str, about: str) -> List[str]:

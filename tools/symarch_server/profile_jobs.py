@@ -1,14 +1,15 @@
 """The names of frames by module and offset, as Mozilla's symbol servers answer them in version 5."""
 from __future__ import annotations
 
+import json
 import re
 from typing import Any, Dict, List, Optional, Tuple
 
+from symarch_tools import symbolicate
 from symarch_tools.reports.archives import Archives
 from symarch_tools.reports.images import NO_IMAGE, Frames, Images
 from symarch_tools.reports.source_lines import Source
 from symarch_tools.reports.words import Words
-from symarch_tools import symbolicate
 
 from .control import OUT, Members
 
@@ -108,8 +109,6 @@ def listed(said: Any, where: str) -> List[Tuple[int, Any]]:
 
 def profile(job: Members, _: List[int]) -> Members:
     """The results of the jobs in a file of the room, which is JSON."""
-    import json
-
     try:
         with open(job["name"], "rb") as file:
             asked = checked(json.load(file), dict, "the body")

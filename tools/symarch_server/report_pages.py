@@ -28,9 +28,8 @@ def blocks_of(pieces: Iterable[bytes]) -> Tuple[List[Members], bool]:
     made: List[Members] = []
     for line in data.splitlines():
         add_line(made, line[:MOST_OF_LINE])
-    for one in made:
-        one["lines"] = without_end(one["lines"])
-    return [one for one in made if one["lines"] or one["kind"] == "thread"], is_cut
+    whole = [{**one, "lines": without_end(one["lines"])} for one in made]
+    return [one for one in whole if one["lines"] or one["kind"] == "thread"], is_cut
 
 
 def without_end(lines: List[Any]) -> List[Any]:

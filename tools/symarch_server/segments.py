@@ -6,6 +6,8 @@ import io
 import os
 from typing import Callable, List, NamedTuple, Optional, Union
 
+from .control import close
+
 
 class Segment(NamedTuple):
     """Bytes: some themselves, or so many of an open file from a place on."""
@@ -78,7 +80,6 @@ class Segments(io.RawIOBase):
 
     def close(self) -> None:
         if not self.closed:
-            for descriptor in self.descriptors:
-                os.close(descriptor)
+            close(self.descriptors)
             self.at_end()
         super().close()

@@ -180,15 +180,19 @@ def serve(app: Flask, site: Site, bound: socket.socket, begun: Callable[[], None
     server = Server(app, {}, _sock=bound, adj=adj, sockinfo=about, bind_socket=False)
     Channel.parser_class = functools.partial(Parser, site, Held())
     ending = Ending(server, site.settings.seconds)
-    for number in (signal.SIGTERM, signal.SIGINT):
-        signal.signal(number, ending.ask)
+    at_signals(ending.ask)
     begun()
     while not ending.has_come():
         wasyncore.loop(timeout=1, map=server._map, use_poll=True, count=1)
     # Another signal would end what is being ended.
-    for number in (signal.SIGTERM, signal.SIGINT):
-        signal.signal(number, signal.SIG_IGN)
+    at_signals(signal.SIG_IGN)
     server.task_dispatcher.shutdown(timeout=1)
+
+
+def at_signals(handler: Any) -> None:
+    """Answers the signals that end the server."""
+    for number in (signal.SIGTERM, signal.SIGINT):
+        signal.signal(number, handler)
 
 
 def allow_files() -> None:

@@ -13,7 +13,7 @@ from typing import Any, Dict, Iterator, List, NamedTuple, Optional, Sequence, Tu
 
 from symarch_tools.keeping.screen import shown
 
-from .control import ERR, OUT, Members
+from .control import ERR, OUT, Members, close
 from .metrics import Metrics
 from .missing import Missing
 from .pool import Busy, Ended, Limits, Pool
@@ -92,8 +92,7 @@ class Site:
             refuse_fault(answer)
             yield Work(answer, room, descriptors)
         finally:
-            for descriptor in descriptors:
-                os.close(descriptor)
+            close(descriptors)
 
     def keep(
         self, words: Sequence[str], room: str, pool: Optional[Pool] = None

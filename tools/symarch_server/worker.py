@@ -14,7 +14,7 @@ from symarch_tools.reports.faults import Failure, Status
 from symarch_tools.reports.streams import noted
 
 from . import jobs, profile_jobs, report_jobs
-from .control import ERR, OUT, Members, receive, send
+from .control import ERR, OUT, Members, close, receive, send
 
 JOBS = {
     "keep": jobs.keep,
@@ -34,9 +34,8 @@ def main() -> None:
     memory, seconds = map(int, sys.argv[2:4])
     control = socket.socket(fileno=os.dup(0))
     nothing = os.open(os.devnull, os.O_RDWR)
-    for descriptor in (0, 1):
-        os.dup2(nothing, descriptor)
     log = os.dup(2)
+    put_standard(nothing, nothing, log)
     resource.setrlimit(resource.RLIMIT_CORE, (0, 0))
     resource.setrlimit(resource.RLIMIT_AS, (memory, resource.getrlimit(resource.RLIMIT_AS)[1]))
     is_last = False
@@ -46,8 +45,7 @@ def main() -> None:
             break
         limit_seconds(seconds)
         members, descriptors = answered(received[0], log)
-        for descriptor in (1, 2):
-            os.dup2(nothing if descriptor == 1 else log, descriptor)
+        put_standard(nothing, nothing, log)
         has_grown = resource.getrusage(resource.RUSAGE_SELF).ru_maxrss > MOST_KEPT
         is_last = has_grown or bool(members.get("is_last") or members.get("out_of_memory"))
         try:
@@ -55,10 +53,15 @@ def main() -> None:
         except OSError:
             # The server is gone.
             is_last = True
-        for descriptor in descriptors:
-            os.close(descriptor)
+        close(descriptors)
     # What Python would do at its end was done by then.
     os._exit(0)
+
+
+def put_standard(*descriptors: int) -> None:
+    """Puts open files in the place of the standard streams."""
+    for place, descriptor in enumerate(descriptors):
+        os.dup2(descriptor, place)
 
 
 def limit_seconds(seconds: int) -> None:
