@@ -214,16 +214,16 @@ class Limits(ServerCase):
 
     def test_seconds(self) -> None:
         slow = self.room.program('[ "$1" = frames ] && exec sleep 60\nulimit -S -v unlimited\nexec $symarch "$@"')
-        server = self.serve("--seconds", "2", environment=slow)
+        server = self.serve("--seconds", "6", environment=slow)
         came = server.ask("/reports", REPORT)
-        self.refuses(came, 503, "the work took more than 2 seconds, and was ended")
+        self.refuses(came, 503, "the work took more than 6 seconds, and was ended")
         same("status", server.ask("/status").status, 200)
 
     def test_what_never_ends(self) -> None:
         """A program that works without end is ended with its worker."""
         spun = 'if [ "$1" = frames ]; then echo $$ >spun.pid; while :; do :; done; fi'
         slow = self.room.program(f'cd {self.folder}\n{spun}\nulimit -S -v unlimited\nexec $symarch "$@"')
-        server = self.serve("--seconds", "2", environment=slow)
+        server = self.serve("--seconds", "6", environment=slow)
         same("status", server.ask("/reports", REPORT).status, 503)
         path = pathlib.Path("/proc", (self.folder / "spun.pid").read_text().strip(), "stat")
         # It may be there as long as nobody asks how it ended.
@@ -248,6 +248,7 @@ class Limits(ServerCase):
         said = subprocess.run(["ps", "-o", "pid=", "--ppid", str(server.process.pid)], capture_output=True, check=True)
         for number in map(int, said.stdout.split()):
             os.kill(number, signal.SIGKILL)
+        time.sleep(1)
         same("then", [server.ask("/reports", REPORT).status for _ in range(2)], [200, 200])
 
 

@@ -42,6 +42,10 @@ def receive(control: socket.socket, seconds: Optional[float] = None) -> Optional
                 return None
             pieces.append(data)
         return json.loads(b"".join(pieces)), descriptors
+    except ConnectionResetError:
+        # It ended before it had read all.
+        close(descriptors)
+        return None
     except BaseException:
         close(descriptors)
         raise

@@ -17,8 +17,8 @@ from .control import Members, encoded, receive
 
 TOOLS = pathlib.Path(__file__).resolve().parent.parent
 BEGIN = "import sys; sys.path.insert(0, sys.argv[1]); from symarch_server.worker import main; main()"
-# How long a request waits for a worker.
-MOST_WAIT = 30
+# How many seconds a request waits for a worker, and a worker may take to begin.
+MOST_WAIT, MOST_TO_BEGIN = 120, 120
 
 
 class Limits(NamedTuple):
@@ -40,7 +40,7 @@ class Worker:
     """A process that works, in a group of its own with what it calls."""
 
     def __init__(self, limits: Limits) -> None:
-        self.limits = limits
+        self.limits, self.has_begun = limits, False
         self.control, its = socket.socketpair()
         with its:
             words = [sys.executable or "/usr/bin/python3", "-BIS", "-c", BEGIN, str(TOOLS), *map(str, limits)]
@@ -49,6 +49,8 @@ class Worker:
     def ask(self, job: Members) -> Tuple[Members, List[int]]:
         """What the worker answers, and the files that it opened."""
         try:
+            # Its limit does not count while it begins.
+            self.has_begun = self.has_begun or receive(self.control, MOST_TO_BEGIN) is not None
             self.control.sendall(encoded(job))
             answer = receive(self.control, self.limits.seconds)
         except socket.timeout:

@@ -38,7 +38,7 @@ def main() -> None:
     put_standard(nothing, nothing, log)
     resource.setrlimit(resource.RLIMIT_CORE, (0, 0))
     resource.setrlimit(resource.RLIMIT_AS, (memory, resource.getrlimit(resource.RLIMIT_AS)[1]))
-    is_last = False
+    is_last = not has_sent(control, {}, [])
     while not is_last:
         received = receive(control)
         if received is None:
@@ -48,14 +48,19 @@ def main() -> None:
         put_standard(nothing, nothing, log)
         has_grown = resource.getrusage(resource.RUSAGE_SELF).ru_maxrss > MOST_KEPT
         is_last = has_grown or bool(members.get("is_last") or members.get("out_of_memory"))
-        try:
-            send(control, {**members, "is_last": is_last}, descriptors)
-        except OSError:
-            # The server is gone.
-            is_last = True
+        is_last = not has_sent(control, {**members, "is_last": is_last}, descriptors) or is_last
         close(descriptors)
     # What Python would do at its end was done by then.
     os._exit(0)
+
+
+def has_sent(control: socket.socket, members: Members, descriptors: List[int]) -> bool:
+    """Sends an answer, or at first that jobs may come, unless the server is gone."""
+    try:
+        send(control, members, descriptors)
+        return True
+    except OSError:
+        return False
 
 
 def put_standard(*descriptors: int) -> None:
