@@ -45,6 +45,12 @@ def backtraces(size: int) -> bytes:
     return f'{{"bug_type":"309"}}\n{json.dumps(document)}'.encode()
 
 
+def pasted(size: int) -> bytes:
+    """Many pasted documents, each after a line of the mail, and then as many bytes of text."""
+    document = f'{{"usedImages":[{{"uuid":"{SPOOL}"}}],"threads":[{{"frames":[{{"imageIndex":0,"imageOffset":1}}]}}]}}'
+    return f"> {document}\nand\n".encode() * (size // 200) + b"a line of the mail\n" * (size // 20)
+
+
 # Reports that took minutes or gigabytes, of about so many bytes, and their lengths.
 HOSTILE: Dict[str, Tuple[Callable[[int], bytes], int]] = {
     "an image with spaces": (lines_of("0x1 - 0x2 ", " ", "x"), 1_000_000),
@@ -57,6 +63,7 @@ HOSTILE: Dict[str, Tuple[Callable[[int], bytes], int]] = {
     "many headings": (lambda size: CRASH + b"-----\nFull Report\n-----\n{no JSON}\n" * (size // 34), 300_000),
     "many escapes": (lambda size: b'{"a":"' + b"\\n" * (size // 2) + b'"}', 1_000_000),
     "many backtraces": (backtraces, 50_000),
+    "many pasted documents": (pasted, 200_000),
     "many images": (lambda size: CRASH + b"".join(b"0 - 1 x <%032x>\n" % it for it in range(1, size // 43)), 300_000),
 }
 # How a report may be printed.
@@ -106,7 +113,8 @@ class Month(ReportCase):
                 self.takes_twice(name)
 
     def test_documents_that_took_minutes(self) -> None:
-        for name in ("many documents", "many brackets", "many keys", "many headings", "many backtraces"):
+        names = "many documents", "many brackets", "many keys", "many headings", "many backtraces", "many pasted documents"
+        for name in names:
             with self.subTest(name):
                 self.takes_twice(name)
 

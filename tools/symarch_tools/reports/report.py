@@ -4,7 +4,7 @@ from __future__ import annotations
 import pathlib
 import re
 import shlex
-from typing import Iterator, List, Optional, Sequence, Tuple, Union
+from typing import Iterator, List, Match, Optional, Sequence, Tuple, Union
 
 from ..escaping import line_shown, shown
 from .encodings import decoded
@@ -99,6 +99,9 @@ class Report:
         self.images = Images()
         self.notes: List[str] = []
         self.faults = 0
+        # The next heading of a full report, once it was looked for: a report may have many parts.
+        self.full: Optional[Match[bytes]] = None
+        self.is_full_known = False
         found = self.read()
         if not any(len(part.frames) for part in found):
             raise self.without_frames(found)
@@ -168,7 +171,7 @@ class Report:
 
     def read_text(self, begin: int, count: int) -> TextReport:
         """The text from a place on, up to a full report, or to pasted JSON; to the end after so many parts."""
-        full = FULL.search(self.data, begin) if count < MOST_PARTS else None
+        full = self.full_after(begin) if count < MOST_PARTS else None
         if count == MOST_PARTS:
             self.note(f"it has more than {MOST_PARTS} parts, and is read as text from {{}} on", begin)
         heading, end = full.span() if full else (len(self.data), len(self.data))
@@ -179,6 +182,12 @@ class Report:
         part.heading = heading
         self.note_cut(part)
         return part
+
+    def full_after(self, begin: int) -> Optional[Match[bytes]]:
+        """The heading of the next full report. The places from which it is looked for ascend."""
+        if not self.is_full_known or (self.full and self.full.start() < begin):
+            self.full, self.is_full_known = FULL.search(self.data, begin), True
+        return self.full
 
     def note_broken(self, broken: Optional[Broken]) -> None:
         if broken and broken.is_cut:
