@@ -12,6 +12,8 @@ from urllib.parse import urlsplit
 from flask import Flask, Request, Response, current_app, g, render_template, request
 from werkzeug.exceptions import HTTPException
 
+from symarch_tools.escaping import line_shown
+
 from .refusals import Refusal
 from .settings import Settings
 from .site import Site, log
@@ -89,12 +91,8 @@ def version_text() -> str:
 
 
 def visible(text: Any) -> str:
-    """A text of which each character is seen: others stand as \\x and hex digits."""
-    return "".join(it if it.isprintable() else escaped(it) for it in str(text))
-
-
-def escaped(character: str) -> str:
-    return "".join(f"\\x{byte:02x}" for byte in character.encode(errors="surrogatepass"))
+    """A text of which each character is seen, as the tools print lines. What UTF-8 has not is a question mark."""
+    return line_shown(str(text)).encode(errors="replace").decode()
 
 
 # ---- before a request

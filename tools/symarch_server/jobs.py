@@ -10,6 +10,7 @@ import uuid
 from typing import Any, Dict, Iterator, List, NamedTuple, Optional, Sequence, Tuple
 
 from symarch_tools import keep as tool
+from symarch_tools.escaping import unshown
 from symarch_tools.keeping import lock
 from symarch_tools.keeping.asking import Asked, opened_archive
 from symarch_tools.keeping.builds import UNKNOWN, Build, Lines, Named, field, field_shown
@@ -17,7 +18,7 @@ from symarch_tools.keeping.contents import digest_in
 from symarch_tools.keeping.json_lines import encoded
 from symarch_tools.keeping.listing import Listed, fits, listed
 from symarch_tools.keeping.packed import DESCRIPTORS
-from symarch_tools.keeping.screen import Failed, Screen, shown, unshown
+from symarch_tools.keeping.screen import Failed, Screen, shown
 from symarch_tools.reports.archives import with_levels
 from symarch_tools.reports.kept import Kept, Slice, digest_of, key_in
 
