@@ -3,17 +3,20 @@ is. Other forms are parsed plainly."""
 import ast
 import collections
 import importlib
+import importlib.util
 import pathlib
 import pkgutil
 import re
 import sys
 import time
+import types
 import unittest
 from typing import Any, Callable, Dict, Iterator, List, Pattern, Tuple, Union
 
 from .support.program import TOP
 
 sys.path.insert(0, str(TOP / "tools"))
+import symarch_server  # noqa: E402
 import symarch_tools  # noqa: E402
 
 Text = Union[bytes, str]
@@ -157,13 +160,50 @@ SAMPLES: Dict[str, Samples] = {
     "reports.tree_lines.END_OF_IMAGE": ("finditer", [
         run("", " + 1)"), run(" + 1)", " "), run("", " + 1) [0x1"), SPACES,
     ]),
+    "server.app.HOST": ("fullmatch", [text_run("", "a"), text_run("[", ":"), text_run("a:", "1"), text_run("", "a:1")]),
+    "server.building.FOUND": ("fullmatch", [
+        text_run("", "0"), text_run(f"{UUID} ", "a "), text_run(f"{UUID} a {DIGEST} ", "("),
+        text_run(f"{UUID} a {DIGEST} 0 (", ") ("),
+    ]),
+    "server.forms.PLAIN": ("sub", [text_run("", "a"), text_run("", "\1")]),
+    "server.forms.HEX": ("fullmatch", [text_run("", "0")]),
+    "server.profile_jobs.DEBUG_ID": ("fullmatch", [text_run("", "0")]),
+    "server.report_pages.THREAD": ("fullmatch", [run("Thread ", "1"), run("Thread 1", ":", ""), run("", "Thread ")]),
+    "server.report_pages.NAME": ("sub", [
+        text_run("", "Thread "), text_run("Thread ", "1"), text_run("Thread 1 name:", " "), text_run("", "Thread 1"),
+    ]),
+    "server.report_pages.STATE": ("match", [run("Thread ", "1"), run("Thread 1", " crashed")]),
+    "server.report_pages.IMAGES": ("match", [SPACES]),
+    "server.report_pages.IS_CRASHED": ("match", [run("Thread ", "1"), run("Thread 1", " ")]),
+    "server.report_pages.OFFSET": ("fullmatch", [text_run("", " + 1"), text_run("", " + "), text_run(" + ", "1")]),
+    "server.report_pages.ANSWER": ("fullmatch", [run("  ", f"{DIGEST} ", "\n"), run("  ", "0")]),
+    "server.settings.LISTEN": ("fullmatch", [text_run("[", ":"), text_run("", "a"), text_run("a:", "1")]),
+    "server.settings.ORIGIN": ("fullmatch", [text_run("https://", "a", "/"), text_run("http", "s")]),
+    "server.tokens.LINE": ("fullmatch", [run("", "a"), run("a", " "), run("a ", "0")]),
+    "server.tokens.PASSED_OVER": ("fullmatch", [SPACES, run("#", "a", "\n")]),
 }
 
 
 def modules() -> Iterator[Any]:
-    """The modules of the tools."""
-    for found in pkgutil.walk_packages(symarch_tools.__path__, "symarch_tools."):
-        yield importlib.import_module(found.name)
+    """The modules of the tools and of the server, but for the one that begins it."""
+    for package in (symarch_tools, symarch_server):
+        for found in pkgutil.walk_packages(package.__path__, f"{package.__name__}."):
+            if found.name != "symarch_server.wsgi":
+                yield module_of(found.name)
+
+
+def module_of(name: str) -> Any:
+    """A module. One whose libraries are not installed has its regular expressions alone."""
+    try:
+        return importlib.import_module(name)
+    except ImportError:
+        made: Any = types.ModuleType(name)
+        found = importlib.util.find_spec(name)
+        made.__file__, made.re = found and found.origin, re
+        for one in tree_of(made).body:
+            if isinstance(one, ast.Assign) and isinstance(one.value, ast.Call) and "'compile'" in ast.dump(one.value):
+                exec(compile(ast.Module([one], []), name, "exec"), vars(made))
+        return made
 
 
 def tree_of(module: Any) -> ast.Module:
@@ -179,7 +219,8 @@ def patterns() -> Dict[str, "Pattern[Any]"]:
         own = {name.id for one in ast.walk(tree) if isinstance(one, ast.Assign)
                for name in ast.walk(one) if isinstance(name, ast.Name) and isinstance(name.ctx, ast.Store)}
         names = [name for name, value in vars(module).items() if isinstance(value, re.Pattern) and name in own]
-        found.update({f"{module.__name__.partition('.')[2]}.{name}": getattr(module, name) for name in names})
+        of = module.__name__.replace("symarch_tools.", "").replace("symarch_", "")
+        found.update({f"{of}.{name}": getattr(module, name) for name in names})
     return found
 
 
@@ -262,3 +303,6 @@ class Patterns(unittest.TestCase):
     def test_of_what_is_printed(self) -> None:
         for begins in ("groups", "named_lines", "readable_header", "pasted", "report"):
             self.grow_slowly(f"reports.{begins}.")
+
+    def test_of_the_server(self) -> None:
+        self.grow_slowly("server.")

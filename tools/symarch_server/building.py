@@ -15,7 +15,6 @@ from .refusals import Refusal
 
 routes = Blueprint("building", __name__)
 Page = Union[str, Response, Answer]
-UUID = re.compile(r"\{?[0-9a-fA-F]{8}-?(?:[0-9a-fA-F]{4}-?){3}[0-9a-fA-F]{12}\}?")
 # So many builds stand on the first page, and on that of all.
 RECENT, MOST = 20, 500
 # A line of `name`.
@@ -67,9 +66,10 @@ def search() -> Answer:
     word = (argument("for") or "").strip()
     if not word:
         return redirect(url_for("building.home"))
-    if UUID.fullmatch(word):
-        return redirect(url_for("building.build", word=word.strip("{}").lower()))
-    return redirect(url_for("building.symbols", name=word))
+    try:
+        return redirect(url_for("building.build", word=uuid_of(word)))
+    except Refusal:
+        return redirect(url_for("building.symbols", name=word))
 
 
 @routes.get("/symbols/<path:name>")

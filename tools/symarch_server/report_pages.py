@@ -19,7 +19,7 @@ STATE, IMAGES = re.compile(rb"Thread \S+ crashed with .*"), re.compile(rb"\s*Bin
 IS_CRASHED = re.compile(rb"Thread \S+ Crashed\b")
 OFFSET = re.compile(r"(.*) \+ ([0-9]{1,20})")
 # The answers of several slices, below a line that has so many.
-ANSWER = re.compile(rb"  (?:[0-9a-f]{64} )+.*")
+ANSWER = re.compile(rb"  [0-9a-f]{64} .*")
 
 
 def blocks_of(pieces: Iterable[bytes]) -> Tuple[List[Members], bool]:
