@@ -12,13 +12,11 @@ from .app import site
 from .control import Members
 from .forms import arch_of, argument, checked_words, hex_uuid_of, refuse_others, uuid_of
 from .refusals import Refusal
-from .segments import Segments
+from .segments import BLOCK, Segments
 
 routes = Blueprint("fetching", __name__)
 BINARY = "application/octet-stream"
 KINDS = "debuginfo", "executable"
-# So many bytes at once, where a server does not send files itself.
-BLOCK = 1 << 18
 TAR_BLOCK, TAR_END = 512, bytes(1024)
 FOR_EVER = "public, max-age=31536000, immutable"
 

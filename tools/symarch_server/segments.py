@@ -4,7 +4,7 @@ from __future__ import annotations
 import bisect
 import io
 import os
-from typing import Callable, List, NamedTuple, Optional, Union
+from typing import Callable, List, NamedTuple, Optional
 
 from .control import close
 
@@ -18,6 +18,10 @@ class Segment(NamedTuple):
     length: int
 
 
+# So much is read at once. Each connection to which a file is sent holds as much.
+BLOCK = 1 << 16
+
+
 class Segments(io.RawIOBase):
     """Bytes one after another. It closes the files at its end."""
 
@@ -28,6 +32,8 @@ class Segments(io.RawIOBase):
         self.ends: List[int] = []
         self.descriptors: List[int] = []
         self.place = 0
+        # What was read last, and where it stands: waitress reads what it sends, and reads again what it sent of it.
+        self.last, self.last_at = b"", 0
 
     def add(self, data: bytes) -> None:
         self.append(Segment(data, -1, 0, len(data)))
@@ -61,22 +67,30 @@ class Segments(io.RawIOBase):
         self.place = max(begin + offset, 0)
         return self.place
 
-    def readinto(self, buffer: Union[bytearray, memoryview]) -> int:  # type: ignore[override]
-        view = memoryview(buffer)
-        if self.place >= self.size() or not len(view):
-            return 0
+    def read(self, size: int = -1) -> bytes:
+        """The next bytes, fewer than are asked for where more than a block is."""
+        begin = self.place - self.last_at
+        if not 0 <= begin < len(self.last):
+            self.last, self.last_at, begin = self.block(), self.place, 0
+        most = len(self.last) if size < 0 else begin + size
+        data = self.last[begin:most]
+        self.place += len(data)
+        return data
+
+    def block(self) -> bytes:
+        """The bytes from here on, so many of them as one read has."""
+        if self.place >= self.size():
+            return b""
         number = bisect.bisect_right(self.ends, self.place)
         part = self.parts[number]
         inside = self.place - (self.ends[number] - part.length)
-        size = min(len(view), part.length - inside)
+        size = min(BLOCK, part.length - inside)
         if part.data is not None:
-            view[:size] = part.data[inside : inside + size]
-        else:
-            size = os.preadv(part.descriptor, [view[:size]], part.at + inside)
-            if not size:
-                raise OSError("a file is shorter than it was")
-        self.place += size
-        return size
+            return part.data[inside : inside + size]
+        data = os.pread(part.descriptor, size, part.at + inside)
+        if not data:
+            raise OSError("a file is shorter than it was")
+        return data
 
     def close(self) -> None:
         if not self.closed:
