@@ -15,7 +15,7 @@ from typing import Callable, Iterator, List, Tuple
 from .support.cases import powerless_over, same
 from .support.made_images import image, slice_words
 from .support.program import TOP, call
-from .support.rooms import levelled
+from .support.rooms import change, levelled
 from .support.servers import CRASH, FIRST, Server, ServerCase, lifted, python
 from .support.sites import Site
 
@@ -77,6 +77,30 @@ class Changing(ServerCase):
             made = image(50 + number, more=bytes(20_000 * (1 + number % 3)))
             found = server.ask(f"/buildid/{slice_words(made)[0].replace('-', '')}/executable")
             same(f"image {number}", found.body, made)
+
+    def test_a_repair(self) -> None:
+        """Bytes that changed are sent to nobody, while they are mended either; then they are as they were."""
+        self.room.call("add", "good.sym", "1", "2")
+        server = self.serve()
+        path = f"/buildid/{HEX}/debuginfo"
+        dsym, wanted = server.ask(path).body, server.ask("/reports", REPORT).body
+        for file in (it for it in self.folder.glob("site.sym*") if dsym in it.read_bytes()):
+            change(file, file.read_bytes().index(dsym) + len(dsym) - 1)
+
+        def slices() -> None:
+            came = server.ask(path)
+            self.assertIn(came.status, (200, 503))
+            if came.status == 200:
+                same("slice", came.body, dsym)
+
+        def report() -> None:
+            same("status", server.ask("/reports", REPORT).status, 200)
+
+        same("changed", server.ask(path).status, 503)
+        with self.asking(server, slices, report) as wrong:
+            self.room.call("repair", self.room.archive, "good.sym")
+        same("what was wrong", wrong, [])
+        same("then", (server.ask(path).body, server.ask("/reports", REPORT).body), (dsym, wanted))
 
     def test_no_lock_is_kept(self) -> None:
         """A word that writes does not wait for what was asked before."""
