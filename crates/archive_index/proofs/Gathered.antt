@@ -5,7 +5,6 @@ use Rattle.std.specs.List.{AllWithin, AllZip}
 use Rattle.std.proofs.lemmas.List.{append-nil, take_all}
 use Rattle.std.proofs.lemmas.Option.{IfSome_then}
 use Rattle.std.proofs.lemmas.List.Elements.{All-from_recursion, AllZip-push, filter_more}
-use Rattle.std.specs.FinSet as set
 use Rattle.archive_core.specs.Content.{Operations, is_admission, with_records}
 use Rattle.archive_core.specs.Part.{is_under}
 use Rattle.archive_core.proofs.Made.{and_right}

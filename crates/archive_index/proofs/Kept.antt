@@ -1,24 +1,22 @@
 -- Entries that are sorted, and kept once each.
-use Rattle.std.proofs.Common.{◌≡◌, ◌↔◌, ℕ, Bool, true, List, map, refl, sym, ap, ◌∙◌, subst}
-use Rattle.std.specs.Ordering.{eq_by_cmp, is_lt}
-use Rattle.std.specs.Cmp.{on_total}
+use Rattle.std.proofs.Common.{◌≡◌, ◌↔◌, ℕ, Bool, true, List, map, ap, ◌∙◌}
+use Rattle.std.specs.Ordering.{eq_by_cmp}
 use Rattle.std.specs.Cmp.Lexicographic.{nat_list_cmp_total}
 use Rattle.std.specs.List.{AllByRecursion, Contains, dedup}
-use Rattle.std.specs.List.Sorted.{IsPermutation, IsSortedBy, IsStrictlySortedBy}
+use Rattle.std.specs.List.Sorted.{IsPermutation}
 use Rattle.std.specs.FinSet as set
-use Rattle.std.specs.FinSet.{contains-from_list}
 use Rattle.std.proofs.lemmas.Cmp.{eq_by_cmp_equiv}
 use Rattle.std.proofs.lemmas.List.Elements.{All-from_recursion, All-contains}
-use Rattle.std.proofs.lemmas.List.Kept.{IsStrictlySortedBy-dedup, Contains-dedup, Contains-from_dedup}
+use Rattle.std.proofs.lemmas.List.Kept.{Contains-dedup, Contains-from_dedup}
 use Rattle.std.proofs.lemmas.List.Sorted.{IsPermutation-map}
 use Rattle.join_core.proofs.Members.{from_list_same}
 use Rattle.join_core.proofs.Merge.{map_dedup, from_list_permuted}
-use Rattle.archive_core.proofs.Members.{in_listing, in_order, ascending_map}
+use Rattle.archive_core.proofs.Members.{in_listing, in_order}
 use Rattle.archive_core.proofs.Taken.{tied_is}
 use Rattle.archive_core.proofs.Made.{bytes_same}
-use Rattle.archive_records.proofs.Contents.{order, along}
+use Rattle.archive_records.proofs.Contents.{order}
 use Rattle.archive_index.specs.Entry.{IsPlacedEntry}
-use Rattle.archive_index.specs.Index.{AreIndexEntries, AreIndexed}
+use Rattle.archive_index.specs.Index.{AreIndexEntries}
 
 -- what is in the set of a list is what is in the list
 pub in_made : (xs : List (List ℕ)) (q : List ℕ) → Contains xs q ↔ (set.contains (set.from_list {R = order} xs) q ≡ true)

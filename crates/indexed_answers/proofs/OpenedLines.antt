@@ -1,5 +1,5 @@
 -- The lines of a table that is opened where a claim says.
-use Rattle.std.proofs.Common.{◌≡◌, ℕ, List, sym, subst, ◌∙◌}
+use Rattle.std.proofs.Common.{ℕ, List, sym, subst, ◌∙◌}
 use Rattle.checked_pages.specs.Pages.{Claim, MayBeStored}
 use Rattle.checked_pages.specs.Standing.{IsRestFrom}
 use Rattle.checked_pages.specs.Views.{ArePagesOf}

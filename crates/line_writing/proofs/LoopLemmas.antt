@@ -1,25 +1,21 @@
 -- Steps of loops over numbers.
-use Rattle.std.proofs.Common.{◌≡◌, ◌≢◌, ℕ, zero, suc, ◌+◌, ◌-◌, ◌<◌, ◌≤◌, ◌^◌, nat_eq, nat_lt, ◌&&◌, Bool, true, false, cond, List, [], ◌∷◌, ◌++◌, map, length}
-use Rattle.std.proofs.Common.{flat_map, reverse, get_or, take, drop, slice_get, Some, refl, sym, ap, ◌∙◌, arith, subst, append_assoc, All, OnErr, Result, Ok}
-use Rattle.std.proofs.Common.{Err, option_map, not}
+use Rattle.std.proofs.Common.{◌≡◌, ◌≢◌, ℕ, zero, suc, ◌+◌, ◌-◌, ◌<◌, ◌≤◌, nat_eq, true, false, cond, List, [], ◌∷◌, ◌++◌, map, length}
+use Rattle.std.proofs.Common.{flat_map, reverse, get_or, take, drop, slice_get, Some, refl, sym, ap, ◌∙◌, arith, subst, append_assoc, All}
+use Rattle.std.proofs.Common.{option_map, not}
 use Rattle.std.specs.Int.{w32, w64, to_be_bytes}
 use Rattle.std.specs.List.{concat}
-use Rattle.std.proofs.lemmas.Bool.{and_parts, eq-eqb, false_from_ne_true, ltb-true, ne_eqb, not-false, not-true}
+use Rattle.std.proofs.lemmas.Bool.{eq-eqb, ne_eqb, not-false, not-true}
 use Rattle.std.proofs.lemmas.List.{append-nil, at_drop_more, drop_all, flat_map_more, nil_from_length, reverse-append, take_more, drop_more, length-append}
 use Rattle.std.proofs.lemmas.List.{take_all, map_more, at_drop_all, get_or-map, length-map}
 use Rattle.std.proofs.lemmas.List.Elements.{All-from_get_or}
-use Rattle.std.proofs.lemmas.List.Folds.{concat-append, list_all-map, list_all_at}
+use Rattle.std.proofs.lemmas.List.Folds.{concat-append}
 use Rattle.std.proofs.lemmas.Option.{get_or_from_slice_get, slice_get-map}
 pub use Rattle.std.proofs.lemmas.Result.{on_ok_weaker}
-use Rattle.source_frames.specs.Frames.{FrameRecord}
-use Rattle.source_frames.specs.FrameViews.{frame_view}
-use Rattle.source_frames.specs.declared.frame.Frame.{Frame}
 use Rattle.line_tables.specs.Numbering.{numbered_after, numbered_with, number_in}
 use Rattle.line_tables.proofs.NumberingLemmas.{after-append}
 use Rattle.line_tables.specs.LineText.{run_bytes, text_rows}
 use Rattle.line_tables.specs.Runs.{RunRecord, runs_after, go_on, upper_half}
-use Rattle.line_writing.specs.Kept.{KeptRecord, numbered_or, location_key_at, callers_of, IsKept, IsLocation, Grows}
-use Rattle.line_writing.specs.Lines.{have_few_lines}
+use Rattle.line_writing.specs.Kept.{KeptRecord, numbered_or, location_key_at, callers_of, IsKept, Grows}
 use Rattle.line_writing.specs.Numbering.{IsNumber}
 use Rattle.line_writing.specs.StepViews.{changed_after, step_starts}
 use Rattle.line_writing.specs.PartBytes.{file_row, file_rows, location_row, location_rows, step_row, texts_at}
@@ -27,7 +23,7 @@ use Rattle.line_writing.specs.WholeText.{head_of, text_of_parts}
 use Rattle.line_writing.specs.declared.keys.LocationKey.{LocationKey}
 use Rattle.line_writing.specs.declared.step.Step.{Step}
 use Rattle.line_writing.specs.declared.keys.FileKey.{FileKey}
-use Rattle.line_writing.proofs.KeptLemmas.{callers_none, callers_step, chain_none, stays}
+use Rattle.line_writing.proofs.KeptLemmas.{callers_none, callers_step, stays}
 use Rattle.line_writing.proofs.FirstUsesLemmas.{at_each, exact_numbers}
 use Rattle.line_writing.proofs.PartLemmas.{callers_are}
 

@@ -1,8 +1,8 @@
 -- What a store has taken, and its least steps.
-use Rattle.std.proofs.Common.{◌≡◌, ℕ, ◌≤◌, nat_eq, Bool, true, false, cond, List, [], ◌∷◌, ◌++◌, map, length, get_or, Option, Some, None, refl, sym, ap, ◌∙◌, inl, inr, arith, subst}
+use Rattle.std.proofs.Common.{◌≡◌, ℕ, ◌≤◌, nat_eq, Bool, true, false, List, [], ◌∷◌, map, length, get_or, Option, Some, None, refl, sym, ap, ◌∙◌, inl, inr, arith, subst}
 use Rattle.std.specs.List.Sorted.{IsNonDecreasingBy, IsPermutation}
 use Rattle.std.proofs.lemmas.Bool.{cases_Bool}
-use Rattle.std.proofs.lemmas.List.{get_or-map, length-map, map-append}
+use Rattle.std.proofs.lemmas.List.{get_or-map, length-map}
 use Rattle.std.proofs.lemmas.List.Elements.{All-cons, All-head, All-tail}
 use Rattle.std.proofs.lemmas.List.Sorted.{All-permutation, IsPermutation-map}
 use Rattle.source_frames.specs.Frames.{FrameRecord}
@@ -10,8 +10,8 @@ use Rattle.line_tables.specs.LineTable.{IsLineTextWithin}
 use Rattle.line_tables.specs.Numbering.{same_chain}
 use Rattle.line_tables.specs.Steps.{StepRecord}
 use Rattle.line_tables.proofs.SameLemmas.{chain_decides}
-use Rattle.line_writing.specs.Kept.{Grows, IsKept, IsLocation, KeptRecord, chain_at}
-use Rattle.line_writing.specs.Lines.{AreLeastSteps, IsWritten, after_step, changes_after, have_few_lines}
+use Rattle.line_writing.specs.Kept.{Grows, IsKept, KeptRecord, chain_at}
+use Rattle.line_writing.specs.Lines.{AreLeastSteps, IsWritten, changes_after}
 use Rattle.line_writing.specs.Located.{IsLocated, StillTells}
 use Rattle.line_writing.specs.StepViews.{HaveLocations, changed_after, step_of}
 use Rattle.line_writing.specs.StoreViews.{taken_steps}
