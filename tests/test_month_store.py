@@ -165,8 +165,11 @@ class Month(RoomCase):
         (self.folder / "link.sym").symlink_to("site.sym.today")
         (self.folder / "elsewhere").symlink_to(".")
         self.room.call("add", self.room.archive, "builds/2")
+        self.room.file("third.sym", archive([image(6)]))
+        (self.folder / "third.sym.today").symlink_to("away.sym")
         for name, place in (
             ("site.sym.today", "site.sym"),
+            ("third.sym.today", "third.sym"),
             ("link.sym", "site.sym"),
             ("elsewhere/site.sym.today", "site.sym"),
             ("other.sym.today", "other.sym"),

@@ -392,11 +392,17 @@ class Archive(Files):
 def refuse_part(path: bytes, place: bytes) -> None:
     """Fails if a path, which leads to a place, names a file that an archive has beside it. A lock beside that would
     make it an archive of its own, and what it has would be lost with the next fold of the other one."""
-    level_of, today_of = archive_of_level(place), archive_of_today(place)
+    level_of, today_of = archive_of_level(place), archive_of_today(place) or archive_of_link(path)
     if level_of is not None:
         raise Failed(f"{shown(path)} is a level of {shown(level_of)}: name that", 3)
     if today_of is not None:
         raise Failed(f"{shown(path)} is the file for what comes in to {shown(today_of)}: name that", 3)
+
+
+def archive_of_link(path: bytes) -> Optional[bytes]:
+    """The path of the archive for which what comes in goes to where a link leads, if the archive is there."""
+    whole = archive_of_today(os.path.abspath(path))
+    return whole if whole is not None and os.path.isfile(whole) else None
 
 
 def refuse_other(path: bytes, place: bytes, is_made: bool) -> None:
