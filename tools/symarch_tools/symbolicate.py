@@ -142,11 +142,10 @@ for each different offset in an image. Both need four times that if the report d
 
 The status is 0; 1 where no frame has one name (with --missing: never); 2 where a REPORT cannot be read or is none of
 these, which prints nothing of it, where a folder has none, where a slice changed, where an archive is not there or is
-cut short, or a file cannot be written; 3 where
-the words are others; 126 where there is no program, or it does not answer as `symarch`; or that of `symarch` where it
-refuses the archive, with its line on standard error. If nobody reads standard output, SIGPIPE ends the tool. Names are
-those of the symbol tables, without the underscore that these put before a name of C, as Apple's reports have them, and
-those of C++, Rust and Swift readable if a demangler is there."""
+cut short, or a file cannot be written; 3 where the words are others; 126 where there is no program, or it does not
+answer as `symarch`; or that of `symarch` where it refuses the archive, with its line on standard error. If nobody reads
+standard output, SIGPIPE ends the tool. Names are those of the symbol tables, without the underscore that these put
+before a name of C, as Apple's reports have them, and those of C++, Rust and Swift readable if a demangler is there."""
 from __future__ import annotations
 
 import os
