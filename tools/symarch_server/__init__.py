@@ -9,6 +9,7 @@ In reading order:
 - pool              the processes that work, and their limits
 - worker            what such a process does
 - jobs              the answers of symarch-keep, and what an archive has of a UUID
+- form_jobs         forms, as browsers send them
 - report_jobs       reports with names
 - report_pages      a report as a page has it
 - profile_jobs      the names of frames by module and offset

@@ -9,10 +9,11 @@ import traceback
 from typing import Any, Dict, List, Optional, cast
 from urllib.parse import urlsplit
 
-from flask import Flask, Request, Response, current_app, g, render_template, request
+from flask import Flask, Response, current_app, g, render_template, request
 from werkzeug.exceptions import HTTPException
 
 from symarch_tools.escaping import line_shown
+from symarch_tools.keeping.screen import system_text
 
 from .refusals import Refusal
 from .settings import Settings
@@ -38,13 +39,6 @@ OF_PROFILERS = "/symbolicate/v5"
 TEXT = "text/plain; charset=utf-8"
 
 
-class Asked(Request):
-    """A request. What stands in a form beside files is held in memory."""
-
-    max_form_memory_size = 16_000_000
-    max_form_parts = 20
-
-
 class Sites:
     """The site of each process: a server may fork after the application was made."""
 
@@ -68,7 +62,6 @@ def make_app(settings: Settings) -> Flask:
     from . import building, fetching, profiling, reporting, stating, uploading
 
     app = Flask(__name__)
-    app.request_class = Asked
     app.extensions["symarch"] = Sites(settings)
     # The name of a symbol may have several slashes.
     app.url_map.strict_slashes = app.url_map.merge_slashes = False
@@ -78,6 +71,7 @@ def make_app(settings: Settings) -> Flask:
     app.after_request(finish)
     app.register_error_handler(Refusal, refused)
     app.register_error_handler(HTTPException, refused_by_http)
+    app.register_error_handler(OSError, failed_by_system)
     app.register_error_handler(Exception, failed)
     for module in (building, reporting, fetching, profiling, uploading, stating):
         app.register_blueprint(module.routes)
@@ -135,7 +129,10 @@ def refuse_origin() -> None:
 
 def is_own(origin: str) -> bool:
     """Whether an origin is of the names of this server, and of the port by which it was asked."""
-    return urlsplit(origin).netloc == request.environ.get("HTTP_HOST", "").lower()
+    try:
+        return urlsplit(origin).netloc == request.environ.get("HTTP_HOST", "").lower()
+    except ValueError:
+        return False
 
 
 def token() -> Optional[str]:
@@ -204,6 +201,12 @@ def refused_by_http(error: HTTPException) -> Response:
         return cast(Response, error.get_response())
     headers = {name: value for name, value in error.get_headers() if name == "Allow"}
     return refused(Refusal(error.code or 500, (error.name or "").lower(), headers=headers))
+
+
+def failed_by_system(error: OSError) -> Response:
+    """What the system has no more of, as room on a disk or open files."""
+    log(f"fault: {request.method} {request.path}: {system_text(error)}")
+    return refused(Refusal(503, f"the server could not do it: {error.strerror}", headers={"Retry-After": "10"}))
 
 
 def failed(error: Exception) -> Response:

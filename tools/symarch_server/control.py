@@ -36,8 +36,10 @@ def receive(control: socket.socket, seconds: Optional[float] = None) -> Optional
     try:
         while not pieces or not pieces[-1].endswith(b"\n"):
             control.settimeout(None if end is None else max(end - time.monotonic(), 0.001))
-            data, more, _, _ = control.recvmsg(CHUNK, socket.CMSG_SPACE(4 * MOST_DESCRIPTORS))
+            data, more, flags, _ = control.recvmsg(CHUNK, socket.CMSG_SPACE(4 * MOST_DESCRIPTORS))
             descriptors += [it for level, kind, its in more for it in descriptors_in(level, kind, its)]
+            if flags & socket.MSG_CTRUNC:
+                raise OSError("no more files may be open")
             if not data:
                 return None
             pieces.append(data)

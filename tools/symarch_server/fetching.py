@@ -82,11 +82,19 @@ def refuse_candidates(number: str, kind: str, found: Members) -> None:
     raise Refusal(409, f"{len(some)} slices answer as {kind} of {number}: {how}", lines)
 
 
+def is_of_range(digest: str) -> bool:
+    """Whether a range is asked of these bytes, and not of others that the client has the beginning of."""
+    try:
+        condition = request.if_range
+    except OverflowError:
+        # A day that no calendar has.
+        return False
+    return condition.date is None and condition.etag in (None, digest)
+
+
 def conditional(segments: Segments, digest: str, is_named: bool) -> Response:
     """The bytes, a range of them, or that the client has them. An answer to a UUID alone may be another one later."""
-    size, condition = segments.size(), request.if_range
-    is_its = condition.date is None and condition.etag in (None, digest)
-    asked = request.range if is_its else None
+    size, asked = segments.size(), request.range if is_of_range(digest) else None
     wanted = asked if asked and asked.units == "bytes" and len(asked.ranges) == 1 else None
     span = wanted.range_for_length(size) if wanted else None
     if request.if_none_match.contains(digest):

@@ -2,6 +2,7 @@
 from __future__ import annotations
 
 import os
+import sys
 from typing import IO, Any, Dict, List, Union
 
 from flask import Blueprint, Response, render_template, request
@@ -18,6 +19,8 @@ OPTIONS = ("text", "paths", "no-lines", "json", "raw", "no-demangle")
 # How long a report may be.
 MOST = 64_000_000
 OTHERWISE = "report"
+# A form in a room, and the report of it, which have names that no report has.
+FORM, OF_FORM = ".form", ".report"
 CHUNK = 1 << 20
 MEMBERS = {False: "text/plain; charset=utf-8", True: "application/x-ndjson"}
 
@@ -79,15 +82,14 @@ def taken(room: str) -> str:
     """Puts the report of a request into a file of a room, and returns its name."""
     if request.mimetype != "multipart/form-data":
         return saved(room, file_name(None, OTHERWISE), request.stream, MOST)
-    for file in request.files.values():
-        if file.filename:
-            return saved(room, file_name(file.filename, OTHERWISE), file.stream, MOST)
-    pasted = next((value for value in request.form.values() if value.strip()), None)
-    if pasted is None:
-        raise Refusal(400, "there is no report: choose a file, or paste one")
-    with open(os.path.join(room, OTHERWISE), "xb") as written:
-        written.write(pasted.encode(errors="replace"))
-    return OTHERWISE
+    body = saved(room, FORM, request.stream, MOST)
+    words = {"content_type": request.content_type, "to": OF_FORM, "libraries": sys.path}
+    with site().work("form", room, name=body, **words) as work:
+        if "bad" in work.members:
+            raise Refusal(work.members["code"], work.members["bad"])
+        name = file_name(work.members["file_name"], OTHERWISE)
+    os.rename(os.path.join(room, OF_FORM), os.path.join(room, name))
+    return name
 
 
 def saved(room: str, name: str, stream: IO[bytes], most: int) -> str:
@@ -100,7 +102,7 @@ def saved(room: str, name: str, stream: IO[bytes], most: int) -> str:
     if not size:
         raise Refusal(400, "the body is empty")
     expected = request.content_length
-    if expected is not None and request.mimetype != "multipart/form-data" and size != expected:
+    if expected is not None and size != expected:
         raise Refusal(400, "the body was cut")
     return name
 

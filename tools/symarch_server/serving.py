@@ -31,8 +31,8 @@ AROUND = 100_000
 MOST_HELD = 1 << 30
 # How many connections are open at once, and how long one may be without a sign of life, in seconds.
 MOST_CONNECTIONS, MOST_SILENCE = 2_000, 60
-# So many files are open beside connections.
-OF_ITSELF = 300
+# So many files are open beside connections, and so many of each: itself, what came in, and what is sent.
+OF_ITSELF, OF_EACH = 300, 3
 # How long a client may take for a request's head, for its body, and for an upload.
 OF_HEAD, OF_BODY, OF_UPLOAD = 60, 900, 86_400
 MOST_OF_HEAD = 32 << 10
@@ -166,7 +166,7 @@ def serve(app: Flask, site: Site, bound: socket.socket, begun: Callable[[], None
     allow_files()
     adj = Adjustments(
         threads=4 * site.settings.workers + 16,
-        connection_limit=min(MOST_CONNECTIONS, max(resource.getrlimit(resource.RLIMIT_NOFILE)[0] - OF_ITSELF, 16)),
+        connection_limit=connections_within(resource.getrlimit(resource.RLIMIT_NOFILE)[0]),
         channel_timeout=MOST_SILENCE,
         cleanup_interval=5,
         max_request_header_size=MOST_OF_HEAD,
@@ -193,6 +193,12 @@ def at_signals(handler: Any) -> None:
     """Answers the signals that end the server."""
     for number in (signal.SIGTERM, signal.SIGINT):
         signal.signal(number, handler)
+
+
+def connections_within(files: int) -> int:
+    """How many connections may be open, where so many files may."""
+    most = MOST_CONNECTIONS if files == resource.RLIM_INFINITY else (files - OF_ITSELF) // OF_EACH
+    return min(MOST_CONNECTIONS, max(most, 16))
 
 
 def allow_files() -> None:

@@ -12,6 +12,8 @@ from symarch_tools.keeping.screen import shown
 
 # The name stands in the log, and in the paths of what is uploaded.
 LINE = re.compile(rb"([A-Za-z0-9_][A-Za-z0-9_-]{0,63})[ \t]+([0-9a-f]{64})")
+# What comes of `printf %s "$TOKEN" | sha256sum` where TOKEN has nothing.
+OF_NOTHING = hashlib.sha256().hexdigest().encode()
 PASSED_OVER = re.compile(rb"[ \t]*(?:#.*)?")
 
 
@@ -43,6 +45,8 @@ class Tokens:
         found = []
         for number, line in enumerate(lines, 1):
             one = LINE.fullmatch(line.strip())
+            if one and one[2] == OF_NOTHING:
+                raise BadTokens(f"{shown(self.path)}: line {number} has the SHA-256 of an empty token")
             if one:
                 found.append((one[1].decode(), one[2]))
             elif not PASSED_OVER.fullmatch(line):

@@ -13,7 +13,7 @@ from symarch_tools.keeping.screen import Failed, system_text
 from symarch_tools.reports.faults import Failure, Status
 from symarch_tools.reports.streams import noted
 
-from . import jobs, profile_jobs, report_jobs
+from . import form_jobs, jobs, profile_jobs, report_jobs
 from .control import ERR, OUT, Members, close, receive, send
 
 JOBS = {
@@ -23,6 +23,7 @@ JOBS = {
     "slice": jobs.slice_of,
     "bundle": jobs.bundle,
     "dsyms": jobs.dsyms,
+    "form": form_jobs.form,
     "report": report_jobs.report,
     "profile": profile_jobs.profile,
 }
