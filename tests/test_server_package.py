@@ -2,12 +2,15 @@
 it."""
 import os
 import re
+import shutil
 import stat
 import subprocess
 from pathlib import Path
 from typing import Dict
 
-from .support.packages import PackageCase, ar_members, needs, ran, said, tar_members
+from .support import fresh_root
+from .support.cases import Without
+from .support.packages import CRASHES, PackageCase, ar_members, needs, ran, said, tar_members
 from .support.program import TOP, symarch
 from .support.servers import SERVES, lifted, python
 
@@ -88,3 +91,44 @@ class Package(PackageCase):
             process.terminate()
         self.assertRegex(line, SERVES)
         self.assertEqual(process.returncode, 0)
+
+
+ASK = """import urllib.request
+url = open("served").read().split()[-1]
+print(urllib.request.urlopen(url + "reports", open("report.crash", "rb").read()).read().decode())
+"""
+SERVE = """symarch-server --listen 127.0.0.1:0 builds.sym >served 2>log &
+for at in $(seq 300); do grep -q http served && break; sleep 0.2; done
+python3 ask; kill $!; wait $!; cat log >&2"""
+
+
+class InRoot(PackageCase):
+    """Both packages in a fresh root that has Flask and waitress of Debian."""
+
+    seconds = 30
+
+    def test_installed(self) -> None:
+        """dpkg installs them, a report is named by HTTP, and nothing is left."""
+        root = str(self.room / "root")
+        os.mkdir(root)
+        try:
+            fresh_root.make(root, "python3-flask", "python3-waitress")
+        except (fresh_root.NotGranted, subprocess.CalledProcessError) as lack:
+            raise Without(f"no fresh root: {lack}") from None
+        home = Path(root, "root")
+        for name in (self.made.names["deb"], self.made.server):
+            shutil.copy(self.made.folder / name, home)
+        shutil.copy(CRASHES / "spool-1.dSYM", home)
+        shutil.copy(CRASHES / "arm64.crash", home / "report.crash")
+        (home / "ask").write_text(ASK)
+        for script, wanted in (
+            ("dpkg -i symarch_*.deb symarch-server_*.deb", ""),
+            ("dpkg -s symarch-server | grep ^Status; dpkg -V symarch-server", "Status: install ok installed\n"),
+            ("symarch-keep add builds.sym spool-1.dSYM", "added"),
+            (SERVE, " copy_body + 12 (spool.c:9)"),
+            ("dpkg -r symarch-server; find /usr /lib -name '*symarch?server*'; echo none", "\nnone\n"),
+        ):
+            done = fresh_root.run(root, script)
+            self.assertEqual(done.returncode, 0, done.stdout + done.stderr)
+            self.assertIn(wanted, done.stdout, done.stderr)
+        self.assertNotIn("symarch_server", done.stdout)

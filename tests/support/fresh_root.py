@@ -39,20 +39,21 @@ def chosen(names: Sequence[str], depends: Dict[str, List[List[str]]], provided: 
     return next((it if it in depends else provided[it] for it in names if it in depends or it in provided), "")
 
 
-def closure() -> List[str]:
-    """The essential packages and Python's, with all that they depend on."""
+def closure(more: Sequence[str]) -> List[str]:
+    """The essential packages, Python's and these, with all that they depend on."""
     rows = [it.split("\t") for it in said(["dpkg-query", "-W", "-f", FIELDS]).splitlines()]
     depends = {name: names_in(text) for name, _, text, _ in rows}
     provided = {one[0]: name for name, _, _, text in rows for one in names_in(text)}
-    left = [name for name, essential, _, _ in rows if essential == "yes"] + ["python3"]
+    left = [name for name, essential, _, _ in rows if essential == "yes"] + ["python3", *more]
     found: Set[str] = set()
     while left:
         name = left.pop()
         if name in depends and name not in found:
             found.add(name)
             left += [chosen(one, depends, provided) for one in depends[name]]
-    if "python3" not in found or "dpkg" not in found:
-        raise NotGranted("the packages dpkg and python3 of Debian are not there")
+    lacking = {"python3", "dpkg", *more} - found
+    if lacking:
+        raise NotGranted(f"these packages of Debian are not there: {' '.join(sorted(lacking))}")
     return sorted(found)
 
 
@@ -66,11 +67,11 @@ def files_of(packages: Iterable[str]) -> List[str]:
     return sorted(it for it in found if os.path.islink(it) or os.path.isfile(it) or os.path.isdir(it))
 
 
-def make(root: str) -> None:
-    """Makes the root. Its packages are those that dpkg is told of."""
+def make(root: str, *more: str) -> None:
+    """Makes the root, which has more packages. Its packages are those that dpkg is told of."""
     if not shutil.which("dpkg-query"):
         raise NotGranted("this is no system of Debian")
-    packages = closure()
+    packages = closure(more)
     listed = "\0".join(it.lstrip("/") for it in files_of(packages)).encode()
     words = ["tar", "-C", "/", "--no-recursion", "--null", "--ignore-failed-read", "-cf", "-", "-T", "-"]
     # What may not be read is of no use to the root's own commands.

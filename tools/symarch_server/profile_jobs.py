@@ -125,7 +125,7 @@ def profile(job: Members, _: List[int]) -> Members:
     symbolicate.show_names(Words(["-", job["archive"]], None), archives.names, archives.chains.names)
     results = [one.answer(asking.frames, offsets) for one in stacks]
     with open(OUT, "w", encoding="utf-8", errors="replace") as made:
-        json.dump({"results": results}, made)
+        made.write(json.dumps({"results": results}))
     named = sum(frames_named(asking.frames))
     return {"status": 0, "named": named, "every": len(asking.frames)}
 
