@@ -1,5 +1,6 @@
 """symarch-server asked by those who want to read elsewhere, to write, or to stop it."""
 import hashlib
+import json
 import os
 import sys
 from concurrent.futures import ThreadPoolExecutor
@@ -22,7 +23,7 @@ class Asked(ServerCase):
         for path in (
             "/../../etc/passwd", "/%2e%2e/%2e%2e/etc/passwd", "/static/../app.py", "/static/..%2fapp.py", "/static/%00",
             "/static/%2fetc%2fpasswd", "/static//etc/passwd", "/builds/..%2f..%2fetc%2fpasswd", "/builds/%00",
-            "/symbols/%00", "/symbols/..%2f..%2fetc%2fpasswd", "/symbols/--help", "/symbols/%ff%fe", "/symbols/a%0d%0ab",
+            "/symbols/%00", "/symbols/..%2f..%2fetc%2fpasswd", "/symbols/--help", "/symbols/%ff", "/symbols/a%0d%0ab",
             f"/buildid/{HEX}%2f..%2f../debuginfo", f"/{HEX[:2]}/..%2f{HEX[2:29]}/debuginfo", "/images/..%2fx",
             f"/buildid/{HEX}/debuginfo?arch=../x", f"/buildid/{HEX}/debuginfo?digest=%00", "/builds?app=%00",
         ):
@@ -35,8 +36,9 @@ class Asked(ServerCase):
 
     def test_origins_that_are_none(self) -> None:
         server = self.serve("--origin", "https://profiler.firefox.com")
-        for origin in ("null", "http://[", "http://]", "http://[::1", "http://\xff", "https://profiler.firefox.com.evil",
-                       "https://profiler.firefox.com:444", "file://", "x" * 9_000):
+        of_a_site = "https://profiler.firefox.com"
+        for origin in ("null", "http://[", "http://]", "http://[::1", "http://\xff", f"{of_a_site}.evil",
+                       f"{of_a_site}:444", "file://", "x" * 9_000):
             for path in ("/status", "/symbolicate/v5"):
                 same(origin[:40], server.ask(path, headers={"Origin": origin}).status, 403)
 
@@ -70,6 +72,17 @@ class Asked(ServerCase):
         same("no boundary", server.ask("/reports", body, headers={"Content-Type": "multipart/form-data"}).status, 400)
         same("after it", server.ask("/reports", body, headers=headers).status, 200)
 
+    def test_names_as_long_as_a_report(self) -> None:
+        """A page has so much of each."""
+        server = self.serve()
+        head, _, rest = (CRASH / "arm64.ips").read_bytes().partition(b"\n")
+        report = json.loads(rest)
+        report["usedImages"][0].update(name="\u202e" * 1_000_000, uuid="4c4c4419-5555-3144-a1d2-4341c97782ff")
+        came = server.ask("/reports", head + b"\n" + json.dumps(report).encode(), headers={"Accept": "text/html"})
+        same("status", came.status, 200)
+        self.assertLess(len(came.body), 500_000)
+        self.assertNotIn("\u202e", came.text)
+
     def test_a_form_that_takes_long(self) -> None:
         """It is ended, and keeps nobody else out meanwhile."""
         server = self.serve("--seconds", "5")
@@ -88,7 +101,8 @@ class Given(ServerCase):
     def test_an_empty_token(self) -> None:
         """A line for it is refused, as it comes of a variable that is not set."""
         path = tokens(self.room, "uploads", {"ci": ""})
-        words = [python(), "-BI", TOP / "tools" / "symarch-server", "--uploads", path, self.room.archive]
+        tool = TOP / "tools" / "symarch-server"
+        words = [python(), "-BI", str(tool), "--uploads", str(path), str(self.room.archive)]
         came = call(words, environment={"SYMARCH": os.environ.get("SYMARCH", "symarch")})
         same("said", (came.status, came.error_lines), (2, [
             f"symarch-server: {path}: line 2 has the SHA-256 of an empty token"]))

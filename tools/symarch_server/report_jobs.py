@@ -14,10 +14,10 @@ from symarch_tools.reports.words import Words, is_archive
 
 from .control import Members
 from .missing import MOST_OF_REPORT
-from .report_pages import blocks_of
+from .report_pages import MOST_OF_LINE, blocks_of
 
-# So many images stand on a page.
-MOST_IMAGES = 1_000
+# So many images and faults stand on a page.
+MOST_IMAGES, MOST_FAULTS = 1_000, 100
 
 
 def report(job: Members, _: List[int]) -> Members:
@@ -37,7 +37,8 @@ def report(job: Members, _: List[int]) -> Members:
     found = reader.found[0]
     count = found.count()
     missing = list(symbolicate.missing_in([found]).items())[:MOST_OF_REPORT]
-    answer = {"status": int(status), "frames": vars(count), "missing": {str(it): name for it, name in missing}}
+    names = {str(it): name[:MOST_OF_LINE] for it, name in missing}
+    answer = {"status": int(status), "frames": vars(count), "missing": names}
     return {**answer, "page": {**page(found), "account": count.text()} if job["is_page"] else None}
 
 
@@ -46,5 +47,11 @@ def page(found: Report) -> Members:
     pieces = (piece for part in found.parts for piece in part.pieces())
     blocks, is_cut = blocks_of(pieces)
     images = found.images.with_frames()
-    some = [members_of(image) for image in images[:MOST_IMAGES]]
-    return {"blocks": blocks, "is_cut": is_cut, "images": some, "count": len(images), "faults": list(noted)}
+    some = [image_of(members_of(image)) for image in images[:MOST_IMAGES]]
+    faults = [line[:MOST_OF_LINE] for line in noted[:MOST_FAULTS]]
+    return {"blocks": blocks, "is_cut": is_cut, "images": some, "count": len(images), "faults": faults}
+
+
+def image_of(members: Members) -> Members:
+    """An image as a page has it, whose texts may be as long as a report."""
+    return {name: text[:MOST_OF_LINE] if isinstance(text, str) else text for name, text in members.items()}
