@@ -86,7 +86,9 @@ print(time.process_time() - began, most() - before)
 
 
 class Month(ReportCase):
-    """A team's month of reports that nobody should have sent."""
+    """A team's month of reports that nobody should have sent. Beside others the times would say less."""
+
+    is_alone = True
 
     def read(self, data: bytes) -> Tuple[float, int]:
         """The processor time that a report takes, and how many bytes of memory it needs."""

@@ -255,8 +255,9 @@ def ratio(pattern: "Pattern[Any]", how: str, made: Callable[[int], Text]) -> flo
 
 
 class Patterns(unittest.TestCase):
-    """By doubled lengths."""
+    """By doubled lengths. Beside others the times would say less."""
 
+    is_alone = True
     seconds = 30
 
     def grow_slowly(self, begins: str) -> None:

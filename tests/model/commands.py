@@ -215,8 +215,9 @@ class Run:
         try:
             symbols = Table(table.take, claim)
             texts = [table_text(symbols, *where) for where in places]
-            # The pages are read anew for lines.
-            lines = Table(table.take, claim).lines() if with_frames else None
+            # The pages are read anew for lines, and the page digests are not.
+            symbols.pages.kept.clear()
+            lines = symbols.lines() if with_frames else None
             if with_frames and lines is None:
                 raise CommandFault(f"index {it.input}", f"NoLines at entry {it.number}")
             frames = [table_frame_lines(symbols.base, lines, *where) if lines else [] for where in places]
