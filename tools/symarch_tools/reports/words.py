@@ -175,9 +175,9 @@ class Words:
             typed = line_shown(shlex.quote(path))
             return f"{shown(path)} is a dSYM: run symarch-keep add builds.sym {typed}, then name builds.sym"
         if len(names) < 2:
-            is_lacking = names and not is_archive(names[0])
-            no_archive = f"there is no archive after {shown(names[0])}"
-            return no_archive if is_lacking else "there is no report before the archive"
+            if names and not is_archive(names[0]):
+                return f"there is no archive after {shown(names[0])}"
+            return "there is no report before the archive"
         command, rest = names[0], names[1:]
         if command in ANSWERING and not os.path.lexists(command):
             last = [name for name in rest if is_archive(name)]
