@@ -2,6 +2,7 @@
 nothing: it prints what `rt ci` prints, and keeps what it was given by its digest."""
 import json
 import os
+import select
 import shutil
 import signal
 import subprocess
@@ -10,7 +11,7 @@ from pathlib import Path
 from typing import Any, Dict, List
 
 from .support.cases import TOP, FolderCase
-from .support.program import lines_of
+from .support.program import MOST_SECONDS, lines_of
 
 BUILD = "packaging/build-program"
 CRATES: Dict[str, List[str]] = {"low": [], "left": ["low"], "right": ["low"], "symarch": ["left", "right"]}
@@ -19,7 +20,7 @@ FROM_NOTHING = "symarch: proving and building the program: twenty to forty-five 
 NOTHING_TO_DO = "symarch: the program is built, and no source is newer"
 WAITS = "symarch: waiting for another run, which proves and builds the program"
 BUILT = "symarch: built after 0 min"
-# It takes a moment for each crate, so that what begins meanwhile comes while it runs.
+# It waits at each crate that is not kept until a file is there, so that what begins meanwhile comes while it runs.
 RT = '''#!/usr/bin/env python3
 import hashlib, os, sys, time
 from pathlib import Path
@@ -38,7 +39,10 @@ for crate in [line.partition(":")[0] for line in open("crates.txt")]:
     if kept.exists():
         print(f"rt: {crate} is kept: it was proved before", flush=True)
         continue
-    time.sleep(float(os.environ.get("PAUSE", "0.1")))
+    for _ in range(6000 if "GATE" in os.environ else 0):
+        if os.path.exists(os.environ["GATE"]):
+            break
+        time.sleep(0.05)
     if "wrong" in text:
         print(f"fn {crate}::two: not proved\\nrt: {crate} NOT PROVED", flush=True)
         print("3 passed, 1 failed")
@@ -67,21 +71,31 @@ class BuildCase(FolderCase):
             self.file(f"top/{path}", (TOP / path).read_bytes()).chmod(0o755)
         self.file("bin/rt", RT).chmod(0o755)
         self.made = self.top / "crates/symarch/out/symarch"
-        self.builds = self.cache / "symarch/builds.json"
+        self.builds, self.gate = self.cache / "symarch/builds.json", self.folder / "gate"
 
     def begin(self, *words: str, script: str = BUILD, **more: str) -> "subprocess.Popen[bytes]":
         """Begins one of the scripts; `more` is of its environment."""
         path = f"{self.folder}/bin:{os.environ['PATH']}"
         environment = {**os.environ, "PATH": path, "ROOM": str(self.folder), "XDG_CACHE_HOME": str(self.cache), **more}
         streams: Dict[str, Any] = {"stdin": subprocess.DEVNULL, "stdout": subprocess.PIPE, "stderr": subprocess.PIPE}
-        return subprocess.Popen([self.top / script, *words], env=environment, **streams)
+        return subprocess.Popen([self.top / script, *words], bufsize=0, env=environment, **streams)
 
-    def ended(self, run: "subprocess.Popen[bytes]", status: int = 0, out: str = "") -> List[str]:
-        """The lines of a run on standard error, after it has ended so."""
+    def said_before(self, wanted: str, *runs: "subprocess.Popen[bytes]") -> List[bytes]:
+        """What some runs say on standard error until one of them says this, which come to their gate meanwhile."""
+        said = {run.stderr: b"" for run in runs if run.stderr}
+        while not any(wanted.encode() in it for it in said.values()):
+            ready = select.select([*said], [], [], MOST_SECONDS)[0]
+            pieces = {it: os.read(it.fileno(), 4096) for it in ready}
+            self.assertTrue(any(pieces.values()), said)
+            said.update({it: said[it] + piece for it, piece in pieces.items()})
+        return [*said.values()]
+
+    def ended(self, run: "subprocess.Popen[bytes]", status: int = 0, out: str = "", before: bytes = b"") -> List[str]:
+        """The lines of a run on standard error, some of which were read before, after it has ended so."""
         with run:
-            printed, said = run.communicate(timeout=60)
+            printed, said = run.communicate(timeout=MOST_SECONDS)
         self.assertEqual((run.returncode, printed.decode()), (status, out), said.decode())
-        return lines_of(said)
+        return lines_of(before + said)
 
     def build(self, first: str, **more: str) -> List[str]:
         """Builds the program, which is as new as its sources then. The first line on standard error is this one."""
@@ -114,8 +128,11 @@ class Time(BuildCase):
     """What the first line says of the time, as more is known."""
 
     def test_from_nothing(self) -> None:
-        lines = self.build(FROM_NOTHING)
-        self.assertIn("symarch: 0 of 4 crates proved after 0 min, now low", lines)
+        run = self.begin(GATE=str(self.gate))
+        (said,) = self.said_before("symarch: 0 of 4 crates proved after 0 min, now low\n", run)
+        self.gate.touch()
+        lines = self.ended(run, before=said)
+        self.assertEqual((lines[0], lines[-1], self.made.exists()), (FROM_NOTHING, BUILT, True))
         self.assertEqual(self.calls(), 1)
         known = self.remembered()
         self.assertEqual({*known["seconds"]}, {*CRATES, "the rest"})
@@ -161,9 +178,13 @@ class AtOnce(BuildCase):
         self.build(FROM_NOTHING)
         self.change("low", "// another\n")
         self.calls()
-        runs = [self.begin(*(["word"] if it == "symarch" else []), script=it, PAUSE="0.25") for it in scripts]
+        gate = str(self.gate)
+        runs = [self.begin(*(["word"] if it == "symarch" else []), script=it, GATE=gate) for it in scripts]
+        said = self.said_before(WAITS, *runs)
+        self.gate.touch()
         outs = {"symarch": "the program: word\n", BUILD: ""}
-        lines = [line for run, it in zip(runs, scripts) for line in self.ended(run, out=outs[it])]
+        ended = [self.ended(run, out=outs[it], before=before) for run, it, before in zip(runs, scripts, said)]
+        lines = [line for it in ended for line in it]
         self.assertEqual((self.calls(), lines.count(WAITS), lines.count(NOTHING_TO_DO)), (1, 1, 1), lines)
 
     def test_two_builds(self) -> None:
@@ -222,10 +243,8 @@ class NotBuilt(BuildCase):
     def test_ended_by_a_signal(self) -> None:
         self.build(FROM_NOTHING)
         self.change("right", "// another\n")
-        run = self.begin(PAUSE="20")
-        assert run.stderr is not None
-        while b"2 of 4 crates proved" not in run.stderr.readline():
-            pass
+        run = self.begin(GATE=str(self.gate))
+        self.said_before("2 of 4 crates proved", run)
         run.send_signal(signal.SIGTERM)
         self.assertEqual(self.ended(run, status=1)[-1], "symarch: interrupted: what was proved is kept")
         pid = (self.folder / "pid").read_text(encoding="utf-8")

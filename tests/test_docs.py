@@ -18,19 +18,11 @@ LISTED = re.compile(r"`((?:examples|tests/fixtures)/[^`]+)` [^`]*?has [0-9]+ byt
 BYTES = re.compile(r"^ *((?:[0-9a-f]{2,} ?)+)", re.M)
 CODE = re.compile(r"`[^`\n]*`")
 LINK = re.compile(r"\]\(([^)\s]+)\)")
-# Files without the word Inner whose words no contract of a public function has.
-INNER = {
-    "archive_core/Beside",
-    "archive_records/Reader",
-    "archive_writing/Copying",
-    "archive_writing/Joining",
-    "macho_symbols/Halving",
-    "macho_symbols/Overlaps",
-    "macho_symbols/SectionNumbers",
-    "record_merge/MergeSteps",
-    "record_merge/Sides",
-    "record_merge/TellingSteps",
-}
+# A public function, up to its body; and a type whose methods stand below.
+PUBLIC = re.compile(r"^( *)pub (?:const )?fn (\w+)(?:.*\n)*?(?:.* )?\{\}?$", re.M)
+METHODS_OF = re.compile(r"^impl(?:<.*?>)? (?:.* for )?(\w+).*\{$", re.M)
+# The crates of which few functions have a clause: they are tests.
+OF_TESTS = ("acceptance", "case_calls", "case_parts")
 # Help and refusals, which have usage lines; and what these have of options.
 HELPS = "crates/acceptance/data/cases/words"
 OPTIONS = re.compile(r"\[OPTIONS\] |--lines |--\w+ <\w+> ")
@@ -82,15 +74,6 @@ class Links(unittest.TestCase):
                 with self.subTest(f"{name_of(document)}: {link}"):
                     self.assertIn((document.parent / path).resolve() if path else document, packed)
 
-    def test_each_file_of_definitions_is_linked(self) -> None:
-        """By PROOFS, but for those that have the words of inner functions."""
-        proofs = text_of("docs/PROOFS.md")
-        for file in sorted(TOP.glob("crates/*/specs/*.antt")):
-            crate, name = file.parent.parent.name, file.stem
-            if name != "Lib" and not name.startswith("Inner") and f"{crate}/{name}" not in INNER:
-                with self.subTest(f"{crate}/{name}"):
-                    self.assertIn(f"(../crates/{crate}/specs/{name}.antt)", proofs)
-
 
 def anchors_of(document: Path) -> Set[str]:
     """The anchors of the headings, as they are made where Markdown is shown."""
@@ -104,6 +87,51 @@ def links_of(document: Path) -> List[str]:
     # What stands between backquotes is no link, but it may be the text of one.
     text = CODE.sub(lambda it: "x" if it.end() < len(text) and text[it.end()] == "]" else "", text)
     return [it for it in LINK.findall(text) if "://" not in it]
+
+
+class Clauses(unittest.TestCase):
+    """PROOFS lists each public function without a clause, and no other, by its crate and its type."""
+
+    def test_functions_without_one(self) -> None:
+        listed = re.findall(r"^\| `(\w+)` \| ((?:`[\w:]+`(?:, )?)+) \|", text_of("docs/PROOFS.md"), re.M)
+        self.assertEqual({crate: re.findall(r"`([\w:]+)`", names) for crate, names in listed}, without_a_clause())
+
+
+def without_a_clause() -> Dict[str, List[str]]:
+    """The public functions whose head has no `ensures`, by their crates."""
+    found_in: Dict[str, List[str]] = {}
+    for path in sorted(TOP.glob("crates/*/src/**/*.rt")):
+        crate = path.relative_to(TOP).parts[1]
+        if crate not in OF_TESTS:
+            found_in.setdefault(crate, []).extend(unpromised(path.read_text(encoding="utf-8")))
+    return {crate: sorted(names) for crate, names in found_in.items() if names}
+
+
+def unpromised(source: str) -> List[str]:
+    types = [(it.start(), it[1]) for it in METHODS_OF.finditer(source)]
+    names = []
+    for public in PUBLIC.finditer(source):
+        if "ensures" not in public[0]:
+            owner = [name for at, name in types if at < public.start()][-1:] if public[1] else []
+            names.append("::".join([*owner, public[2]]))
+    return names
+
+
+class Definitions(unittest.TestCase):
+    """DEFINITIONS has the files of definitions of all crates."""
+
+    def test_page(self) -> None:
+        came = call([TOP / "docs/draw-definitions", "--check"])
+        self.assertEqual(came.status, 0, came.out + came.errors)
+
+    def test_each_file_is_linked(self) -> None:
+        """Apart from those that only inner functions name."""
+        page = text_of("docs/DEFINITIONS.md")
+        for file in sorted(TOP.glob("crates/*/specs/*.antt")):
+            if file.stem != "Lib" and not file.stem.startswith("Inner"):
+                link = f"(../{file.relative_to(TOP)})"
+                with self.subTest(link):
+                    self.assertIn(link, page)
 
 
 class Crates(unittest.TestCase):
@@ -139,10 +167,10 @@ class Commands(unittest.TestCase):
             for name, usage in headings:
                 self.assertEqual(usage, "".join(f" {it.usage()}" for it in self.commands[name]), name)
 
-    def test_words_of_the_manual(self) -> None:
-        """Its table of words has each argument that is a word, paths in one row."""
+    def test_arguments_of_the_manual(self) -> None:
+        """Its table of arguments has each that is no flag, paths in one row."""
         sections = dict(re.findall(r"^## (.*?)\n(.*?)(?=^## |\Z)", text_of("docs/COMMANDS.md"), re.M | re.S))
-        rows = dict(re.findall(r"^\| ([A-Z, ]+) \| (.*) \|$", sections["Words"], re.M))
+        rows = dict(re.findall(r"^\| ([A-Z, ]+) \| (.*) \|$", sections["Arguments"], re.M))
         every = [it for arguments in self.commands.values() for it in arguments if it.count != "Flag"]
         for is_path in (True, False):
             came = [word for words, form in rows.items() if (form == "paths") == is_path for word in words.split(", ")]

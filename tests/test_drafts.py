@@ -17,6 +17,7 @@ from .support.made_images import EMPTY, admission, archive, image, number_uuid, 
 from .support.outs import BEFORE, CANNOT_CREATE, CANNOT_REPLACE, COMMANDS, INPUTS, NOTHING, OUT, RETIRED, WITH_ANOTHER
 from .support.outs import OutCase, digest, mounted, replaced_by, state_of
 from .support.second_lines import ARCHIVE, said_by
+from .support.waits import wait_until
 
 # A run is killed at so many moments, in an order that spreads them. On a slow disk not all have their turn.
 MOMENTS, STEP, MOST_SECONDS = 50, 7, 40
@@ -101,9 +102,7 @@ class Stopped(OutCase):
             # Opened for reading too, it does not wait for the program, and has no end.
             with open(pipe, "r+b", buffering=0) as fed, self.start(["merge", "one.sym", OUT, pipe]) as process:
                 fed.write(INPUTS["two.sym"][:-1])
-                latest = time.monotonic() + 30
-                while not self.drafts() and process.poll() is None and time.monotonic() < latest:
-                    time.sleep(0.005)
+                wait_until(self.drafts, process)
                 meanwhile = state_of(self.out)
                 process.send_signal(number)
                 came = process.communicate()
@@ -198,16 +197,20 @@ class KilledCase(OutCase):
             same("status", self.run_program(words)[0], 0)
             seconds = time.monotonic() - began
             same("digest", digest_of(pieces_in(self.out)), new)
-        came, began = [new], time.monotonic()
-        for number in range(MOMENTS):
-            if came[-1] == new:
+        came, began = new, time.monotonic()
+        # The first moment is an early one, also where the machine is quicker than it was.
+        while came == new:
+            self.out.write_bytes(before)
+            came = self.kill(words, seconds / MOMENTS, (old, new))
+            seconds /= 2 if came == new else 1
+        for number in range(1, MOMENTS):
+            if came == new:
                 self.out.write_bytes(before)
             moment = number * STEP % MOMENTS
-            came.append(self.kill(words, seconds * (moment + 1) / MOMENTS, (old, new)))
+            came = self.kill(words, seconds * (moment + 1) / MOMENTS, (old, new))
             if time.monotonic() - began > MOST_SECONDS:
                 print(f"{words[0]}: killed at {number + 1} of {MOMENTS} moments", file=sys.stderr)
                 break
-        same("what the earliest moment leaves", came[1], old)
 
     def kill(self, words: List[str], seconds: float, digests: Tuple[str, str]) -> str:
         """Kills a run after some seconds, removes its draft, and returns the digest of what is at OUT."""

@@ -5,7 +5,6 @@ import pathlib
 import select
 import signal
 import subprocess
-import time
 from typing import Callable, Collection, Iterator, Optional
 
 from .model.images import Image, parts_of_file, slice_of
@@ -13,6 +12,7 @@ from .support.case_slices import slices_of_cases
 from .support.cases import Wrong, same
 from .support.made_images import archive, image, index, operations, slice_words
 from .support.program import MOST_SECONDS, TOP, symarch
+from .support.waits import wait_until
 from .test_inputs import LIMIT, InputsCase
 
 # How many bytes of a slice are held.
@@ -107,7 +107,9 @@ class Changing(InputsCase):
 
     def test_before(self) -> None:
         """Of a slice that changed before the command a pipe gets no byte."""
-        for change, fault in ((self.change, "Stale at entry 0"), (self.cut, "Stale")):
+        changed = "of an archive in which a slice changed since it came in: run `symarch-keep check` first"
+        other = "not of this archive, of which `index` writes a new one"
+        for change, fault, hint in ((self.change, "Stale at entry 0", changed), (self.cut, "Stale", other)):
             self.put("one.sym", archive([self.made]))
             change()
             os.mkfifo(self.out)
@@ -116,7 +118,8 @@ class Changing(InputsCase):
             same("what came", b"".join(pieces_of(reading)), b"")
             os.close(reading)
             self.out.unlink()
-            same("end", (came.status, came.error_lines[:1]), (2, [f"symarch: index 0: {fault}"]))
+            told = [f"symarch: index 0: {fault}", f"  index 0 is one.idx, {hint}"]
+            same("end", (came.status, came.error_lines), (2, told))
 
     def test_into_a_pipe(self) -> None:
         """A pipe gets first bytes of the slice, and the index is stale."""
@@ -147,7 +150,7 @@ class Changing(InputsCase):
             draft = self.met_draft(process)
             os.kill(process.pid, signal.SIGSTOP)
             # What is under way then ends.
-            time.sleep(0.1)
+            wait_until(lambda: self.state_of(process) in "tTZ")
             is_in_time = draft is not None and draft.exists() and draft.stat().st_size < len(self.made) // 4
             if is_in_time:
                 change()
@@ -159,6 +162,10 @@ class Changing(InputsCase):
                 process.communicate(timeout=MOST_SECONDS)
                 self.out.unlink()
             return is_in_time
+
+    @staticmethod
+    def state_of(process: "subprocess.Popen[bytes]") -> str:
+        return pathlib.Path("/proc", str(process.pid), "stat").read_text().rpartition(") ")[2][0]
 
     def met_draft(self, process: "subprocess.Popen[bytes]") -> Optional[pathlib.Path]:
         """The draft, once it has bytes; None if the program ended before."""

@@ -99,6 +99,24 @@ class Larger(InputsCase):
         """64 MB in 6,400 slices."""
         self.larger([image(number, more=bytes([number % 256]) * 10_000) for number in range(6_400)])
 
+    def test_one_slice(self) -> None:
+        """A slice of 24 MB, the one record that each of these commands holds, needs no more than its length."""
+        made, other = image(1, more=bytes(24 * MEGABYTE)), image(2)
+        self.put("in.sym", archive([made]))
+        self.put("other.sym", archive([other]))
+        self.put("known.sum", summary([other]))
+        for wanted, words in (
+            (archive([made]), ["migrate", "in.sym", "out.sym"]),
+            (archive([made, other]), ["merge", "in.sym", "out.sym", "other.sym"]),
+            (archive([made, other]), ["merge", "other.sym", "out.sym", "in.sym"]),
+            (archive([made]), ["delta", "in.sym", "known.sum", "out.sym"]),
+            (summary([made]), ["summary", "in.sym", "out.sym"]),
+        ):
+            self.writes(wanted, *words, limit=LIMIT)
+        gone = slice_words(other)
+        notes = [f"IN has no slice {' '.join(gone)}"]
+        self.writes(archive([made], retired=[other]), "retire", "in.sym", "out.sym", *gone, notes=notes, limit=LIMIT)
+
 
 class Faulty(InputsCase):
     """Inputs that are faulty together."""

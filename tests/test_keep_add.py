@@ -11,13 +11,14 @@ import signal
 import subprocess
 import sys
 import time
-from typing import Any, Callable, Dict, List, Tuple
+from typing import Any, Dict, List, Tuple
 
 from .support.cases import Without, Wrong, is_done, powerless_over, same
 from .support.made_images import EMPTY, archive, image, line, symbols_outside, thirty_two_bit, universal
 from .support.made_trees import OUTSIDE, passed_over, refused_files, taken_files
-from .support.program import Word, symarch
-from .support.rooms import Room, RoomCase, bytes_of, keep, today_of
+from .support.program import MOST_SECONDS, Word, symarch
+from .support.rooms import Gate, Room, RoomCase, bytes_of, keep, today_of
+from .support.waits import has_open, wait_until
 
 OTHER_USER = ["setpriv", "--reuid=65534", "--regid=65534", "--groups=65533"]
 
@@ -289,23 +290,28 @@ class Killed(RoomCase):
     def test_killed(self) -> None:
         """Killed at twenty moments, it leaves the old archive or the new one, and the next add clears what was left."""
         before, after, took = make_large(self.room)
-        came = []
+        # The first moment is an early one, also where the machine is quicker than it was.
+        while not self.leaves_the_old(took / 20, before, after):
+            took /= 2
         for moment in range(20):
-            self.room.begin_anew(before)
-            unheard = dict.fromkeys(("stdout", "stderr"), subprocess.DEVNULL)
-            process = self.room.start("add", self.room.archive, "many", **unheard)  # type: ignore[arg-type]
-            time.sleep(took * (moment + 1) / 20)
-            process.kill()
-            process.wait()
-            text = bytes_of(self.room.archive)
-            if text not in (before, after):
-                raise Wrong(f"killed at moment {moment}: {len(text)} bytes")
-            came.append(text == after)
+            self.leaves_the_old(took * (moment + 1) / 20, before, after)
             if moment % 4 == 3:
                 self.room.add("many")
                 self.room.has(after)
                 same(f"left after moment {moment}", self.room.left(), [])
-        same("whether an early one leaves the old archive", came[0], False)
+
+    def leaves_the_old(self, seconds: float, before: bytes, after: bytes) -> bool:
+        """Whether the old archive is there, and not the new one, once an add was killed after some seconds."""
+        self.room.begin_anew(before)
+        unheard = dict.fromkeys(("stdout", "stderr"), subprocess.DEVNULL)
+        process = self.room.start("add", self.room.archive, "many", **unheard)  # type: ignore[arg-type]
+        time.sleep(seconds)
+        process.kill()
+        process.wait()
+        text = bytes_of(self.room.archive)
+        if text not in (before, after):
+            raise Wrong(f"killed after {seconds:.3f} s: {len(text)} bytes")
+        return text == before
 
     def test_killed_at_steps(self) -> None:
         """Killed before, in and after each call of the program, it leaves the old archive, or none where none was."""
@@ -316,7 +322,7 @@ class Killed(RoomCase):
                 for script in (
                     f'[ "$1" != {step} ] || kill -9 $PPID\nexec "$symarch" "$@"',
                     f'"$symarch" "$@"\nstatus=$?\n[ "$1" != {step} ] || kill -9 $PPID\nexit $status',
-                    f'[ "$1" != {step} ] || (sleep 0.1; kill -9 $PPID) & sleep 0.3; exec "$symarch" "$@"',
+                    f'[ "$1" = {step} ] || exec "$symarch" "$@"\n"$symarch" "$@" & kill -9 $PPID\nwait',
                 ):
                     self.room.begin_anew(old if has_old else None)
                     self.room.add("many", status=-9, environment=self.room.program(script))
@@ -359,18 +365,10 @@ def is_going_on(process: "subprocess.Popen[bytes]") -> bool:
 
 def end_of(process: "subprocess.Popen[bytes]") -> None:
     try:
-        process.communicate(timeout=60)
+        process.communicate(timeout=MOST_SECONDS)
     except subprocess.TimeoutExpired:
         process.kill()
         raise Wrong("the signal did not end it") from None
-
-
-def wait_for(is_so: Callable[[], object], process: "subprocess.Popen[bytes]") -> None:
-    """Waits until something is so, for as long as a process lives."""
-    while not is_so():
-        if process.poll() is not None:
-            raise Wrong(f"the process ended before its step: {process.returncode}")
-        time.sleep(0.005)
 
 
 class Stopped(RoomCase):
@@ -382,21 +380,20 @@ class Stopped(RoomCase):
         """SIGINT, SIGTERM and SIGHUP leave the old archive and no other file. One that is ignored does not end it."""
         made = self.room.make_many(50, more=bytes(20_000))
         old = archive([image(100)])
-        go = self.folder / "go"
-        slow = self.room.program(f'[ "$1" != merge ] || until [ -e {go} ]; do sleep 0.05; done\nexec "$symarch" "$@"')
+        gate = Gate(self.room, "merge")
         for number in (signal.SIGINT, signal.SIGTERM, signal.SIGHUP):
             # A shell starts what runs behind it with SIGINT ignored.
             for answer, status in ((signal.SIG_DFL, -number), (signal.SIG_IGN, 0)):
                 self.room.begin_anew(old)
-                go.unlink(missing_ok=True)
+                gate.opened.unlink(missing_ok=True)
                 answering = functools.partial(signal.signal, number, answer)
-                how: Dict[str, Any] = {"environment": slow, "preexec_fn": answering}
+                how: Dict[str, Any] = {"environment": gate.environment, "preexec_fn": answering}
                 with self.room.start("add", self.room.archive, "many", **how) as process:
-                    wait_for(self.room.left, process)
+                    wait_until(self.room.left, process)
                     process.send_signal(number)
-                    # The program waits for this file, so that one which is not ended by the signal does not end.
+                    # One that is not ended by the signal does not end before.
                     if not status:
-                        go.touch()
+                        gate.open()
                     end_of(process)
                 same("status", (number, process.returncode), (number, status))
                 same("left", self.room.left(), [])
@@ -415,7 +412,7 @@ class Stopped(RoomCase):
                 environment = {"CALLED": called, "MOMENT": str(moment), **program}
                 how: Dict[str, Any] = {"environment": environment, "before": before, "start_new_session": True}
                 with self.room.start("add", self.room.archive, "many", **how) as process:
-                    process.communicate(timeout=60)
+                    process.communicate(timeout=MOST_SECONDS)
                 where = f"{moment} moments after {called}"
                 same(f"status {where}", process.returncode, -signal.SIGTERM)
                 same(f"left {where}", self.room.left(), [])
@@ -455,7 +452,7 @@ class Several(RoomCase):
         with open(f"{self.room.archive}.lock", "w") as lock:
             fcntl.flock(lock, fcntl.LOCK_EX)
             process = self.room.start("add", "link.sym", "many")
-            time.sleep(1.5)
+            wait_until(lambda: has_open(process.pid, f"{self.room.archive}.lock"), process)
             same("status while another has the lock", process.poll(), None)
             self.room.archive.write_bytes(archive([image(3)], retired=[image(4)]))
             (self.folder / "site.sym.making-other").mkdir()

@@ -9,7 +9,7 @@ from typing import List, Sequence
 from .support.cases import Without, is_done, same
 from .support.made_images import EMPTY, archive, image, slice_words
 from .support.program import TOP, Ended, call, symarch
-from .support.rooms import RoomCase, bytes_of, change, today_of
+from .support.rooms import Gate, RoomCase, bytes_of, change, today_of
 
 CRASH = TOP / "examples" / "crash"
 UUID = "4c4c4419-5555-3144-a1d2-4341c97782f0"
@@ -94,14 +94,14 @@ class Asks(AskCase):
     def test_while_a_fold_goes_on(self) -> None:
         """Nobody waits, and each answer is that of both."""
         wanted = [tuple(self.wanted(words)) for words in self.words]
-        slow = self.room.program('[ "$1" != merge ] || sleep 1\nexec "$symarch" "$@"')
-        with self.room.start("fold", self.room.archive, environment=slow) as process:
-            rounds = 0
+        gate = Gate(self.room, "merge")
+        with self.room.start("fold", self.room.archive, environment=gate.environment) as process:
+            gate.wait(process)
+            same("answers", [tuple(self.asked(words)) for words in self.words], wanted)
+            gate.open()
             while process.poll() is None:
                 same("answers", [tuple(self.asked(words)) for words in self.words], wanted)
-                rounds += 1
             process.communicate()
-        self.assertGreater(rounds, 0)
 
     def test_addresses_of_standard_input(self) -> None:
         with open(self.folder / "addresses", "w+b") as file:

@@ -12,7 +12,7 @@ import zipfile
 from typing import Any, Dict, List, Optional, Sequence, Tuple
 
 from .support.builds import BINARY, DAY, DSYM, DWARF, FIRST, SHOP, BuildsCase, builds, known, sha, tarred, today, union
-from .support.builds import zipped
+from .support.builds import within, zipped
 from .support.cases import Wrong, same
 from .support.kills import Left, status_where_killed
 from .support.made_images import EMPTY, archive, image, slice_words
@@ -50,6 +50,8 @@ class Added(BuildsCase):
             ("source/tool", made[6], ("?", "?", "?")),
         ]
         lines = [known(it, name.rpartition("/")[2].replace(" ", "\\x20"), *build) for name, it, build in files]
+        # What is in an archive of another app.
+        lines += [within(made[number], "com.example.shop", "2.1", "9") for number in (2, 3)]
         packed = [(name, plistlib.dumps(content, fmt=form)) for name, content, form in lists]
         # An image may stand before the Info.plist of its bundle, and after it.
         found = [(name, it) for name, it, _ in files]

@@ -22,8 +22,8 @@ from .support.program import TOP
 from .support.rooms import RoomCase, change, keep, levelled, levels_of, today_of
 
 sys.path.insert(0, str(TOP / "tools"))
-from symarch_tools.keeping import universal  # noqa: E402
-from symarch_tools.keeping.indexes import Row  # noqa: E402
+from symarch_tools.formats import universal_files  # noqa: E402
+from symarch_tools.formats.indexes import IndexRow  # noqa: E402
 
 CRASH = TOP / "examples" / "crash"
 DSYM = 10
@@ -246,8 +246,9 @@ class Universal(GetCase):
     def test_above_four_gibibytes(self) -> None:
         """An offset that takes more than 32 bits has a table of the other kind."""
         sizes = [(1 << 32) - 2 * PAGE, PAGE - 1, 5]
-        rows = [Row(b"\2" + key_of(image(1, (12, at))) + bytes(32), 1, 0, 33 + size) for at, size in enumerate(sizes)]
-        narrow, wide = (universal.Layout(rows[:count]) for count in (2, 3))
+        entries = [b"\2" + key_of(image(1, (12, at))) + bytes(32) for at in range(len(sizes))]
+        rows = [IndexRow(entry, 1, 0, 33 + size) for entry, size in zip(entries, sizes)]
+        narrow, wide = (universal_files.Layout(rows[:count]) for count in (2, 3))
         same("kinds", (narrow.is_wide, wide.is_wide), (False, True))
         same("places", [place.at for place in wide.places], [PAGE, (1 << 32) - PAGE, 1 << 32])
         same("size", wide.size, (1 << 32) + 5)
@@ -259,8 +260,8 @@ class Wide(GetCase):
     def test_its_bytes(self) -> None:
         tool = self.folder / "wide-keep"
         tools = os.path.dirname(os.path.realpath(keep))
-        lines = f"import sys\nsys.path.insert(0, {tools!r})\nfrom symarch_tools.keeping import universal\n"
-        lines += "universal.MOST_NARROW = 10000\nfrom symarch_tools.keep import main\nsys.exit(main())\n"
+        lines = f"import sys\nsys.path.insert(0, {tools!r})\nfrom symarch_tools.formats import universal_files\n"
+        lines += "universal_files.MOST_NARROW = 10000\nfrom symarch_tools.keep import main\nsys.exit(main())\n"
         tool.write_text(f"#!/usr/bin/env -S python3 -BIS\n{lines}")
         tool.chmod(0o755)
         made = [companion(1, X86_64, bytes(9000)), companion(1, ARM64, b"arm")]

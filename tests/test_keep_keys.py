@@ -21,6 +21,7 @@ from .support.rooms import BESIDE, bytes_of, keep
 from .support.signers import LATER, SignersCase, ThreeSites, answer_name, beside, builds_name, evil, folder_of, make_key
 from .support.signers import mark_name, named, one_of, question_name
 from .support.sites import Site, folded, until_same
+from .support.waits import wait_until
 
 
 def words_of(made: bytes) -> str:
@@ -236,8 +237,7 @@ class Remembered(ThreeSites):
         socket, self.east.keys = self.folder / "agent", ["--key", self.keys / "east.pub", "--signers", self.signers]
         with subprocess.Popen(["ssh-agent", "-D", "-a", socket], stdout=subprocess.DEVNULL) as agent:
             try:
-                while not socket.exists():
-                    time.sleep(0.05)
+                wait_until(socket.exists, agent)
                 environment = {"SSH_AUTH_SOCK": str(socket)}
                 self.assertTrue(is_done(["env", f"SSH_AUTH_SOCK={socket}", "ssh-add", "-q", self.keys / "east"]))
                 (self.keys / "east").unlink()

@@ -1,6 +1,5 @@
 """What `symarch-keep add` takes of zip and tar files: each member as a file of a folder, by bytes that are counted, and
 never by the path that its name would be."""
-import contextlib
 import fcntl
 import gzip
 import os
@@ -10,19 +9,18 @@ import subprocess
 import sys
 import tarfile
 import tempfile
-import time
 import unittest
 import zipfile
-from typing import Any, Callable, Dict, Iterator, List, Mapping, Tuple
+from typing import Any, Callable, Dict, Iterator, List, Mapping, Optional, Tuple
 
-from .support.cases import Without, Wrong, is_done, same
+from .support.cases import Without, is_done, same
 from .support.made_images import archive, image, line, thirty_two_bit, universal
 from .support.packed_files import tarred, zipped
 from .support.program import TOP
-from .support.rooms import RoomCase
+from .support.rooms import RoomCase, changed_tool
 
 sys.path.insert(0, str(TOP / "tools"))
-from symarch_tools.keeping.packed import Damaged, Member, Packed, Unpacker  # noqa: E402
+from symarch_tools.formats.packed_files import Allowance, Damaged, Member, Packed, Unpacker  # noqa: E402
 
 ONE, TWO = (f"{name}.dSYM/Contents/Resources/DWARF/{name}" for name in ("one", "two"))
 TEXT, OUT = b"text " * 1000, "../../leads-out"
@@ -30,9 +28,24 @@ TEXT, OUT = b"text " * 1000, "../../leads-out"
 LIMITED = """import os, runpy, sys
 sys.argv = sys.argv[1:]
 sys.path.insert(0, os.path.dirname(sys.argv[0]))
-from symarch_tools.keeping import packed
-packed.MOST = 5000
+from symarch_tools.formats import packed_files
+packed_files.MOST = 5000
 sys.exit(__import__("symarch_tools.keep").keep.main())
+"""
+
+# Ends the tool when a part of a member is unpacked.
+ENDED_WITHIN = """
+import os, signal
+from symarch_tools.formats import packed_files
+
+unpack = packed_files.Member.unpack
+
+def ended(self, file, front, most=None):
+    file.write(front)
+    os.kill(os.getpid(), signal.SIGTERM)
+    unpack(self, file, self.read(packed_files.CHUNK), most)
+
+packed_files.Member.unpack = ended
 """
 
 
@@ -111,7 +124,7 @@ class Taken(PackedCase):
         self.room.has(archive(made))
 
     def test_of_a_folder(self) -> None:
-        """One that a folder has goes in by its name, and one within another is passed over."""
+        """One that a folder has goes in by its name, and so does one within another."""
         made = {"folder/a.zip": zipped(self.members), "folder/b/c.TGZ": tarred({"e": image(5)}),
                 "folder/d.tar.gz": tarred({"f": image(6), "g.zip": zipped({"h": image(7)})}),
                 "folder/i.apk": zipped({"j": image(8)})}  # fmt: skip
@@ -119,12 +132,12 @@ class Taken(PackedCase):
             self.room.file(name, content)
         said, errors = self.room.add("folder")
         places = [(1, f"a.zip: {ONE}"), (3, f"a.zip: {TWO}"), (2, f"a.zip: {TWO}"), (4, f"a.zip: {OUT}")]
-        places += [(5, "b/c.TGZ: e"), (6, "d.tar.gz: f")]
+        places += [(5, "b/c.TGZ: e"), (6, "d.tar.gz: f"), (7, "d.tar.gz: g.zip: h")]
         same("lines", said, [line("added", image(number), f"folder/{path}") for number, path in places])
-        counts = "6 added, 0 known, 0 retired, 0 refused, passed over 3 (other files 3)"
+        counts = "7 added, 0 known, 0 retired, 0 refused, passed over 2 (other files 2)"
         same("errors", errors, [f"symarch-keep: {counts}"])
-        self.room.has(archive([image(number) for number in (1, 2, 3, 4, 5, 6)]))
-        self.says("b.zip", zipped({"a.zip": zipped(self.members)}), [], ["b.zip: a zip file that holds no Mach-O file"])
+        self.room.has(archive([image(number) for number in (1, 2, 3, 4, 5, 6, 7)]))
+        self.says("b.zip", zipped({"a.zip": zipped({})}), [], ["b.zip: a zip file that holds no Mach-O file"])
 
     def test_of_a_folder_without_an_image(self) -> None:
         """It is as silent as other files are, whatever it has."""
@@ -282,27 +295,11 @@ class Ended(PackedCase):
     def test_stopped(self) -> None:
         temporary = self.folder / "temporary"
         temporary.mkdir()
-        self.room.file("a.zip", zipped({ONE: image(1, more=bytes(200_000_000))}))
-        how: Dict[str, Any] = {"environment": {"TMPDIR": str(temporary)}}
-        with self.room.start("add", self.room.archive, "a.zip", **how) as process:
-            while not is_unpacking(process.pid, str(temporary)):
-                if process.poll() is not None:
-                    raise Wrong("it ended before a member was unpacked")
-                time.sleep(0.005)
-            process.send_signal(signal.SIGTERM)
-            process.communicate(timeout=60)
-        same("status", process.returncode, -signal.SIGTERM)
+        self.room.file("a.zip", zipped({ONE: image(1, more=bytes(20_000_000))}))
+        self.room.tool = changed_tool(self.folder, ENDED_WITHIN)
+        how: Dict[str, Any] = {"status": -signal.SIGTERM, "environment": {"TMPDIR": str(temporary)}}
+        same("said", self.room.call("add", self.room.archive, "a.zip", **how), ([], []))
         same("left", (os.listdir(temporary), self.room.left(), self.room.archive.exists()), ([], [], False))
-
-
-def is_unpacking(process: int, folder: str) -> bool:
-    """Whether a process has a file of a folder open that has no name. (Python also makes one that has, and removes it,
-    to see whether it may.)"""
-    found = []
-    for name in os.listdir(f"/proc/{process}/fd"):
-        with contextlib.suppress(FileNotFoundError):
-            found.append(os.readlink(f"/proc/{process}/fd/{name}"))
-    return any(it.startswith(folder) and it.endswith("(deleted)") for it in found)
 
 
 class Order(unittest.TestCase):
@@ -312,7 +309,7 @@ class Order(unittest.TestCase):
         with tempfile.NamedTemporaryFile() as file:
             file.write(made)
             file.flush()
-            packed = Counted(os.fsencode(file.name), is_zip)
+            packed = Counted(lambda: open(file.name, "rb"), is_zip, 1 << 20)
             unpacker = Unpacker()
             unpacker.wanted[packed] = set(range(len(names)))
             for number in [*range(len(names)), *reversed(range(len(names))), 1, 0, 2]:
@@ -333,6 +330,6 @@ class Counted(Packed):
 
     times = 0
 
-    def members(self, first: int = 0) -> Iterator[Member]:
+    def members(self, first: int = 0, allowance: Optional[Allowance] = None) -> Iterator[Member]:
         self.times += 1
-        return super().members(first)
+        return super().members(first, allowance)

@@ -1,29 +1,30 @@
 """How far a work is, on a terminal: a line by a clock that the cases set, which is gone once anything else is
 printed."""
 import os
+import re
 import signal
 import subprocess
 import sys
-import time
 import unittest
 from typing import Any, Dict, List, Optional, Tuple
 from unittest import mock
 
 from .support.cases import same
 from .support.made_images import image, slice_words
-from .support.program import TOP
-from .support.rooms import RoomCase, change
+from .support.program import MOST_SECONDS, TOP
+from .support.rooms import Gate, RoomCase, change
 from .support.sites import Site
 from .support.terminals import WIPE, Terminal
+from .support.waits import wait_until
 
 sys.path.insert(0, str(TOP / "tools"))
-from symarch_tools.keeping import progress  # noqa: E402
+from symarch_tools.console import progress  # noqa: E402
 
 # Runs the tool by a clock that goes on by so many seconds whenever it is read.
 CLOCKED = """import os, sys
 step, sys.argv = float(sys.argv[1]), sys.argv[2:]
 sys.path.insert(0, os.path.dirname(sys.argv[0]))
-from symarch_tools.keeping.progress import progress
+from symarch_tools.console.progress import progress
 times = iter(range(1 << 60))
 progress.clock = lambda: step * next(times)
 sys.exit(__import__("symarch_tools.keep").keep.main())
@@ -46,7 +47,7 @@ class TerminalCase(RoomCase):
         """A terminal on which a word ended, and the lines on standard output."""
         terminal = Terminal(columns)
         with self.start(terminal, step, *words, **more) as process:
-            out = (process.communicate(timeout=120)[0] or b"").decode().splitlines()
+            out = (process.communicate(timeout=MOST_SECONDS)[0] or b"").decode().splitlines()
         terminal.close()
         same(f"status of {words[0]}", process.returncode, status)
         return terminal, out
@@ -58,9 +59,25 @@ class Shown(TerminalCase):
     is_side_by_side = True
     seconds = 20
 
-    def is_shown(self, stage: str, *words: Any, status: int = 0, **more: Any) -> None:
+    def is_shown(self, stage: str, *words: Any, **more: Any) -> None:
         """Fails where no line matches, or something of a line is left."""
-        terminal, _ = self.shown(*words, status=status, columns=300, **more)
+        terminal, _ = self.shown(*words, columns=300, **more)
+        self.is_left(stage, terminal)
+
+    def is_shown_meanwhile(self, stage: str, *words: Any) -> None:
+        """The same of a program that has written what it writes, and does not end before the line is there."""
+        gate = Gate(self.room, "[!-]*", is_after=True)
+        terminal = Terminal(300)
+        with self.start(terminal, 1, *words, environment=gate.environment) as process:
+            wait_until(lambda: re.search(stage, "\n".join(terminal.stages())), process)
+            gate.open()
+            process.communicate(timeout=MOST_SECONDS)
+        terminal.close()
+        gate.opened.unlink()
+        same(f"status of {words[0]}", process.returncode, 0)
+        self.is_left(stage, terminal)
+
+    def is_left(self, stage: str, terminal: Terminal) -> None:
         self.assertRegex("\n".join(terminal.stages()), stage)
         for line in terminal.lines():
             self.assertRegex(line, "^symarch-keep: ")
@@ -72,14 +89,11 @@ class Shown(TerminalCase):
         self.is_shown(line, "add", self.room.archive, "many")
         self.room.make_many(1, "more", bytes(100_000), 50)
         self.room.add("more")
-        # A program that is looked at before it is done.
-        slow = self.room.program('"$symarch" "$@"\nstatus=$?\n[ "$1" = --version ] || sleep 0.5\nexit $status')
-        line = rf"(?m)^writing, [\d.]+ [kM]B of 1 MB, {LEFT}$"
-        self.is_shown(line, "fold", self.room.archive, environment=slow)
+        self.is_shown_meanwhile(rf"(?m)^writing, [\d.]+ [kM]B of 1 MB, {LEFT}$", "fold", self.room.archive)
         self.is_shown(rf"(?m)^reading, [\d.]+ [kM]B of 1 MB, {LEFT}$", "check", self.room.archive)
         names = [slice_words(image(number))[0] for number in range(3)]
         line = rf"(?m)^writing, \d+ kB of 300 kB, {LEFT}$"
-        self.is_shown(line, "get", self.room.archive, *names, "--to", "out", environment=slow)
+        self.is_shown_meanwhile(line, "get", self.room.archive, *names, "--to", "out")
         good = self.room.path / "good.sym"
         good.write_bytes(self.room.archive.read_bytes())
         change(self.room.archive, 500_000)
@@ -101,7 +115,7 @@ class Shown(TerminalCase):
         self.room.make_many(3)
         terminal = Terminal()
         with self.start(terminal, 1, "add", self.room.archive, "many", stdout=terminal.writer) as process:
-            process.communicate(timeout=60)
+            process.communicate(timeout=MOST_SECONDS)
         self.assertIn("files", terminal.close())
         lines = [line for line in "\n".join(terminal.lines()).splitlines() if line[:6] == "added "]
         same("lines", len(lines), 3)
@@ -119,9 +133,13 @@ class Shown(TerminalCase):
         self.room.add("many")
         self.room.make_many(1, "more", first=9)
         self.room.add("more")
-        environment = self.room.program('case $1 in merge) sleep 0.5; exit 5;; esac; exec "$symarch" "$@"')
-        terminal, _ = self.shown("fold", self.room.archive, status=4, environment=environment)
-        self.assertIn("writing", terminal.text)
+        gate, terminal = Gate(self.room, "merge", '[ "$1" != merge ] || exit 5\nexec "$symarch" "$@"'), Terminal()
+        with self.start(terminal, 1, "fold", self.room.archive, environment=gate.environment) as process:
+            wait_until(lambda: "writing" in terminal.text, process)
+            gate.open()
+            process.communicate(timeout=MOST_SECONDS)
+        terminal.close()
+        same("status", process.returncode, 4)
         same("lines", terminal.lines(), ["symarch-keep: ; the archive is as it was"])
 
     def test_a_signal(self) -> None:
@@ -130,13 +148,11 @@ class Shown(TerminalCase):
         self.room.add("many")
         self.room.make_many(1, "more", first=9)
         self.room.add("more")
-        environment = self.room.program('case $1 in merge) exec sleep 60;; esac; exec "$symarch" "$@"')
-        terminal = Terminal()
-        with self.start(terminal, 1, "fold", self.room.archive, environment=environment) as process:
-            while "writing" not in terminal.text and process.poll() is None:
-                time.sleep(0.01)
+        gate, terminal = Gate(self.room, "merge"), Terminal()
+        with self.start(terminal, 1, "fold", self.room.archive, environment=gate.environment) as process:
+            wait_until(lambda: "writing" in terminal.text, process)
             process.send_signal(signal.SIGINT)
-            process.communicate(timeout=60)
+            process.communicate(timeout=MOST_SECONDS)
         terminal.close()
         same("status, lines", (process.returncode, terminal.lines()), (-signal.SIGINT, []))
 
@@ -185,10 +201,8 @@ class Clock(unittest.TestCase):
         return self.stages()
 
     def stages(self) -> List[str]:
-        end = time.monotonic() + 10
         os.write(self.terminal.writer, b"\n")
-        while not self.terminal.text.endswith("\n") and time.monotonic() < end:
-            time.sleep(0.001)
+        wait_until(lambda: self.terminal.text.endswith("\n"))
         found, self.terminal.text = self.terminal.stages(), ""
         return found
 
@@ -241,6 +255,5 @@ class Clock(unittest.TestCase):
             self.line.wipe()
             self.line.wipe()
         os.write(self.terminal.writer, b"\n")
-        while not self.terminal.text.endswith("\n"):
-            time.sleep(0.001)
+        wait_until(lambda: self.terminal.text.endswith("\n"))
         same("written", self.terminal.text, f"{WIPE}\r\n")

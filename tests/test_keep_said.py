@@ -83,17 +83,17 @@ class Words(RoomCase):
 
     def test_which_is_wrong(self) -> None:
         for words, usage, told in (
-            (["remove", "a"], "[-h]", "`remove` is no word of symarch-keep: expected add, find, "),
+            (["remove", "a"], "[-h]", "`remove` is no command of symarch-keep: expected add, find, "),
             (["--no"], "[-h]", "`--no` is no option of `symarch-keep`; "),
             (["fold", "--no"], "fold", "`--no` is no option of `symarch-keep fold`; "),
             (["add", "--no", "a"], "add", "`--no` is no option of `symarch-keep add`; "),
             (["name", "a", "-[A b]"], "name", "`-[A b]` is no option of `symarch-keep name`; "),
-            (["fold", "a", "b"], "fold", "`b` is one word too many"),
+            (["fold", "a", "b"], "fold", "`b` is one argument too many"),
             (["add"], "add", "the following arguments are required: ARCHIVE, PATH"),
             (["retire", "a", "b"], "retire", "the following arguments are required: ARCH, DIGEST"),
         ):
             _, errors = self.room.call(*words, status=3)
-            same(f"{words}: lines", len(errors), 3 if usage == "retire" else 2)
+            same(f"{words}: lines", len(errors), 4 if usage == "retire" else 2)
             self.assertTrue(errors[0].startswith(f"usage: symarch-keep {usage}"), errors)
             self.assertTrue(errors[-1].startswith(f"symarch-keep: {told}"), errors)
         same("made", os.listdir(self.folder), [])

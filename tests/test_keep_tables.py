@@ -1,11 +1,9 @@
 """The tables in the indexes that symarch-keep keeps: how they come in, are copied, checked and mended; and sites whose
 indexes had none, or tables without lines. What has to be in an index is made by tests.model, from docs/FILES.md."""
 import hashlib
-import os
 import pathlib
 import random
-import shutil
-from typing import Dict, List, Tuple
+from typing import Callable, Dict, List
 
 from .model.indexes import entries_in, table_place
 from .support.cases import same
@@ -195,16 +193,9 @@ class ChangedTables(TableCase):
                 self.room.call("check", self.room.archive)
 
 
-def sums_of(*indexes: Tuple[bytes, int]) -> bytes:
-    """What symarch-keep kept of indexes without tables: the SHA-256 of each, and the number of its file."""
-    notes = [f"index {hashlib.sha256(index).hexdigest()} file {number}\n" for index, number in indexes]
-    text = "symarch-keep 1\n" + "".join(notes)
-    return f"{text}sha256 {hashlib.sha256(text.encode()).hexdigest()}\n".encode()
-
-
-class SiteOfToday(TableCase):
-    """A site whose indexes have no tables, and sums beside them. The next word that writes makes the tables, and
-    removes the sums; a slice that changed before is named, keeps its digest, and gets no table until it is mended."""
+class OtherKinds(TableCase):
+    """A site with indexes that no release wrote: without tables, or with tables that have no lines. The next command
+    that writes makes them anew, and says so; until then nothing is said by them."""
 
     def setUp(self) -> None:
         super().setUp()
@@ -212,25 +203,19 @@ class SiteOfToday(TableCase):
         self.texts = self.text, archive([*self.new[:1]], retired=[self.made[0]])
         self.files = self.room.archive, today_of(self.room.archive)
 
-    def begin(self) -> None:
+    def begin_with(self, index_made: Callable[[bytes], bytes]) -> None:
         self.room.begin_anew()
         for path, text in zip(self.files, self.texts):
             path.write_bytes(text)
-            old = index_without_tables(text)
-            self.room.file(f"{path.name}.idx", old)
-            self.room.file(f"{path.name}.idx.sum", sums_of((old, path.stat().st_ino)))
+            self.room.file(f"{path.name}.idx", index_made(text))
 
-    def is_upgraded(self) -> None:
-        same("archives", [path.read_bytes() for path in self.files], [*self.texts])
+    def is_made_anew(self, errors: List[str]) -> None:
+        told = {f"symarch-keep: {path}.idx was of another kind, and is made anew" for path in self.files}
+        self.assertLessEqual(told, set(errors))
         self.is_indexed(*self.files)
         same("left", self.room.left(), [])
 
-    def asked(self) -> List[Tuple[List[str], List[str]]]:
-        name, arch, _ = slice_words(self.made[3])
-        words = (["find", name], ["symbolicate", name, arch, "0x100000404"], ["name", "_copy_body"])
-        return [self.room.call(word, self.room.archive, *more, status=None) for word, *more in words]
-
-    def test_by_each_word(self) -> None:
+    def test_by_each_command_that_writes(self) -> None:
         self.room.file("none.sym", EMPTY)
         self.room.file("given", self.new[0])
         (self.folder / "shared").mkdir()
@@ -238,137 +223,38 @@ class SiteOfToday(TableCase):
         for words in (
             ["add", site, "given"],
             ["status", "--accept", site],
-            ["exchange", site, "shared", "east"],
-            ["repair", site, "none.sym"],
+            ["exchange", "--take-name", site, "shared", "east"],
+            ["fold", site],
         ):
-            self.begin()
-            self.room.call("check", site)
-            before = self.asked()
-            self.room.call(*words)
-            self.is_upgraded()
-            same("answers", self.asked(), before)
-        self.begin()
-        self.room.call("fold", self.room.archive)
-        self.is_indexed(*self.files)
-        same("left", self.room.left(), [])
+            for index_made in KINDS:
+                self.begin_with(index_made)
+                self.is_made_anew(self.room.call(*words)[1])
+                self.room.call("check", site)
+        self.begin_with(index_without_tables)
+        _, errors = self.room.call("repair", site, "none.sym", status=4)
+        told = f"symarch-keep: {site}.idx is of another kind, so nothing says what changed; the archive is as it was"
+        same("repair", errors[-1], told)
 
-    def test_words_that_only_read_change_nothing(self) -> None:
-        """They say that the index is an old one."""
-        self.begin()
-        before = {path.name: path.read_bytes() for path in self.folder.glob("site.sym*")}
-        self.asked()
-        told = "symarch-keep: {}.idx has no tables of today: the next word that writes makes it anew"
-        for word, files in (("status", self.files[::-1]), ("check", self.files[::-1])):
-            _, errors = self.room.call(word, self.room.archive)
-            same(word, sorted(errors[:2]), sorted(told.format(path) for path in files))
-        self.room.call("add", "--dry-run", self.room.archive, CRASH / "spool-1")
-        same("files", {path.name: path.read_bytes() for path in self.folder.glob("site.sym*")}, before)
-
-    def test_a_slice_that_changed_before(self) -> None:
-        made = self.made[3]
-        self.begin()
-        change(self.room.archive, self.text.index(made) + len(made) - 1)
-        line = self.slice_line("changed", made)
-        same("check", self.room.call("check", self.room.archive, status=2)[0], [line])
-        told = f"{words_of(made)} changed since it came in: run symarch-keep check {self.room.archive}"
-        same("asked", [it[1] for it in self.asked()[:2]], [[f"symarch-keep: {told}"]] * 2)
-        _, errors = self.room.call("status", "--accept", self.room.archive, status=2)
-        counts = "changed or lost: slices 1, retirements 0; its log names them"
-        same("first error", errors[0], f"symarch-keep: {self.room.archive}: {counts}")
-        self.assertIn(line, pathlib.Path(f"{self.room.archive}.log").read_text())
-        self.has_no_table(made)
-        self.assertIn("slices without a table: 1", self.room.call("status", self.room.archive, status=2)[1][0])
-        # Neither a fold nor an exchange takes it for a good one.
-        self.room.call("fold", self.room.archive)
-        self.has_no_table(made)
-        text = self.room.archive.read_bytes()
-        line = line.replace(f" {self.text.index(made) - 33} ", f" {text.index(made[:-1]) - 33} ")
-        same("check", self.room.call("check", self.room.archive, status=2)[0], [line])
-        same("asked", self.asked()[1], ([], [f"symarch-keep: {told}"]))
-        self.room.file("good.sym", self.text)
-        came, _ = self.room.call("repair", self.room.archive, "good.sym")
-        same("repair", came, [line.replace("changed", "repaired")])
-        self.is_indexed(*self.files)
-        self.room.call("check", self.room.archive)
-
-    def has_no_table(self, made: bytes) -> None:
-        entries = [it for it in entries_in(kept_index(self.room.archive)) if it[25:57] == hashlib.sha256(made).digest()]
-        nothing = bytes(8) + hashlib.sha256().digest()
-        same("size and root", [entry[82:] for entry in entries], [nothing])
-
-    def test_a_damaged_index(self) -> None:
-        """Its sum says whether the archive is as it was."""
-        self.begin()
-        change(self.index(), 50)
-        _, errors = self.room.call("status", "--accept", self.room.archive)
-        told = f"{self.index()} is not as symarch-keep wrote it, and is made anew: {self.room.archive} is as it was"
-        same("errors", errors[0], f"symarch-keep: {told}")
-        self.is_upgraded()
+    def test_commands_that_only_read_change_nothing(self) -> None:
+        """They say that the index is another one, or refuse it."""
+        told = "symarch-keep: {}.idx is of another kind: the next command that writes makes it anew"
+        for index_made in KINDS:
+            self.begin_with(index_made)
+            before = {path.name: path.read_bytes() for path in self.folder.glob("site.sym*")}
+            for command, status in (("status", 0), ("check", 2)):
+                _, errors = self.room.call(command, self.room.archive, status=status)
+                same(command, sorted(errors[:2]), sorted(told.format(path) for path in self.files))
+            _, errors = self.room.call("find", self.room.archive, slice_words(self.made[3])[0], status=2)
+            self.assertIn("is of another kind: run symarch-keep check", errors[0])
+            self.room.call("add", "--dry-run", self.room.archive, CRASH / "spool-1")
+            same("files", {path.name: path.read_bytes() for path in self.folder.glob("site.sym*")}, before)
 
     def test_killed_before_each_step(self) -> None:
-        self.begin()
+        self.begin_with(index_without_tables)
         with Left(self.room, "status", "--accept", self.room.archive) as left:
             for _ in left.each():
                 self.room.index()
-                self.is_upgraded()
-
-    def test_what_a_killed_word_left_of_today(self) -> None:
-        """A new archive that was in place, whose index was not yet."""
-        self.begin()
-        text, old = self.texts[1], index_without_tables(self.texts[1])
-        self.files[1].write_bytes(EMPTY)
-        before = index_without_tables(EMPTY)
-        self.room.file("site.sym.today.idx", before)
-        self.room.file("site.sym.today.idx.next", old)
-        self.room.file("site.sym.log.next", b"2026-11-27T01:02:03Z added it\n")
-        os.replace(self.room.file("new", text), self.files[1])
-        self.room.file("site.sym.today.idx.sum", sums_of((before, 1), (old, self.files[1].stat().st_ino)))
-        self.room.index()
-        self.is_upgraded()
-        same("log", pathlib.Path(f"{self.room.archive}.log").read_text(), "2026-11-27T01:02:03Z added it\n")
+                self.is_indexed(*self.files)
 
 
-class SiteBeforeLines(SiteOfToday):
-    """A site whose indexes have tables without lines. The next word that writes makes all tables anew."""
-
-    def begin(self) -> None:
-        self.room.begin_anew()
-        for path, text in zip(self.files, self.texts):
-            path.write_bytes(text)
-            self.room.file(f"{path.name}.idx", index_before_lines(text))
-
-    def test_a_damaged_index(self) -> None:
-        """Its entries say whether the archive is as it was, also where its end record does not."""
-        self.begin()
-        change(self.index(), len(kept_index(self.room.archive)) - 1)
-        _, errors = self.room.call("status", "--accept", self.room.archive)
-        told = f"{self.index()} is not as symarch-keep wrote it, and is made anew: {self.room.archive} is as it was"
-        same("errors", errors[0], f"symarch-keep: {told}")
-        self.is_upgraded()
-
-    def test_what_a_killed_word_left_of_today(self) -> None:
-        """A new archive that was in place, whose index was not yet."""
-        self.begin()
-        text = self.texts[1]
-        self.files[1].write_bytes(EMPTY)
-        self.room.file("site.sym.today.idx", index_before_lines(EMPTY))
-        self.room.file("site.sym.today.idx.next", index_before_lines(text))
-        self.room.file("site.sym.log.next", b"2026-11-27T01:02:03Z added it\n")
-        os.replace(self.room.file("new", text), self.files[1])
-        shutil.copystat(self.files[1], f"{self.files[1]}.idx.next")
-        self.room.index()
-        self.is_upgraded()
-        same("log", pathlib.Path(f"{self.room.archive}.log").read_text(), "2026-11-27T01:02:03Z added it\n")
-
-    def test_copied_tables_have_lines(self) -> None:
-        """What comes in joins a file whose tables are made anew before."""
-        self.begin()
-        self.room.file("given", self.new[0])
-        self.room.call("add", self.room.archive, "given")
-        self.is_upgraded()
-        self.room.file("given", image(31))
-        self.room.call("add", self.room.archive, "given")
-        self.is_indexed(*self.files)
-        self.room.call("fold", self.room.archive)
-        self.is_indexed(*self.files)
-        self.room.call("check", self.room.archive)
+KINDS = index_without_tables, index_before_lines

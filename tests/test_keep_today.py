@@ -11,9 +11,23 @@ from .support.cases import Wrong, same
 from .support.kills import Left, wait_for_session
 from .support.made_images import EMPTY, archive, image, index_of, line, slice_words
 from .support.program import TOP, Word, call, symarch
-from .support.rooms import RoomCase, change, kept_index, today_of
+from .support.rooms import RoomCase, change, changed_tool, kept_index, today_of
 
 NOISE = bytes(range(256)) * 800
+# Once an index was read, and before its time is, the command that put it there ends.
+RENAMED = """
+import os
+from symarch_tools.store import archive_file
+
+time_of = archive_file.time_of
+
+def renamed(path):
+    if path.endswith(b".idx.next"):
+        os.replace(path, path[: -len(b".next")])
+    return time_of(path)
+
+archive_file.time_of = renamed
+"""
 DSYM = 10
 
 
@@ -237,6 +251,17 @@ class Fold(TodayCase):
                 same("answers", tuple(call(words)), wanted)
             process.communicate()
         same("answers after it", tuple(call(words)), wanted)
+
+    def test_renamed_meanwhile(self) -> None:
+        """Who reads an index that then takes its last name is answered as before."""
+        self.room.make_many(3)
+        self.room.add("many")
+        wanted = self.room.call("list", self.room.archive)
+        self.room.tool = changed_tool(self.folder, RENAMED)
+        for file in (self.room.archive, today_of(self.room.archive)):
+            os.replace(f"{file}.idx", f"{file}.idx.next")
+        same("list", self.room.call("list", self.room.archive), wanted)
+        same("left", list(self.folder.glob("*.idx.next")), [])
 
     def test_reported(self) -> None:
         """`symbolicate-report` asks ARCHIVE.today too, and prints what it prints after a fold."""

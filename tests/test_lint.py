@@ -2,12 +2,15 @@
 import pathlib
 import re
 import shutil
+import sys
 import unittest
 from typing import List
 
 from .support.program import TOP, call
 
 FOLDERS = ("bench", "docs", "packaging", "tests", "tools")
+# Begins scripts one after another, and measures nothing.
+BEGIN = "import runpy, sys; [runpy.run_path(path, run_name='begun') for path in sys.argv[1:]]"
 
 
 def is_python(path: pathlib.Path) -> bool:
@@ -43,6 +46,12 @@ class Lint(unittest.TestCase):
 
     def test_pyflakes(self) -> None:
         self.says_nothing("pyflakes3", *map(str, sources()))
+
+    def test_benchmarks_begin(self) -> None:
+        """No script of bench/ asks a module for a name that is gone."""
+        scripts = [path for path in sources() if path.parent == TOP / "bench" and path.suffix == ""]
+        came = call([sys.executable, "-B", "-c", BEGIN, *scripts], environment={"PYTHONPATH": str(TOP / "bench")})
+        self.assertEqual(came.status, 0, came.errors.decode())
 
     def test_version(self) -> None:
         """The version of pyproject.toml is that of the last release in CHANGELOG.md, or before the next one."""

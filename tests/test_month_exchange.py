@@ -42,8 +42,8 @@ def look(event, words):
 sys.addaudithook(look)
 """
 LIMITED = """
-from symarch_tools.keeping import packed
-packed.MOST_TIMES, packed.MOST_OF_ALL = 2, 100_000
+from symarch_tools.formats import packed_files
+packed_files.MOST_TIMES, packed_files.MOST_OF_ALL = 2, 100_000
 """
 
 

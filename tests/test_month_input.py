@@ -9,20 +9,19 @@ import time
 import zipfile
 from typing import Callable, Dict, Sequence, Tuple
 
+from .support.growth import LONGER, MOST_RATIO, ratio
 from .support.program import TOP
 from .support.reports import SPOOL, TOOL, ReportCase, named, source
 
 sys.path.insert(0, str(TOP / "tools"))
-from symarch_tools.escaping import json_shown, line_shown  # noqa: E402
-from symarch_tools.keeping.looks import look_of  # noqa: E402
+from symarch_tools.console.escapes import json_shown, line_shown  # noqa: E402
+from symarch_tools.formats.file_kinds import look_of  # noqa: E402
 
 MEGABYTE = 1 << 20
 IMAGES = f"Binary Images:\n0x104d38000 - 0x104d3bfff spool arm64 <{SPOOL}> /usr/local/bin/spool\n".encode()
 FRAME = b"0   spool   0x0000000104d38410 0x104d38000 + 1040\n"
 CRASH = b"Process: spool\n" + FRAME + b"\n" + IMAGES
 CALL = f'{{"binaryUUID":"{SPOOL}","offsetIntoBinaryTextSegment":1132}}'
-# How much longer the double of a report takes at most, by processor time, and how often that is tried again.
-MOST_RATIO, TRIES = 2.2, 12
 
 
 def lines_of(begin: str, again: str, end: str, count: int = 3) -> Callable[[int], bytes]:
@@ -51,20 +50,26 @@ def pasted(size: int) -> bytes:
     return f"> {document}\nand\n".encode() * (size // 200) + b"a line of the mail\n" * (size // 20)
 
 
-# Reports that took minutes or gigabytes, of about so many bytes, and their lengths.
+def long_lines(begin: str, again: str, end: str) -> Callable[[int], bytes]:
+    """So many lines, which are the longer the more bytes there are: of 1.2 MB nearly as long as a line that is read."""
+    return lambda size: lines_of(begin, again, end, LINES)(size // LINES)
+
+
+# Reports that took minutes or gigabytes, of about so many bytes, and the lengths of large ones.
+LINES = 133
 HOSTILE: Dict[str, Tuple[Callable[[int], bytes], int]] = {
-    "an image with spaces": (lines_of("0x1 - 0x2 ", " ", "x"), 1_000_000),
-    "a spindump with offsets": (lambda size: lines_of("  1 ", " + 1 (", " [0x1]", size // 9_000)(9_000), 300_000),
-    "a sample with images": (lambda size: lines_of("+ 1 ", " (in x)", " [0x1]x", size // 9_000)(9_000), 1_000_000),
-    "a crash with spaces": (lambda size: lines_of("0 x", " ", "x", size // 9_000)(9_000), 1_000_000),
-    "many documents": (lambda size: b"{}" * (size // 2), 200_000),
-    "many brackets": (lambda size: b"[" * size, 1_000_000),
-    "many keys": (keys, 200_000),
-    "many headings": (lambda size: CRASH + b"-----\nFull Report\n-----\n{no JSON}\n" * (size // 34), 300_000),
-    "many escapes": (lambda size: b'{"a":"' + b"\\n" * (size // 2) + b'"}', 1_000_000),
-    "many backtraces": (backtraces, 50_000),
-    "many pasted documents": (pasted, 200_000),
-    "many images": (lambda size: CRASH + b"".join(b"0 - 1 x <%032x>\n" % it for it in range(1, size // 43)), 300_000),
+    "an image with spaces": (lines_of("0x1 - 0x2 ", " ", "x"), 4_000_000),
+    "a spindump with offsets": (long_lines("  1 ", " + 1 (", " [0x1]"), 1_200_000),
+    "a sample with images": (long_lines("+ 1 ", " (in x)", " [0x1]x"), 1_200_000),
+    "a crash with spaces": (long_lines("0 x", " ", "x"), 1_200_000),
+    "many documents": (lambda size: b"{}" * (size // 2), 800_000),
+    "many brackets": (lambda size: b"[" * size, 4_000_000),
+    "many keys": (keys, 800_000),
+    "many headings": (lambda size: CRASH + b"-----\nFull Report\n-----\n{no JSON}\n" * (size // 34), 320_000),
+    "many escapes": (lambda size: b'{"a":"' + b"\\n" * (size // 2) + b'"}', 4_000_000),
+    "many backtraces": (backtraces, 200_000),
+    "many pasted documents": (pasted, 800_000),
+    "many images": (lambda size: CRASH + b"".join(b"0 - 1 x <%032x>\n" % it for it in range(1, size // 43)), 1_200_000),
 }
 # How a report may be printed.
 WAYS: Sequence[Sequence[str]] = ((), ("--text",), ("--group",), ("--missing",), ("--json",))
@@ -99,32 +104,27 @@ class Month(ReportCase):
         seconds, memory = done.stdout.split()
         return float(seconds), int(memory) * 1024
 
-    def takes_twice(self, name: str) -> None:
+    def is_in_proportion(self, name: str) -> None:
         made, size = HOSTILE[name]
-        one, two = made(size), made(2 * size)
-        least = least_of_double = float("inf")
-        for _ in range(TRIES):
-            least, least_of_double = min(least, self.read(one)[0]), min(least_of_double, self.read(two)[0])
-            if least_of_double <= MOST_RATIO * least:
-                return
-        self.fail(f"{name}: {least_of_double:.3f} s for the double of what takes {least:.3f} s")
+        one, long = made(size // LONGER), made(size)
+        self.assertLessEqual(ratio(lambda: self.read(one)[0], lambda: self.read(long)[0]), MOST_RATIO, name)
 
     def test_lines_that_took_minutes(self) -> None:
         for name in ("an image with spaces", "a spindump with offsets", "a sample with images", "a crash with spaces"):
             with self.subTest(name):
-                self.takes_twice(name)
+                self.is_in_proportion(name)
 
     def test_documents_that_took_minutes(self) -> None:
         names = "many documents", "many pasted documents", "many brackets", "many keys", "many headings"
         for name in (*names, "many backtraces"):
             with self.subTest(name):
-                self.takes_twice(name)
+                self.is_in_proportion(name)
 
     def test_memory(self) -> None:
         """At most five times the report, and 64 MB."""
         for name, (made, size) in HOSTILE.items():
             with self.subTest(name):
-                data = made(4 * size)
+                data = made(max(size, 1_200_000))
                 self.assertLessEqual(self.read(data)[1], 5 * len(data) + 64 * MEGABYTE)
 
     def test_a_page_with_comments(self) -> None:
@@ -209,12 +209,12 @@ class Month(ReportCase):
         images = self.file("images", crash.replace(b" arm64 <", b" arm64\n<"))
         self.assertEqual(self.report(images, "shipped").error_lines[0].partition(";")[0], COUNTS)
 
-    def test_a_packed_report_is_none(self) -> None:
+    def test_what_is_packed_otherwise_than_by_zip(self) -> None:
         packed = io.BytesIO()
         with zipfile.ZipFile(packed, "w") as file:
-            file.writestr("a.crash", source("crash"))
+            file.writestr("a.txt", source("crash"))
         path = self.file("a.crash", packed.getvalue())
-        self.is_refused([path, "shipped"], "symbolicate-report: a.crash: a zip file: unpack it first")
+        self.is_refused([path, "shipped"], "symbolicate-report: a.crash: a zip file that holds no report")
         gzip = self.file("a.ips", b"\x1f\x8b\x08" + source("ips"))
         self.is_refused([gzip, "shipped"], "symbolicate-report: a.ips: a gzip file: unpack it first")
 

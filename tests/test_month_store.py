@@ -7,43 +7,41 @@ import re
 import shutil
 import subprocess
 import sys
-import time
 from typing import Any, List, Tuple
 
 from .support.builds import BuildsCase
 from .support.cases import powerless_over, same
+from .support.growth import LONGER, MOST_RATIO, ratio
 from .support.made_images import archive, image, line, slice_words
-from .support.program import TOP, call
+from .support.program import MOST_SECONDS, TOP, call
 from .support.rooms import Room, RoomCase, bytes_of, changed_tool, keep, today_of
 from .support.sites import Site
+from .support.waits import has_open, wait_until
 
 CRASH = TOP / "examples" / "crash"
 OPERATING = TOP / "docs" / "OPERATING.md"
 DSYM = 10
-# A call that waits for a pipe or for a lock would wait for ever.
-MOST_SECONDS = 20
+# Waits until a file is there, and not for ever.
+UNTIL = f'for at in $(seq {10 * MOST_SECONDS}); do [ -e "$0" ] && break; sleep 0.1; done'
 FAULT = r"ValueError('two\nlines \x1b[31m')"
-# Completes logs that lack all of what is to be added to them, and prints the processor time of each.
+# Completes a log of so many lines that lacks all of what is to be added to it, and prints the processor time.
 COMPLETING = """
 import os, sys, time
 
 sys.path.insert(0, {folder})
-from symarch_tools.keeping.log import Log
+from symarch_tools.store.log import Log
 
-for count in (8000, 16000):
-    lines = [b"2026-11-03T08:00:00Z added 4c4c4419-5555-3144-a1d2-4341c97782f0 arm64 %064x many/%d\\n" % (at, at)
-             for at in range(2 * count)]
-    took = []
-    for _ in range(3):
-        for ending, some in ((".log", lines[:count]), (".log.next", lines[count:])):
-            with open("many.sym" + ending, "wb") as file:
-                file.writelines(some)
-        began = time.process_time()
-        Log(b"many.sym", None).add_pending()
-        took.append(time.process_time() - began)
-        with open("many.sym.log", "rb") as file:
-            assert file.read() == b"".join(lines)
-    print(min(took))
+count = int(sys.argv[1])
+lines = [b"2026-11-03T08:00:00Z added 4c4c4419-5555-3144-a1d2-4341c97782f0 arm64 %064x many/%d\\n" % (at, at)
+         for at in range(2 * count)]
+for ending, some in ((".log", lines[:count]), (".log.next", lines[count:])):
+    with open("many.sym" + ending, "wb") as file:
+        file.writelines(some)
+began = time.process_time()
+Log(b"many.sym.log", b"many.sym.log.next", None).add_pending()
+print(time.process_time() - began)
+with open("many.sym.log", "rb") as file:
+    assert file.read() == b"".join(lines)
 """
 
 
@@ -89,7 +87,7 @@ class Month(RoomCase):
             came = self.ends("help", *words)
             same("status", came[0], 0)
             same(f"{words}", came, self.ends(*words, "--help"))
-        self.assertIn("`ad` is no word of symarch-keep", self.ends("help", "ad")[2][-1])
+        self.assertIn("`ad` is no command of symarch-keep", self.ends("help", "ad")[2][-1])
 
     def step_02_no_archive_is_there_yet(self) -> None:
         """No word says of an archive that is not there that it is as it was."""
@@ -191,16 +189,19 @@ class Month(RoomCase):
     # ---- the log
 
     def step_07_a_log_of_many_lines_is_completed_in_one_pass(self) -> None:
-        """Twice as many lines take twice as long, and not four times."""
+        """It takes time in proportion to its lines."""
+        self.assertLessEqual(ratio(lambda: self.completed(4000), lambda: self.completed(LONGER * 4000)), MOST_RATIO)
+
+    def completed(self, count: int) -> float:
+        """The processor time in which a log of so many lines is completed."""
         code = COMPLETING.replace("{folder}", repr(os.path.dirname(os.path.realpath(keep))))
-        came = call([sys.executable, "-c", code], cwd=self.folder)
+        came = call([sys.executable, "-c", code, str(count)], cwd=self.folder)
         same("errors", came.errors, b"")
-        half, whole = map(float, came.lines)
-        self.assertLess(whole, 3 * half + 0.02)
+        return float(came.lines[0])
 
     def step_08_a_log_that_was_written_in_part_is_completed(self) -> None:
         """Lines that are equal, and the last one cut anywhere: no line is there twice, and none is missing."""
-        code = COMPLETING.partition("for count")[0].replace("{folder}", repr(os.path.dirname(os.path.realpath(keep))))
+        code = COMPLETING.partition("count =")[0].replace("{folder}", repr(os.path.dirname(os.path.realpath(keep))))
         code += (
             "import itertools\n"
             "for some in itertools.product((b'a\\n', b'ab\\n'), repeat=4):\n"
@@ -209,7 +210,7 @@ class Month(RoomCase):
             "        for ending, data in (('.log', before + text[:size]), ('.log.next', text)):\n"
             "            with open('part.sym' + ending, 'wb') as file:\n"
             "                file.write(data)\n"
-            "        Log(b'part.sym', None).add_pending()\n"
+            "        Log(b'part.sym.log', b'part.sym.log.next', None).add_pending()\n"
             "        with open('part.sym.log', 'rb') as file:\n"
             "            made = file.read()\n"
             "        assert made.endswith(text) and made.startswith(before), (before, text, size, made)\n"
@@ -222,27 +223,28 @@ class Month(RoomCase):
 
     def step_09_who_waits_says_after_a_while_who_has_the_lock(self) -> None:
         """At first nothing is said; a lock is free soon."""
-        tool = changed_tool(self.folder, "from symarch_tools.keeping import lock", "lock.PATIENCE = 0.5")
-        for patient, said in ((keep, ""), (tool, "waiting for the lock")):
-            with subprocess.Popen(["flock", self.path(".lock"), "sleep", "1.5"]) as holder:
-                self.wait_until_locked()
-                status, _, errors = self.ends("fold", self.room.archive, tool=patient)
-                same("status", status, 0)
+        for patience, said in ((3600, ""), (0.5, "waiting for the lock")):
+            room, free = Room(self.folder), self.folder / f"free after {patience}"
+            room.tool = changed_tool(self.folder, "from symarch_tools.store import lock", f"lock.PATIENCE = {patience}")
+            with subprocess.Popen(["flock", self.path(".lock"), "sh", "-c", UNTIL, free]) as holder:
+                wait_until(self.is_locked, holder)
+                with room.start("fold", self.room.archive) as process:
+                    assert process.stderr
+                    line = process.stderr.readline().decode() if said else ""
+                    wait_until(lambda: has_open(process.pid, self.path(".lock")), process)
+                    free.touch()
+                    errors = process.communicate(timeout=MOST_SECONDS)[1].decode().splitlines()
+            same("status, number of lines", (process.returncode, len(errors)), (0, 1))
             wanted = f"symarch-keep: {said} {self.path('.lock')}, which is held by process {holder.pid} "
-            same("number of lines", len(errors), 2 if said else 1)
-            self.assertTrue(not said or errors[0].startswith(wanted), errors)
-            self.assertTrue(not said or "flock" in errors[0], errors)
+            self.assertTrue(not said or line.startswith(wanted) and "flock" in line, line)
 
-    def wait_until_locked(self) -> None:
+    def is_locked(self) -> bool:
         with open(self.path(".lock"), "rb") as file:
-            for _ in range(1000):
-                try:
-                    fcntl.flock(file, fcntl.LOCK_EX | fcntl.LOCK_NB)
-                except BlockingIOError:
-                    return
-                fcntl.flock(file, fcntl.LOCK_UN)
-                time.sleep(0.01)
-        self.fail("nobody locks it")
+            try:
+                fcntl.flock(file, fcntl.LOCK_EX | fcntl.LOCK_NB)
+            except BlockingIOError:
+                return True
+        return False
 
     def step_10_a_word_waits_as_long_as_it_is_told(self) -> None:
         """Then it ends with 4, and says who has the lock; the archive and the lock stay."""
@@ -374,7 +376,7 @@ class Month(RoomCase):
         report = TOP / "tests/fixtures/reports/abort.ips"
         statements = ["def fault(*_):", f"    raise {FAULT}"]
         keeping = changed_tool(
-            self.folder, *statements, "from symarch_tools.keeping import folding", "folding.carry_out = fault"
+            self.folder, *statements, "from symarch_tools.commands import fold", "fold.carry_out = fault"
         )
         reading = changed_tool(
             self.folder,
@@ -402,9 +404,9 @@ class Month(RoomCase):
     def step_20_quiet_and_json_end_as_ever_if_something_is_not_foreseen(self) -> None:
         tool = changed_tool(
             self.folder,
-            "from symarch_tools.keeping import stating",
+            "from symarch_tools.commands import status",
             f"def fault(*_):\n    raise {FAULT}",
-            "stating.lost_of = fault",
+            "status.lost_of = fault",
         )
         status, out, errors = self.ends("status", "--json", "--quiet", self.room.archive, tool=tool)
         same("status", (status, len(out), len(errors)), (4, 1, 1))

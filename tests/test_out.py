@@ -14,7 +14,7 @@ from .support.made_images import archive
 from .support.outs import CANNOT_CREATE, CANNOT_REPLACE, COMMANDS, DAMAGED_FILES, INPUTS, KINDS, NOTHING
 from .support.outs import OTHER_FILES, OTHER_USER, OUT, OWN_FILES, REPLACED, RETIRED, SLICES, VERSION_1, WITH_ANOTHER
 from .support.outs import OutCase, mounted, need_root, replaced_by, state_of
-from .support.program import Word
+from .support.program import MOST_SECONDS, Word
 from .support.second_lines import DAMAGED, FOREIGN, MACHO, OF_AN_INPUT, OTHER_SLICE, losing, path_in, said_by
 from .support.second_lines import second_line
 
@@ -340,7 +340,7 @@ class NoRegularFile(OutCase):
         pipe = self.folder / "pipe"
         os.mkfifo(pipe)
         before = pipe.stat().st_ino, pipe.stat().st_mode
-        reading: List[Word] = ["timeout", "30", "cat", pipe]
+        reading: List[Word] = ["timeout", str(MOST_SECONDS), "cat", pipe]
         for name, (words, text) in COMMANDS.items():
             with subprocess.Popen(reading, stdout=subprocess.PIPE) as reader:
                 status, printed, told = self.run_program(words, out=pipe)

@@ -2,7 +2,9 @@
 of Debian's essential packages and Python, in which the command lines of README run as they stand there."""
 import hashlib
 import os
+import pty
 import re
+import select
 import shutil
 import stat
 import subprocess
@@ -19,7 +21,7 @@ from .support.packages import ar_members, needs, ran, said, sha256
 from .support.program import TOP, symarch
 
 from package_parts import archives, links, manual
-from symarch_tools.version import edition_of
+from symarch_tools.console.version import edition_of
 
 # Marks of Markdown that a manual page has no use for.
 MARKS = ("](", "**", "```", "|---")
@@ -30,6 +32,19 @@ shift
 COMP_WORDS=("$@") COMP_CWORD=$(($# - 1))
 {function}
 printf '%s\\n' "${{COMPREPLY[@]}}"
+"""
+# What bash does for a key, by what a script registered for a command.
+TRIED = """
+. "$1"
+shift
+registered=$(complete -p "$1")
+function=${registered##*-F }
+function=${function%% *}
+COMP_WORDS=("$@") COMP_CWORD=$(($# - 1)) COMP_LINE="$*"
+COMP_POINT=${#COMP_LINE}
+word=${COMP_WORDS[COMP_CWORD]} before=${COMP_WORDS[COMP_CWORD - 1]}
+"$function" "$1" "$word" "$before"
+compgen -W "${COMPREPLY[*]}" -- "$word" || true
 """
 # The scripts of each shell, by their paths.
 SCRIPTS = {"bash": "share/bash-completion/", "zsh": "share/zsh/", "sh": "bin/.*-"}
@@ -377,9 +392,9 @@ class Words(PackageCase):
                 self.assertEqual(requests, [])
 
     def test_manual_pages_begin_with_examples(self) -> None:
-        """What a program does and its examples come first; the forms of words, and which of them is refused first, come
-        last."""
-        for name, last in (("symarch", "WORDS"), ("symarch-keep", "OPTIONS"), ("symbolicate-report", "OPTIONS")):
+        """What a program does and its examples come first. The forms of arguments, and which of them is refused first,
+        come last."""
+        for name, last in (("symarch", "ARGUMENTS"), ("symarch-keep", "OPTIONS"), ("symbolicate-report", "OPTIONS")):
             with self.subTest(name):
                 text = self.made.tree()[f"share/man/man1/{name}.1"].decode()
                 sections = re.findall(r'^\.SH "?([A-Z ]+)"?$', text, re.M)
@@ -526,6 +541,72 @@ class Words(PackageCase):
                 self.assertEqual(said(shell, "-n", home / path), "", path)
 
 
+class Tried(PackageCase):
+    """Tab in a shell: what the scripts of the packages register is called as bash calls it."""
+
+    seconds = 3
+
+    def tried(self, *words: str) -> List[str]:
+        needs("bash")
+        file = self.room / f"{words[0]}.bash"
+        file.write_bytes(self.made.tree()[f"share/bash-completion/completions/{words[0]}"])
+        return said("bash", "-uc", TRIED, "bash", file, *words).split()
+
+    def test_by_compgen(self) -> None:
+        for words, wanted in (
+            (["symarch", "sym"], ["symbolicate"]),
+            (["symarch-keep", "ha"], ["has"]),
+            (["symarch-keep", "symbolicate", "--de"], ["--decimal", "--demangle"]),
+            (["symarch-keep", "symbolicate", "--demangle", "--of"], ["--offset"]),
+            (["symarch-keep", "name", "--p"], ["--part"]),
+            (["symarch-keep", "exchange", "--js"], ["--json"]),
+            (["symbolicate-report", "--missing", "--c"], ["--counts"]),
+            (["symbolicate-report", "--json", "--fr"], ["--frames"]),
+            (["symarch-keep", "nothing", "--x"], []),
+        ):
+            with self.subTest(" ".join(words)):
+                self.assertEqual(self.tried(*words), wanted)
+
+    def test_by_a_key(self) -> None:
+        """In a shell that is typed to, a path too."""
+        needs("bash")
+        file = self.room / "typed.bash"
+        file.write_bytes(self.made.tree()["share/bash-completion/completions/symarch-keep"])
+        (self.room / "builds.sym").touch()
+        for line, wanted in (("symarch-keep sta\t", "tus"), ("symarch-keep status buil\t", "ds.sym")):
+            with self.subTest(line):
+                self.assertIn(wanted, typed(f". {file.name}\n", line, cwd=self.room))
+
+
+def typed(first: str, line: str, cwd: Path) -> str:
+    """What an interactive bash shows after a line is typed to it, after a first one."""
+    reader, writer = pty.openpty()
+    words = ["bash", "--norc", "--noprofile", "-i"]
+    environment = {"PATH": os.environ["PATH"], "PS1": "ready>", "TERM": "dumb", "HOME": str(cwd)}
+    with subprocess.Popen(words, stdin=writer, stdout=writer, stderr=writer, cwd=cwd, env=environment,
+                          start_new_session=True) as shell:  # fmt: skip
+        os.close(writer)
+        try:
+            shown_until(reader, "ready>")
+            os.write(reader, first.encode())
+            shown_until(reader, "ready>")
+            # What stands after the key comes once the completion is there.
+            os.write(reader, f"{line}#end".encode())
+            return shown_until(reader, "#end")
+        finally:
+            shell.kill()
+            os.close(reader)
+
+
+def shown_until(reader: int, wanted: str) -> str:
+    shown = ""
+    while wanted not in shown:
+        if not select.select([reader], [], [], 60)[0]:
+            raise AssertionError(f"{shown!r} has no {wanted}")
+        shown += os.read(reader, 4096).decode(errors="replace")
+    return shown
+
+
 class Refusals(FolderCase):
     """Words with which nothing is made, and the beginning of what is said."""
 
@@ -558,7 +639,20 @@ class Refusals(FolderCase):
     def test_a_program_of_another_machine(self) -> None:
         script = command(self.folder, self.environment, "script", f"exec '{symarch}' \"$@\"")
         self.environment["SYMARCH"] = str(script)
-        self.refuses(["--kit", KIT], 2, "^package: the program is none for Linux")
+        self.refuses(["--kit", KIT], 2, f"^package: {script} is no program for Linux on x86-64$")
+
+    def test_which_path_is_none(self) -> None:
+        """A name is looked for in PATH, and one that is not there is a path."""
+        script = command(self.folder, self.environment, "named", "exit 7")
+        for text, status, told in (
+            ("named", 2, f"{script}, which SYMARCH means by named does not run: --version ends with status 7$"),
+            (str(script), 2, f"{script} does not run: --version ends with status 7$"),
+            ("nothing", 126, f"there is no program {self.folder}/made/nothing, which SYMARCH means by nothing: run "),
+            ("/", 126, "there is no program /: run "),
+        ):
+            with self.subTest(text):
+                self.environment["SYMARCH"] = text
+                self.refuses(["--kit", KIT], status, f"^package: {told}")
 
     def test_no_kit(self) -> None:
         command(self.folder, self.environment, "rt", "exit 1")

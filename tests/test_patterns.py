@@ -13,6 +13,7 @@ import types
 import unittest
 from typing import Any, Callable, Dict, Iterator, List, Pattern, Tuple, Union
 
+from .support.growth import LONGER, MOST_RATIO, ratio
 from .support.program import TOP
 
 sys.path.insert(0, str(TOP / "tools"))
@@ -22,9 +23,9 @@ import symarch_tools  # noqa: E402
 Text = Union[bytes, str]
 # How a pattern is used, and the samples for it: each a text of about so many bytes on which it would have to try much.
 Samples = Tuple[str, List[Callable[[int], Text]]]
-# The bytes of a sample, of which lines with frames have no more at its double; the processor time of some uses that are
-# compared; how much longer those of the double take at most; and how often they are tried again.
-SIZE, LEAST_SECONDS, MOST_RATIO, TRIES = 5_000, 0.01, 2.2, 20
+# The bytes of a sample, of which a longer one is LONGER times as long, and the processor time of some uses that are
+# compared.
+SIZE, LEAST_SECONDS = 10_000, 0.01
 UUID, DIGEST = "4c4c4419-5555-3144-a1d2-4341c97782f0", "0" * 64
 
 
@@ -39,70 +40,99 @@ def text_run(before: str, again: str, after: str = "\0") -> Callable[[int], str]
 
 SPACES, DIGITS = run("", " "), run("", "1")
 SAMPLES: Dict[str, Samples] = {
-    "escaping.ESCAPED": ("sub", [run("", "\\x"), run("", "\\x1b")]),
-    "escaping.OF_TERMINAL": ("sub", [text_run("", "a"), text_run("", "\x9b")]),
-    "version.RELEASE": ("search", [text_run("### ", "1.1.1"), text_run("", "### 1.1.1, 2000-01-01\n\0\n")]),
-    "version.NEXT": ("search", [text_run("### ", "1.1.1"), text_run("", "### 1.1.1, not release\n")]),
-    "keeping.asking.AT_ENTRY": ("fullmatch", [text_run("symarch: index ", "1")]),
-    "keeping.builds.LINE": ("fullmatch", [run("0" * 16 + " 2000-01-01 " + UUID + " arm64 " + DIGEST + " ", "\\x20")]),
-    "keeping.bundling.UNPRINTABLE": ("sub", [text_run("", "\1"), text_run("", "a")]),
-    "keeping.contents.NUMBERED": ("fullmatch", [text_run("cpu:", "0")]),
-    "keeping.forms.DIGEST": ("fullmatch", [text_run("", "a")]),
-    "keeping.forms.SIZE": ("fullmatch", [text_run("", "1"), text_run("1", "k")]),
-    "keeping.forms.HEX": ("fullmatch", [text_run("0x", "1")]),
-    "keeping.forms.DAY": ("fullmatch", [text_run("", "1-")]),
-    "keeping.forms.SECONDS": ("fullmatch", [text_run("", "1"), text_run("1.", "1"), text_run("", "1.")]),
-    "keeping.json_lines.SURROGATE": ("sub", [text_run("", "\ud83d"), text_run("", "a")]),
-    "keeping.looks.HTML": ("match", [run("<", "html"), run("<!doctype ", "html")]),
-    "keeping.looks.SPACE": ("match", [SPACES]),
-    "keeping.looks.REPORT": ("match", [SPACES, run("\xef\xbb\xbf", "\n")]),
-    "keeping.program.AT_RECORD": ("fullmatch", [text_run("symarch: archive 0: ", " at 1"), text_run("", " at ")]),
-    "keeping.program.CUT_SHORT": ("fullmatch", [
+    "console.escapes.ESCAPED": ("sub", [run("", "\\x"), run("", "\\x1b")]),
+    "console.escapes.OF_TERMINAL": ("sub", [text_run("", "a"), text_run("", "\x9b")]),
+    "console.version.RELEASE": ("search", [text_run("### ", "1.1.1"), text_run("", "### 1.1.1, 2000-01-01\n\0\n")]),
+    "console.version.NEXT": ("search", [text_run("### ", "1.1.1"), text_run("", "### 1.1.1, not release\n")]),
+    "formats.answer_lines.ANSWER": ("match", [run("", " + 1 "), run("", " + 1"), SPACES]),
+    "formats.answer_lines.SEVERAL": ("fullmatch", [run("!", "1")]),
+    "formats.answer_lines.ESCAPED": ("sub", [text_run("", "\\x1"), text_run("", "\\xff")]),
+    "formats.builds.LINE": ("fullmatch", [run("0" * 16 + " 2000-01-01 " + UUID + " arm64 " + DIGEST + " ", "\\x20")]),
+    "store.asking.AT_ENTRY": ("fullmatch", [text_run("symarch: index ", "1")]),
+    "store.bundles.folder.UNPRINTABLE": ("sub", [text_run("", "\1"), text_run("", "a")]),
+    "formats.contents.NUMBERED": ("fullmatch", [text_run("cpu:", "0")]),
+    "commands.arguments.DIGEST": ("fullmatch", [text_run("", "a")]),
+    "commands.arguments.SIZE": ("fullmatch", [text_run("", "1"), text_run("1", "k")]),
+    "commands.arguments.DECIMAL": ("fullmatch", [text_run("", "1"), text_run("1", "x")]),
+    "commands.arguments.HEX": ("fullmatch", [text_run("0x", "1")]),
+    "commands.arguments.DAY": ("fullmatch", [text_run("", "1-")]),
+    "commands.arguments.SECONDS": ("fullmatch", [text_run("", "1"), text_run("1.", "1"), text_run("", "1.")]),
+    "console.json_lines.SURROGATE": ("sub", [text_run("", "\ud83d"), text_run("", "a")]),
+    "formats.file_kinds.HTML": ("match", [run("<", "html"), run("<!doctype ", "html")]),
+    "formats.file_kinds.SPACE": ("match", [SPACES]),
+    "formats.file_kinds.REPORT": ("match", [SPACES, run("\xef\xbb\xbf", "\n")]),
+    "store.program.AT_RECORD": ("fullmatch", [text_run("symarch: archive 0: ", " at 1"), text_run("", " at ")]),
+    "store.program.CUT_SHORT": ("fullmatch", [
         text_run("symarch: archive ", "1"), text_run("symarch: archive 0: Truncated at ", "1"),
     ]),
-    "keeping.senders.LENGTH": ("search", [run("", "length 1"), run("", "length 1 \n"), run("length ", "1")]),
-    "keeping.senders.FOLDER": ("search", [run("", "folder 0\n"), run("folder ", "0")]),
-    "keeping.shared_folder.NAME_OF_SITE": ("fullmatch", [text_run("", "a")]),
-    "keeping.shared_folder.QUESTION": ("fullmatch", [text_run("", "a"), text_run("a.asks.", "0")]),
-    "keeping.shared_folder.ANSWER": ("fullmatch", [text_run("", "a"), text_run("a.answers.", "a.")]),
-    "keeping.shared_folder.MARK": ("fullmatch", [text_run("", "a"), text_run("a.is.", "0")]),
-    "keeping.shared_folder.BUILDS": ("fullmatch", [text_run("", "a"), text_run("a.builds.", "0")]),
-    "keeping.shared_folder.SIGNATURE": ("fullmatch", [
+    "exchange.signatures.LENGTH": ("search", [run("", "length 1"), run("", "length 1 \n"), run("length ", "1")]),
+    "exchange.signatures.FOLDER": ("search", [run("", "folder 0\n"), run("folder ", "0")]),
+    "exchange.shared_folder.NAME_OF_SITE": ("fullmatch", [text_run("", "a")]),
+    "exchange.shared_folder.QUESTION": ("fullmatch", [text_run("", "a"), text_run("a.asks.", "0")]),
+    "exchange.shared_folder.ANSWER": ("fullmatch", [text_run("", "a"), text_run("a.answers.", "a.")]),
+    "exchange.shared_folder.MARK": ("fullmatch", [text_run("", "a"), text_run("a.is.", "0")]),
+    "exchange.shared_folder.BUILDS": ("fullmatch", [text_run("", "a"), text_run("a.builds.", "0")]),
+    "exchange.shared_folder.SIGNATURE": ("fullmatch", [
         text_run("a.asks.", "."), text_run("a.is.", ".0123456789abcdef"),
     ]),
-    "reports.answers.ANSWER": ("match", [run("", " + 1 "), run("", " + 1"), SPACES]),
-    "reports.answers.SEVERAL": ("fullmatch", [run("!", "1")]),
-    "reports.demangling.NUMBERED": ("fullmatch", [text_run("llvm-cxxfilt-", "1")]),
-    "reports.demangling.OF_SWIFT": ("match", [text_run("", "_"), text_run("", "$")]),
-    "reports.demangling.OF_CXX": ("match", [text_run("", "_")]),
-    "reports.demangling.BLOCK": ("fullmatch", [
+    "console.demangler.NUMBERED": ("fullmatch", [text_run("llvm-cxxfilt-", "1")]),
+    "console.demangler.OF_SWIFT": ("match", [text_run("", "_"), text_run("", "$")]),
+    "console.demangler.NEEDS_SWIFT": ("match", [text_run("", "_"), text_run("", "_T")]),
+    "console.demangler.OF_CXX": ("match", [text_run("", "_")]),
+    "console.demangler.BLOCK": ("fullmatch", [
         text_run("___Z", "_block_invoke"), text_run("___Z", "_block_invoke_1."),
     ]),
-    "reports.demangling.UNNAMED": ("sub", [
+    "console.demangler.UNNAMED": ("sub", [
         text_run("", "{lambda("), text_run("{lambda(", ")#1"), text_run("", "{lambda()#1}"),
     ]),
-    "reports.demangling.CRATE": ("sub", [text_run("", "a["), text_run("a[", "0"), text_run("", "a[0]")]),
-    "reports.demangling.ENDS": ("sub", [text_run("", "> "), text_run("", ">")]),
+    "console.demangler.CRATE": ("sub", [text_run("", "a["), text_run("a[", "0"), text_run("", "a[0]")]),
+    "console.demangler.ENDS": ("sub", [text_run("", "> "), text_run("", ">")]),
     "reports.groups.CRASHED": ("search", [run("Thread ", "1"), run("", "Thread 1 Crashed\n"), run("", "\n")]),
-    "reports.groups.EXCEPTION": ("search", [SPACES, run("", " \t\n"), run("", "Last Exception Backtrac\n")]),
-    "reports.groups.CONFLICTING": ("match", [SPACES, run("  ", "0")]),
+    "reports.groups.EXCEPTION": ("search", [
+        SPACES, run("", " \t\n"), run("", "Last Exception Backtrac\n"), run("", "*** First throw\n"),
+        run("", "10:00:01 "),
+    ]),
+    "reports.text.report.CONFLICTING": ("match", [SPACES, run("  ", "0")]),
     "reports.images.DIGITS": ("fullmatch", [text_run("", "0")]),
-    "reports.json_edits.VALUE": ("match", [run('"', '\\"'), run("", "1"), run("1", " ,")]),
-    "reports.json_edits.ARRAY": ("match", [run("[", " "), run("[1", " "), run("[", "1"), run("[1,", " ")]),
-    "reports.json_walk.FLAT": ("match", [run("{", '"a"'), run("[", '"\\"'), run("[", "1,"), run('["', "\\\\")]),
-    "reports.json_walk.LITERAL": ("match", [DIGITS, run("1.", "1"), run("1e", "1"), run("-", "1.1")]),
-    "reports.json_walk.SPACE": ("match", [SPACES]),
-    "reports.json_walk.COLON": ("match", [SPACES, run(":", " ")]),
-    "reports.json_walk.UNENDED": ("fullmatch", [DIGITS, run("", "-a.")]),
-    "reports.named_lines.SOURCE": ("search", [run("", " ("), run(" (", ":1"), run(" (", ":"), run(" (:", "1"), SPACES]),
-    "reports.named_lines.NUMBER": ("match", [DIGITS, run("1", " ")]),
-    "reports.pasted.FIRST_LINE": ("search", [
+    "reports.json.edits.VALUE": ("match", [run('"', '\\"'), run("", "1"), run("1", " ,")]),
+    "reports.json.edits.ARRAY": ("match", [run("[", " "), run("[1", " "), run("[", "1"), run("[1,", " ")]),
+    "reports.json.walk.FLAT": ("match", [run("{", '"a"'), run("[", '"\\"'), run("[", "1,"), run('["', "\\\\")]),
+    "reports.json.walk.LITERAL": ("match", [DIGITS, run("1.", "1"), run("1e", "1"), run("-", "1.1")]),
+    "reports.json.walk.SPACE": ("match", [SPACES]),
+    "reports.json.walk.COLON": ("match", [SPACES, run(":", " ")]),
+    "reports.json.walk.UNENDED": ("fullmatch", [DIGITS, run("", "-a.")]),
+    "reports.text.named_lines.SOURCE": ("search", [
+        run("", " ("), run(" (", ":1"), run(" (", ":"), run(" (:", "1"), SPACES,
+    ]),
+    "reports.text.named_lines.NUMBER": ("match", [DIGITS, SPACES, run("1", " "), run("1.", " ")]),
+    "reports.arguments.IMAGE_ARGUMENT": ("fullmatch", [
+        text_run("", "="), text_run("", "a"), text_run(f"a={UUID}", "@"), text_run("a=", "0"),
+        text_run("", f"={UUID}"),
+    ]),
+    "reports.text.logged.ANY": ("search", [
+        SPACES, run("", "10:00:01"), run("", "10:00:01 "), run("", "10:00:01 a\n"), run("10:00:01 ", "a"),
+        run("10:00:01 ", "[1"), run("", "* \n"), run("", "2000-01-01 "), run("", "Jan 01 "), run("10:00:01.", "1"),
+    ]),
+    "reports.text.logged.LINE": ("match", [run("", "a"), run("", "\r")]),
+    "reports.text.logged.LOGGED_LINE": ("match", [
+        run("", "a"), run("", "\r"), SPACES, run("10:00:01 ", "a"), run("10:00:01 a[", "1"), run("* ", " "),
+    ]),
+    "reports.text.unlisted.FROM_LOAD": ("fullmatch", [
+        run("0x1", " ", "\n\0"), run("0x", "1"), run("0x1 +", "a", "\n"),
+    ]),
+    "reports.text.unlisted.FROM_IMAGE": ("fullmatch", [run(" + ", "1"), run(" + 1", " "), run(" + 1 (", " ")]),
+    "reports.text.pasted.QUOTED": ("search", [
+        SPACES, run("", ">"), run("", "> >\n"), run("> ", "1"), run("> 1", " "), run("", "> 1 \n"),
+    ]),
+    "reports.text.pasted.FIRST_LINE": ("search", [
         SPACES, run("", ">\n"), run("{", "\r"), run("", " {\n \n"), run("", "Proces\n"),
     ]),
-    "reports.program.OF_AN_INDEX": ("match", [run("symarch: index 1: ", "a"), run("symarch: index ", "1")]),
-    "reports.program.AT_ENTRY": ("fullmatch", [text_run("Stale at entry ", "1")]),
-    "reports.program.TRUNCATED": ("match", [run("symarch: archive ", "1"), run("symarch: archive 1: ", "Truncated ")]),
-    "reports.readable_header.WORDS": ("findall", [
+    "reports.questions.OF_AN_INDEX": ("match", [run("symarch: index 1: ", "a"), run("symarch: index ", "1")]),
+    "reports.questions.AT_ENTRY": ("fullmatch", [text_run("Stale at entry ", "1")]),
+    "reports.questions.TRUNCATED": ("match", [
+        run("symarch: archive ", "1"), run("symarch: archive 1: ", "Truncated "),
+    ]),
+    "reports.json.readable_header.WORDS": ("findall", [
         text_run("", "A"), text_run("", "Aa"), text_run("", "AAa"), text_run("", "_"),
     ]),
     "reports.report.DOCUMENT": ("match", [SPACES, run("", "\n")]),
@@ -113,51 +143,56 @@ SAMPLES: Dict[str, Samples] = {
         run("", "-"), run("-", " "), run("", "-\n"), run("", "-\nFull Report\n-\n"), run("-\nFull Report\n-\n", "\n"),
         run("-\nFull Report", " "),
     ]),
-    "reports.source_lines.ESCAPED": ("sub", [text_run("", "\\x1"), text_run("", "\\xff")]),
-    "reports.streams.LONE_SURROGATE": ("sub", [text_run("", "a"), text_run("", "\ud83d")]),
-    "reports.text_report.PROCESSOR": ("search", [run("Code Type:", " "), run("", "Code Type:\n\0"), run("", "\n")]),
-    "reports.text_report.LINE": ("match", [run("", "a"), run("", "\r")]),
-    "reports.text_report.CRASH": ("match", [
+    "console.streams.LONE_SURROGATE": ("sub", [text_run("", "a"), text_run("", "\ud83d")]),
+    "reports.text.report.PROCESSOR": ("search", [run("Code Type:", " "), run("", "Code Type:\n\0"), run("", "\n")]),
+    "reports.text.report.PROCESS": ("search", [
+        run("Process:", " "), run("Process: a", " ["), run("", "Process: a\n"), run("Process: ", "a"), run("", "\n"),
+    ]),
+    "reports.text.report.VERSION": ("search", [
+        run("Version:", " "), run("", "Version:\n"), run("", "Version: \n"), run("", "10:00:01 "), run("", "\n"),
+    ]),
+    "reports.text.report.CRASH": ("match", [
         run("0 ", " "), run("0 x", " "), run("0 x ", "0x1 ", ""), run("0 x", " 12345"), run("0 x", " 12345 12345 + 1"),
         run("0 x", " 12345 12345 + 1 ("), run("0 x 12345 12345 + 1 (", ":1"), run("0 x 12345 12345 + 1 (:", "1"),
-        run("0 x 12345 12345 + 1", " "), run("0 x 12345", " "), DIGITS,
+        run("0 x 12345 12345 + 1", " "), run("0 x 12345", " "), DIGITS, SPACES, run("1.", " "),
     ]),
-    "reports.text_report.NAMED_DECIMAL": ("match", [
-        run("0 x", " 123456789"), run("0 x 123456789", " "), run("0 ", " "),
+    "reports.text.report.NAMED_DECIMAL": ("match", [
+        run("0 x", " 123456789"), run("0 x 123456789", " "), run("0 ", " "), SPACES,
     ]),
-    "reports.text_report.OFFSET": ("search", [run("", " +"), run("", " + ")]),
-    "reports.text_report.NO_NAME": ("fullmatch", [
-        SPACES, run("0x", "1"), run("12345 + ", "1", "\n\0"), run("12345", " ", "\n\0"),
+    "reports.text.report.OFFSET": ("search", [run("", " +"), run("", " + ")]),
+    "reports.text.report.NO_NAME": ("fullmatch", [
+        SPACES, run("0x", "1"), run("12345 + ", "1", "\n\0"), run("12345", " ", "\n\0"), run("(Missing", " ", "\n"),
     ]),
-    "reports.text_report.REST_OF_LINE": ("fullmatch", [SPACES, run("+ ", "1"), run("1", " ")]),
-    "reports.text_report.SIGNAL_SAID": ("match", [run("", "_"), run("", "_sigtramp"), run("_sigtramp", " ")]),
-    "reports.text_report.BACKTRACE": ("fullmatch", [
+    "reports.text.report.MISSING": ("fullmatch", [run("(Missing UUID ", "0"), run(f"(Missing UUID {UUID})", " ")]),
+    "reports.text.report.REST_OF_LINE": ("fullmatch", [SPACES, run("+ ", "1"), run("1", " ")]),
+    "reports.text.report.SIGNAL_SAID": ("match", [run("", "_"), run("", "_sigtramp"), run("_sigtramp", " ")]),
+    "reports.text.report.BACKTRACE": ("fullmatch", [
         run("(0x1", " 0x1"), run("(", "12345 "), run("(0x1", " "), run("(0x1)", " "),
     ]),
-    "reports.text_report.IN_BRACKETS": ("search", [run("", "["), run("", "[0x1"), run("[0x", "1"), run("", "[12345")]),
-    "reports.text_report.BEFORE_NAME": ("match", [
-        SPACES, run("0x", "1"), run("1 - ", " "), run("1 - 1", " "), run("1 - 0x", "1"),
+    "reports.text.report.IN_BRACKETS": ("search", [run("", "["), run("", "[0x1"), run("[0x", "1"), run("", "[12345")]),
+    "reports.text.report.BEFORE_NAME": ("match", [
+        SPACES, run("0x", "1"), run("1 - ", " "), run("1 - 1", " "), run("1 - 0x", "1"), run("1.", " "),
     ]),
-    "reports.text_report.UUID": ("search", [SPACES, run("", " <"), run(" <", "0"), run("", " <" + "0" * 33)]),
-    "reports.text_report.LISTED": ("match", [SPACES, DIGITS]),
-    "reports.tree_lines.NODE": ("match", [SPACES, run("", "+"), DIGITS, run("1", " ")]),
-    "reports.tree_lines.AFTER_ADDRESSES": ("fullmatch", [
+    "reports.text.report.UUID": ("search", [SPACES, run("", " <"), run(" <", "0"), run("", " <" + "0" * 33)]),
+    "reports.text.report.LISTED": ("match", [SPACES, DIGITS, run("1.", " ")]),
+    "reports.text.tree_lines.NODE": ("match", [SPACES, run("", "+"), DIGITS, run("1", " ")]),
+    "reports.text.tree_lines.AFTER_ADDRESSES": ("fullmatch", [
         SPACES, run(" [", "1"), run(" []  x", ":1"), run(" []  x:1", ",1"), run(" []  x:", "1"),
     ]),
-    "reports.tree_lines.BEFORE_IMAGE": ("match", [SPACES]),
-    "reports.tree_lines.SAMPLE_HEAD": ("match", [SPACES, run("", "+"), DIGITS, run("1", " ")]),
-    "reports.tree_lines.AFTER_IN": ("search", [
+    "reports.text.tree_lines.BEFORE_IMAGE": ("match", [SPACES]),
+    "reports.text.tree_lines.SAMPLE_HEAD": ("match", [SPACES, run("", "+"), DIGITS, run("1", " ")]),
+    "reports.text.tree_lines.AFTER_IN": ("search", [
         run("", ")"), run(")", " "), run("", ") + )"), run("", ") + a"), run(") + ", "a"), run(") [0x1", ", 0x1"),
         run("", ") load address 0x1"), run("", ") [0x1,"), run(") [", "12345"), run(")", " load address 0x1 + a"),
     ]),
-    "reports.tree_lines.SPINDUMP_HEAD": ("match", [SPACES, DIGITS, run("1", " ")]),
-    "reports.tree_lines.TAIL": ("finditer", [
+    "reports.text.tree_lines.SPINDUMP_HEAD": ("match", [SPACES, DIGITS, run("1", " ")]),
+    "reports.text.tree_lines.TAIL": ("finditer", [
         SPACES, run("", " ["), run("", " [0x1"), run("", " ("), run("", "??? [12345"),
     ]),
-    "reports.tree_lines.AFTER_OFFSET": ("finditer", [
+    "reports.text.tree_lines.AFTER_OFFSET": ("finditer", [
         run("", " + 1"), run(" + 1", " "), run(" + ", "1"), run("", " + 1 ("), run("", " + 1 [0x1"),
     ]),
-    "reports.tree_lines.END_OF_IMAGE": ("finditer", [
+    "reports.text.tree_lines.END_OF_IMAGE": ("finditer", [
         run("", " + 1)"), run(" + 1)", " "), run("", " + 1) [0x1"), SPACES,
     ]),
     "server.app.HOST": ("fullmatch", [text_run("", "a"), text_run("[", ":"), text_run("a:", "1"), text_run("", "a:1")]),
@@ -178,6 +213,7 @@ SAMPLES: Dict[str, Samples] = {
     "server.report_pages.OFFSET": ("fullmatch", [text_run("", " + 1"), text_run("", " + "), text_run(" + ", "1")]),
     "server.report_pages.ANSWER": ("fullmatch", [run("  ", f"{DIGEST} ", "\n"), run("  ", "0")]),
     "server.settings.LISTEN": ("fullmatch", [text_run("[", ":"), text_run("", "a"), text_run("a:", "1")]),
+    "server.settings.NAME_OF_HOST": ("fullmatch", [text_run("", "a"), text_run("[", ":"), text_run("[", "a", "]a")]),
     "server.settings.ORIGIN": ("fullmatch", [text_run("https://", "a", "/"), text_run("http", "s")]),
     "server.tokens.LINE": ("fullmatch", [run("", "a"), run("a", " "), run("a ", "0")]),
     "server.tokens.PASSED_OVER": ("fullmatch", [SPACES, run("#", "a", "\n")]),
@@ -237,36 +273,30 @@ def taken(pattern: "Pattern[Any]", how: str, text: Text, count: int) -> float:
     return time.process_time() - began
 
 
-def ratio(pattern: "Pattern[Any]", how: str, made: Callable[[int], Text]) -> float:
-    """How much longer the double takes, by the least times of some runs. What takes long is tried with few bytes."""
+def longer(pattern: "Pattern[Any]", how: str, made: Callable[[int], Text]) -> float:
+    """How much longer the long sample takes. The slow ones are tried with few bytes."""
     size, count = 40, 1
     while size < SIZE and taken(pattern, how, made(size), 1) < LEAST_SECONDS:
         size *= 2
-    one, two = made(size), made(2 * size)
+    one, long = made(size), made(LONGER * size)
     while taken(pattern, how, one, count) < LEAST_SECONDS:
         count *= 2
-    least = least_of_double = float("inf")
-    for _ in range(TRIES):
-        least = min(least, taken(pattern, how, one, count))
-        least_of_double = min(least_of_double, taken(pattern, how, two, count))
-        if least_of_double <= MOST_RATIO * least:
-            break
-    return least_of_double / least
+    return ratio(lambda: taken(pattern, how, one, count), lambda: taken(pattern, how, long, count))
 
 
 class Patterns(unittest.TestCase):
-    """By doubled lengths. Beside others the times would say less."""
+    """By samples of two lengths. Beside others the times would say less."""
 
     is_alone = True
     seconds = 30
 
     def grow_slowly(self, begins: str) -> None:
-        """Fails where a pattern whose name begins so takes more than twice the time for the double."""
+        """Fails where a pattern whose name begins so takes far more than in proportion for the long sample."""
         found = patterns()
         for name, (how, samples) in SAMPLES.items():
             for number, made in enumerate(samples if name.startswith(begins) else []):
                 with self.subTest(f"{name}, sample {number}"):
-                    self.assertLessEqual(ratio(found[name], how, made), MOST_RATIO)
+                    self.assertLessEqual(longer(found[name], how, made), MOST_RATIO)
 
     def test_each_has_samples(self) -> None:
         self.assertEqual(sorted(SAMPLES), sorted(patterns()))
@@ -282,27 +312,27 @@ class Patterns(unittest.TestCase):
         self.assertEqual(others, [])
 
     def test_of_symarch_keep(self) -> None:
-        self.grow_slowly("keeping.")
+        for begins in ("formats", "store", "exchange", "commands"):
+            self.grow_slowly(f"{begins}.")
 
     def test_of_both(self) -> None:
-        self.grow_slowly("escaping.")
-        self.grow_slowly("version.")
+        self.grow_slowly("console.")
 
     def test_of_texts(self) -> None:
-        self.grow_slowly("reports.text_report.")
+        self.grow_slowly("reports.text.report.")
 
     def test_of_trees(self) -> None:
-        self.grow_slowly("reports.tree_lines.")
+        self.grow_slowly("reports.text.tree_lines.")
 
     def test_of_json(self) -> None:
-        self.grow_slowly("reports.json_")
+        self.grow_slowly("reports.json.")
 
     def test_of_the_program(self) -> None:
-        for begins in ("answers", "program", "source_lines", "demangling", "images", "streams"):
+        for begins in ("questions", "images"):
             self.grow_slowly(f"reports.{begins}.")
 
     def test_of_what_is_printed(self) -> None:
-        for begins in ("groups", "named_lines", "readable_header", "pasted", "report"):
+        for begins in ("groups", "text.named_lines", "text.pasted", "report"):
             self.grow_slowly(f"reports.{begins}.")
 
     def test_of_the_server(self) -> None:

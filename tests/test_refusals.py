@@ -286,8 +286,9 @@ class Outputs(PlacesCase):
         self.has_bytes("one.sym", ONE)
 
 
-class Quoted(PlacesCase):
-    """A path with a character that a terminal obeys is quoted, and takes one line. Another one stands as it is."""
+class Shown(PlacesCase):
+    """A character of a path that a terminal obeys is printed as an escape, so the path takes one line. Each other one
+    stands as it is."""
 
     def shows(self, path: str, shown: str) -> None:
         self.expect_refusal(["list", path], "archive 0", "cannot open", f"{shown}: {ENOENT}")
@@ -301,12 +302,12 @@ class Quoted(PlacesCase):
         self.expect_refusal(["migrate", "one.sym", path], "output", "cannot replace", f"{shown}, {FOREIGN}")
 
     def test_obeyed(self) -> None:
-        self.shows("two\nlines", '"two\\nlines"')
-        self.shows('a\t"tab" \\', '"a\\t\\"tab\\" \\\\"')
-        self.shows("\033[31mred", '"\\u{1b}[31mred"')
-        self.shows("over\rwritten", '"over\\rwritten"')
-        self.shows("\x7f", '"\\u{7f}"')
-        self.shows("\x85é", '"\\u{85}é"')
+        self.shows("two\nlines", "two\\x0alines")
+        self.shows('a\t"tab" \\', 'a\\x09"tab" \\')
+        self.shows("\033[31mred", "\\x1b[31mred")
+        self.shows("over\rwritten", "over\\x0dwritten")
+        self.shows("\x7f", "\\x7f")
+        self.shows("\x85é", "\\x85é")
 
     def test_not_obeyed(self) -> None:
         self.shows('a "b" \\ é', 'a "b" \\ é')

@@ -6,14 +6,14 @@ import shutil
 import signal
 import subprocess
 import sys
-import time
 from pathlib import Path
 from typing import Any, List, Sequence, Tuple
 
 from .support.kills import interrupted
-from .support.program import TOP, call, symarch
+from .support.program import MOST_SECONDS, TOP, call, symarch
 from .support.reports import CRASHES, DYLD, FIXTURES, KERNEL, SPOOL, SPOOL_2, SPOOL_X86_64, TOOL, ReportCase
 from .support.reports import FORMS, named, source, without_lines
+from .support.waits import wait_until
 
 ARM64, X86_64 = f"spool {SPOOL} arm64", f"spool {SPOOL_X86_64}"
 BY_DSYM, WITHOUT, UNLISTED = f"by dSYM: {ARM64}", f"without dSYM: {ARM64}", "1 of images that the report does not list"
@@ -22,7 +22,9 @@ NO_LIBDYLD = "libdyld.dylib b3f1a5d2-7c44-3e0b-9a61-5d2c8e7f4a90"
 OLD_LIBDYLD = "not in the archive: libdyld.dylib 9fd01a5a-d3e5-3b0f-8b7c-6d5e4f3a2b10 arm64e"
 ABSENT_HELPER = f"Spool Helper (Renderer) 5e0c7b1a-26d4-3f98-8c3b-a9f1e2d4c507, dyld {DYLD}"
 NAMES = "[--no-demangle | --raw]"
-OPTIONS = f"[--missing | [--json] [--text] [--no-lines | --paths] {NAMES} [--out FOLDER] | --group {NAMES}]"
+IMAGES = "[--image NAME=UUID@LOAD | --build ID/VERSION/BUILD]..."
+PRINTED = f"[--json [--frames]] [--text] [--no-lines | --paths] {NAMES} [--out FOLDER]"
+OPTIONS = f"{IMAGES} [--missing [--counts | --json] | {PRINTED} | --group {NAMES}]"
 USAGE = f"usage: symbolicate-report {OPTIONS} REPORT... ARCHIVE..."
 
 
@@ -706,15 +708,14 @@ class Signals(ReportCase):
         """What the tool wrote for the program is removed, and the program ends."""
         begun, temporary = self.folder / "begun", self.folder / "temporary"
         temporary.mkdir()
-        program = self.script("slow", f'echo $$ >"{begun}"; exec sleep 60')
+        program = self.script("slow", f'echo $$ >"{begun}"; exec sleep 6000')
         environment = {**os.environ, "SYMARCH": program, "TMPDIR": str(temporary)}
         words: List[Any] = [sys.executable, "-B", TOOL, CRASHES / "arm64.crash", self.archives / "shipped"]
         for number in (signal.SIGINT, signal.SIGTERM, signal.SIGHUP):
             with self.subTest(number), subprocess.Popen(words, env=environment, stderr=subprocess.PIPE) as run:
-                while not (begun.exists() and begun.read_text()):
-                    time.sleep(0.01)
+                wait_until(lambda: begun.exists() and begun.read_text(), run)
                 run.send_signal(number)
-                self.assertEqual((run.communicate(timeout=30)[1], run.returncode), (b"", -number))
+                self.assertEqual((run.communicate(timeout=MOST_SECONDS)[1], run.returncode), (b"", -number))
                 self.assertEqual(list(temporary.iterdir()), [])
                 self.assertRaises(ProcessLookupError, os.kill, int(begun.read_text()), 0)
                 begun.unlink()

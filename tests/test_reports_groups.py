@@ -5,12 +5,12 @@ import re
 import signal
 import subprocess
 import sys
-import time
 from typing import Any, Dict, List, Optional, Sequence, Tuple
 
 from .support.kills import interrupted
-from .support.program import call, symarch
+from .support.program import MOST_SECONDS, call, symarch
 from .support.reports import CRASHES, FIXTURES, TOOL, ReportCase, named, source
+from .support.waits import wait_until
 
 COPY = "copy_body (spool); file_message (spool); spool_one (spool)"
 NO_THREAD = "no crashed thread"
@@ -55,8 +55,8 @@ class Folders(GroupCase):
         self.file("in/coded", source("older").decode().encode("utf-16-le"))
         made, came = self.made("in")
         self.assertEqual((came.status, made), (0, {
-            "b.crash": named("crash"), "z.ips": named("ips"), "mail.txt": named("sample"), "bare": named("mac"),
-            "coded": named("older").decode().encode("utf-16-le"),
+            "b.crash": named("crash"), "a/z.ips": named("ips"), "c/d/mail.txt": named("sample"),
+            "c/bare": named("mac"), "coded": named("older").decode().encode("utf-16-le"),
         }))
         order = [line.partition(": ")[0] for line in self.shortened(came)]
         self.assertEqual(order[:-1], ["in/a/z.ips", "in/b.crash", "in/c/bare", "in/c/d/mail.txt", "in/coded"])
@@ -125,16 +125,18 @@ class Folders(GroupCase):
             self.assertEqual((came.status, came.out, line), (3, b"", f"symbolicate-report: {why}"), words)
 
     def test_two_of_one_name(self) -> None:
-        """They are not written, and what is no report hinders nothing."""
+        """They are written as they stand below their folders, and what is no report hinders nothing. Two that would be
+        one file are not written."""
         for name in ("in/a", "in/b"):
             self.file(f"{name}/notes.txt", "no report\n")
-        self.file("in/a/one.crash", source("crash"))
-        self.assertEqual(self.made("in")[1].status, 0)
-        self.file("in/b/one.crash", source("crash"))
-        came = self.report("--out", "other", "in", "shipped")
-        why = "symbolicate-report: in/a/one.crash and in/b/one.crash would both be written to other/one.crash"
+            self.file(f"{name}/one.crash", source("crash"))
+        wanted = {"a/one.crash": named("crash"), "b/one.crash": named("crash")}
+        self.assertEqual((self.made("in")[0], self.made("in/a", "in/b")[0]), (wanted, wanted))
+        self.file("other/a/one.crash", source("crash"))
+        came = self.report("--out", "new", "in/a", "other/a", "shipped")
+        why = "symbolicate-report: in/a/one.crash and other/a/one.crash would both be written to new/a/one.crash"
         self.assertEqual((came.status, came.error_lines), (3, [why]))
-        self.assertFalse((self.folder / "other").exists())
+        self.assertFalse((self.folder / "new").exists())
 
     def made(self, *words: Any) -> Any:
         return self.written(words, "shipped")
@@ -289,11 +291,10 @@ class Signals(GroupCase):
     def test_while_the_program_runs(self) -> None:
         begun = self.folder / "begun"
         self.file("in/a.crash", source("crash"))
-        environment = {**os.environ, "SYMARCH": self.script("slow", f'echo $$ >"{begun}"; exec sleep 60')}
+        environment = {**os.environ, "SYMARCH": self.script("slow", f'echo $$ >"{begun}"; exec sleep 6000')}
         words: List[Any] = [sys.executable, "-B", TOOL, "--group", self.folder / "in", self.archives / "shipped"]
         pipe = subprocess.PIPE
         with subprocess.Popen(words, env=environment, stdout=pipe, stderr=pipe) as run:
-            while run.poll() is None and not (begun.exists() and begun.read_text()):
-                time.sleep(0.01)
+            wait_until(lambda: begun.exists() and begun.read_text(), run)
             run.send_signal(signal.SIGINT)
-            self.assertEqual((run.communicate(timeout=30), run.returncode), ((b"", b""), -signal.SIGINT))
+            self.assertEqual((run.communicate(timeout=MOST_SECONDS), run.returncode), ((b"", b""), -signal.SIGINT))

@@ -2,14 +2,18 @@
 end."""
 import json
 import os
+import re
 import signal
 import subprocess
 from typing import Any, Dict, List, Tuple
 
+from .support import kept_lines
 from .support.program import Ended
-from .support.reports import CRASHES, DYLD, FIXTURES, SPOOL, SPOOL_X86_64, ReportCase, source
+from .support.reports import CRASHES, DYLD, FIXTURES, FORMS, SPOOL, SPOOL_X86_64, ReportCase, program, source
 
 FRAMES = ["named", "named_before", "several", "not_named", "not_listed"]
+KEYS_OF_FRAME = ["type", "number", "caller", "image", "uuid", "arch", "image_offset", "function", "offset", "file",
+                 "line", "inlined", "several", "named_before", "path", "path_hex"]  # fmt: skip
 
 
 class Json(ReportCase):
@@ -23,7 +27,7 @@ class Json(ReportCase):
         self.assertEqual((came.status, end["status"]), (status, status), came.errors)
         self.assertEqual([*end], ["type", "reports", "frames", "faults", "status"])
         for one in [*found, end]:
-            if one.get("frames") is not None:
+            if isinstance(one.get("frames"), dict):
                 self.assertEqual(sorted(one["frames"]), sorted(FRAMES))
         return found, end, came
 
@@ -100,12 +104,78 @@ class Json(ReportCase):
     def test_words(self) -> None:
         crash = CRASHES / "arm64.crash"
         for words, why in (
-            (["--missing"], "--missing stands alone"),
+            (["--missing", "--text"], "--missing stands alone"),
             (["--group"], "--group prints no report, so --json does not stand beside it"),
         ):
             came = self.report("--json", *words, crash, "shipped")
             self.assertEqual((came.status, came.out), (3, b""))
             self.assertEqual(came.error_lines[-1], f"symbolicate-report: {why}")
+
+    def test_frames(self) -> None:
+        """Each frame stands before its report: where it is, and what the archive says, as the report with names has it
+        and as `llvm-symbolizer` names lines."""
+        found, end, _ = self.objects("--frames", CRASHES / "arm64.ips", "shipped")
+        *frames, report = found
+        places = [("spool", SPOOL, "arm64", offset) for offset in (1040, 1016, 1156, 1128)]
+        said = [("copy_body", 12, "spool.c", 9), ("file_message", 32, "spool.c", 21), ("spool_one", 24, "spool.c", 26),
+                ("start", 48, "spool.c", 31)]  # fmt: skip
+        wanted = [dict(zip(KEYS_OF_FRAME, ("frame", at, at + 1, *place, *one, [], [], False, report["path"], None)))
+                  for at, (place, one) in enumerate(zip(places, said))]  # fmt: skip
+        last: List[Any] = ["frame", 4, None, "dyld", DYLD, "arm64e", 25204, *[None] * 4, [], [], True]
+        wanted.append(dict(zip(KEYS_OF_FRAME, [*last, report["path"], None])))
+        self.assertEqual(frames, wanted)
+        self.assertEqual((report["type"], end["reports"]), ("report", 1))
+        without = self.objects(CRASHES / "arm64.ips", "shipped")[0]
+        self.assertEqual(without, [report])
+        names = self.objects("--frames", "--no-lines", "--raw", CRASHES / "arm64.ips", "shipped")[0]
+        raw = [(it["function"], it["file"]) for it in names[:2]]
+        self.assertEqual(raw, [("_copy_body", None), ("_file_message", None)])
+
+    def test_frames_with_inlined_functions(self) -> None:
+        """As `llvm-symbolizer` says of the addresses, whether the report has them or not."""
+        archive = self.folder / "lines.sym"
+        program("admit", self.archives / "empty", archive, kept_lines.SOURCES / "arm64-2-dsymutil.dsym")
+        spans = next(one.said for one in kept_lines.kept() if one.name == "arm64-2-dsymutil").spans
+        for name in ("inlined.crash", "system.crash"):
+            with self.subTest(name):
+                found, _, _ = self.objects("--frames", "--paths", FIXTURES / name, archive)
+                frames = [it for it in found if it["type"] == "frame" and it["image"] == "lines"]
+                self.assertGreater(len(frames), 3)
+                for it in frames:
+                    is_return = any(one["caller"] == it["number"] for one in found[:-1])
+                    asked = 0x100000000 + it["image_offset"] - is_return
+                    lines = next(lines for first, last, lines in spans if first <= asked < last)
+                    own = {"function": it["function"], "file": it["file"], "line": it["line"]}
+                    said = [f"{one['function']} at {one['file']}:{one['line']}" for one in [*it["inlined"], own]]
+                    self.assertEqual(said, [line.strip().rpartition(":")[0] for line in lines])
+
+    def test_frames_of_a_tree(self) -> None:
+        """A frame of a tree has the one above it as its caller, as `sample` sets it in."""
+        text = source("sample").decode()
+        found, _, _ = self.objects("--frames", FORMS["sample"].path, "shipped")
+        frames = [it for it in found if it["type"] == "frame"]
+        tree = text.partition("Call graph:")[2].partition("Total number in stack")[0]
+        wanted: List[Any] = []
+        # The columns of the lines that are not closed, and the first frame of each.
+        above: List[Tuple[int, int]] = []
+        for line in (it for it in tree.splitlines() if "[0x" in it):
+            column = len(line) - len(line.lstrip(" +!:|"))
+            above = [it for it in above if it[0] < column]
+            caller = above[-1][1] if above else None
+            above.append((column, len(wanted)))
+            wanted += [caller] * line.partition("[")[2].count("0x")
+        self.assertEqual(len(wanted), 13)
+        self.assertEqual([it["caller"] for it in frames[: len(wanted)]], wanted)
+
+    def test_frames_with_several_answers(self) -> None:
+        found, _, _ = self.objects("--frames", CRASHES / "arm64.crash", "differ")
+        several = [it for it in found if it.get("several")]
+        self.assertTrue(several)
+        for it in several:
+            self.assertEqual((it["function"], it["offset"], it["file"]), (None, None, None))
+            self.assertGreater(len({(one["function"], one["offset"]) for one in it["several"]}), 1)
+            digests = [digest for one in it["several"] for digest in one["digests"]]
+            self.assertEqual([one for one in digests if not re.fullmatch("[0-9a-f]{64}", one)], [])
 
     def test_names_that_are_no_text(self) -> None:
         """JSON of a report may escape what is no character; the line is UTF-8 all the same."""

@@ -3,7 +3,7 @@ import os
 import re
 import shutil
 import struct
-from typing import List, Sequence
+from typing import Dict, List, Sequence, Tuple
 
 from .support.reports import ReportCase, program
 
@@ -71,9 +71,9 @@ class Demangling(ReportCase):
     def demangled(
         self, wanted: Sequence[str], note: str = "", others: Sequence[str] = (), words: Sequence[str] = ("--demangle",),
         **demanglers: str
-    ) -> None:
+    ) -> str:
         """Fails where others come of these demanglers, something else is said, or one is called more than once; or
-        where one of the others is called at all."""
+        where one of the others is called at all. Returns the last line."""
         # The shell and what its scripts call stand in this folder alone.
         tools = self.folder / "tools"
         tools.mkdir()
@@ -88,6 +88,7 @@ class Demangling(ReportCase):
         for name in demanglers:
             self.assertEqual((self.folder / name).read_text(), "\n", f"calls of {name}")
         self.assertEqual([name for name in others if (self.folder / name).exists()], [], "calls of others")
+        return came.error_lines[-1]
 
     cxx = "sed 's/^_ZN5spool4copyEv$/spool::copy()/'"
     swift = "sed 's/^$s5spool4copyyyF$/spool.copy() -> ()/'"
@@ -123,12 +124,41 @@ class Demangling(ReportCase):
     def test_cxx_alone(self) -> None:
         self.demangled(["spool::copy()", *STRIPPED[1:]], llvm_cxxfilt=self.cxx)
 
+    def test_what_swift_is_needed_for(self) -> None:
+        """It is said once which program is lacking, whatever else is there, and not if it is there or none needs it."""
+        left = "; names of Swift stay as they are: install Swift, whose `swift demangle` makes them readable"
+        tried: List[Tuple[List[str], Dict[str, str], bool]] = [
+            ([], {"llvm_cxxfilt": self.cxx}, True), (["--demangle"], {"c++filt": self.cxx}, True), ([], {}, True),
+            ([], {"swift": self.swift, "llvm_cxxfilt": self.cxx}, False), (["--no-demangle"], {}, False),
+        ]  # fmt: skip
+        for words, demanglers, is_said in tried:
+            with self.subTest(f"{words} {[*demanglers]}"):
+                wanted = ["spool::copy()" if "llvm_cxxfilt" in demanglers or "c++filt" in demanglers else STRIPPED[0],
+                          "spool.copy() -> ()" if "swift" in demanglers else STRIPPED[1], *STRIPPED[2:]]  # fmt: skip
+                last = self.demangled(wanted, words=words, **demanglers)
+                self.assertEqual((last.count(left), last.endswith(left)), (is_said, is_said), last)
+                for it in [self.folder / "demanglers", self.folder / "tools"]:
+                    shutil.rmtree(it, ignore_errors=True)
+                for name in demanglers:
+                    (self.folder / name).unlink()
+
+    def test_names_of_swift(self) -> None:
+        """Those of each version since 4 are, as docs/ABI/Mangling.rst of Swift has them; names of C are none."""
+        for name, is_swift in (
+            (b"_$s5spool4copyyyF", True), (b"_$S5spool4copyyyF", True), (b"_$e5spool4copyyyF", True),
+            (b"__T05spool4copyyyF", True), (b"_Test", False), (b"__Test", False), (b"_$tart", False), (b"_T0", False),
+        ):  # fmt: skip
+            self.archive.unlink()
+            self.make([name])
+            last = self.report(self.crash, self.archive, environment={"PATH": str(self.folder)}).error_lines[-1]
+            self.assertEqual("install Swift" in last, is_swift, name)
+
     def test_one_fails(self) -> None:
         wanted, note = ["spool::copy()", *STRIPPED[1:]], "swift demangle failed: it demangles no names"
         self.demangled(wanted, note, swift="sed s/^/x/; exit 1", llvm_cxxfilt=self.cxx)
 
     def test_one_prints_less(self) -> None:
-        self.demangled(STRIPPED, "llvm-cxxfilt -n failed: it demangles no names", llvm_cxxfilt="head -n 2")
+        self.demangled(STRIPPED, "llvm-cxxfilt -n failed: it demangles no names", llvm_cxxfilt="sed 1d")
 
     def test_neither(self) -> None:
         note = "neither swift nor llvm-cxxfilt nor c++filt is there: names are not demangled"

@@ -3,22 +3,39 @@ import os
 import re
 import shutil
 import struct
-import subprocess
 from pathlib import Path
 from typing import Any, List, Optional, Union
 
 from .model.indexes import entries_in, table_place
 from .support.cases import powerless_over
-from .support.made_images import index_before_lines, index_without_tables, records_in
+from .support.made_images import index_without_tables, records_in
 from .support.program import TOP, call, symarch
 from .support.reports import CRASHES, DYLD, FIXTURES, KERNEL, SPOOL, SPOOL_2, ReportCase, named, source
-from .support.rooms import change
+from .support.rooms import change, changed_tool
 
 KEEP = TOP / "tools" / "symarch-keep"
 ARM64, MH_DSYM = struct.pack(">II", 0x0100000C, 0), struct.pack("<I", 10)
 NONE_NAMED = "0 of 4 frames named, 0 named before, 4 not named"
 ALL_NAMED = f"4 of 4 frames named, 0 named before, 0 not named; by dSYM: spool {SPOOL} arm64"
 CHANGED = f"changed since it came in: spool {SPOOL} arm64"
+
+# Renames the index of an archive once a tool has looked for it twice, for however long that takes.
+COMING = """
+import os
+from symarch_tools.reports import archives
+from symarch_tools.store import lock
+
+looks, lock.looks.__defaults__ = lock.looks, (600.0,)
+archives.MOST_OF_CHANGES = lock.MOST_OF_CHANGES = 600.0
+
+def looked(state, **more):
+    for number, _ in enumerate(looks(state, **more)):
+        yield
+        if number == 1:
+            os.rename({before!r}, {then!r})
+
+archives.looks = looked
+"""
 
 
 def advice(uuid: str, kept: object, arch: str = "arm64") -> str:
@@ -268,22 +285,10 @@ class OtherArchives(VouchedCase):
         self.is_not_asked(f"kept.sym.idx is not read: BadDigest at {begin}", "kept.sym")
 
     def test_an_index_without_tables(self) -> None:
-        """As an earlier symarch-keep left it: it says what changed, and the archive is read without it."""
-        index = self.folder / "site.sym.idx"
-        index.write_bytes(index_without_tables(self.site.read_bytes()))
-        self.says(ALL_NAMED, status=0, printed=named("crash"))
-        self.change(self.site)
-        self.says(advice(SPOOL, "site.sym"), f"{NONE_NAMED}; {CHANGED}")
-        shutil.copy(self.archives / "both", self.site)
-        self.is_refused([CRASHES / "arm64.crash", "site.sym"], f"symbolicate-report: {self.since}")
-
-    def test_an_index_before_lines(self) -> None:
-        """Of tables that have no lines, which the program does not read: the same holds."""
-        index = self.folder / "site.sym.idx"
-        index.write_bytes(index_before_lines(self.site.read_bytes()))
-        self.says(ALL_NAMED, status=0, printed=named("crash"))
-        self.change(self.site)
-        self.says(advice(SPOOL, "site.sym"), f"{NONE_NAMED}; {CHANGED}")
+        """As no release left it: it is refused."""
+        text = index_without_tables(self.site.read_bytes())
+        (self.folder / "site.sym.idx").write_bytes(text)
+        self.is_not_asked(f"site.sym.idx is not read: Truncated at {len(text) - 41}")
 
     def test_one_of_two_archives_without_an_index(self) -> None:
         """It is made elsewhere, also of one of version 1, and nothing is left beside the archives."""
@@ -298,9 +303,11 @@ class OtherArchives(VouchedCase):
         """An archive and its index are renamed one after the other."""
         both = self.archive("both.sym", "both")
         os.replace(both, self.site)
-        moving = ["sh", "-c", 'sleep 0.2; mv "$1" "$2"', "sh", f"{both}.idx", f"{self.site}.idx"]
-        with subprocess.Popen(moving):
-            self.says(ALL_NAMED, status=0, printed=named("crash"))
+        coming = COMING.format(before=f"{both}.idx", then=f"{self.site}.idx")
+        tool = changed_tool(self.folder, coming, module="symbolicate")
+        came = call([tool, CRASHES / "arm64.crash", "site.sym"], cwd=self.folder, environment={"SYMARCH": symarch})
+        self.assertEqual((came.status, came.out), (0, named("crash")), came.errors)
+        self.is_absent(f"{both}.idx")
 
 
 class WhatCameLately(VouchedCase):

@@ -10,7 +10,8 @@ from typing import Dict, Iterator, List
 from .support.builds import DWARF, SHOP
 from .support.cases import same
 from .support.made_images import image, number_uuid, slice_words
-from .support.program import TOP, call
+from .support.packed_files import zipped
+from .support.program import MOST_SECONDS, TOP, call
 from .support.reports import FORMS
 from .support.servers import CRASH, FIRST, FIRST_X86_64, SECOND, Server, ServerCase, form, objects, python
 
@@ -69,6 +70,24 @@ class Reports(ServerCase):
         wanted = "named=4 named_before=1 several=0 not_named=0 not_listed=0"
         same("frames", sorted(came.headers["symarch-frames"].split()), sorted(wanted.split()))
 
+    def test_a_zip_file(self) -> None:
+        """One with a report is that report; one with several is refused in each form, and so is one that is damaged."""
+        server, report = self.serve(), (CRASH / "arm64.crash").read_bytes()
+        one = zipped({"feedback.json": b"{}", "../../a.crash": report})
+        wanted = self.tool("symbolicate-report", CRASH / "arm64.crash", self.room.archive)
+        same("report", server.ask("/reports", one).body, wanted.out)
+        self.assertIn("copy_body", server.ask("/reports", one, headers=HTML).text)
+        several = zipped({"a.crash": report, "b.crash": report})
+        for query in OPTIONS:
+            said = "report: a zip file that holds several reports"
+            self.refuses(server.ask(f"/reports{query}", several), 422, said)
+        same("page", server.ask("/reports", several, headers=HTML).status, 422)
+        self.refuses(server.ask("/reports", zipped({"a": report})), 422, "report: a zip file that holds no report")
+        self.refuses(server.ask("/reports", one[:-30]), 422, "report: a zip file that is cut or damaged")
+        long = zipped({"a.crash": bytes(70 << 20)})
+        said = "report: a.crash: unpacks to more than 64000000 bytes"
+        self.refuses(server.ask("/reports", long), 422, said)
+
     def test_what_is_no_report(self) -> None:
         server = self.serve()
         said = "report: no report that is read here: no stack frames"
@@ -97,7 +116,7 @@ class Reports(ServerCase):
     @staticmethod
     def sent(server: Server, chunks: Iterator[bytes]) -> int:
         """The status of an answer, which may come before all is sent."""
-        with socket.create_connection(("127.0.0.1", server.port), timeout=60) as connection:
+        with socket.create_connection(("127.0.0.1", server.port), timeout=MOST_SECONDS) as connection:
             head = f"POST /reports HTTP/1.1\r\nHost: 127.0.0.1:{server.port}\r\nTransfer-Encoding: chunked\r\n\r\n"
             with contextlib.suppress(BrokenPipeError, ConnectionResetError):
                 connection.sendall(head.encode())

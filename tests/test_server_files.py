@@ -227,6 +227,8 @@ class Profiled(ServerCase):
             ({"memoryMap": [], "stacks": [[[0, 1]]]}, "the body.stacks[0][0]: there is no module 0"),
             ({"memoryMap": [], "stacks": [[["0", 1]]]}, "the body.stacks[0][0]: expected [MODULE INDEX, OFFSET]"),
             ({"memoryMap": [], "stacks": [[[-1, 1.5]]]}, "the body.stacks[0][0]: expected [MODULE INDEX, OFFSET]"),
+            ({"memoryMap": [], "stacks": [[]] * 100_001}, "the body.stacks: expected 100000 at most"),
+            ({"jobs": [0] * 100_001}, "jobs: expected 100000 at most"),
             (b"[" * 100_000, "the body is no JSON"),
         ):
             came = self.ask(server, said)

@@ -50,12 +50,13 @@ class Package(PackageCase):
         self.assertEqual(sorted(programs), ["./usr/bin/symarch-server", "./usr/lib/symarch/symarch-server"])
 
     def test_manual(self) -> None:
-        """It has each route that is served, and each option."""
+        """OPERATING has each route that is served, and the page each option."""
+        operating = (TOP / "docs" / "OPERATING.md").read_text(encoding="utf-8")
         page = self.tree["share/man/man1/symarch-server.1"].decode().replace("\\-", "-")
         routes = re.findall(r'@routes\.\w+\("([^"<]+)', "".join(it.read_text() for it in SOURCES.glob("*.py")))
         self.assertGreater(len(routes), 10)
         for route in {it.rstrip("/") for it in routes} - {"", "/search"}:
-            self.assertIn(route, page)
+            self.assertIn(route, operating)
         for option in re.findall(r'add_argument\("(--[\w-]+)"', (SOURCES / "settings.py").read_text()):
             self.assertIn(option, page)
 
@@ -98,7 +99,7 @@ url = open("served").read().split()[-1]
 print(urllib.request.urlopen(url + "reports", open("report.crash", "rb").read()).read().decode())
 """
 SERVE = """symarch-server --listen 127.0.0.1:0 builds.sym >served 2>log &
-for at in $(seq 300); do grep -q http served && break; sleep 0.2; done
+for at in $(seq 1500); do grep -q http served && break; sleep 0.2; done
 python3 ask; kill $!; wait $!; cat log >&2"""
 
 
@@ -126,9 +127,12 @@ class InRoot(PackageCase):
             ("dpkg -s symarch-server | grep ^Status; dpkg -V symarch-server", "Status: install ok installed\n"),
             ("symarch-keep add builds.sym spool-1.dSYM", "added"),
             (SERVE, " copy_body + 12 (spool.c:9)"),
+            ("ls /usr/lib/symarch/symarch_*/__pycache__ | grep -c '^\\(keep\\|app\\)[.].*pyc$'", "2\n"),
             ("dpkg -r symarch-server; find /usr /lib -name '*symarch?server*'; echo none", "\nnone\n"),
+            ("dpkg -r symarch; find /usr /lib -name '*symarch*'; echo none", "\nnone\n"),
         ):
             done = fresh_root.run(root, script)
             self.assertEqual(done.returncode, 0, done.stdout + done.stderr)
             self.assertIn(wanted, done.stdout, done.stderr)
-        self.assertNotIn("symarch_server", done.stdout)
+            self.assertNotIn("not compiled", done.stderr)
+        self.assertNotIn("/symarch", done.stdout)

@@ -1,23 +1,23 @@
 """symarch-server while its archive changes, under many and slow clients, at its limits, and at its end."""
 import contextlib
 import os
-import pathlib
 import random
+import select
 import signal
 import socket
 import subprocess
 import sys
 import threading
-import time
 from concurrent.futures import ThreadPoolExecutor
-from typing import Callable, Iterator, List, Tuple
+from typing import Any, Callable, Iterator, List, Sequence, Tuple
 
 from .support.cases import powerless_over, same
 from .support.made_images import image, slice_words
-from .support.program import TOP, call
-from .support.rooms import change, levelled
-from .support.servers import CRASH, FIRST, Server, ServerCase, lifted, python
+from .support.program import MOST_SECONDS, TOP, call
+from .support.rooms import Gate, change, levelled
+from .support.servers import CRASH, FIRST, LIFTED, Server, ServerCase, lifted, python, with_numbers
 from .support.sites import Site
+from .support.waits import is_running, wait_until
 
 REPORT = (CRASH / "arm64.crash").read_bytes()
 HEX = FIRST.replace("-", "")
@@ -113,30 +113,31 @@ class Changing(ServerCase):
         self.room.call("fold", "--all", self.room.archive)
 
     def test_a_month_of_two_sites(self) -> None:
-        """East is asked while it adds, retires, exchanges and folds; in the end both have the same, and so it says."""
+        """East is asked while it adds, retires, exchanges and folds each night, and checks and folds all each week; in
+        the end both have the same, and so it says."""
         dice = random.Random(96)
+        self.room.tool = levelled(self.folder)
         east, west = Site(self.room, "east"), Site(self.room, "west")
         self.room.call("add", east.archive, "1", "2")
         server = self.serve(archive=east.archive)
+        dsym, path = server.ask(f"/buildid/{HEX}/debuginfo").body, f"/buildid/{HEX}/debuginfo"
 
         def report() -> None:
             came = server.ask("/reports", REPORT)
             same("report", (came.status, b"copy_body + 12 (spool.c:9)" in came.body), (200, True))
 
+        def others() -> None:
+            same("slice", server.ask(path).body, dsym)
+            same("page", server.ask("/", headers={"Accept": "text/html"}).status, 200)
+            builds = server.ask("/builds", headers={"Accept": "application/json"}).json()
+            same("builds", (builds[-1]["type"], builds[-1]["status"]), ("end", 0))
+            same("status", server.ask("/status").text.count("companions 4"), 1)
+
         retired: List[bytes] = []
         made: List[bytes] = []
-        with self.asking(server, report) as wrong:
-            for day in range(10):
-                site = dice.choice([east, west])
-                made.append(image(200 + day, more=bytes([day]) * dice.randrange(3000)))
-                site.add(made[-1])
-                if day % 4 == 3:
-                    retired.append(made[dice.randrange(len(made))])
-                    site.retire(retired[-1])
-                east.exchange()
-                west.exchange()
-                if day % 3 == 0:
-                    self.room.call("fold", "--all", east.archive)
+        with self.asking(server, report, others) as wrong:
+            for day in range(30):
+                self.live_a_day(day, dice, (east, west), made, retired)
         same("what was wrong", wrong, [])
         for _ in range(2):
             east.exchange()
@@ -146,6 +147,22 @@ class Changing(ServerCase):
             same(path, server.ask(path).status, 404 if one in retired else 200)
         same("status", server.ask("/status").lines, self.room.call("status", east.archive)[0])
         same("both", east.has(), west.has())
+
+    def live_a_day(
+        self, day: int, dice: random.Random, sites: Sequence[Site], made: List[bytes], retired: List[bytes]
+    ) -> None:
+        """A day of two sites: one adds and may retire, both exchange, and the first one folds at night."""
+        site = dice.choice(sites)
+        made.append(image(200 + day, more=bytes([day]) * dice.randrange(20_000)))
+        site.add(made[-1])
+        if day % 4 == 3:
+            retired.append(made[dice.randrange(len(made))])
+            site.retire(retired[-1])
+        for one in sites:
+            one.exchange()
+        self.room.call("fold", *(["--all", "--purge"] if day % 7 == 6 else []), sites[0].archive)
+        if day % 7 == 6:
+            self.room.call("check", sites[0].archive)
 
 
 def slow_connection(server: Server) -> socket.socket:
@@ -159,19 +176,20 @@ def slow_connection(server: Server) -> socket.socket:
 class LargeCase(ServerCase):
     """Cases over an image that no buffer of a connection has room for."""
 
-    def begin_with_a_large_one(self) -> Tuple[Server, bytes, str]:
+    def begin_with_a_large_one(self, **how: Any) -> Tuple[Server, bytes, str]:
         """A server, the image, and the path that it is asked by."""
         large = image(70, more=bytes(6_000_000))
         self.room.file("large", large)
         self.room.add("large")
-        return self.serve(), large, f"/buildid/{slice_words(large)[0].replace('-', '')}/executable"
+        return self.serve(**how), large, f"/buildid/{slice_words(large)[0].replace('-', '')}/executable"
 
 
 class Clients(LargeCase):
     """Many clients, and slow ones."""
 
     def test_two_hundred_at_once(self) -> None:
-        server = self.serve()
+        patient = f"init = pool.Pool.__init__; init.__defaults__ = ({2 * MOST_SECONDS}, *init.__defaults__[1:])"
+        server = self.serve(before=with_numbers(patient))
         wanted = server.ask("/reports", REPORT).body
         with ThreadPoolExecutor(200) as threads:
             came = list(threads.map(lambda _: server.ask("/reports", REPORT), range(200)))
@@ -191,8 +209,8 @@ class Clients(LargeCase):
                 connection = ends.enter_context(slow_connection(server))
                 connection.sendall(begun[number % 3].encode())
             for _ in range(3):
-                same("report", server.ask("/reports", REPORT, seconds=30).status, 200)
-                same("slice", server.ask(path, seconds=30).body, large)
+                same("report", server.ask("/reports", REPORT).status, 200)
+                same("slice", server.ask(path).body, large)
 
     def test_requests_that_are_none(self) -> None:
         server = self.serve()
@@ -207,7 +225,7 @@ class Clients(LargeCase):
             b"GET /" + b"a" * 40_000 + b" HTTP/1.1\r\nHost: 127.0.0.1\r\n\r\n",
             b"GET / HTTP/1.1\r\nHost: 127.0.0.1\r\nX: " + b"a" * 40_000 + b"\r\n\r\n",
         ):
-            with socket.create_connection(("127.0.0.1", server.port), timeout=20) as connection:
+            with socket.create_connection(("127.0.0.1", server.port), timeout=MOST_SECONDS) as connection:
                 # It may have answered and gone before all is sent.
                 with contextlib.suppress(OSError):
                     connection.sendall(sent)
@@ -220,39 +238,41 @@ class Clients(LargeCase):
 class Busy(ServerCase):
     """Searches that take long keep nobody else out."""
 
+    # Of searches so many are worked on and wait at once.
+    MOST = 6
+
     def test_searches(self) -> None:
-        slow = self.room.program('[ "$1" = name ] && sleep 4\nulimit -S -v unlimited\nexec $symarch "$@"')
-        server = self.serve("--workers", "2", environment=slow)
+        gate = Gate(self.room, "name", LIFTED)
+        server = self.serve("--workers", "2", environment=gate.environment)
         with ThreadPoolExecutor(40) as threads:
             came = [threads.submit(server.ask, f"/symbols/_none{number}") for number in range(40)]
-            time.sleep(1)
-            start = time.monotonic()
+            wait_until(lambda: sum(one.done() for one in came) == len(came) - self.MOST, server.process)
             same("another one", server.ask("/reports", REPORT).status, 200)
+            gate.open()
             statuses = sorted(one.result().status for one in came)
-        same("statuses", sorted(set(statuses)), [404, 503])
-        self.assertLess(time.monotonic() - start, 40)
+        same("statuses", statuses, [404] * self.MOST + [503] * (len(came) - self.MOST))
 
 
 class Limits(ServerCase):
     """Each answer has so much memory and so many seconds; the server goes on."""
 
     def test_seconds(self) -> None:
-        slow = self.room.program('[ "$1" = frames ] && exec sleep 60\nulimit -S -v unlimited\nexec $symarch "$@"')
+        slow = self.room.program('[ "$1" = frames ] && exec sleep 6000\nulimit -S -v unlimited\nexec $symarch "$@"')
         server = self.serve("--seconds", "6", environment=slow)
         came = server.ask("/reports", REPORT)
         self.refuses(came, 503, "the work took more than 6 seconds, and was ended")
-        same("status", server.ask("/status").status, 200)
+        server.goes_on()
 
     def test_what_never_ends(self) -> None:
         """A program that works without end is ended with its worker."""
-        spun = 'if [ "$1" = frames ]; then echo $$ >spun.pid; while :; do :; done; fi'
+        # Nor does its limit of processor time end it.
+        spun = 'if [ "$1" = frames ]; then trap "" XCPU; echo $$ >spun.pid; while :; do :; done; fi'
         slow = self.room.program(f'cd {self.folder}\n{spun}\nulimit -S -v unlimited\nexec $symarch "$@"')
         server = self.serve("--seconds", "6", environment=slow)
-        same("status", server.ask("/reports", REPORT).status, 503)
-        path = pathlib.Path("/proc", (self.folder / "spun.pid").read_text().strip(), "stat")
-        # It may be there as long as nobody asks how it ended.
-        state = path.read_text().rpartition(") ")[2][0] if path.exists() else "Z"
-        same("state", state, "Z")
+        path = self.folder / "spun.pid"
+        while not path.exists():
+            same("status", server.ask("/reports", REPORT).status, 503)
+        wait_until(lambda: not is_running(int(path.read_text())))
 
     def test_memory(self) -> None:
         """A report that needs more than a worker may have is refused; others are named."""
@@ -272,7 +292,7 @@ class Limits(ServerCase):
         said = subprocess.run(["ps", "-o", "pid=", "--ppid", str(server.process.pid)], capture_output=True, check=True)
         for number in map(int, said.stdout.split()):
             os.kill(number, signal.SIGKILL)
-        time.sleep(1)
+            wait_until(lambda: not is_running(number))
         same("then", [server.ask("/reports", REPORT).status for _ in range(2)], [200, 200])
 
 
@@ -280,21 +300,24 @@ class Ending(LargeCase):
     """SIGTERM ends it after the answers that are under way."""
 
     def test_an_answer_that_is_under_way(self) -> None:
-        slow = self.room.program('[ "$1" = frames ] && sleep 2\nulimit -S -v unlimited\nexec $symarch "$@"')
-        server = self.serve(environment=slow)
+        gate = Gate(self.room, "frames", LIFTED)
+        server = self.serve(environment=gate.environment)
         with ThreadPoolExecutor(1) as threads:
             came = threads.submit(server.ask, "/reports", REPORT)
-            time.sleep(0.8)
-            same("status of the server", server.end(), 0)
+            gate.wait(server.process)
+            server.process.send_signal(signal.SIGTERM)
+            wait_until(lambda: not server.is_reached(), server.process)
+            gate.open()
             same("answer", came.result().status, 200)
+            same("status of the server", server.end(), 0)
 
     def test_a_large_answer_that_is_under_way(self) -> None:
         server, large, path = self.begin_with_a_large_one()
         with slow_connection(server) as connection:
             connection.sendall(f"GET {path} HTTP/1.0\r\nHost: 127.0.0.1\r\n\r\n".encode())
-            time.sleep(1)
+            wait_until(lambda: select.select([connection], [], [], 0)[0], server.process)
             server.process.send_signal(signal.SIGTERM)
-            time.sleep(0.5)
+            wait_until(lambda: not server.is_reached(), server.process)
             data = b"".join(iter(lambda: connection.recv(1 << 20), b""))
         same("bytes", data.partition(b"\r\n\r\n")[2], large)
 

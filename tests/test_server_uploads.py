@@ -5,13 +5,14 @@ import http.client
 import os
 import signal
 import socket
-import time
 from typing import List
 
 from .support.builds import DWARF, tarred, zipped
 from .support.cases import same
 from .support.made_images import image, slice_words
-from .support.servers import Server, ServerCase, bearer, objects, temporary, tokens
+from .support.rooms import Gate
+from .support.servers import LIFTED, Server, ServerCase, bearer, connections, objects, temporary, tokens
+from .support.waits import wait_until
 
 GIVEN = image(11, more=bytes(200))
 TOKEN = "a-long-token"
@@ -91,7 +92,7 @@ class Uploads(ServerCase):
         server = self.begin()
         for token in (TOKEN[1:], "wrong"):
             more = {"Content-Length": str(1 << 30), **bearer(token)}
-            same("status", server.ask("/images/x", b"", "PUT", more, seconds=20).status, 413)
+            same("status", server.ask("/images/x", b"", "PUT", more).status, 413)
 
     def test_one_that_is_cut(self) -> None:
         """Nothing is added, and nothing left."""
@@ -100,7 +101,8 @@ class Uploads(ServerCase):
         before = self.room.archive.read_bytes()
         with socket.create_connection(("127.0.0.1", server.port)) as connection:
             connection.sendall(f"{head}Content-Length: {len(GIVEN)}\r\n\r\n".encode() + GIVEN[:100])
-            time.sleep(0.3)
+            wait_until(lambda: connections(server) == [0], server.process)
+        wait_until(lambda: not connections(server), server.process)
         same("status", server.ask("/status").status, 200)
         same("archive", self.room.archive.read_bytes(), before)
         same("found", self.found(), [])
@@ -109,14 +111,15 @@ class Uploads(ServerCase):
 
     def test_killed_while_it_adds(self) -> None:
         """The archive has it or not, and the next server removes what is left."""
-        slow = self.room.program("case $1 in merge|index) sleep 3;; esac\nulimit -S -v unlimited\nexec $symarch \"$@\"")
+        gate = Gate(self.room, "merge|index", LIFTED)
         path = tokens(self.room, "uploads", {"ci": TOKEN})
-        server = self.serve("--uploads", path, environment=slow)
+        server = self.serve("--uploads", path, environment=gate.environment)
         with socket.create_connection(("127.0.0.1", server.port)) as connection:
             head = f"PUT /images/x HTTP/1.1\r\nHost: 127.0.0.1:{server.port}\r\nAuthorization: Bearer {TOKEN}\r\n"
             connection.sendall(f"{head}Content-Length: {len(GIVEN)}\r\n\r\n".encode() + GIVEN)
-            time.sleep(1.5)
+            gate.wait(server.process)
             server.end(signal.SIGKILL)
+        gate.open()
         self.assertIn(len(self.found()), (0, 1))
         other = self.serve("--uploads", path)
         same("again", other.ask("/images/x", GIVEN, "PUT", bearer(TOKEN)).status, 200)

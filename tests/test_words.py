@@ -213,6 +213,13 @@ class Refused(PlacesCase):
             came = self.call(*words)
             self.assertEqual((came.status, came.out, len(came.error_lines)), (3, b"", 1), words)
             self.assertTrue(came.error_lines[0].startswith("symarch: "), words)
+        uuid = "expected 32 hex digits, with or without hyphens"
+        for word, shown in (
+            ("x\nsymarch: y", "x\\x0asymarch: y"),
+            ("\033[31m\x7f", "\\x1b[31m\\x7f"),
+            ("\x85é\\", "\\x85é\\"),
+        ):
+            self.expect(["find", "one.sym", word], tells=f"symarch: invalid UUID '{shown}': {uuid}", status=3)
 
     def test_words_that_are_no_text(self) -> None:
         """A byte that no text has, a half of a character, one of two bytes too many, and a half of a pair, also if such

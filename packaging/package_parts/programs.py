@@ -14,9 +14,9 @@ ARGUMENT = re.compile(r"  <(\w+)>(\.\.\.)?(?:  +(.*))?")
 # As `  ARCH         the architecture: arm64 or arm64e`.
 PLACED = re.compile(r"  ([A-Z]+)  +(.*)")
 # As `      --load <HEX>  Where the image was loaded`, and `  --out FOLDER  print into a folder`.
-OPTION = re.compile(r" +(?:(-\w)(?: [A-Z]+)?, )?(--[\w-]+)(?: <?([A-Z]+)>?)?(?:  +(.*))?")
+OPTION = re.compile(r" +(?:(-\w)(?: [A-Z]+)?, )?(--[\w-]+)(?: <?([A-Z][A-Z=@/]*)>?)?(?:  +(.*))?")
 # An option in a form of a tool, and the word after it, which is its value unless it is an argument.
-IN_FORM = re.compile(r"(--[a-z][a-z-]*)(?: ([A-Z]+)\b)?")
+IN_FORM = re.compile(r"(--[a-z][a-z-]*)(?: ([A-Z][A-Z=@/]*))?")
 IN_BRACKETS = re.compile(r"\[[^]]*\]")
 # The sections of a help that list words.
 LISTS = ("Commands", "Arguments", "Options", "positional arguments", "options", "optional arguments")

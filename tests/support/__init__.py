@@ -8,6 +8,8 @@
 - rooms             a folder in which symarch-keep is called
 - sites             sites that exchange over folders
 - kills             tools that are killed before one of their steps
+- waits             waits for what has to come
+- growth            how much longer a work takes with a longer input
 - traces            what a program asks of the system, by strace
 - second_lines      the second line of a fault
 - fresh_root        a system of Debian's essential packages

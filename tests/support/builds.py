@@ -14,6 +14,7 @@ from .made_images import slice_text
 from .rooms import RoomCase
 
 DSYM = 10
+DAY_SECONDS, SOON = 24 * 60 * 60, 300
 FIRST = "symarch-keep 1\n"
 DAY = re.compile(r"[0-9]{4}-[0-9]{2}-[0-9]{2}")
 SHOP = {"CFBundleIdentifier": "com.example.shop", "CFBundleShortVersionString": "2.1", "CFBundleVersion": "210"}
@@ -33,6 +34,13 @@ def today() -> str:
 def known(made: bytes, name: str, app: str = "?", version: str = "?", build: str = "?", day: str = "") -> str:
     """What a line has after its sum."""
     return f"{day or today()} {slice_text(made)} {app} {version} {build} {name}"
+
+
+def within(made: bytes, app: str, version: str = "?", build: str = "?", day: str = "") -> str:
+    """What a line has after its sum that says in which app a slice came in: its digest has each bit inverted."""
+    uuid, arch, digest = slice_text(made).split(" ")
+    inverted = bytes(255 - byte for byte in bytes.fromhex(digest)).hex()
+    return f"{day or today()} {uuid} {arch} {inverted} {app} {version} {build} \\x00within"
 
 
 def builds(*lines: str) -> bytes:
@@ -68,7 +76,13 @@ def tarred(members: Sequence[Tuple[str, bytes]]) -> bytes:
 
 
 class BuildsCase(RoomCase):
-    """Cases over ARCHIVE.builds."""
+    """Cases over ARCHIVE.builds, each of which begins and ends on one day."""
+
+    def setUp(self) -> None:
+        super().setUp()
+        left = DAY_SECONDS - time.time() % DAY_SECONDS
+        if left < SOON:
+            time.sleep(left + 1)
 
     def beside(self, archive_path: Optional[pathlib.Path] = None) -> pathlib.Path:
         return pathlib.Path(f"{archive_path or self.room.archive}.builds")

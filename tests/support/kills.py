@@ -6,11 +6,11 @@ import pathlib
 import shutil
 import sys
 import tempfile
-import time
 from typing import Any, Callable, Dict, Iterator, List, Tuple
 
 from .cases import Wrong, remove, same
 from .rooms import Room
+from .waits import wait_until
 
 # Ends a tool before one of its steps, by a kill: STEPS says before which.
 KILLER = """
@@ -69,11 +69,7 @@ def running(session: int) -> Iterator[str]:
 def wait_for_session(session: int) -> None:
     """Waits until each process of a session has ended: a program goes on for a while where the tool that had begun it
     is killed."""
-    ended = time.monotonic() + 60
-    while any(running(session)):
-        if time.monotonic() > ended:
-            raise Wrong("what a killed tool had begun does not end")
-        time.sleep(0.01)
+    wait_until(lambda: not any(running(session)))
 
 
 def status_where_killed(start: Callable[..., Any], steps: int, *words: Any) -> int:

@@ -14,8 +14,8 @@ NOT_ROOT = ["setpriv", "--bounding-set=-dac_override,-dac_read_search"]
 # What a shell begins in the background ignores SIGINT, and so would all that it calls.
 if signal.getsignal(signal.SIGINT) == signal.SIG_IGN:
     signal.signal(signal.SIGINT, signal.default_int_handler)
-# No call of a test takes longer, also where the machine has other work.
-MOST_SECONDS = 300
+# No call of a test takes longer, also where the machine has much other work.
+MOST_SECONDS = 900
 
 Word = Union[str, bytes, "os.PathLike[str]"]
 Environment = Optional[Mapping[str, str]]

@@ -137,10 +137,10 @@ class ReportCase(ProgramCase):
         self.assertEqual((came.status, came.out, self.shortened(came)), (status, b"", list(said)), f"of {words}")
 
     def written(self, paths: Sequence[pathlib.Path], archive: Any, *words: Any) -> Tuple[Dict[str, bytes], Ended]:
-        """What --out writes of several reports, by its name, and what came of the call."""
+        """What --out writes of several reports, by its path, and what came of the call."""
         out = pathlib.Path(tempfile.mkdtemp(prefix="out-", dir=self.folder)) / "made"
         came = self.report("--out", out, *words, *paths, archive)
-        made = {path.name: path.read_bytes() for path in out.iterdir()} if out.exists() else {}
+        made = {str(path.relative_to(out)): path.read_bytes() for path in out.rglob("*") if path.is_file()}
         return made, came
 
     def script(self, name: str, body: str) -> str:

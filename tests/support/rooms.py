@@ -11,7 +11,8 @@ from typing import Any, Dict, Iterable, List, Mapping, Optional, Sequence, Tuple
 
 from .cases import ProgramCase, Wrong, same, symarch
 from .made_images import image, join_of
-from .program import TOP
+from .program import MOST_SECONDS, TOP
+from .waits import wait_until
 
 
 def compiled() -> str:
@@ -45,7 +46,7 @@ LEVEL = re.compile(r"\.[1-9][0-9]?(\.idx)?")
 
 def levelled(folder: pathlib.Path) -> str:
     """A tool in a folder that is symarch-keep, for archives of which no size is too small for levels."""
-    return changed_tool(folder, "from symarch_tools.keeping import levels", "levels.LEAST = 0")
+    return changed_tool(folder, "from symarch_tools.store import levels", "levels.LEAST = 0")
 
 
 def changed_tool(folder: pathlib.Path, *statements: str, module: str = "keep") -> str:
@@ -136,7 +137,7 @@ class Room:
         if there is one."""
         with self.start(*words, **more) as process:
             try:
-                said = [text.decode().split("\n") for text in process.communicate(timeout=120)]
+                said = [text.decode().split("\n") for text in process.communicate(timeout=MOST_SECONDS)]
             except subprocess.TimeoutExpired:
                 process.kill()
                 raise
@@ -180,6 +181,25 @@ class Room:
         names = (name for name in os.listdir(self.path) if name.startswith("site.sym."))
         others = (name for name in names if name not in [f"site.sym.{ending}" for ending in BESIDE])
         return sorted(name for name in others if not LEVEL.fullmatch(name[len("site.sym") :]))
+
+
+class Gate:
+    """A program in the place of symarch that waits at some of its commands, a pattern of the shell, until a case lets
+    it go on: before what it does then, or after that. It does not wait for ever."""
+
+    def __init__(self, room: Room, commands: str, then: str = 'exec "$symarch" "$@"', is_after: bool = False) -> None:
+        self.reached, self.opened = room.path / "gate.reached", room.path / "gate.opened"
+        waits = f'for at in $(seq {10 * MOST_SECONDS}); do [ -e {self.opened} ] && break; sleep 0.1; done'
+        waits = f"case $1 in {commands}) : >{self.reached}; {waits};; esac"
+        script = f"({then}\n)\nstatus=$?\n{waits}\nexit $status" if is_after else f"{waits}\n{then}"
+        self.environment = room.program(script)
+
+    def wait(self, process: "subprocess.Popen[bytes]") -> None:
+        """Waits until the program stands there, by which a process was to come."""
+        wait_until(self.reached.exists, process)
+
+    def open(self) -> None:
+        self.opened.touch()
 
 
 class RoomCase(ProgramCase):

@@ -1,4 +1,5 @@
 """A server of an archive, at a free port of this machine, and what it answers."""
+import contextlib
 import functools
 import hashlib
 import http.client
@@ -7,14 +8,16 @@ import os
 import pathlib
 import re
 import signal
+import socket
 import subprocess
 import sys
 from typing import Any, Dict, Iterable, List, Mapping, NamedTuple, Optional, Sequence, Tuple
 
 from .builds import DWARF
 from .cases import Without, same, symarch
-from .program import TOP, Ended, call, is_done
+from .program import MOST_SECONDS, TOP, Ended, call, is_done
 from .rooms import Room, RoomCase, keep
+from .waits import wait_until
 
 CRASH = TOP / "examples" / "crash"
 PACKAGES = "apt-get install python3-flask python3-waitress"
@@ -22,6 +25,8 @@ SERVES = re.compile(r"symarch-server: serves .* at http://([^/]*):([0-9]+)/\n")
 # UUIDs of examples/crash: the first build, and the second one, for arm64.
 FIRST, FIRST_X86_64 = "4c4c4419-5555-3144-a1d2-4341c97782f0", "4c4c44c0-5555-3144-a19f-a433d7651718"
 SECOND = "4c4c4435-5555-3144-a1b5-8515a36e45e9"
+# How a script in the place of the program calls it, whatever limits of memory it has.
+LIFTED = 'ulimit -S -v unlimited\nexec $symarch "$@"'
 # As much address space as a program may need that is built as people have it.
 LEAST = 4 << 30
 
@@ -66,6 +71,22 @@ class Answer(NamedTuple):
         return json.loads(self.body)
 
 
+# Begins a server with other numbers: lines of Python over its modules.
+WITH_NUMBERS = """
+import runpy, sys
+del sys.argv[:3]
+sys.path.insert(0, sys.argv[0].rpartition("/")[0])
+from symarch_server import fetching, pool, serving, site
+{}
+runpy.run_path(sys.argv[0], run_name="__main__")
+"""
+
+
+def with_numbers(lines: str) -> List[str]:
+    """Words before those of a server, by which it has other numbers."""
+    return [python(), "-BI", "-c", WITH_NUMBERS.format(lines)]
+
+
 class Server:
     """A server that runs, of the archive of a room."""
 
@@ -79,7 +100,8 @@ class Server:
     ) -> None:
         self.room, self.log_path = room, room.path / "server.log"
         self.log = open(self.log_path, "ab")
-        whole = [*before, python(), "-BI", server_tool(), "--listen", "127.0.0.1:0", *words, archive]
+        own = "--listen", "127.0.0.1:0", "--seconds", str(MOST_SECONDS)
+        whole = [*before, python(), "-BI", server_tool(), *own, *words, archive]
         program = {"SYMARCH": lifted(room.path), "TMPDIR": str(temporary(room.path))}
         how = {"stdin": subprocess.DEVNULL, "stdout": subprocess.PIPE, "stderr": self.log, "cwd": room.path}
         self.process: "subprocess.Popen[bytes]" = subprocess.Popen(
@@ -99,10 +121,8 @@ class Server:
     def said(self) -> str:
         return self.log_path.read_text()
 
-    def ask(
-        self, path: str, body: Any = None, method: str = "", headers: Mapping[str, str] = {}, seconds: float = 120
-    ) -> Answer:
-        connection = http.client.HTTPConnection("127.0.0.1", self.port, timeout=seconds)
+    def ask(self, path: str, body: Any = None, method: str = "", headers: Mapping[str, str] = {}) -> Answer:
+        connection = http.client.HTTPConnection("127.0.0.1", self.port, timeout=2 * MOST_SECONDS)
         try:
             connection.request(method or ("GET" if body is None else "POST"), path, body, dict(headers))
             came = connection.getresponse()
@@ -110,18 +130,38 @@ class Server:
         finally:
             connection.close()
 
+    def goes_on(self) -> None:
+        """Waits until it answers, also where it has a limit of few seconds for that."""
+        wait_until(lambda: self.ask("/status").status == 200, self.process)
+
+    def is_reached(self) -> bool:
+        """Whether it takes connections."""
+        with contextlib.suppress(ConnectionRefusedError), socket.create_connection(("127.0.0.1", self.port)):
+            return True
+        return False
+
     def end(self, number: int = signal.SIGTERM) -> int:
         """Ends it by a signal, and returns its status."""
         if self.process.poll() is None:
             self.process.send_signal(number)
         try:
-            return self.process.wait(timeout=60)
+            return self.process.wait(timeout=2 * MOST_SECONDS)
         finally:
             self.process.kill()
             self.process.wait()
             assert self.process.stdout
             self.process.stdout.close()
             self.log.close()
+
+
+def connections(server: Server) -> List[int]:
+    """How many bytes have come that the server has not read yet, of each of its connections, as the system says it."""
+    sockets = set()
+    for one in pathlib.Path(f"/proc/{server.process.pid}/fd").iterdir():
+        with contextlib.suppress(OSError):
+            sockets.add(os.readlink(one))
+    rows = [row.split() for row in pathlib.Path("/proc/net/tcp").read_text().splitlines()[1:]]
+    return [int(row[4].rpartition(":")[2], 16) for row in rows if f"socket:[{row[9]}]" in sockets and row[3] == "01"]
 
 
 def temporary(folder: pathlib.Path) -> pathlib.Path:

@@ -8,6 +8,8 @@ import termios
 import threading
 from typing import List
 
+from .program import MOST_SECONDS
+
 WIPE = "\r\x1b[K"
 
 
@@ -31,7 +33,7 @@ class Terminal:
     def close(self) -> str:
         """Ends the terminal, of which no process has a stream any more, and returns what was written to it."""
         os.close(self.writer)
-        self.thread.join(timeout=60)
+        self.thread.join(timeout=MOST_SECONDS)
         os.close(self.reader)
         return self.text
 

@@ -7,6 +7,7 @@ In reading order:
 - rooms             folders for what comes in and goes out
 - control           what a worker is asked, and what it answers
 - pool              the processes that work, and their limits
+- demanglers        demanglers that stay
 - worker            what such a process does
 - jobs              the answers of symarch-keep, and what an archive has of a UUID
 - form_jobs         forms, as browsers send them

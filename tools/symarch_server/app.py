@@ -5,19 +5,20 @@ import os
 import re
 import threading
 import time
-import traceback
+from dataclasses import dataclass, field
 from typing import Any, Dict, List, Optional, cast
 from urllib.parse import urlsplit
 
 from flask import Flask, Response, current_app, g, render_template, request
 from werkzeug.exceptions import HTTPException
 
-from symarch_tools.escaping import line_shown
-from symarch_tools.keeping.screen import system_text
+from symarch_tools.console.escapes import line_shown
+from symarch_tools.console.faults import system_text
 
 from .refusals import Refusal
-from .settings import Settings
-from .site import Site, log
+from .settings import NAME_OF_HOST, Settings
+from .site import Site, log, log_fault
+from .tokens import token_in
 
 CSP = (
     "default-src 'none'; style-src 'self'; script-src 'self'; img-src 'self'; connect-src 'self'; form-action 'self'; "
@@ -31,21 +32,22 @@ HEADERS = {
     "Cross-Origin-Resource-Policy": "same-origin",
     "Cross-Origin-Opener-Policy": "same-origin",
 }
-HOST = re.compile(r"(\[[0-9a-f:.]+\]|[a-z0-9._-]+)(?::[0-9]{1,5})?")
+HOST = re.compile(f"({NAME_OF_HOST.pattern})(?::[0-9]{{1,5}})?")
 CHALLENGES = 'Bearer realm="symarch"', 'Basic realm="symarch", charset="UTF-8"'
 # What browsers ask before a page of elsewhere may ask this route.
 OF_PROFILERS = "/symbolicate/v5"
-# A name may be long, and a page wraps it.
+# So many characters of a path stand in the log, and of a method.
+MOST_OF_PATH, MOST_OF_METHOD = 1_000, 20
 TEXT = "text/plain; charset=utf-8"
 
 
+@dataclass(eq=False)
 class Sites:
     """The site of each process: a server may fork after the application was made."""
 
-    def __init__(self, settings: Settings) -> None:
-        self.settings = settings
-        self.lock = threading.Lock()
-        self.found: Dict[int, Site] = {}
+    settings: Settings
+    lock: threading.Lock = field(default_factory=threading.Lock)
+    found: Dict[int, Site] = field(default_factory=dict)
 
     def site(self) -> Site:
         with self.lock:
@@ -79,7 +81,7 @@ def make_app(settings: Settings) -> Flask:
 
 
 def version_text() -> str:
-    from symarch_tools.version import version
+    from symarch_tools.console.version import version
 
     return version()
 
@@ -135,12 +137,9 @@ def is_own(origin: str) -> bool:
         return False
 
 
-def token() -> Optional[str]:
-    """The token of a request: after Bearer, or as the password that a browser asks for."""
-    kind, _, word = request.headers.get("Authorization", "").partition(" ")
-    if kind.lower() == "bearer":
-        return word.strip()
-    return request.authorization.password if kind.lower() == "basic" and request.authorization else None
+def token() -> Optional[bytes]:
+    """The token of the request."""
+    return token_in(request.headers.get("Authorization", ""))
 
 
 def refuse_token() -> str:
@@ -160,9 +159,15 @@ def finish(response: Response) -> Response:
     rule = request.url_rule.rule if request.url_rule else "none"
     if response.status_code != 421:
         site().metrics.add_request(rule, known_method(), response.status_code, seconds)
-    name = g.get("name", "-")
-    log(f"{request.remote_addr} {name} {request.method} {request.path} {response.status_code} {seconds:.3f}")
+    log(f"{request.remote_addr} {g.get('name', '-')} {asked()} {response.status_code} {seconds:.3f}")
     return response
+
+
+def asked() -> str:
+    """The method and the path, as they stand in the log: two words, which are not long."""
+    path = request.path.replace(" ", "%20")
+    end = "..." if len(path) > MOST_OF_PATH else ""
+    return f"{request.method[:MOST_OF_METHOD]} {path[:MOST_OF_PATH]}{end}"
 
 
 def known_method() -> str:
@@ -205,12 +210,12 @@ def refused_by_http(error: HTTPException) -> Response:
 
 def failed_by_system(error: OSError) -> Response:
     """What the system has no more of, as room on a disk or open files."""
-    log(f"fault: {request.method} {request.path}: {system_text(error)}")
+    log(f"fault: {asked()}: {system_text(error)}")
     return refused(Refusal(503, f"the server could not do it: {error.strerror}", headers={"Retry-After": "10"}))
 
 
-def failed(error: Exception) -> Response:
+def failed(_: Exception) -> Response:
     """A fault of the server. The log has what it was, and the client a line."""
-    log(f"fault: {request.method} {request.path}")
-    traceback.print_exception(type(error), error, error.__traceback__)
+    log(f"fault: {asked()}")
+    log_fault()
     return refused(Refusal(500, "the server has a fault, which its log describes"))

@@ -3,7 +3,7 @@ are sent out of open files, whatever their size."""
 from __future__ import annotations
 
 import os
-from typing import List, Optional
+from typing import List, Optional, Tuple
 
 from flask import Blueprint, Response, request
 from werkzeug.wsgi import wrap_file
@@ -13,12 +13,14 @@ from .control import Members
 from .forms import arch_of, argument, checked_words, hex_uuid_of, refuse_others, uuid_of
 from .refusals import Refusal
 from .segments import BLOCK, Segments
+from .site import SMALL
 
 routes = Blueprint("fetching", __name__)
 BINARY = "application/octet-stream"
 KINDS = "debuginfo", "executable"
 TAR_BLOCK, TAR_END = 512, bytes(1024)
-FOR_EVER = "public, max-age=31536000, immutable"
+# To be kept by whoever has it, but by no cache between if it is for those with a token.
+FOR_EVER = "max-age=31536000, immutable"
 
 
 def sent(segments: Segments, content_type: str, status: int = 200, length: Optional[int] = None) -> Response:
@@ -38,7 +40,9 @@ def file_of_room(path: str, content_type: str) -> Response:
 
 
 def counted(size: int) -> Segments:
-    """Bytes of files of a room, which are counted until they are sent."""
+    """Bytes of files of a room, which are counted until they are sent if they are many."""
+    if size <= SMALL:
+        return Segments()
     here = site()
     here.begin_sending(size)
     return Segments(lambda: here.end_sending(size))
@@ -82,6 +86,18 @@ def refuse_candidates(number: str, kind: str, found: Members) -> None:
     raise Refusal(409, f"{len(some)} slices answer as {kind} of {number}: {how}", lines)
 
 
+def ranges_asked(digest: str) -> List[Tuple[int, Optional[int]]]:
+    """The ranges of these bytes that are asked for: where each begins, before the end if that is negative, and ends."""
+    asked = request.range if is_of_range(digest) else None
+    return asked.ranges if asked and asked.units == "bytes" else []
+
+
+def span_of(begin: int, end: Optional[int], size: int) -> Optional[Tuple[int, int]]:
+    """Where a range of so many bytes begins and ends, if it has one of them. A last part that is longer is all."""
+    begin, end = max(begin + size, 0) if begin < 0 else begin, min(size if end is None else end, size)
+    return (begin, end) if begin < end else None
+
+
 def is_of_range(digest: str) -> bool:
     """Whether a range is asked of these bytes, and not of others that the client has the beginning of."""
     try:
@@ -94,13 +110,12 @@ def is_of_range(digest: str) -> bool:
 
 def conditional(segments: Segments, digest: str, is_named: bool) -> Response:
     """The bytes, a range of them, or that the client has them. An answer to a UUID alone may be another one later."""
-    size, asked = segments.size(), request.range if is_of_range(digest) else None
-    wanted = asked if asked and asked.units == "bytes" and len(asked.ranges) == 1 else None
-    span = wanted.range_for_length(size) if wanted else None
+    size, wanted = segments.size(), ranges_asked(digest)
+    span = span_of(*wanted[0], size) if len(wanted) == 1 else None
     if request.if_none_match.contains(digest):
         segments.close()
         response = Response(status=304)
-    elif wanted and span is None:
+    elif len(wanted) == 1 and span is None:
         segments.close()
         response = Response(status=416)
         response.headers["Content-Range"] = f"bytes */{size}"
@@ -114,8 +129,13 @@ def conditional(segments: Segments, digest: str, is_named: bool) -> Response:
         response.headers["X-DEBUGINFOD-SIZE"] = str(size)
     response.set_etag(digest)
     response.headers["Accept-Ranges"] = "bytes"
-    response.headers["Cache-Control"] = FOR_EVER if is_named else "no-cache"
+    response.headers["Cache-Control"] = kept_by() if is_named else "no-cache"
     return response
+
+
+def kept_by() -> str:
+    """Who may keep bytes that stay as they are."""
+    return f"{'private' if site().readers else 'public'}, {FOR_EVER}"
 
 
 # ---- bundles

@@ -7,9 +7,10 @@ from typing import Dict, Iterable, List, Optional
 
 from flask import request
 
-from symarch_tools.keeping import forms
-from symarch_tools.keeping.contents import arch_in
-from symarch_tools.keeping.screen import Failed, shown
+from symarch_tools.commands import arguments
+from symarch_tools.console.escapes import shown
+from symarch_tools.console.faults import Failed
+from symarch_tools.formats.contents import arch_in
 
 from .refusals import Refusal
 
@@ -26,18 +27,19 @@ def refuse_others(known: Iterable[str]) -> None:
         raise Refusal(400, f"there is no parameter `{shown(others[0])}` here: expected {', '.join(known) or 'none'}")
 
 
-def flags_of(names: Iterable[str]) -> List[str]:
-    """The parameters that are given without a value, as options of a tool."""
-    refuse_others(list(names))
-    valued = [name for name, value in request.args.items() if value not in ("", "1")]
+def flags_of(names: Iterable[str], others: Iterable[str] = ()) -> List[str]:
+    """The parameters that are given without a value, as options of a tool. Others may stand beside them."""
+    refuse_others([*names, *others])
+    given = [name for name in names if name in request.args]
+    valued = [name for name in given if not {"", "1"}.issuperset(request.args.getlist(name))]
     if valued:
         raise Refusal(400, f"`{shown(valued[0])}` has no value here")
-    return [f"--{name}" for name in names if name in request.args]
+    return [f"--{name}" for name in given]
 
 
 def uuid_of(word: str) -> str:
     try:
-        return str(forms.uuid_of(word))
+        return str(arguments.uuid_of(word))
     except Failed as failed:
         raise Refusal(400, failed.text) from None
 
@@ -55,7 +57,8 @@ def argument(name: str) -> Optional[str]:
 
 def checked_words(words: Dict[str, Optional[str]]) -> Dict[str, Optional[str]]:
     """Words that are given in their forms, by their names."""
-    check = {"digest": forms.digest_of, "since": forms.day_of, "until": forms.day_of, "app": forms.app_of}
+    day_of = arguments.day_of
+    check = {"digest": arguments.digest_of, "since": day_of, "until": day_of, "app": arguments.app_of}
     try:
         for name, word in words.items():
             if word is not None and name in check:
@@ -68,7 +71,7 @@ def checked_words(words: Dict[str, Optional[str]]) -> Dict[str, Optional[str]]:
 def arch_of(word: Optional[str]) -> Optional[str]:
     """An architecture, as it is printed."""
     try:
-        return word and arch_in(forms.arch_of(word))
+        return word and arch_in(arguments.arch_of(word))
     except Failed as failed:
         raise Refusal(400, failed.text) from None
 

@@ -7,20 +7,23 @@ import os
 import tarfile
 import time
 import uuid
+from dataclasses import dataclass
 from typing import Any, Dict, Iterator, List, NamedTuple, Optional, Sequence, Tuple
 
 from symarch_tools import keep as tool
-from symarch_tools.escaping import unshown
-from symarch_tools.keeping import lock
-from symarch_tools.keeping.asking import Asked, opened_archive
-from symarch_tools.keeping.builds import UNKNOWN, Build, Lines, Named, field, field_shown
-from symarch_tools.keeping.contents import digest_in
-from symarch_tools.keeping.json_lines import encoded
-from symarch_tools.keeping.listing import Listed, fits, listed
-from symarch_tools.keeping.packed import DESCRIPTORS
-from symarch_tools.keeping.screen import Failed, Screen, shown
-from symarch_tools.reports.archives import with_levels
-from symarch_tools.reports.kept import Kept, Slice, digest_of, key_in
+from symarch_tools.commands.list import Listed, fits, listed
+from symarch_tools.console.escapes import shown, unshown
+from symarch_tools.console.faults import Failed
+from symarch_tools.console.json_lines import encoded
+from symarch_tools.console.screen import Screen
+from symarch_tools.formats.builds import UNKNOWN, Build, BuildLines, Named, field, field_shown
+from symarch_tools.formats.contents import digest_in
+from symarch_tools.formats.packed_files import DESCRIPTORS
+from symarch_tools.reports.archives import kept_slices
+from symarch_tools.store import lock
+from symarch_tools.store.archive import Archive
+from symarch_tools.store.asking import Asked, opened_archive
+from symarch_tools.store.lookup import KeptSlice, KeptSlices, digest_of, key_in
 
 from .control import OUT, Members
 
@@ -58,8 +61,8 @@ def builds(job: Members, _: List[int]) -> Members:
     app = field_shown(field(job["app"].encode())) if job["app"] else None
     with opened_archive(os.fsencode(job["archive"])) as asked:
         asked.archive.say_damaged_builds(screen)
-        every = listed(asked, asked.archive.builds, screen)
-    fitting = (one for one in every if fits(one, app, since))
+        every = listed(asked, asked.archive.folder.builds, screen)
+    fitting = (one for one in every if fits(one, [app], since))
     found = [one for one in fitting if not job["until"] or one.day != "?" and one.day <= until]
     if job["is_written"]:
         write_builds(found, screen)
@@ -79,18 +82,24 @@ def write_builds(found: Sequence[Listed], screen: Screen) -> None:
 # ---- what an archive has of a UUID
 
 
+@dataclass(frozen=True)
 class OfUuid:
     """What the files of an archive that are open have of a UUID, as they stand now."""
 
-    def __init__(self, asked: Asked, number: uuid.UUID) -> None:
-        self.number, self.archive = number, asked.archive
-        self.kept = Kept([number])
+    number: uuid.UUID
+    archive: Archive
+    kept: KeptSlices
+
+    @classmethod
+    def read(cls, asked: Asked, number: uuid.UUID) -> OfUuid:
+        made = cls(number, asked.archive, KeptSlices.under([number]))
         for one in asked.files:
             index = f"{DESCRIPTORS}/{one.index_file.fileno()}" if one.index_file else ""
-            self.kept.take(f"{DESCRIPTORS}/{one.opened.fileno()}", index)
-        if not self.kept.is_known:
-            raise Failed(f"{shown(self.archive.path)} could not be read: run symarch-keep check on it", 2)
-        self.refuse_changed(asked)
+            made.kept.take(f"{DESCRIPTORS}/{one.opened.fileno()}", index)
+        if not made.kept.is_known:
+            raise Failed(f"{shown(made.archive.path)} could not be read: run symarch-keep check on it", 2)
+        made.refuse_changed(asked)
+        return made
 
     def refuse_changed(self, asked: Asked) -> None:
         """Refuses slices that have no digest of their own here, and another one than all indexes have."""
@@ -104,28 +113,28 @@ class OfUuid:
     def is_there(self) -> bool:
         return any(self.kept.slices.values()) or any(self.kept.retired.values())
 
-    def answering(self) -> Iterator[Tuple[bytes, Slice, bytes]]:
+    def answering(self) -> Iterator[Tuple[bytes, KeptSlice, bytes]]:
         """The key of each slice that is not retired, the slice, and its digest, each of them once."""
-        found: Dict[Tuple[bytes, bytes], Slice] = {}
+        found: Dict[Tuple[bytes, bytes], KeptSlice] = {}
         for key, one in [(key, one) for key, slices in sorted(self.kept.slices.items()) for one in slices]:
             digest = one.digest or digest_of(one)
             if digest not in self.kept.retired.get(key, ()):
                 found.setdefault((key, digest), one)
         return ((key, one, digest) for (key, digest), one in found.items())
 
-    def lines(self) -> Lines:
+    def lines(self) -> BuildLines:
         """What is known of the builds of its slices."""
         entries = [key + digest for key, _, digest in self.answering()]
         mine = str(self.number).encode()
-        known = self.archive.builds.known
+        known = self.archive.folder.builds.known
         days = {rest: day for rest, day in known.items() if rest.startswith(mine)}
-        return Lines(self.archive.builds.of_slices(days), entries)
+        return BuildLines(self.archive.folder.builds.of_slices(days), entries)
 
 
 def held(job: Members, _: List[int]) -> Members:
     """What an archive has of a UUID, by architecture."""
     with opened_archive(os.fsencode(job["archive"])) as asked:
-        found = OfUuid(asked, uuid.UUID(job["uuid"]))
+        found = OfUuid.read(asked, uuid.UUID(job["uuid"]))
         lines = found.lines()
         keys: Dict[bytes, List[Members]] = {key: [] for key in sorted({*found.kept.slices, *found.kept.retired})}
         for key, one, digest in found.answering():
@@ -135,7 +144,7 @@ def held(job: Members, _: List[int]) -> Members:
         return {"status": 0, "is_there": found.is_there(), "architectures": answers}
 
 
-def slice_members(one: Slice, digest: bytes, lines: Sequence[Named]) -> Members:
+def slice_members(one: KeptSlice, digest: bytes, lines: Sequence[Named]) -> Members:
     names = [{"day": it.day or None, **build_members(it.build)} for it in lines]
     kind = "dsym" if one.is_companion else "image"
     return {"kind": kind, "digest": digest.hex(), "bytes": one.length, "builds": names}
@@ -158,7 +167,7 @@ class Wanted(NamedTuple):
     arch: Optional[str]
     digest: Optional[str]
 
-    def has(self, key: bytes, one: Slice, digest: bytes) -> bool:
+    def has(self, key: bytes, one: KeptSlice, digest: bytes) -> bool:
         is_its = one.is_companion == self.is_companion and self.arch in (None, key_in(key)[1])
         return is_its and self.digest in (None, digest.hex())
 
@@ -167,7 +176,7 @@ def slice_of(job: Members, descriptors: List[int]) -> Members:
     """One slice of a UUID, whose file is opened, after its bytes were compared with its SHA-256; or why it is none."""
     wanted = Wanted(uuid.UUID(job["uuid"]), job["kind"] == DSYM, job["arch"], job["digest"])
     with opened_archive(os.fsencode(job["archive"])) as asked:
-        every = list(OfUuid(asked, wanted.number).answering())
+        every = list(OfUuid.read(asked, wanted.number).answering())
         found = [it for it in every if wanted.has(*it)]
         if len(found) != 1:
             return {"status": 0, "candidates": [candidate(*it) for it in found], "has_others": bool(every)}
@@ -179,7 +188,7 @@ def slice_of(job: Members, descriptors: List[int]) -> Members:
     return {"status": 0, "at": one.at, "bytes": one.length, **candidate(key, one, digest)}
 
 
-def is_as_it_came(descriptor: int, one: Slice, digest: bytes) -> bool:
+def is_as_it_came(descriptor: int, one: KeptSlice, digest: bytes) -> bool:
     """Whether the bytes of a slice in an open file have its digest. They are not read again within a minute, as for the
     ranges of one download, unless somebody wrote to the file."""
     found = os.fstat(descriptor)
@@ -196,16 +205,14 @@ def is_as_it_came(descriptor: int, one: Slice, digest: bytes) -> bool:
     return is_same
 
 
-def candidate(key: bytes, _: Slice, digest: bytes) -> Members:
+def candidate(key: bytes, _: KeptSlice, digest: bytes) -> Members:
     return {"arch": key_in(key)[1], "digest": digest.hex()}
 
 
 def dsyms(job: Members, _: List[int]) -> Members:
     """Of some UUIDs those of which the archive has a dSYM."""
     numbers = [uuid.UUID(one) for one in job["uuids"]]
-    kept = Kept(numbers)
-    for file in with_levels([job["archive"]]):
-        kept.take(file.path, file.index or file.old_index)
+    kept = kept_slices(numbers, [job["archive"]])
     keys = [key_in(key) for key in list(kept.slices)]
     return {"status": 0, "uuids": sorted({str(key[0]) for key in keys if kept.has_companion(key)})}
 

@@ -2,9 +2,10 @@
 from __future__ import annotations
 
 import threading
-from collections import defaultdict
+from collections import Counter
+from dataclasses import dataclass, field
 from itertools import chain, starmap
-from typing import DefaultDict, Dict, Iterator, List, Mapping, Tuple
+from typing import Dict, Iterator, List, Mapping, Tuple
 
 # The upper ends of the classes of seconds.
 BUCKETS = (0.01, 0.03, 0.1, 0.3, 1.0, 3.0, 10.0, 30.0)
@@ -20,21 +21,20 @@ NUMBERS = {
 }
 
 
+@dataclass(eq=False)
 class Metrics:
-    """Counts of a process."""
+    """Counts of a process: of requests and their seconds by route, and of frames by what came of them."""
 
-    def __init__(self) -> None:
-        self.lock = threading.Lock()
-        self.requests: DefaultDict[Tuple[str, str, int], int] = defaultdict(int)
-        self.seconds: DefaultDict[str, float] = defaultdict(float)
-        self.classes: Dict[str, List[int]] = {}
-        self.frames: DefaultDict[str, int] = defaultdict(int)
-        self.uploads = 0
+    lock: threading.Lock = field(default_factory=threading.Lock)
+    requests: Counter[Tuple[str, str, int]] = field(default_factory=Counter)
+    seconds: Dict[str, float] = field(default_factory=dict)
+    classes: Dict[str, List[int]] = field(default_factory=dict)
+    frames: Counter[str] = field(default_factory=Counter)
 
     def add_request(self, route: str, method: str, status: int, seconds: float) -> None:
         with self.lock:
             self.requests[route, method, status] += 1
-            self.seconds[route] += seconds
+            self.seconds[route] = self.seconds.get(route, 0.0) + seconds
             counts = self.classes.setdefault(route, [0] * (len(BUCKETS) + 1))
             for at, most in enumerate(BUCKETS):
                 counts[at] += seconds <= most
@@ -42,8 +42,7 @@ class Metrics:
 
     def add_frames(self, counts: Mapping[str, int]) -> None:
         with self.lock:
-            for kind, count in counts.items():
-                self.frames[kind] += count
+            self.frames.update(counts)
 
     def lines(self, status: Mapping[str, object]) -> Iterator[str]:
         """All, with the numbers that `status` prints of the archive."""

@@ -3,9 +3,11 @@ often it was so and on which days, and no report."""
 from __future__ import annotations
 
 import contextlib
+import os
 import sqlite3
 import threading
 import time
+from dataclasses import dataclass, field
 from typing import Dict, Iterator, List, NamedTuple, Optional
 
 ENDING = ".missing"
@@ -41,26 +43,30 @@ def text_of(name: str) -> str:
     return name[:MOST_OF_NAME].encode(errors="replace").decode()
 
 
+@dataclass(eq=False)
 class Missing:
     """The file beside an archive. Whoever may not write it remembers nothing, and answers all the same."""
 
-    def __init__(self, archive: str, is_kept: bool) -> None:
-        self.path, self.is_kept = archive + ENDING, is_kept
-        self.lock = threading.Lock()
-        # Why it is not kept, if something keeps it from being so.
-        self.fault: Optional[str] = None
+    archive: str
+    is_kept: bool
+    lock: threading.Lock = field(default_factory=threading.Lock)
+    # What kept the last report from being kept, or the rows from being read, if something did.
+    fault: Optional[str] = None
+
+    def path(self) -> str:
+        return self.archive + ENDING
 
     @contextlib.contextmanager
     def opened(self) -> Iterator[sqlite3.Connection]:
-        with self.lock, contextlib.closing(sqlite3.connect(self.path, timeout=WAIT)) as connection, connection:
+        with self.lock, contextlib.closing(sqlite3.connect(self.path(), timeout=WAIT)) as connection, connection:
             connection.execute(TABLE)
             connection.execute(TURNS)
             yield connection
 
-    def add(self, images: Dict[str, str]) -> None:
-        """Counts the images of a report, by their UUIDs."""
+    def add(self, images: Dict[str, str]) -> Optional[str]:
+        """Counts the images of a report, by their UUIDs. Returns what keeps it from that, if nothing did before."""
         if not self.is_kept or not images:
-            return
+            return None
         day = time.strftime("%Y-%m-%d", time.gmtime())
         some = list(images.items())[:MOST_OF_REPORT]
         try:
@@ -69,10 +75,12 @@ class Missing:
                 connection.execute(BOUND, (MOST,))
             self.fault = None
         except sqlite3.Error as error:
-            self.fault = str(error)
+            before, self.fault = self.fault, str(error)
+            return None if before == self.fault else self.fault
+        return None
 
     def rows(self) -> List[Row]:
-        if not self.is_kept:
+        if not self.is_kept or not os.path.lexists(self.path()):
             return []
         try:
             with self.opened() as connection:

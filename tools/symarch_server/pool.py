@@ -11,7 +11,8 @@ import socket
 import subprocess
 import sys
 import threading
-from typing import List, NamedTuple, Optional, Tuple
+from dataclasses import InitVar, dataclass, field
+from typing import List, NamedTuple, Optional, Set, Tuple
 
 from .control import Members, encoded, receive
 
@@ -32,56 +33,72 @@ class Busy(Exception):
     """No worker was free for long."""
 
 
-class Ended(Exception):
+class WorkerEnded(Exception):
     """A worker that passed its limits, or that ended: what it was, for people."""
 
 
+@dataclass(eq=False)
 class Worker:
     """A process that works, in a group of its own with what it calls."""
 
-    def __init__(self, limits: Limits) -> None:
-        self.limits, self.has_begun = limits, False
-        self.control, its = socket.socketpair()
+    limits: Limits
+    control: socket.socket
+    process: subprocess.Popen[bytes]
+    has_begun: bool = False
+
+    @classmethod
+    def begun(cls, limits: Limits) -> Worker:
+        control, its = socket.socketpair()
         with its:
             words = [sys.executable or "/usr/bin/python3", "-BIS", "-c", BEGIN, str(TOOLS), *map(str, limits)]
-            self.process = subprocess.Popen(words, stdin=its.fileno(), stdout=2, start_new_session=True)
+            return cls(limits, control, subprocess.Popen(words, stdin=its.fileno(), stdout=2, start_new_session=True))
 
     def ask(self, job: Members) -> Tuple[Members, List[int]]:
         """What the worker answers, and the files that it opened."""
         try:
             # Its limit does not count while it begins.
             self.has_begun = self.has_begun or receive(self.control, MOST_TO_BEGIN) is not None
+            self.control.settimeout(self.limits.seconds)
             self.control.sendall(encoded(job))
             answer = receive(self.control, self.limits.seconds)
         except socket.timeout:
-            raise Ended(f"the work took more than {self.limits.seconds} seconds, and was ended") from None
+            raise WorkerEnded(f"the work took more than {self.limits.seconds} seconds, and was ended") from None
         except OSError:
             answer = None
         if answer is None:
-            raise Ended("the work passed its limits of memory or time, and was ended")
+            raise WorkerEnded("the work passed its limits of memory or time, and was ended")
         return answer
 
     def has_ended(self) -> bool:
         return self.process.poll() is not None
 
     def end(self) -> None:
-        """Ends it, and what it called."""
-        self.control.close()
+        """Ends it, and what it called. Who waits for its answer is told."""
         with contextlib.suppress(ProcessLookupError, PermissionError):
             os.killpg(self.process.pid, signal.SIGKILL)
         self.process.wait()
+        self.control.close()
 
 
+@dataclass(eq=False)
 class Pool:
     """So many workers with the same limits, for which so many more requests wait."""
 
-    def __init__(self, count: int, limits: Limits, most_waiting: int, wait: float = MOST_WAIT) -> None:
-        self.limits, self.wait, self.is_ended = limits, wait, False
-        self.asking = threading.BoundedSemaphore(count + most_waiting)
-        # The one that worked last works next: its files are known. None stands for one that could not be begun.
-        self.idle: queue.LifoQueue[Optional[Worker]] = queue.LifoQueue()
-        for _ in range(count):
-            self.idle.put(Worker(limits))
+    count: int
+    limits: Limits
+    most_waiting: InitVar[int]
+    wait: float = MOST_WAIT
+    # All that have begun, also those that work; and whether none begins any more.
+    living: Set[Worker] = field(default_factory=set)
+    is_ended: bool = False
+    lock: threading.Lock = field(default_factory=threading.Lock)
+    # The one that worked last works next: its files are known. None stands for one that could not be begun.
+    idle: queue.LifoQueue[Optional[Worker]] = field(default_factory=queue.LifoQueue)
+
+    def __post_init__(self, most_waiting: int) -> None:
+        self.asking = threading.BoundedSemaphore(self.count + most_waiting)
+        for _ in range(self.count):
+            self.idle.put(self.begun())
 
     def ask(self, job: Members) -> Tuple[Members, List[int]]:
         """What a worker answers, once one is free."""
@@ -111,16 +128,25 @@ class Pool:
     def successor(self, worker: Optional[Worker]) -> Optional[Worker]:
         """Ends a worker, and begins another one, if the system lets it."""
         if worker is not None:
+            with self.lock:
+                self.living.discard(worker)
             worker.end()
         with contextlib.suppress(OSError):
-            return None if self.is_ended else Worker(self.limits)
+            return self.begun()
         return None
+
+    def begun(self) -> Optional[Worker]:
+        """A new worker, unless the pool has ended."""
+        with self.lock:
+            if self.is_ended:
+                return None
+            worker = Worker.begun(self.limits)
+            self.living.add(worker)
+            return worker
 
     def end(self) -> None:
         """Ends the workers, also those that work."""
-        self.is_ended = True
-        with contextlib.suppress(queue.Empty):
-            while True:
-                worker = self.idle.get_nowait()
-                if worker is not None:
-                    worker.end()
+        with self.lock:
+            self.is_ended = True
+            for worker in self.living:
+                worker.end()

@@ -1,21 +1,24 @@
 """The names of frames by module and offset, as Mozilla's symbol servers answer them in version 5."""
 from __future__ import annotations
 
+import functools
 import json
 import re
-from typing import Any, Dict, List, Optional, Tuple
+from typing import Any, Dict, List, Optional, Sequence, Tuple
 
 from symarch_tools import symbolicate
-from symarch_tools.reports.archives import Archives
-from symarch_tools.reports.images import NO_IMAGE, Frames, Images
-from symarch_tools.reports.source_lines import Source
-from symarch_tools.reports.words import Words
+from symarch_tools.reports.archives import Archives, kept_slices
+from symarch_tools.reports.arguments import Options, options_of
+from symarch_tools.reports.images import NO_IMAGE, Frames, Image, Images
+from symarch_tools.reports.source_lines import NOTHING, Inlined, Source
 
 from .control import OUT, Members
 
 # A UUID, and after it an age, which is 0 for Mach-O.
 DEBUG_ID = re.compile("[0-9A-Fa-f]{32}[0-9A-Fa-f]{0,8}")
 MOST_FRAMES = 100_000
+# What lies in no module.
+NO_MODULE = '"<unknown>"'
 
 
 class BadForm(Exception):
@@ -68,33 +71,52 @@ class Stacks:
     def __init__(self, modules: List[Tuple[str, str, int]], stacks: List[List[Tuple[int, int]]]) -> None:
         self.modules, self.stacks = modules, stacks
 
-    def answer(self, frames: Frames, offsets: List[int]) -> Members:
+    def found_modules(self, images: Images) -> Dict[str, Optional[bool]]:
+        """Whether the archive has each module that a frame lies in."""
         found: Dict[str, Optional[bool]] = {f"{name}/{debug_id}": None for name, debug_id, _ in self.modules}
         for index in {index for stack in self.stacks for index, _ in stack if index >= 0}:
             name, debug_id, number = self.modules[index]
-            image = frames.images.listed[number] if number != NO_IMAGE else None
+            image = images.listed[number] if number != NO_IMAGE else None
             found[f"{name}/{debug_id}"] = bool(image and image.answers)
-        stacks = [
-            [self.frame(frames, place, index, at, offsets[at]) for place, (index, at) in enumerate(stack)]
-            for stack in self.stacks
-        ]
-        return {"stacks": stacks, "found_modules": found}
-
-    def frame(self, frames: Frames, place: int, index: int, at: int, offset: int) -> Members:
-        module = self.modules[index][0] if index >= 0 else "<unknown>"
-        made: Members = {"frame": place, "module": module, "module_offset": hex(offset)}
-        symbol = frames.name(at)
-        if symbol is None:
-            return made
-        lines = frames.lines(at)
-        made.update({"function": symbol[0], "function_offset": hex(symbol[1]), **source_members(lines.source)})
-        if lines.inlined:
-            made["inlines"] = [{"function": it.name or "???", **source_members(it.source)} for it in lines.inlined]
-        return made
+        return found
 
 
-def source_members(source: Optional[Source]) -> Members:
-    return {"file": source.file, "line": source.line} if source else {}
+class Writing:
+    """Writes answers as JSON. What several frames have, as the functions that are inlined there, is made once."""
+
+    def __init__(self, frames: Frames, offsets: List[int]) -> None:
+        self.frames, self.offsets = frames, offsets
+        self.named = 0
+        self.text = functools.lru_cache(maxsize=MOST_FRAMES)(json.dumps)
+        self.inlined = functools.lru_cache(maxsize=MOST_FRAMES)(self.inlined_once)
+
+    def results(self, jobs: Sequence[Stacks]) -> str:
+        return f'{{"results": [{", ".join(map(self.result, jobs))}]}}'
+
+    def result(self, job: Stacks) -> str:
+        modules = [self.text(name) for name, _, _ in job.modules]
+        stacks = ", ".join(self.stack(stack, modules) for stack in job.stacks)
+        return f'{{"stacks": [{stacks}], "found_modules": {json.dumps(job.found_modules(self.frames.images))}}}'
+
+    def stack(self, stack: Sequence[Tuple[int, int]], modules: Sequence[str]) -> str:
+        rows = ((place, modules[index] if index >= 0 else NO_MODULE, at) for place, (index, at) in enumerate(stack))
+        return f'[{", ".join(self.frame(*row) for row in rows)}]'
+
+    def frame(self, place: int, module: str, at: int) -> str:
+        symbol, lines = self.frames.name(at), NOTHING
+        made = f'"frame": {place}, "module": {module}, "module_offset": "{self.offsets[at]:#x}"'
+        if symbol is not None:
+            self.named += 1
+            lines = self.frames.lines(at)
+            made += f', "function": {self.text(symbol[0])}, "function_offset": "{symbol[1]:#x}"'
+        inlined = f', "inlines": [{", ".join(map(self.inlined, lines.inlined))}]' if lines.inlined else ""
+        return f"{{{made}{self.source(lines.source)}{inlined}}}"
+
+    def source(self, source: Optional[Source]) -> str:
+        return f', "file": {self.text(source.file)}, "line": {source.line}' if source else ""
+
+    def inlined_once(self, one: Inlined) -> str:
+        return f'{{"function": {self.text(one.name or "???")}{self.source(one.source)}}}'
 
 
 def checked(said: Any, kind: type, where: str) -> Any:
@@ -104,7 +126,9 @@ def checked(said: Any, kind: type, where: str) -> Any:
 
 
 def listed(said: Any, where: str) -> List[Tuple[int, Any]]:
-    return list(enumerate(checked(said, list, where)))
+    if len(checked(said, list, where)) > MOST_FRAMES:
+        raise BadForm(f"{where}: expected {MOST_FRAMES} at most")
+    return list(enumerate(said))
 
 
 def profile(job: Members, _: List[int]) -> Members:
@@ -119,16 +143,27 @@ def profile(job: Members, _: List[int]) -> Members:
         return {"status": 3, "bad": str(fault)}
     except (ValueError, RecursionError) as error:
         return {"status": 3, "bad": f"the body is no JSON: {error}"}
-    offsets = list(asking.frames.asked)
-    archives = Archives([job["archive"]], True, True)
-    archives.look_up(asking.images.with_frames())
-    symbolicate.show_names(Words(["-", job["archive"]], None), archives.names, archives.chains.names)
-    results = [one.answer(asking.frames, offsets) for one in stacks]
+    archives, images = Archives([job["archive"]], True, True), asking.images.with_frames()
+    state_architectures(images, job["archive"])
+    archives.look_up(images)
+    symbolicate.show_names(options_of_names(job["archive"]), archives.names, archives.chains.names)
+    writing = Writing(asking.frames, list(asking.frames.asked))
     with open(OUT, "w", encoding="utf-8", errors="replace") as made:
-        made.write(json.dumps({"results": results}))
-    named = sum(frames_named(asking.frames))
-    return {"status": 0, "named": named, "every": len(asking.frames)}
+        made.write(writing.results(stacks))
+    return {"status": 0, "named": writing.named, "every": len(asking.frames)}
 
 
-def frames_named(frames: Frames) -> List[bool]:
-    return [frames.name(at) is not None for at in range(len(frames))]
+def state_architectures(images: Sequence[Image], archive: str) -> None:
+    """Gives each image the architecture under which an archive has its UUID, if that is one alone: the program is asked
+    for this one, and not for each that there is."""
+    kept = kept_slices([image.uuid for image in images], [archive])
+    found = kept.architectures() if kept.is_known else {}
+    for image in images:
+        archs = found.get(image.uuid, [])
+        image.arch = archs[0] if len(archs) == 1 else None
+
+
+@functools.lru_cache(maxsize=None)
+def options_of_names(archive: str) -> Options:
+    """Options by which names are shown as symbolicate-report shows them."""
+    return options_of(["-", archive])

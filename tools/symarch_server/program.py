@@ -1,52 +1,4 @@
-"""Serves an archive that symarch-keep keeps over HTTP. Browsers, curl, lldb, clients of debuginfod, Symbolicator and
-profilers get names for reports, and builds, dSYMs and symbols.
-
-Examples:
-
-  symarch-server builds.sym                                  serves it to this machine, at http://127.0.0.1:8080/
-  curl --data-binary @report.ips 127.0.0.1:8080/reports      prints the report with names
-  symarch-server --listen 10.0.0.5:8080 --host builds --readers readers builds.sym
-                                                             serves it to whoever has a token of the file readers
-
-Each answer is that of ARCHIVE, its levels, indexes and names of builds as they are at that moment: words of
-symarch-keep may add, fold, exchange and repair meanwhile. The server writes nothing but ARCHIVE.missing, unless
---uploads says who may add.
-
-  GET /                              a page, which takes a report, a UUID or the name of a symbol
-  POST /reports                      the report with names, as symbolicate-report prints it; ?text, ?paths, ?no-lines,
-                                     ?json, ?raw and ?no-demangle are its options. The body is the report, or a form
-                                     with a file. To a browser it is a page
-  GET /builds                        the builds, by ?app=ID, ?since=DATE and ?until=DATE; with Accept: application/json
-                                     an array of the objects of `symarch-keep list --json`
-  GET /builds/UUID                   what the archive has of it
-  GET /builds/UUID/dsym              the dSYM bundle, as a tar
-  GET /symbols/NAME                  as `symarch-keep name`, which reads all slices
-  GET /buildid/UUID/debuginfo        the slice of the dSYM, as debuginfod has it, and as /executable that of the image;
-                                     ?arch=ARCH or ?digest=DIGEST choose among several
-  GET /XX/YYYY/debuginfo             the same, by the unified layout of Symbolicator, and as /executable
-  POST /symbolicate/v5               names, files and lines of frames, as Mozilla's symbol servers answer them
-  PUT /images/NAME                   adds a file as `symarch-keep add` does; ?dsyms-only is its option
-  GET /missing                       which dSYMs reports lacked, how often, and which have come since
-  GET /status, /metrics              what `symarch-keep status` prints, and the same for Prometheus
-
-A token is sent as `Authorization: Bearer TOKEN`; a browser asks for it as a password. What a file of tokens has of one
-is its SHA-256, as by `printf %s "$TOKEN" | sha256sum`. The file is read again when it changes.
-
-An error is a line of text: 400 for other words, 401 without a token, 403 for what is not allowed, 404 for what is not
-there, 409 where several slices answer, 413 for a body that is too long, 421 for another name of the machine, 422 for
-what is no report or no image, 503 where the archive cannot be asked, or the work takes too long or too much memory. The
-header Symarch-Status has the status that the word of the command line would have ended with.
-
-The log is standard error: for each request the time, the address, the name of its token, the request, the status and
-the seconds. SIGTERM ends the server after the answers that are under way.
-
-The program symarch is found as by symarch-keep. Flask and waitress are needed.
-
-Status:
-  0    a signal ended it
-  2    the archive or a file of tokens cannot be read, or the address not be had
-  3    the words have another form
-  126  Flask or waitress is missing, or there is no program"""
+"""The program symarch-server: what it needs, and how it begins."""
 from __future__ import annotations
 
 import contextlib
@@ -55,8 +7,9 @@ import socket
 import sys
 from typing import Optional, Sequence
 
-from symarch_tools.keeping.program import Program
-from symarch_tools.keeping.screen import Failed, shown, system_text
+from symarch_tools.console.escapes import shown
+from symarch_tools.console.faults import Failed, system_text
+from symarch_tools.store.program import Program
 
 from .settings import NAME, Settings, settings_of
 from .tokens import BadTokens, Tokens
@@ -66,7 +19,7 @@ BACKLOG = 1024
 
 
 def main(words: Optional[Sequence[str]] = None) -> int:
-    settings = settings_of(sys.argv[1:] if words is None else words, __doc__)
+    settings = settings_of(sys.argv[1:] if words is None else words)
     lacking = [name for name in PACKAGES if importlib.util.find_spec(name) is None]
     if lacking:
         return failed(f"there is no {' and no '.join(lacking)}: apt-get install {' '.join(PACKAGES.values())}", 126)

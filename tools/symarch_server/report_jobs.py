@@ -1,16 +1,18 @@
 """Reports with names, as symbolicate-report makes them."""
 from __future__ import annotations
 
-import os
 import sys
 from typing import List
 
 from symarch_tools import symbolicate
+from symarch_tools.console.escapes import line_shown
+from symarch_tools.console.streams import noted
 from symarch_tools.reports.account import members_of
-from symarch_tools.reports.faults import Status
+from symarch_tools.reports.arguments import options_of
+from symarch_tools.reports.faults import SeveralReports, Status
+from symarch_tools.reports.missing import wanted_in
 from symarch_tools.reports.report import Report
-from symarch_tools.reports.streams import noted
-from symarch_tools.reports.words import Words, is_archive
+from symarch_tools.store.file_names import is_archive
 
 from .control import Members
 from .missing import MOST_OF_REPORT
@@ -25,19 +27,19 @@ def report(job: Members, _: List[int]) -> Members:
     name = job["name"]
     if is_archive(name):
         return {"status": int(Status.REFUSED), "refused": f"{name}: an archive, and no report"}
-    words = Words([*job["options"], "--", name, job["archive"]], None)
-    reader = symbolicate.Reader(words)
-    if job["is_page"]:
-        with open(os.devnull, "wb") as nothing:
-            os.dup2(nothing.fileno(), 1)
-    status = symbolicate.carry_out(words, reader)
+    options = options_of([*job["options"], "--", name, job["archive"]])
+    reader = symbolicate.Reader(options)
+    reader.is_printed, reader.is_one = not job["is_page"], True
+    try:
+        status = symbolicate.carry_out(options, reader)
+    except SeveralReports:
+        return {"status": int(Status.REFUSED), "refused": f"{name}: a zip file that holds several reports"}
     if not reader.found:
         return {"status": int(status), "refused": "; ".join(noted) or f"{name}: no report"}
     sys.stdout.flush()
     found = reader.found[0]
     count = found.count()
-    missing = list(symbolicate.missing_in([found]).items())[:MOST_OF_REPORT]
-    names = {str(it): name[:MOST_OF_LINE] for it, name in missing}
+    names = {str(it.uuid): line_shown(it.name)[:MOST_OF_LINE] for it in wanted_in([found])[:MOST_OF_REPORT]}
     answer = {"status": int(status), "frames": vars(count), "missing": names}
     return {**answer, "page": {**page(found), "account": count.text()} if job["is_page"] else None}
 

@@ -1,12 +1,12 @@
 """A report as a page has it: the threads with their frames, and what stands between them, by the forms of lines of
-`symarch_tools.reports.text_report`."""
+`symarch_tools.reports.text.report`."""
 from __future__ import annotations
 
 import re
 from typing import Any, Dict, Iterable, List, Optional, Tuple
 
-from symarch_tools.reports.named_lines import INLINED, SOURCE
-from symarch_tools.reports.text_report import CRASH, EXCEPTION, NO_NAME, frames_in
+from symarch_tools.reports.text.named_lines import INLINED, SOURCE
+from symarch_tools.reports.text.report import CRASH, EXCEPTION, NO_NAME, frames_in
 
 from .control import Members
 

@@ -12,7 +12,7 @@ from .control import OUT
 from .fetching import file_of_room
 from .forms import file_name, flags_of
 from .refusals import Refusal
-from .site import Work
+from .site import Work, log
 
 routes = Blueprint("reporting", __name__)
 OPTIONS = ("text", "paths", "no-lines", "json", "raw", "no-demangle")
@@ -40,7 +40,9 @@ def reports() -> Union[str, Response]:
             if "refused" in members:
                 raise Refusal(503 if members["status"] == 126 else 422, without_tool(members["refused"]))
             site().metrics.add_frames(members["frames"])
-            site().missing.add(members["missing"])
+            fault = site().missing.add(members["missing"])
+            if fault:
+                log(f"fault: what reports lack is not kept: {fault}")
             if is_page:
                 return page_of(name, members)
             return answer_of(work, "--json" in options)

@@ -6,18 +6,24 @@ import contextlib
 import os
 import shutil
 import tempfile
+from dataclasses import dataclass
 from typing import Iterator
 
-from symarch_tools.keeping.bundling import remove_left, room_in
+from symarch_tools.store.bundles.folder import remove_left, room_in
 
 
+@dataclass(frozen=True)
 class Rooms:
-    """The rooms of a server, in the folder for temporary files."""
+    """The rooms of a server, in a folder of their own."""
 
-    def __init__(self, ends: contextlib.ExitStack) -> None:
+    folder: str
+
+    @classmethod
+    def until(cls, ends: contextlib.ExitStack) -> Rooms:
+        """Rooms in the folder for temporary files, which end with these ends."""
         folder = os.fsencode(tempfile.gettempdir())
         remove_left(folder)
-        self.folder = os.fsdecode(ends.enter_context(room_in(folder)))
+        return cls(os.fsdecode(ends.enter_context(room_in(folder))))
 
     @contextlib.contextmanager
     def room(self) -> Iterator[str]:

@@ -4,6 +4,7 @@ from __future__ import annotations
 import bisect
 import io
 import os
+from dataclasses import dataclass, field
 from typing import Callable, List, NamedTuple, Optional
 
 from .control import close
@@ -22,18 +23,18 @@ class Segment(NamedTuple):
 BLOCK = 1 << 16
 
 
+@dataclass(eq=False)
 class Segments(io.RawIOBase):
     """Bytes one after another. It closes the files at its end."""
 
-    def __init__(self, at_end: Callable[[], None] = lambda: None) -> None:
-        super().__init__()
-        self.at_end = at_end
-        self.parts: List[Segment] = []
-        self.ends: List[int] = []
-        self.descriptors: List[int] = []
-        self.place = 0
-        # What was read last, and where it stands: waitress reads what it sends, and reads again what it sent of it.
-        self.last, self.last_at = b"", 0
+    at_end: Optional[Callable[[], None]] = None
+    parts: List[Segment] = field(default_factory=list)
+    ends: List[int] = field(default_factory=list)
+    descriptors: List[int] = field(default_factory=list)
+    place: int = 0
+    # What was read last, and where it stands: waitress reads what it sends, and reads again what it sent of it.
+    last: bytes = b""
+    last_at: int = 0
 
     def add(self, data: bytes) -> None:
         self.append(Segment(data, -1, 0, len(data)))
@@ -95,5 +96,6 @@ class Segments(io.RawIOBase):
     def close(self) -> None:
         if not self.closed:
             close(self.descriptors)
-            self.at_end()
+            if self.at_end:
+                self.at_end()
         super().close()

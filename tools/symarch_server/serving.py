@@ -2,6 +2,7 @@
 and how the server ends. Requests are read and answers are sent by one loop, so that a slow client keeps nobody out."""
 from __future__ import annotations
 
+import collections
 import contextlib
 import copy
 import functools
@@ -11,26 +12,30 @@ import signal
 import socket
 import time
 import weakref
-from typing import Any, Callable, List
+from dataclasses import dataclass, field
+from typing import Any, Callable, Deque, List
 
 from flask import Flask
 from waitress import wasyncore
 from waitress.adjustments import Adjustments
 from waitress.channel import HTTPChannel
-from waitress.parser import HTTPRequestParser
+from waitress.parser import HTTPRequestParser, ParsingError
 from waitress.server import TcpWSGIServer
 from waitress.utilities import BadRequest, Error
 
 from . import reporting
 from .refusals import Refusal
-from .site import Site
+from .site import SMALL, Site
+from .tokens import token_in
 
 # What stands around a file in a form.
 AROUND = 100_000
-# How many bytes of reports are held at once, of all requests that are being received or answered.
+# How many bytes of reports are held at once, of all requests that are being received or answered, beside the first
+# ones of each.
 MOST_HELD = 1 << 30
-# How many connections are open at once, and how long one may be without a sign of life, in seconds.
-MOST_CONNECTIONS, MOST_SILENCE = 2_000, 60
+# How many connections are open at once; how long one may be without a sign of life, in seconds, and how often it is
+# looked for.
+MOST_CONNECTIONS, MOST_SILENCE, BETWEEN_LOOKS = 2_000, 60, 5
 # So many files are open beside connections, and so many of each: itself, what came in, and what is sent.
 OF_ITSELF, OF_EACH = 300, 3
 # How long a client may take for a request's head, for its body, and for an upload.
@@ -47,18 +52,26 @@ class Full(Error):
     code, reason = 503, "Service Unavailable"
 
 
+@dataclass(eq=False)
 class Held:
-    """How many bytes of bodies are held at once. The loop alone counts them, and requests that are gone."""
+    """How many bytes large bodies have at once. The loop alone counts them; a request may be gone in any thread, and
+    leaves what it had."""
 
-    def __init__(self) -> None:
-        self.size = 0
+    size: int = 0
+    gone: Deque[int] = field(default_factory=collections.deque)
 
     def release(self, counted: List[int]) -> None:
-        self.size -= counted[0]
-        counted[0] = 0
+        self.gone.append(counted[0])
+
+    def add(self, size: int) -> int:
+        """How many there are with so many more."""
+        while self.gone:
+            self.size -= self.gone.popleft()
+        self.size += size
+        return self.size
 
 
-class Parser(HTTPRequestParser):
+class RequestParser(HTTPRequestParser):
     """A request while it is received."""
 
     adj: Any
@@ -74,7 +87,11 @@ class Parser(HTTPRequestParser):
 
     def parse_header(self, header_plus: bytes) -> None:
         """Says how long the body may be: one that nobody may upload is not received."""
-        super().parse_header(header_plus)
+        try:
+            super().parse_header(header_plus)
+        except ValueError:
+            # Of a number of thousands of digits, or an address that is none.
+            raise ParsingError("the head has another form") from None
         self.is_upload = self.may_upload()
         self.deadline = time.monotonic() + (OF_UPLOAD if self.is_upload else OF_BODY)
         self.adj = copy.copy(self.adj)
@@ -85,25 +102,27 @@ class Parser(HTTPRequestParser):
         path = getattr(self, "path", "")
         if getattr(self, "command", "") != "PUT" or not (path == UPLOADS or path.startswith(f"{UPLOADS}/")):
             return False
-        kind, _, word = self.headers.get("AUTHORIZATION", "").partition(" ")
         with contextlib.suppress(Refusal):
-            return kind.lower() == "bearer" and self.site.uploader_of(word.strip()) is not None
+            return self.site.uploader_of(token_in(self.headers.get("AUTHORIZATION", ""))) is not None
         return False
 
     def received(self, data: bytes) -> int:
-        before = self.body_bytes_received
         consumed: int = super().received(data)
         between = len(getattr(self.body_rcv, "control_line", b"")) + len(getattr(self.body_rcv, "trailer", b""))
         if between > MOST_BETWEEN and not self.error:
             self.error, self.completed = BadRequest("a line between chunks is too long"), True
         if not self.is_upload:
-            self.count(self.body_bytes_received - before)
+            self.count()
+        if self.error or self.body_rcv is None:
+            # Nobody waits for a body that is refused, or that there is not.
+            self.expect_continue = False
         return consumed
 
-    def count(self, size: int) -> None:
-        self.counted[0] += size
-        self.held.size += size
-        if self.held.size > MOST_HELD and size and not self.error:
+    def count(self) -> None:
+        """Counts what the body has beside its first bytes, for which there is always room."""
+        more = max(self.body_bytes_received - SMALL, 0) - self.counted[0]
+        self.counted[0] += more
+        if more and self.held.add(more) > MOST_HELD and not self.error:
             self.error, self.completed = Full("other reports are being received: ask again"), True
 
 
@@ -125,6 +144,10 @@ class Server(TcpWSGIServer):
     channel_class = Channel
 
     def maintenance(self, now: float) -> None:
+        """Ends connections that are late, or silent: at the next look also those whose clients take nothing any more,
+        which cannot be written to."""
+        for channel in [one for one in self.active_channels.values() if one.will_close]:
+            channel.handle_close()
         super().maintenance(now)
         late = [one for one in self.active_channels.values() if one.is_late(time.monotonic())]
         for channel in late:
@@ -140,12 +163,14 @@ class Server(TcpWSGIServer):
         return any(channel.is_busy() for channel in list(self.active_channels.values()))
 
 
+@dataclass(eq=False)
 class Ending:
     """The end of the server: a signal asks for it, and answers that are under way come before."""
 
-    def __init__(self, server: Server, grace: float) -> None:
-        self.server, self.grace = server, grace
-        self.is_asked, self.deadline = False, 0.0
+    server: Server
+    grace: float
+    is_asked: bool = False
+    deadline: float = 0.0
 
     def ask(self, *_: object) -> None:
         self.is_asked = True
@@ -168,7 +193,7 @@ def serve(app: Flask, site: Site, bound: socket.socket, begun: Callable[[], None
         threads=4 * site.settings.workers + 16,
         connection_limit=connections_within(resource.getrlimit(resource.RLIMIT_NOFILE)[0]),
         channel_timeout=MOST_SILENCE,
-        cleanup_interval=5,
+        cleanup_interval=BETWEEN_LOOKS,
         max_request_header_size=MOST_OF_HEAD,
         max_request_body_size=reporting.MOST + AROUND,
         asyncore_use_poll=True,
@@ -178,7 +203,7 @@ def serve(app: Flask, site: Site, bound: socket.socket, begun: Callable[[], None
     )
     about = (bound.family, bound.type, bound.proto, bound.getsockname())
     server = Server(app, {}, _sock=bound, adj=adj, sockinfo=about, bind_socket=False)
-    Channel.parser_class = functools.partial(Parser, site, Held())
+    Channel.parser_class = functools.partial(RequestParser, site, Held())
     ending = Ending(server, site.settings.seconds)
     at_signals(ending.ask)
     begun()

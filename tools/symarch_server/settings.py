@@ -9,12 +9,36 @@ import sys
 from dataclasses import dataclass
 from typing import Any, List, NoReturn, Optional, Sequence, Tuple
 
-from symarch_tools.keeping.forms import size_in
-from symarch_tools.keeping.screen import Failed, shown
-from symarch_tools.version import PrintVersion
+from symarch_tools.commands.arguments import size_in
+from symarch_tools.console.escapes import shown
+from symarch_tools.console.faults import Failed
+from symarch_tools.console.version import PrintVersion
 
 NAME = "symarch-server"
+DESCRIPTION = """\
+Serves an archive that symarch-keep keeps over HTTP: to browsers, curl, lldb, clients of debuginfod, Symbolicator and
+profilers. OPERATING.md has the requests.
+
+Examples:
+
+  symarch-server builds.sym                                  serves it to this machine, at http://127.0.0.1:8080/
+  curl --data-binary @report.ips 127.0.0.1:8080/reports      prints the report with names
+  symarch-server --listen 10.0.0.5:8080 --host builds --readers readers builds.sym
+                                                             serves it to whoever has a token of the file readers
+
+Each answer is that of ARCHIVE, its levels, indexes and names of builds as they are at that moment. The server writes
+nothing but ARCHIVE.missing, unless --uploads says who may add. SIGTERM ends it after the answers that are under way.
+The log is standard error.
+
+The program symarch is found as by symarch-keep. Flask and waitress are needed.
+
+Status:
+  0    a signal ended it
+  2    the archive or a file of tokens cannot be read, or the address not be had
+  3    the command line is wrong
+  126  Flask or waitress is missing, or there is no program"""
 LISTEN = re.compile(r"(\[[0-9a-fA-F:.]+\]|[^:\[\]/@\s]+):([0-9]{1,5})")
+NAME_OF_HOST = re.compile(r"\[[0-9a-f:.]+\]|[a-z0-9._-]+")
 ORIGIN = re.compile(r"https?://[^/\s?#@]+")
 MOST_WORKERS, MOST_SECONDS = 256, 86_400
 # The bytes of an upload, and of memory, if nothing else is said.
@@ -54,31 +78,31 @@ class Settings:
         return not is_loopback(self.address) and self.readers is None
 
 
-class Parser(argparse.ArgumentParser):
-    """Words. Others end with status 3, as with the other tools."""
+class ServerParser(argparse.ArgumentParser):
+    """The parser of a command line. One that is wrong ends with status 3, as with the other tools."""
 
     def error(self, message: str) -> NoReturn:
         self.print_usage(sys.stderr)
         self.exit(3, f"{NAME}: {message}\n")
 
 
-def parser_of_words(description: Optional[str]) -> Parser:
+def parser() -> ServerParser:
     shape = argparse.RawDescriptionHelpFormatter
-    parser = Parser(NAME, usage=USAGE, description=description, formatter_class=shape, allow_abbrev=False)
-    parser.add_argument("archive", metavar="ARCHIVE", help="the archive that symarch-keep keeps")
-    parser.add_argument("--listen", metavar="ADDRESS", default="127.0.0.1:8080", help=LISTEN_HELP)
+    made = ServerParser(NAME, usage=USAGE, description=DESCRIPTION, formatter_class=shape, allow_abbrev=False)
+    made.add_argument("archive", metavar="ARCHIVE", help="the archive that symarch-keep keeps")
+    made.add_argument("--listen", metavar="ADDRESS", default="127.0.0.1:8080", help=LISTEN_HELP)
     repeated: Any = {"action": "append", "default": []}
-    parser.add_argument("--host", metavar="NAME", help=HOST_HELP, **repeated)
-    parser.add_argument("--origin", metavar="ORIGIN", help=ORIGIN_HELP, **repeated)
-    parser.add_argument("--readers", metavar="FILE", help=READERS_HELP)
-    parser.add_argument("--uploads", metavar="FILE", help=UPLOADS_HELP)
-    parser.add_argument("--most", metavar="BYTES", help=MOST_HELP)
-    parser.add_argument("--no-missing", action="store_true", help=MISSING_HELP)
-    parser.add_argument("--workers", metavar="N", type=int, default=max(os.cpu_count() or 1, 2), help=WORKERS_HELP)
-    parser.add_argument("--seconds", metavar="N", type=int, default=60, help=SECONDS_HELP)
-    parser.add_argument("--memory", metavar="BYTES", help=MEMORY_HELP)
-    parser.add_argument("--version", action=PrintVersion, nargs=0, help="print the version and exit")
-    return parser
+    made.add_argument("--host", metavar="NAME", help=HOST_HELP, **repeated)
+    made.add_argument("--origin", metavar="ORIGIN", help=ORIGIN_HELP, **repeated)
+    made.add_argument("--readers", metavar="FILE", help=READERS_HELP)
+    made.add_argument("--uploads", metavar="FILE", help=UPLOADS_HELP)
+    made.add_argument("--most", metavar="BYTES", help=MOST_HELP)
+    made.add_argument("--no-missing", action="store_true", help=MISSING_HELP)
+    made.add_argument("--workers", metavar="N", type=int, default=max(os.cpu_count() or 1, 2), help=WORKERS_HELP)
+    made.add_argument("--seconds", metavar="N", type=int, default=60, help=SECONDS_HELP)
+    made.add_argument("--memory", metavar="BYTES", help=MEMORY_HELP)
+    made.add_argument("--version", action=PrintVersion, nargs=0, help="print the version and exit")
+    return made
 
 
 OPTIONS = "[--listen ADDRESS] [--host NAME]... [--origin ORIGIN]... [--readers FILE] [--uploads FILE]"
@@ -86,17 +110,17 @@ LIMITS = "[--most BYTES] [--no-missing] [--workers N] [--seconds N] [--memory BY
 USAGE = f"{NAME} {OPTIONS} {LIMITS} ARCHIVE"
 
 
-def settings_of(words: Sequence[str], description: Optional[str] = None) -> Settings:
-    parser = parser_of_words(description)
-    asked = parser.parse_args(list(words))
+def settings_of(words: Sequence[str]) -> Settings:
+    called = parser()
+    asked = called.parse_args(list(words))
     try:
         address, port = address_of(asked.listen)
         most, memory = (size_in(word) if word is not None else OTHERWISE for word in (asked.most, asked.memory))
     except Failed as failed:
-        parser.error(failed.text)
+        called.error(failed.text)
     fault = fault_of(asked, address)
     if fault:
-        parser.error(fault)
+        called.error(fault)
     hosts = tuple(name.lower() for name in asked.host) or names_of(address)
     return Settings(
         archive=os.path.abspath(asked.archive),
@@ -119,6 +143,9 @@ def fault_of(asked: argparse.Namespace, address: str) -> Optional[str]:
     others: List[str] = [one for one in asked.origin if not ORIGIN.fullmatch(one)]
     if others:
         return f"--origin is `{shown(others[0])}`: expected one as https://profiler.firefox.com"
+    hosts = [one for one in asked.host if not NAME_OF_HOST.fullmatch(one.lower())]
+    if hosts:
+        return f"--host is `{shown(hosts[0])}`: expected a name without a port, as builds.example.com"
     if not 1 <= asked.workers <= MOST_WORKERS:
         return f"--workers is {asked.workers}: expected 1 to {MOST_WORKERS}"
     if not 1 <= asked.seconds <= MOST_SECONDS:

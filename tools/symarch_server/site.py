@@ -9,14 +9,16 @@ import os
 import sys
 import threading
 import time
-from typing import Any, Dict, Iterator, List, NamedTuple, Optional, Sequence, Tuple
+import traceback
+from dataclasses import dataclass, field
+from typing import Any, Dict, Iterator, List, NamedTuple, Optional, Sequence
 
-from symarch_tools.keeping.screen import shown
+from symarch_tools.console.escapes import shown
 
 from .control import ERR, OUT, Members, close
 from .metrics import Metrics
 from .missing import Missing
-from .pool import Busy, Ended, Limits, Pool
+from .pool import Busy, Limits, Pool, WorkerEnded
 from .refusals import Refusal
 from .rooms import Rooms
 from .settings import Settings
@@ -28,10 +30,10 @@ LONG_WORKERS, LONGER = 2, 10
 # So many requests wait for them, so that others are answered meanwhile; and for the other workers.
 LONG_WAITING, MOST_WAITING = 4, 1_000
 # So many bytes of files that stand in no archive are sent at once, since slow clients have them kept on the disk.
-MOST_SENDING = 16 << 30
+# Bodies and files of SMALL bytes are not counted, so that those who have large ones keep nobody else out.
+MOST_SENDING, SMALL = 16 << 30, 1 << 20
 # So much is read of what a word says on standard error.
 MOST_SAID = 100_000
-UPLOADER = Tuple[str, str]
 
 
 class Work(NamedTuple):
@@ -54,22 +56,26 @@ class Work(NamedTuple):
             return file.read().decode(errors="replace")
 
 
+@dataclass(eq=False)
 class Site:
     """An archive that is served by this process."""
 
-    def __init__(self, settings: Settings) -> None:
-        self.settings = settings
-        self.ends = contextlib.ExitStack()
-        self.rooms = Rooms(self.ends)
-        self.metrics, self.missing = Metrics(), Missing(settings.archive, settings.has_missing)
+    settings: Settings
+    metrics: Metrics = field(default_factory=Metrics)
+    ends: contextlib.ExitStack = field(default_factory=contextlib.ExitStack)
+    lock: threading.Lock = field(default_factory=threading.Lock)
+    # How many bytes of files are being sent that stand in no archive.
+    sending: int = 0
+
+    def __post_init__(self) -> None:
+        settings = self.settings
+        self.rooms = Rooms.until(self.ends)
+        self.missing = Missing(settings.archive, settings.has_missing)
         self.readers = Tokens(settings.readers) if settings.readers else None
         self.uploads = Tokens(settings.uploads) if settings.uploads else None
         self.workers = Pool(settings.workers, Limits(settings.memory, settings.seconds), MOST_WAITING)
         longer = Limits(settings.memory, settings.seconds * LONGER)
         self.long_workers, self.adding = Pool(LONG_WORKERS, longer, LONG_WAITING), Pool(1, longer, LONG_WAITING)
-        # How many bytes of files are being sent that stand in no archive.
-        self.sending = 0
-        self.lock = threading.Lock()
         atexit.register(self.end)
 
     def end(self) -> None:
@@ -86,7 +92,7 @@ class Site:
             answer, descriptors = (pool or self.workers).ask(asked)
         except Busy:
             raise Refusal(503, "all workers are busy: ask again", headers={"Retry-After": "10"}) from None
-        except Ended as ended:
+        except WorkerEnded as ended:
             raise Refusal(503, str(ended)) from None
         try:
             refuse_fault(answer)
@@ -113,15 +119,15 @@ class Site:
 
     # ---- who asks
 
-    def reader_of(self, token: Optional[str]) -> Optional[str]:
+    def reader_of(self, token: Optional[bytes]) -> Optional[str]:
         """The name of a token that may read."""
         return name_in(self.readers, token)
 
-    def uploader_of(self, token: Optional[str]) -> Optional[str]:
+    def uploader_of(self, token: Optional[bytes]) -> Optional[str]:
         return name_in(self.uploads, token)
 
 
-def name_in(tokens: Optional[Tokens], token: Optional[str]) -> Optional[str]:
+def name_in(tokens: Optional[Tokens], token: Optional[bytes]) -> Optional[str]:
     if tokens is None or token is None:
         return None
     try:
@@ -140,6 +146,12 @@ def refuse_fault(answer: Members) -> None:
         raise Refusal(500, "the server has a fault, which its log describes")
     status = answer.get("status")
     raise Refusal(400 if status == 3 else 503, fault or "the archive could not be asked")
+
+
+def log_fault() -> None:
+    """Writes into the log where the error came from that is being handled."""
+    for line in traceback.format_exc().splitlines():
+        log(line)
 
 
 def log(text: str) -> None:

@@ -38,12 +38,13 @@ def missing() -> Union[str, Response]:
     with site().rooms.room() as room, site().work("dsyms", room, uuids=[row.uuid for row in rows]) as work:
         came = set(work.members["uuids"])
     every = [{**row._asdict(), "came": row.uuid in came} for row in rows]
-    if wants_json():
-        return jsonify(every)
-    if not wants_page():
-        lines = (f"{row.uuid} {row.reports} {row.last} {said(row.uuid in came)} {visible(row.name)}" for row in rows)
-        return text([line.rstrip() for line in lines])
-    return render_template("missing.html", rows=every, is_kept=site().settings.has_missing)
+    is_kept, fault = site().settings.has_missing, site().missing.fault
+    if wants_page() and not wants_json():
+        return render_template("missing.html", rows=every, is_kept=is_kept, fault=fault)
+    lines = (f"{row.uuid} {row.reports} {row.last} {said(row.uuid in came)} {visible(row.name)}" for row in rows)
+    response = jsonify(every) if wants_json() else text([line.rstrip() for line in lines])
+    response.headers["Symarch-Status"] = "2" if fault else "0"
+    return response
 
 
 def said(has_come: bool) -> str:

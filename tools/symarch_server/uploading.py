@@ -8,7 +8,7 @@ from flask import Blueprint, Response, g, request
 from .app import refuse_token, site, token
 from .control import OUT
 from .fetching import file_of_room
-from .forms import argument, file_name, refuse_others
+from .forms import argument, file_name, flags_of
 from .refusals import Refusal
 from .reporting import refuse_length, saved
 from .site import log
@@ -26,10 +26,9 @@ def images(name: str = "") -> Response:
     if site().uploads is None:
         raise Refusal(403, "nobody uploads here: --uploads says who may")
     g.name = uploader = site().uploader_of(token()) or refuse_token()
-    refuse_others(["name", "dsyms-only"])
+    options = flags_of(["dsyms-only"], ["name"])
     most = site().settings.most
     refuse_length(most)
-    options = ["--dsyms-only"] if "dsyms-only" in request.args else []
     with site().rooms.room() as room:
         os.mkdir(os.path.join(room, uploader))
         its = saved(os.path.join(room, uploader), file_name(name or argument("name"), OTHERWISE), request.stream, most)

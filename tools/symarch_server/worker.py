@@ -9,12 +9,16 @@ import tempfile
 import traceback
 from typing import List, Tuple
 
-from symarch_tools.keeping.screen import Failed, system_text
+from symarch_tools.console import demangler
+from symarch_tools.console.escapes import shown
+from symarch_tools.console.faults import Failed, system_text
+from symarch_tools.console.streams import noted
 from symarch_tools.reports.faults import Failure, Status
-from symarch_tools.reports.streams import noted
+from symarch_tools.store.file_names import NO_FILE, is_no_file
 
 from . import form_jobs, jobs, profile_jobs, report_jobs
 from .control import ERR, OUT, Members, close, receive, send
+from .demanglers import Demanglers
 
 JOBS = {
     "keep": jobs.keep,
@@ -34,6 +38,7 @@ MOST_KEPT = 256 << 10
 def main() -> None:
     memory, seconds = map(int, sys.argv[2:4])
     control = socket.socket(fileno=os.dup(0))
+    demangler.ask = Demanglers().changed
     nothing = os.open(os.devnull, os.O_RDWR)
     log = os.dup(2)
     put_standard(nothing, nothing, log)
@@ -89,6 +94,7 @@ def answered(job: Members, log: int) -> Tuple[Members, List[int]]:
             file = os.open(name, os.O_WRONLY | os.O_CREAT | os.O_TRUNC | os.O_CLOEXEC, 0o600)
             os.dup2(file, descriptor)
             os.close(file)
+        refuse_pipe(job["archive"])
         members = JOBS[job["job"]](job, descriptors)
         sys.stdout.flush()
         sys.stderr.flush()
@@ -105,8 +111,15 @@ def answered(job: Members, log: int) -> Tuple[Members, List[int]]:
         return {"fault": system_text(error), "status": 2}, []
     except BaseException:
         os.dup2(log, 2)
-        traceback.print_exc()
+        lines = traceback.format_exc().encode(errors="replace").splitlines()
+        sys.stderr.writelines(f"{shown(line)}\n" for line in lines)
         return {"fault": "", "status": 2, "is_bug": True}, []
+
+
+def refuse_pipe(archive: str) -> None:
+    """Refuses a pipe in the place of the archive, for which reports would wait, since they may come from one."""
+    if is_no_file(os.fsencode(archive)):
+        raise Failed(f"{shown(archive)} is {NO_FILE}, and no archive", 2)
 
 
 def said() -> str:

@@ -1,12 +1,11 @@
 """What a user runs beside the program symarch, and what it is made of. In reading order:
 
-- program           where the program symarch is
-- version           the version of both tools
-- signals           the signals that end a tool
-- escaping          texts in a line of a terminal
-- unforeseen        what no part of a tool foresaw, in one line
-- keep              symarch-keep: its words
-- keeping           what its words do
-- symbolicate       symbolicate-report: its words
-- reports           the forms of reports that it reads
+- formats           the bytes of archives, indexes, summaries and files of images: read and written, no policy
+- store             an archive: its levels, lock, log and index, and how a new file takes the place of one
+- exchange          how sites exchange over a shared folder: questions, answers, signatures
+- reports           the forms of reports, their images and frames, and their text
+- console           what both tools print, and how they end
+- commands          the commands of symarch-keep, a module each
+- keep              symarch-keep
+- symbolicate       symbolicate-report
 """

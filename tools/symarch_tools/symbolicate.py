@@ -1,205 +1,131 @@
-"""Prints reports of crashes and hangs with the names that an archive has for their frames.
-
-Examples:
-
-  symbolicate-report report.ips builds.sym            prints the report with names
-  symbolicate-report --text report.ips builds.sym     as people read a crash
-  symbolicate-report --missing *.ips builds.sym       the images without a dSYM, once each
-  symbolicate-report --out named *.crash builds.sym   writes each report into the folder named
-  symbolicate-report --group crashes builds.sym       how many reports in a folder crashed alike
-
-What is read, whatever the file is called, and of standard input if it is called `-`:
-
-- text (.crash): numbered frames, and the images after `Binary Images:`; a line of addresses in parentheses after
-  `Last Exception Backtrace:`; and the JSON after a heading `Full Report`;
-- the call trees of `sample`, `???  (in NAME)  load address A + B  [C]`, and of `spindump` and of hang and resource
-  reports, `??? (NAME + B) [C]`, and their other lists of frames. The images are those after the next `Binary Images:`;
-  a spindump has these for each process;
-- JSON (.ips): frames with `imageIndex` and `imageOffset`, or arrays of these two numbers in `userFrames` and
-  `kernelFrames`, and the images in `usedImages` or `binaryImages`. A first line of JSON, and text after it, is an
-  older .ips;
-- JSON of MetricKit, one payload or several: each `callStacks`, with frames by `binaryUUID`, `address` and
-  `offsetIntoBinaryTextSegment`.
-
-Each of them may begin with a byte-order mark, may be UTF-8 or UTF-16, and is printed in the encoding that it has. It
-may have been pasted, with the same spaces or `> ` before its lines, and is printed so. No-break spaces are read as
-spaces, and a line of a crash that was wrapped after an address or its `+` is read with the next one; once it has a
-name, both are one line.
-
-A folder stands for the reports below it, in order of their paths; links in it are not followed. Files are read there
-that are called .ips, .crash or .txt or begin as a report. One that is no report is passed over, unless it is called
-.ips or .crash or begins as one: that is refused, and so is a folder without a report. A file is read once.
-Reports without stacks, as those of jetsam and analytics, are passed over, and a line on standard error counts them; one
-that is named is refused, and so is a packed one.
-
-All is printed as it stands, byte for byte, but for
-
-- frames that have one answer: its name and offset stand in the place of what stood there, in JSON as `symbol` and
-  `symbolLocation`, or after the two numbers. Slices that answer alike are one answer;
-- the file and the line of such a frame, by the DWARF of its dSYM, where they are known and all slices say the same:
-  ` (spool.c:41)` after a name of a crash, `  spool.c:41` at the end of a line of `sample`, in one of a spindump
-  `(spool.c:41 in spool + 1040)`, in JSON `sourceFile` and `sourceLine`, or after the name and its offset. The line is 0
-  if the compiler names the file alone;
-- functions that were inlined there, the innermost first, unless the report has them: in a crash each is a numbered line
-  `clamp (shared.h:6) [inlined]` before that of its frame, and in an .ips a frame with `inline` before it. In a call
-  tree they stand below their frame, the innermost last, and what the frame called below them. In MetricKit the frame
-  has a list `inlined`. A frame that is an array has none;
-- frames for which the slices have N different answers: `!N`, and below it each answer, after the SHA-256 of each slice
-  that gives it; in JSON `conflict`;
-- a line of addresses of which one has an answer: it becomes a numbered frame for each address.
-
-Frames that stay as they are: those that the report says were inlined, but for their numbers, of images that the archive
-does not have, and where it has no symbol, so that the names that Apple wrote stay; and backtraces that are strings in
-JSON, which `--text` names and counts as `asiBacktraces`.
-
-If a report is cut, standard error says where it ends, by line and byte: within its JSON or a line, before its first
-frame, or before its images. The frames before that place are named. A text that is cut after a line of its images looks
-whole, and the frames of the others are counted as of images that it does not list. JSON that goes wrong is named up to
-there, and the rest stays as it is; so is JSON that is nested more than 500 deep, but for calls, of which 10,000 may
-stand in one another. Of a report 10,000 parts and 20,000 images are read, and ten faults are printed.
-
-The last line on standard error counts the frames: those that have one name now, those that were named before and keep
-that name, those without a name, and those with several answers. Then it counts the frames of images that the report
-does not list, and says of each image with frames what answered for it, by its name, its UUID and, if the report states
-it, its architecture:
-
-- `by dSYM`: its dSYM;
-- `without dSYM`: the image alone. If that was stripped, its frames may have the names of exported neighbours;
-- `changed since it came in`: nothing, since its slice has not the SHA-256 that the index has of it;
-- `under another architecture`: nothing, since the archive has its UUID under several others, which are named. If it is
-  there under one other alone, this one answers, and stands after the image, as `(the archive has arm64)`;
-- `not in the archive`: nothing;
-- `with or without dSYM`: an archive that is no file, as a pipe, which cannot be read twice to find that out.
-- `without lines, too many for the index`, after one of these: no files and lines of the source are printed for it,
-  since the table of its slice has no room for them.
-
-What is not printable in a name stands there, and in what --text, --missing and --group print, as `\\x` and two hex
-digits for each byte. Inlined functions do not count as frames. With --out each report has such a line after its path,
-and the last line is for all reports.
-
-With --json standard output has an object of JSON a line in the place of a report. What is not known is null; of a path
-that is no UTF-8 `path_hex`, else null, has the bytes. By `type` they are
-
-  report     path, path_hex, frames, images, and faults, which says where it is cut. The frames are counted as named,
-             named_before, not_named, several and not_listed. Each image with frames has name, uuid, arch, answered_by,
-             `dsym`, `image`, `dsym_or_image`, `changed`, `other_architecture` or `absent`, and others: architectures
-             under which the archive has it, if not under that of the report; a single one answers
-  refused    path, path_hex, why
-  end        the last one, without which some are missing: reports, how many they are, frames, counted of all, faults,
-             which is what standard error says is wrong, and status. If nothing could be asked, the first two are null
-
-With --group two reports are of one group if the top three frames of their crashed threads are the same: each has the
-same name and an image of the same name or, where it has not one name, the same offset in an image of that name. UUIDs
-are not compared, so builds of one program are counted together. A function that was inlined is one of the three: where
-the archive answers, those that it has there, whatever the report says, so that a report and its copy with names are one
-group. The crashed thread is the one that the report says crashed, of a payload the first. If the report has the
-backtrace of an exception that nothing caught, this stands in its place, without its first two frames if they are of
-CoreFoundation and libobjc.A.dylib, which throw. The frames stand as `NAME (IMAGE)` or `IMAGE + OFFSET`, by `; `.
-Reports without either, as hangs and samples, are the group `no crashed thread`. Lines with equal counts are in order of
-their text.
-
-A return address may lie after its function's end, so the address before it is asked for; the offset printed is that of
-the frame. Return addresses are:
-
-- in a list of frames of one thread, with the innermost first, each frame after the first. So are the frames of
-  MetricKit where `callStackPerThread` is true or absent: the root is the innermost one;
-- in a call tree each frame that has one below it. A frame with none below it is where the thread was. So it is in the
-  trees of MetricKit where `callStackPerThread` is false;
-- in the `Heaviest stack` of a spindump each frame but the last. In the lists after the tree of `sample` an address
-  that the tree has with frames below it, and never without.
-
-A frame outside `_sigtramp` called nothing: a signal interrupted it. By this name, which the report or the archive has,
-it is looked up at its own address, as the innermost frame is.
-
-Where the report does not state the architecture of an image, it is the one of x86_64, x86_64h, arm64 and arm64e under
-which the archive has its UUID; where there are several, that of the report's processor.
-
-Several archives are asked as their join, as `symarch merge` writes it: each last name that begins as an archive is one.
-ARCHIVE.today and the levels ARCHIVE.1, ARCHIVE.2 and so on, if `symarch-keep` has such beside an archive, are asked
-too, and have to be archives.
-
-If an index stands beside an archive, as ARCHIVE.idx, the archive is asked by it, and each name that is printed is one
-that the index vouches for:
-
-- a slice whose table in the index changed answers nothing, and of two of one length in two archives one that has
-  another SHA-256 than the index says. Standard error says
-  `UUID ARCH changed since it came in: run symarch-keep check ARCHIVE`, the other images are named, and the status is 2;
-- an archive that was written since, so that it has another length than the index says, is refused, and so is an index
-  that is damaged: nothing is printed, and the status is 2. An index that `symarch-keep` is about to put in place is
-  waited for. One that an earlier `symarch-keep` made, without tables of today, says what changed, and the archive
-  answers.
-
-Of an archive without an index beside others that have one an index is made in a folder for temporary files. If none has
-one, they answer by themselves, and nothing vouches for their bytes.
-
-The program is called by `frames`, once for all reports unless a slice changed. It is the one that the environment
-variable SYMARCH names; else the one that ./symarch built, or that was installed with this tool; else `symarch` in PATH.
-None is built here: if SYMARCH names the script ./symarch, the program that it built is called.
-
-This tool needs two to four times the size of a large report as memory, five times and 64 MB at most, and room for 60
-bytes for each different offset in a folder for temporary files, as TMPDIR names it. The program needs about 200 bytes
-for each different offset in an image. Both need four times that if the report does not state the image's architecture.
-
-The status is 0; 1 where no frame has one name (with --missing: never); 2 where a REPORT cannot be read or is none of
-these, which prints nothing of it, where a folder has none, where a slice changed, where an archive is not there or is
-cut short, or a file cannot be written; 3 where the words are others; 126 where there is no program, or it does not
-answer as `symarch`; or that of `symarch` where it refuses the archive, with its line on standard error. If nobody reads
-standard output, SIGPIPE ends the tool. Names are those of the symbol tables, without the underscore that these put
-before a name of C, as Apple's reports have them, and those of C++, Rust and Swift readable if a demangler is there."""
+"""symbolicate-report: how reports are read, looked up and printed with the names that an archive has."""
 from __future__ import annotations
 
+import itertools
 import os
 import signal
 import sys
 import tempfile
-import uuid
-from typing import Dict, Iterable, List, Optional, Sequence, Tuple
+from dataclasses import dataclass, field
+from typing import TYPE_CHECKING, Dict, Iterable, Iterator, List, Optional, Sequence, Tuple
 
-from .escaping import line_shown
-from .keeping.screen import about, shown, system_text
-from .keeping.json_lines import Members, path_members
+from .console.demangler import demangled, lacks_swift, without_underscores
+from .console.escapes import shown
+from .console.faults import about, system_text
+from .console.json_lines import Members, path_members
+from .console.signals import Stopped, signals
+from .console.streams import drop, encoded, note, printing, say
+from .console.unforeseen_faults import debugging, guarded
 from .reports.account import Account, print_end, print_objects
-from .reports.answers import Origin
 from .reports.archives import Archives, with_levels
-from .reports.demangling import demangled, without_underscores
-from .reports.faults import Failure, NoReport, NoStacks, Status
+from .reports.arguments import NAME, Options, is_folder, is_point, is_zip, options_of
+from .reports.faults import Failure, NoReport, NoStacks, SeveralReports, Status
 from .reports.folders import files_below, is_named_as_report
-from .reports.groups import group_lines
-from .reports.images import SIGNAL_FRAMES
+from .reports.images import SIGNAL_FRAMES, GivenImage
+from .reports.missing import most_wanted, wanted_in
 from .reports.names import Names
 from .reports.report import Count, Report
-from .reports.streams import drop, encoded, note, printing, say
-from .reports.words import NAME, Words, is_folder
-from .signals import Stopped, signals
-from .unforeseen import debugging, guarded
+
+if TYPE_CHECKING:
+    from .formats.packed_files import Member
+
+# A report in a zip file may have so many bytes.
+MOST_OF_MEMBER = 64_000_000
+# Where Macs keep the attributes of files, under their names.
+OF_MACS = b"__MACOSX/"
 
 
 # ---- what is printed
 
 
+@dataclass(eq=False)
 class Reader:
     """Reads reports: those that can be read, and the status of those that cannot, which are said."""
 
-    def __init__(self, words: Words) -> None:
-        self.words, self.status = words, int(Status.DONE)
-        self.found: List[Report] = []
-        # Those of a folder that have no stacks.
-        self.passed_over = 0
-        self.refused: List[Members] = []
+    options: Options
+    status: int = int(Status.DONE)
+    found: List[Report] = field(default_factory=list)
+    # Whether a report is printed: a caller that makes a page of it takes it from here.
+    is_printed: bool = True
+    # Those of a folder that have no stacks.
+    passed_over: int = 0
+    refused: List[Members] = field(default_factory=list)
+    # Whether there may be one report at most, whatever the options say.
+    is_one: bool = False
+    # The zip files that were read.
+    packed: List[str] = field(default_factory=list)
+
+    def __post_init__(self) -> None:
+        # The images that the call names.
+        self.given = given_images(self.options)
         # What a folder need not have again.
-        self.seen = {os.path.realpath(path) for path in words.reports if not is_folder(path)}
+        self.seen = {os.path.realpath(path) for path in self.options.reports if not is_folder(path)}
 
     def read_all(self) -> None:
-        for path in self.words.reports:
+        for path in self.options.reports:
             if is_folder(path):
                 self.read_folder(path)
             else:
                 self.read(path)
 
     def read(self, path: str, is_found: bool = False) -> bool:
-        """Whether a file is a report, also one that is refused. One that was found in a folder may be none."""
+        """Whether a file is a report, or a zip file that has one."""
+        return self.read_packed(path, is_found) if is_zip(path) else self.read_report(path, is_found)
+
+    def read_packed(self, path: str, is_found: bool) -> bool:
+        """Whether a zip file has a report, or is damaged, which is said. One that was found in a folder may have
+        none."""
+        from .formats.packed_files import Damaged, packed_at
+
+        has_report = False
+        self.packed.append(path)
         try:
-            self.found.append(Report(path, self.words.is_text, self.words.is_group))
+            packed = packed_at(os.fsencode(path))
+            for member in packed.members() if packed else ():
+                if is_named_as_report(os.fsdecode(member.name)) and not member.name.startswith(OF_MACS):
+                    has_report |= self.read_member(path, member, is_found)
+        except Damaged as fault:
+            self.refuse(path, f"{shown(path)}: {fault}")
+            return True
+        except OSError as error:
+            self.refuse(path, system_text(error, os.fsencode(path)))
+            return True
+        if not has_report and not is_found:
+            self.refuse(path, f"{shown(path)}: a zip file that holds no report")
+        return has_report
+
+    def read_member(self, path: str, member: Member, is_found: bool) -> bool:
+        """Whether a member of a zip file is a report, also one that is refused. --out writes it into a folder that is
+        called as the zip file; the name of a member is never a path."""
+        from .formats.packed_files import Damaged, TooMuch
+
+        name, before = os.fsdecode(member.name), len(self.found)
+        whole = f"{path}: {name}"
+        try:
+            content = member.whole(MOST_OF_MEMBER)
+        except TooMuch:
+            raise
+        except Damaged as fault:
+            self.refuse(whole, f"{shown(whole)}: {fault}")
+            return True
+        is_report = self.read_report(whole, is_found, content)
+        for report in self.found[before:]:
+            report.target = os.path.join(os.path.basename(path), os.path.basename(name))
+        self.refuse_several(path)
+        return is_report
+
+    def refuse_several(self, path: str) -> None:
+        """Fails as soon as a zip file has a second report, if one is printed."""
+        count = len(self.found)
+        if count > 1 and (self.is_one or self.options.need_out(self.options.reports, count)):
+            several = f"{shown(path)} has several reports"
+            raise SeveralReports(f"{several}: add --out NEWFOLDER, or --group", Status.BAD_ARGUMENTS)
+
+    def read_report(self, path: str, is_found: bool, content: Optional[bytes] = None) -> bool:
+        """Whether a file is a report, also one that is refused. One that was found in a folder may be none."""
+        kinds = self.options.is_text, self.options.is_group
+        try:
+            self.found.append(Report(path, *kinds, self.given, content))
         except NoStacks as failure:
             if is_found:
                 self.passed_over += 1
@@ -221,14 +147,25 @@ class Reader:
             self.refuse(folder, system_text(error, os.fsencode(folder)))
         has_report, passed_over = False, self.passed_over
         for path in paths:
-            real = os.path.realpath(path)
+            real, before = os.path.realpath(path), len(self.found)
             has_report |= real in self.seen or self.read(path, is_found=True)
             self.seen.add(real)
+            if is_point(folder):
+                self.refuse_several(folder)
+            for report in self.found[before:]:
+                report.target = os.path.join(self.place_of(folder, path), report.target)
         passed_over = self.passed_over - passed_over
         if passed_over:
             say(f"{shown(folder)}: reports without stacks, which are passed over: {passed_over}\n")
         if not has_report and not errors:
             self.refuse(folder, f"{shown(folder)}: no report in this folder")
+
+    def place_of(self, folder: str, path: str) -> str:
+        """Where --out has the folder of a file that a folder has: as that has it, and below its name if there are
+        several."""
+        are_several = sum(map(is_folder, self.options.reports)) > 1
+        name = os.path.basename(os.path.realpath(folder)) if are_several else ""
+        return os.path.normpath(os.path.join(name, os.path.dirname(os.path.relpath(path, folder))))
 
     def refuse(self, path: str, reason: str, status: int = Status.REFUSED) -> None:
         note(reason)
@@ -236,31 +173,41 @@ class Reader:
         self.status = status
 
 
-def missing_in(reports: Iterable[Report]) -> Dict[uuid.UUID, str]:
-    """The UUID and the name of each image for which no dSYM answers, unless the report names all its frames."""
-    names: Dict[uuid.UUID, str] = {}
-    for image in (image for report in reports for image in report.images.with_frames()):
-        if image.lacks_names and image.origin() in (Origin.IMAGE, Origin.OTHERS, Origin.ABSENT):
-            names[image.uuid] = names.get(image.uuid) or line_shown(" ".join((image.name or "").split()))
-    return names
+def given_images(options: Options) -> List[GivenImage]:
+    """The images that the options name, and those of the builds that they name."""
+    given = [*options.images]
+    if options.builds:
+        from .store.lookup import NoBuild, images_of_build
+
+        try:
+            given += [GivenImage(*one) for it in options.builds for one in images_of_build(options.archives, it)]
+        except NoBuild as fault:
+            raise Failure(str(fault), Status.REFUSED) from None
+    return given
 
 
-def print_missing(reports: Iterable[Report]) -> None:
-    names = missing_in(reports)
+def print_missing(reports: Iterable[Report], is_counted: bool) -> None:
+    found = wanted_in(reports)
+    lines = [one.counted_line() for one in most_wanted(found)] if is_counted else [one.line() for one in found]
     with printing() as stream:
-        stream.write(encoded("".join(f"{number} {name}".rstrip() + "\n" for number, name in names.items())))
+        stream.write(encoded("".join(lines)))
 
 
-def show_names(words: Words, symbols: Names, functions: Names) -> None:
-    """Changes the names to those that are printed. Only symbols have the underscore."""
-    if not words.is_raw:
+def show_names(options: Options, symbols: Names, functions: Names) -> bool:
+    """Changes the names to those that are printed. Only symbols have the underscore. Returns whether some would be
+    readable by a program that is not there, and nothing else."""
+    if not options.is_raw:
         symbols.shown = without_underscores(symbols.shown)
-    if not words.is_mangled:
-        made = demangled([*symbols.shown, *functions.shown], words.is_demangled)
-        symbols.shown, functions.shown = made[: len(symbols.shown)], made[len(symbols.shown) :]
+    if options.is_mangled:
+        return False
+    made = demangled([*symbols.shown, *functions.shown], options.is_demangled)
+    symbols.shown, functions.shown = made[: len(symbols.shown)], made[len(symbols.shown) :]
+    return lacks_swift(made)
 
 
 def print_groups(reports: Iterable[Report]) -> None:
+    from .reports.groups import group_lines
+
     with printing() as stream:
         stream.write(encoded("".join(group_lines(reports))))
 
@@ -272,8 +219,12 @@ def print_report(report: Report) -> None:
 
 
 def write_report(report: Report, folder: str) -> None:
-    """Writes a report under its own name, whole or not at all."""
-    target = os.path.join(folder, os.path.basename(report.path))
+    """Writes a report under its own name, in the folders that it has below the one that was named, whole or not at
+    all."""
+    target = os.path.join(folder, report.target)
+    folder = os.path.dirname(target)
+    with about(os.fsencode(folder)):
+        os.makedirs(folder, exist_ok=True)
     file, made = tempfile.mkstemp(prefix=f".{NAME}.", dir=folder)
     try:
         with about(os.fsencode(target)), open(file, "wb") as stream:
@@ -295,22 +246,31 @@ def mask() -> int:
     return found
 
 
-def clash(reports: Sequence[str], archives: Iterable[str], out: str) -> Optional[str]:
-    """What would be written twice, or over a file that is read, if anything would be."""
-    read_files = {identity(path): path for path in [*reports, *archives]}
+def clash(places: Sequence[Tuple[str, str]], others: Iterable[str], out: str) -> Optional[str]:
+    """What would be written twice, or over a file that is read, if anything would be, of the paths of reports and their
+    places in the folder. The others are read too."""
+    read_files = {identity(path): path for path in [*(path for path, _ in places), *others]}
     read_files.pop(None, None)
     seen: Dict[str, str] = {}
-    for path in reports:
-        name = os.path.basename(path)
-        target = os.path.join(out, name)
-        if not name:
+    folders = {folder: path for path, place in places for folder in folders_of(place)}
+    for path, place in places:
+        target = os.path.join(out, place)
+        if not os.path.basename(place):
             return f"{shown(path)}: no file"
-        if name in seen:
-            return f"{shown(seen[name])} and {shown(path)} would both be written to {shown(target)}"
+        if place in seen:
+            return f"{shown(seen[place])} and {shown(path)} would both be written to {shown(target)}"
         if identity(target) in read_files:
             return f"{shown(path)} would be written over {shown(read_files[identity(target)])}, which is read"
-        seen[name] = path
+        if place in folders:
+            return f"{shown(path)} would be written where {shown(folders[place])} needs a folder, {shown(target)}"
+        seen[place] = path
     return None
+
+
+def folders_of(place: str) -> Iterator[str]:
+    """The folders that a place in a folder needs there."""
+    while place := os.path.dirname(place):
+        yield place
 
 
 def refuse_file(out: Optional[str]) -> None:
@@ -318,11 +278,11 @@ def refuse_file(out: Optional[str]) -> None:
         raise Failure(f"--out needs a folder, and {shown(out)} is a file", Status.REFUSED)
 
 
-def refuse_clash(words: Words, reports: Sequence[str]) -> None:
-    archives = [file.path for file in with_levels(words.archives)] if words.out is not None else []
-    fault = clash(reports, archives, words.out) if words.out is not None else None
+def refuse_clash(options: Options, places: Sequence[Tuple[str, str]], packed: Sequence[str] = ()) -> None:
+    archives = [file.path for file in with_levels(options.archives)] if options.out is not None else []
+    fault = clash(places, [*packed, *archives], options.out) if options.out is not None else None
     if fault:
-        raise Failure(fault, Status.BAD_WORDS)
+        raise Failure(fault, Status.BAD_ARGUMENTS)
 
 
 def identity(path: str) -> Optional[Tuple[int, int]]:
@@ -347,57 +307,62 @@ def look_up(archives: Archives, reports: Sequence[Report]) -> None:
         archives.look_up(images)
 
 
-def carry_out(words: Words, reader: Optional[Reader] = None) -> int:
-    """Prints what the words ask for. A caller that needs the reports, with their answers, gives the reader of them."""
-    named = [path for path in words.reports if not is_folder(path)]
-    refuse_file(words.out)
-    refuse_clash(words, named)
-    reader = reader or Reader(words)
+def carry_out(options: Options, reader: Optional[Reader] = None) -> int:
+    """Prints what the options ask for. A caller that needs the reports, with their answers, hands in their reader."""
+    named = [(path, os.path.basename(path)) for path in options.reports if not (is_folder(path) or is_zip(path))]
+    refuse_file(options.out)
+    refuse_clash(options, named)
+    reader = reader or Reader(options)
     reader.read_all()
     reports, status = reader.found, reader.status
-    if len(named) < len(words.reports):
-        refuse_clash(words, list(dict.fromkeys([*named, *(report.path for report in reports)])))
+    if len(named) < len(options.reports):
+        found, known = [(report.path, report.target) for report in reports], set(named)
+        refuse_clash(options, [*named, *(one for one in found if one not in known)], reader.packed)
     if not reports:
-        if words.is_json:
+        if options.is_json:
             print_objects(reader.refused)
             print_end(0, vars(Count()), status)
         return status
-    archives = Archives(words.archives, words.has_lines(), words.has_paths)
+    archives = Archives(options.archives, options.has_lines(), options.has_paths)
     look_up(archives, reports)
     status = status or (Status.REFUSED if archives.refused else Status.DONE)
-    if words.is_missing:
-        print_missing(reports)
+    if options.is_missing and options.is_json:
+        print_objects([*(one.members() for one in most_wanted(wanted_in(reports))), *reader.refused])
+        print_end(len(reports), None, status)
+    elif options.is_missing:
+        print_missing(reports, options.has_counts)
+    if options.is_missing:
         return status
-    show_names(words, archives.names, archives.chains.names)
-    if words.is_group:
+    is_lacking_swift = show_names(options, archives.names, archives.chains.names)
+    if options.is_group:
         print_groups(reports)
-    elif words.out is not None:
-        os.makedirs(words.out, exist_ok=True)
+    elif options.out is not None:
+        os.makedirs(options.out, exist_ok=True)
         for report in reports:
-            write_report(report, words.out)
-    elif not words.is_json:
+            write_report(report, options.out)
+    elif not options.is_json and reader.is_printed:
         print_report(reports[0])
-    account = Account(reports, words.out is not None)
+    account = Account(reports, options.out is not None, is_lacking_swift)
     account.say()
     status = status or (Status.DONE if account.every.named else Status.NONE_NAMED)
-    if words.is_json:
-        print_objects([*account.objects(), *reader.refused])
+    if options.is_json:
+        print_objects(itertools.chain(account.objects(options.has_frames), reader.refused))
         print_end(len(reports), vars(account.every), status)
     return status
 
 
-def carry_out_or_end(words: Words) -> int:
-    """Carries out the words. If that fails, JSON has an end that says it."""
+def carry_out_or_end(options: Options) -> int:
+    """Carries out a command line. If that fails, JSON has an end that says it."""
     try:
-        return carry_out(words)
+        return carry_out(options)
     except Failure as failure:
-        if not words.is_json or failure.status == Status.BAD_WORDS:
+        if not options.is_json or failure.status == Status.BAD_ARGUMENTS:
             raise
         if failure.reason:
             note(failure.reason)
         status = failure.status
     except OSError as error:
-        if not words.is_json or error.filename == b"standard output":
+        if not options.is_json or error.filename == b"standard output":
             raise
         note(system_text(error))
         status = Status.REFUSED
@@ -405,9 +370,9 @@ def carry_out_or_end(words: Words) -> int:
     return status
 
 
-def carry_out_words(words: Sequence[str]) -> int:
+def carry_out_arguments(arguments: Sequence[str]) -> int:
     try:
-        return carry_out_or_end(Words(words, __doc__))
+        return carry_out_or_end(options_of(arguments))
     except Failure as failure:
         if failure.reason:
             note(failure.reason)
@@ -426,12 +391,12 @@ def carry_out_words(words: Sequence[str]) -> int:
     return Status.REFUSED
 
 
-def main(words: Optional[Sequence[str]] = None) -> int:
-    """Carries out the words. A signal ends the tool, unless it is ignored, once its files are removed."""
-    given = debugging.taken_from(sys.argv[1:] if words is None else words)
+def main(arguments: Optional[Sequence[str]] = None) -> int:
+    """Carries out a command line. A signal ends the tool, unless it is ignored, once its files are removed."""
+    given = debugging.taken_from(sys.argv[1:] if arguments is None else arguments)
     try:
         signals.answer()
-        status = guarded(NAME, lambda: carry_out_words(given))
+        status = guarded(NAME, lambda: carry_out_arguments(given))
         signals.leave()
         return status
     except Stopped as stopped:

@@ -8,8 +8,6 @@ use Rattle.admission.specs.Slices.{slices}
 use Rattle.admission.specs.FatFault.{IsUniversal}
 use Rattle.admission.specs.declared.file_kind.FileKind.{FileKind}
 use Rattle.admission.specs.declared.file_kind.FileKind.TheVariants.{Thin, Universal, Universal64, Other}
-use Rattle.archive_core.specs.Valid.{IsValid}
-use Rattle.archive_core.proofs.Beginnings.{slice_begins}
 use Rattle.admission.specs.File.{is_admissible, parts, parts_of, HasParts}
 
 -- a file does not begin in two ways
@@ -53,7 +51,3 @@ has_parts_thin file e = record { kind = λ w. cc; table = λ h. let fat : is_fat
 
 pub has_parts_fat : (file : List ℕ) → is_fat (kind_of file) ≡ true → IsUniversal file → HasParts file
 has_parts_fat file e sound = record { kind = not_other (kind_of file) e; table = λ h. sound }
-
--- a slice begins as an image does
-pub valid_begins : (part : List ℕ) → IsValid part → true ≡ is_admissible part
-valid_begins part valid = sym (slice_begins part valid)

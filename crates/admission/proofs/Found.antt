@@ -1,7 +1,7 @@
 -- What was found of the parts of a file, of one more at a time.
 use Rattle.std.proofs.Common.{◌≡◌, ℕ, ◌+◌, ◌<◌, true, List, length, Option, None, Some, slice_get, slice_set, slice_index_or, ◌∙◌, subst, arith, inl, inr}
 use Rattle.std.proofs.lemmas.Bool.{cases_lt}
-use Rattle.std.proofs.lemmas.List.{get_or_default, get_or-set_same, get_or-set_other, length-set}
+use Rattle.std.proofs.lemmas.List.{get_or-set_same, get_or-set_other, length-set}
 use Rattle.std.proofs.lemmas.Option.{slice_get_within}
 use Rattle.admission.specs.Slices.{slices}
 use Rattle.archive_core.specs.Valid.{IsValid}
@@ -45,10 +45,3 @@ pub found_all : (file u : List ℕ) (n : ℕ) (found : List (Option SliceFacts))
 found_all file u n found bytes all below =
     subst (λ bs. AreFound (slices bs) found) bytes
     (λ i part is. let low : i < length (slices u) = slice_get_within (slices u) i part is in below.each i part (omega (arith, all)) is)
-
--- what stands at the place of a part, read with any default
-pub found_at : (parts : List (List ℕ)) (found : List (Option SliceFacts)) (i : ℕ) (part : List ℕ) (other : Option SliceFacts) → AreFound parts found → slice_get parts i ≡ Some part
-    → length found ≡ 32 → i < 32 → IsFoundOf part (slice_index_or found i other)
-found_at parts found i part other are is places room =
-    let inside_found : i < length found = omega (arith, places) in
-    subst (IsFoundOf part) (get_or_default found i None other inside_found) (are i part is)

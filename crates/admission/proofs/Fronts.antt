@@ -1,20 +1,16 @@
 -- The first parts of a file taken, one more at a time.
-use Rattle.std.proofs.Common.{◌≡◌, ℕ, ◌+◌, true, Result, Ok, Err, List, [], ◌∷◌, ◌++◌, length, take, drop, Some, slice_get, refl, sym, ap, ◌∙◌, arith, length-append}
+use Rattle.std.proofs.Common.{◌≡◌, ℕ, ◌+◌, Result, Ok, Err, List, [], ◌∷◌, ◌++◌, length, take, drop, Some, slice_get, refl, sym, ap, ◌∙◌, arith, length-append}
 use Rattle.std.specs.Prelude.{OnErr, filter}
-use Rattle.std.proofs.lemmas.List.{take-append-drop, take_all}
+use Rattle.std.proofs.lemmas.List.{take-append-drop}
 use Rattle.std.proofs.lemmas.Grind.{take_at_read}
 use Rattle.std.proofs.lemmas.List.Elements.{filter-append}
 use Rattle.std.proofs.lemmas.Option.{get_or_from_slice_get, slice_get_within}
 use Rattle.std.proofs.Math.Seq.{take-append_seam}
-use Rattle.admission.specs.Kind.{kind_of, is_fat}
-use Rattle.admission.specs.Slices.{slices}
-use Rattle.admission.specs.declared.file_kind.FileKind.TheVariants.{Thin}
 use Rattle.archive_core.specs.Content.{Operations}
-use Rattle.admission.specs.File.{is_admissible, parts, admissible}
-use Rattle.admission.specs.Take.{admitted, taken_of, taken_rows, HoldsFirstParts}
+use Rattle.admission.specs.File.{is_admissible, parts}
+use Rattle.admission.specs.Take.{admitted, taken_rows, HoldsFirstParts}
 use Rattle.admission.specs.declared.taken.Taken.{Taken}
-use Rattle.admission.proofs.FileKinds.{thin_begins, parts_thin, parts_fat}
-use Rattle.admission.proofs.Rows.{admitted-append, taken_row, taken_rows-append}
+use Rattle.admission.proofs.Rows.{admitted-append, taken_rows-append}
 
 -- the first i parts are taken, and these are their rows
 pub record IsTaking (xs : List (List ℕ)) (i : ℕ) (old new : Operations) (rows : List Taken) : Type 0 where
@@ -65,42 +61,14 @@ in_part file i old new is =
       content = is ∙ ap (admitted old) (sym (ap (take (length kept)) whole ∙ take-append_seam kept rest));
     }
 
--- of a universal file
-module _ (file : List ℕ) (fat : is_fat (kind_of file) ≡ true) where
-  pub stopped_before : (i : ℕ) (old mid new : Operations) (rows : List Taken) → IsTaking (slices file) i old mid rows → new ≡ mid → HoldsFirstParts file old new
-  stopped_before i old mid new rows before same =
-      in_part file i old new (rw (parts_fat file fat) (same ∙ before.content))
+module _ (file : List ℕ) where
+  pub stopped_before : (i : ℕ) (old mid new : Operations) (rows : List Taken) → IsTaking (parts file) i old mid rows → new ≡ mid → HoldsFirstParts file old new
+  stopped_before i old mid new rows before same = in_part file i old new (same ∙ before.content)
 
-  pub stopped_behind : (i : ℕ) (x : List ℕ) (old mid new : Operations) (rows : List Taken) → IsTaking (slices file) i old mid rows → slice_get (slices file) i ≡ Some x
+  pub stopped_behind : (i : ℕ) (x : List ℕ) (old mid new : Operations) (rows : List Taken) → IsTaking (parts file) i old mid rows → slice_get (parts file) i ≡ Some x
       → new ≡ admitted mid (filter is_admissible (x ∷ [])) → HoldsFirstParts file old new
   stopped_behind i x old mid new rows before is new_is =
-      in_part file (i + 1) old new (rw (parts_fat file fat) (content_more (slices file) i x old mid new rows before is new_is))
-
-  whole : (n : ℕ) → n ≡ length (slices file) → take n (slices file) ≡ parts file
-  whole n all = take_all n (slices file) (omega arith) ∙ sym (parts_fat file fat)
-
-  pub all_content : (n : ℕ) (old new : Operations) (rows : List Taken) → IsTaking (slices file) n old new rows → n ≡ length (slices file) → new ≡ admitted old (admissible file)
-  all_content n old new rows taking all = rw (← whole n all) taking.content
-
-  pub all_rows : (n : ℕ) (old new : Operations) (rows : List Taken) → IsTaking (slices file) n old new rows → n ≡ length (slices file) → rows ≡ taken_rows old (parts file)
-  all_rows n old new rows taking all = rw (← whole n all) taking.rows_are
-
--- of a thin file
-module _ (file : List ℕ) (thin : kind_of file ≡ Thin) where
-  only_part : admissible file ≡ file ∷ []
-  only_part = rw (parts_thin file thin, ← thin_begins file thin) refl
-
-  pub thin_content : (old new : Operations) → new ≡ admitted old (file ∷ []) → new ≡ admitted old (admissible file)
-  thin_content old new is = rw only_part is
-
-  pub thin_stopped : (old new : Operations) → new ≡ admitted old (file ∷ []) → HoldsFirstParts file old new
-  thin_stopped old new is = record { count = 1; some = rw only_part (omega arith); content = rw only_part is }
-
-  pub thin_rows : (old : Operations) (row : Taken) (rows none : List Taken) → row ≡ taken_of old file → none ≡ [] → rows ≡ none ++ row ∷ [] → rows ≡ taken_rows old (parts file)
-  thin_rows old row rows none row_is none_is rows_are =
-      rows_are ∙ ap (λ (ts : List Taken). ts ++ row ∷ []) none_is
-      ∙ taken_row old file row (thin_begins file thin) row_is
-      ∙ ap (taken_rows old) (sym (parts_thin file thin))
+      in_part file (i + 1) old new (content_more (parts file) i x old mid new rows before is new_is)
 
 -- what holds whether or not a result is an error
 pub errs : {T E P : Type 0} (r : Result T E) → P → OnErr r P

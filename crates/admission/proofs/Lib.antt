@@ -5,6 +5,7 @@ pub mod Files
 pub mod Found
 pub mod Accepting
 pub mod Rows
+pub mod PartSlices
 pub mod Fronts
 pub mod Resumed
 pub mod RowPlaces

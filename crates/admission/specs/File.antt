@@ -1,5 +1,6 @@
 -- Which files are taken, and why others are not (mach-o/fat.h, mach-o/loader.h).
-use Rattle.std.specs.Prelude.{◌≡◌, ◌≢◌, ◌<◌, ℕ, Bool, true, List, [], ◌∷◌, Some, All, nat_eq, filter, slice_get}
+use Rattle.std.specs.Prelude.{◌≡◌, ◌≢◌, ◌<◌, ℕ, Bool, true, List, [], ◌∷◌, Option, Some, None, All, nat_eq, filter}
+use Rattle.std.specs.Prelude.{slice_get, if◌then◌else◌}
 use Rattle.std.specs.List.{starts_with}
 use Rattle.admission.specs.Kind.{kind_of, is_fat, mh_magic_64}
 use Rattle.admission.specs.Slices.{slices}
@@ -26,6 +27,10 @@ parts file = parts_of (kind_of file) file
 -- whether a part begins as a 64-bit little-endian image does: with MH_MAGIC_64
 abbrev pub is_admissible : List ℕ → Bool
 is_admissible part = starts_with nat_eq part mh_magic_64
+
+-- the slice that a part is that begins so; another part is none
+abbrev pub slice_in : List ℕ → Option (List ℕ)
+slice_in part = if is_admissible part then Some part else None
 
 -- those parts of a file that begin so
 abbrev pub admissible : List ℕ → List (List ℕ)

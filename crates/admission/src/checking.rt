@@ -6,12 +6,10 @@ ghost use Rattle.archive_core.specs.declared.faults.SliceFault.{SliceFault};
 ghost use Rattle.admission.specs.File.{IsAcceptedFile, IsTakeFault, is_admissible};
 ghost use Rattle.admission.specs.Accepted.{IsAcceptedAs, IsFoundOf};
 
+use crate::fat_header::MOST_ARCHES;
 use crate::{FileKind, TakeFault, Universal, kind};
 use archive_core::laws::one_slice_fault;
 use archive_core::{CheckedSlice, Slice, SliceFacts};
-
-/// The most parts that a universal file has.
-pub const MOST_PARTS: usize = 32;
 
 /// An accepted file, as its check found it. It borrows the file's bytes.
 #[derive(Drop)]
@@ -20,7 +18,7 @@ pub enum AcceptedFile<'a> {
     Thin(CheckedSlice<'a>),
     /// A universal file, and at the place of each part what its check found out; of one that does not begin as an
     /// image nothing.
-    Universal(Universal<'a>, [Option<SliceFacts>; MOST_PARTS]),
+    Universal(Universal<'a>, [Option<SliceFacts>; MOST_ARCHES]),
 }
 
 pub(crate) fn begins_as_image(part: &[u8]) -> bool
@@ -69,7 +67,7 @@ fn check_universal(file: &[u8]) -> Result<AcceptedFile<'_>, TakeFault>
 {
     one_slice_fault();
     let universal = Universal::read(file)?;
-    let mut found = [None; MOST_PARTS];
+    let mut found = [None; MOST_ARCHES];
     let mut has_slice = false;
     'parts: for index in 0..universal.len() {
         let facts = check_part(index as u64, universal.slice(index))?;

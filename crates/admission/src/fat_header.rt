@@ -13,7 +13,7 @@ use crate::number::number32;
 pub(crate) const FAT_HEADER_LEN: usize = 8;
 
 /// The most entries that a table may have.
-const MOST_ARCHES: u32 = 32;
+pub(crate) const MOST_ARCHES: usize = 32;
 
 /// `nfat_arch`.
 pub(crate) fn nfat_arch(file: &[u8]) -> u32
@@ -36,7 +36,7 @@ pub(crate) fn check_table(file: &[u8]) -> Result<(), FatFault>
         return Err(FatFault::HeaderTruncated);
     }
     let count = nfat_arch(file);
-    if count > MOST_ARCHES {
+    if count as usize > MOST_ARCHES {
         return Err(FatFault::TooManyArches(count));
     }
     if file.len() < arch_offset(kind, count) {

@@ -14,6 +14,7 @@
 //!
 //! - `fault`: why no slice of a file is taken;
 //! - `checking`: whether a file is accepted;
+//! - `slicing`: the slices of an accepted file, each with its bytes to itself;
 //! - `taken`: what becomes of a slice;
 //! - `taking`: a file's slices taken into an archive;
 //! - [`laws`]: what holds of files, and of what their taking makes.
@@ -38,6 +39,7 @@ mod fault;
 mod file_kind;
 pub mod laws;
 mod number;
+mod slicing;
 mod taken;
 mod taking;
 mod universal;
@@ -46,6 +48,7 @@ pub use checking::{AcceptedFile, check_file};
 pub use fat_fault::FatFault;
 pub use fault::TakeFault;
 pub use file_kind::{FileKind, kind};
+pub use slicing::slice_file;
 pub use taken::Taken;
 pub use taking::take_accepted;
 pub use universal::Universal;

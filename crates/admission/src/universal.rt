@@ -7,7 +7,7 @@ ghost use Rattle.admission.specs.Slices.{slices};
 use crate::bounds::{first_outside, first_too_large};
 use crate::fat_arch::{arch_at, slice_part};
 use crate::fat_fault::FatFault;
-use crate::fat_header::{check_table, nfat_arch};
+use crate::fat_header::{MOST_ARCHES, check_table, nfat_arch};
 use std::marker::Model;
 
 /// A universal file, which borrows its bytes. A contract sees it as these bytes.
@@ -51,7 +51,7 @@ impl<'a> Universal<'a> {
     #[tactic(auto, using(crate::proofs::SlicePlaces::of_slices))]
     pub fn len(&self) -> u32
         ensures number { result ≡ length (slices self.now) }
-        ensures few { result ≤ 32 }
+        ensures few { result ≤ MOST_ARCHES }
     {
         nfat_arch(self.file)
     }

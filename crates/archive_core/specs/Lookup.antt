@@ -22,11 +22,15 @@ abbrev pub unslid : ℕ → ℕ → ℕ → Option ℕ
 unslid base load address = if nat_le load (address + base) && nat_lt (address + base - load) (2 ^ 64)
     then Some (address + base - load) else None
 
--- the address in a slice's file that a place stands for; a loaded one stands for none where the slice has no segment
--- __TEXT
+-- the address in a file that a place stands for, by the vmaddr of its segment __TEXT; a loaded one stands for none
+-- where there is no such segment
+abbrev pub address_by : Option ℕ → Where → Option ℕ
+address_by base (File address) = Some address
+address_by base (Loaded load address) = option_and_then (λ base. unslid base load address) base
+
+-- the address in a slice's file that a place stands for
 abbrev pub file_address : List ℕ → Where → Option ℕ
-file_address slice (File address) = Some address
-file_address slice (Loaded load address) = option_and_then (λ base. unslid base load address) (text_base_of slice)
+file_address slice asked = address_by (text_base_of slice) asked
 
 -- what a slice itself tells of a place: the nearest symbol of that address, or none where it stands for no address
 abbrev pub IsOwn : List ℕ → Where → Option FoundRecord → Type 0

@@ -9,6 +9,9 @@ use uuid::Uuid;
 /// The tag of a retirement's record.
 pub const RETIREMENT: u8 = 1;
 
+/// How many bytes a retirement's record has: a tag, a key and a digest.
+pub const RETIREMENT_LEN: usize = 57;
+
 // A UUID has sixteen bytes.
 fn uuid_bytes(uuid: &Uuid) -> &[u8]
     ensures bytes { result.now ≡ uuid.now }
@@ -37,10 +40,10 @@ pub fn key_prefix(key: &SliceKey) -> [u8; 24]
 }
 
 /// A tag, a key and a digest.
-pub fn tagged_bytes(tag: u8, key: &SliceKey, digest: &Digest) -> [u8; 57]
+pub fn tagged_bytes(tag: u8, key: &SliceKey, digest: &Digest) -> [u8; RETIREMENT_LEN]
     ensures { result ≡ tag ∷ (key_bytes key.now ++ digest.now.0) }
 {
-    let mut bytes = [0; 57];
+    let mut bytes = [0; RETIREMENT_LEN];
     bytes[0] = tag;
     lay_key(&mut bytes[1..25], key);
     bytes[25..].copy_from_slice(&digest.0);
@@ -48,7 +51,7 @@ pub fn tagged_bytes(tag: u8, key: &SliceKey, digest: &Digest) -> [u8; 57]
 }
 
 /// The record of a retirement.
-pub fn retirement_bytes(key: &SliceKey, digest: &Digest) -> [u8; 57]
+pub fn retirement_bytes(key: &SliceKey, digest: &Digest) -> [u8; RETIREMENT_LEN]
     ensures { result ≡ retirement_record key.now digest.now.0 }
 {
     tagged_bytes(RETIREMENT, key, digest)

@@ -36,7 +36,7 @@ pub use archives::{Archive, Contents, take_all};
 pub use faults::{AdmitFault, SliceFault};
 pub use find::{FindRow, FindState};
 pub use keys::{ArchKey, Digest, SliceKey, compare_keys, is_key};
-pub use layout::{RETIREMENT, key_prefix, retirement_bytes, tagged_bytes};
+pub use layout::{RETIREMENT, RETIREMENT_LEN, key_prefix, retirement_bytes, tagged_bytes};
 pub use lookup::{Answer, Own, Where};
 pub use names::{NameRow, OwnedNameRow};
 pub use operations::{Operation, Record, retirement};

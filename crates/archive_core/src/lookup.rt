@@ -1,4 +1,7 @@
 //! What is asked of a key, and what is answered.
+ghost use Rattle.std.specs.Prelude.{◌≡◌};
+ghost use Rattle.archive_core.specs.Lookup.{address_by, unslid};
+
 use crate::Digest;
 use macho_symbols::Found;
 use memory::Heap;
@@ -16,6 +19,29 @@ pub enum Where {
         /// An address there.
         address: u64,
     },
+}
+
+impl Where {
+    /// The address in a file that is meant, by the `vmaddr` of the file's `__TEXT`.
+    pub fn address_by(self, base: Option<u64>) -> Option<u64>
+        ensures { result ≡ address_by base self }
+    {
+        match self {
+            Where::File(address) => Some(address),
+            Where::Loaded { load, address } => unslid(base?, load, address),
+        }
+    }
+}
+
+/// The address that a loaded one stands for: `address - load + base`, in whole numbers.
+fn unslid(base: u64, load: u64, address: u64) -> Option<u64>
+    ensures { result ≡ unslid base load address }
+{
+    if load <= address {
+        base.checked_add(address - load)
+    } else {
+        base.checked_sub(load - address)
+    }
 }
 
 /// What one slice tells of an address.

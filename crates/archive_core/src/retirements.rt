@@ -11,7 +11,7 @@ ghost use Rattle.archive_core.specs.Key.{key_bytes};
 ghost use Rattle.archive_core.specs.Valid.{key_of};
 ghost use Rattle.archive_core.specs.Record.{retirement_record};
 
-use crate::layout::{RETIREMENT, key_prefix, retirement_bytes};
+use crate::layout::{RETIREMENT, RETIREMENT_LEN, key_prefix, retirement_bytes};
 use crate::{CheckedSlice, SliceKey};
 use memory::{Heap, NoMemory};
 use std::cmp::Ordering;
@@ -27,8 +27,8 @@ const PREFIX_LEN: usize = 25;
 #[derive(Drop)]
 pub struct Retirements {
     // Those that came above all of these before them.
-    ascending: Vec<[u8; 57], Heap>,
-    others: BTreeSet<[u8; 57], Heap>,
+    ascending: Vec<[u8; RETIREMENT_LEN], Heap>,
+    others: BTreeSet<[u8; RETIREMENT_LEN], Heap>,
 }
 
 impl Model for Retirements {
@@ -45,7 +45,7 @@ impl Model for Retirements {
 }
 
 // The tag and the key of the retirements of a key.
-fn prefix_of(key: &SliceKey) -> [u8; 25]
+fn prefix_of(key: &SliceKey) -> [u8; PREFIX_LEN]
     ensures prefix { result ≡ 1 ∷ key_bytes key.now }
     ensures long { length (key_bytes key.now) ≡ 24 }
 {
@@ -56,21 +56,24 @@ fn prefix_of(key: &SliceKey) -> [u8; 25]
 }
 
 // Compares a record with the tag and the key of one.
-fn compare_prefix(kept: &[u8; 57], prefix: &[u8; 25]) -> Ordering
+fn compare_prefix(kept: &[u8; RETIREMENT_LEN], prefix: &[u8; PREFIX_LEN]) -> Ordering
     ensures { result ≡ slice_cmp nat_cmp (take 25 kept.now) prefix.now }
 {
     kept[..PREFIX_LEN].cmp(&prefix[..])
 }
 
 // Compares two records.
-fn compare_whole(a: &[u8; 57], b: &[u8; 57]) -> Ordering
+fn compare_whole(a: &[u8; RETIREMENT_LEN], b: &[u8; RETIREMENT_LEN]) -> Ordering
     ensures { result ≡ slice_cmp nat_cmp a.now b.now }
 {
     a[..].cmp(&b[..])
 }
 
 // Whether the record is among these, which ascend.
-fn search(records: &[[u8; 57]], retirement: &[u8; 57]) -> Result<usize, usize>
+fn search(
+    records: &[[u8; RETIREMENT_LEN]],
+    retirement: &[u8; RETIREMENT_LEN],
+) -> Result<usize, usize>
     requires { IsStrictlySortedBy (slice_cmp nat_cmp) records.now }
     ensures found { IsFound (slice_cmp nat_cmp) records.now retirement.now result }
     ensures within { IsSearchInRange result (length records.now) }
@@ -79,7 +82,7 @@ fn search(records: &[[u8; 57]], retirement: &[u8; 57]) -> Result<usize, usize>
 }
 
 // Takes the last of these out where it is this record.
-fn pop_if_last(records: &mut Vec<[u8; 57], Heap>, retirement: &[u8; 57])
+fn pop_if_last(records: &mut Vec<[u8; RETIREMENT_LEN], Heap>, retirement: &[u8; RETIREMENT_LEN])
     ensures { (records.new.items ≡ records.old.items)
         ⊎ (records.old.items ≡ records.new.items ++ retirement.now ∷ []) }
 {
@@ -89,7 +92,7 @@ fn pop_if_last(records: &mut Vec<[u8; 57], Heap>, retirement: &[u8; 57])
 }
 
 // Whether a record that begins so is among these, which ascend.
-fn has_prefix(records: &[[u8; 57]], prefix: &[u8; 25]) -> bool
+fn has_prefix(records: &[[u8; RETIREMENT_LEN]], prefix: &[u8; PREFIX_LEN]) -> bool
     requires { IsStrictlySortedBy (slice_cmp nat_cmp) records.now }
     ensures { (r : List ℕ) → take 25 r ≡ prefix.now
         → set.contains (set.from_list {R = slice_cmp nat_cmp} records.now) r ≡ true → result ≡ true }
@@ -100,18 +103,21 @@ fn has_prefix(records: &[[u8; 57]], prefix: &[u8; 25]) -> bool
 }
 
 // The least record that begins so.
-fn least_of(prefix: &[u8; 25]) -> [u8; 57]
+fn least_of(prefix: &[u8; PREFIX_LEN]) -> [u8; RETIREMENT_LEN]
     ensures prefix { take 25 result ≡ prefix.now }
     ensures least { (r : List ℕ) → take 25 r ≡ prefix.now → length r ≡ 57
         → is_gt (slice_cmp nat_cmp result r) ≡ false }
 {
-    let mut least = [0; 57];
+    let mut least = [0; RETIREMENT_LEN];
     least[..PREFIX_LEN].copy_from_slice(prefix);
     least
 }
 
 // Whether a record that begins so is among these.
-fn has_other_prefix(records: &BTreeSet<[u8; 57], Heap>, prefix: &[u8; 25]) -> bool
+fn has_other_prefix(
+    records: &BTreeSet<[u8; RETIREMENT_LEN], Heap>,
+    prefix: &[u8; PREFIX_LEN],
+) -> bool
     ensures { (r : List ℕ) → take 25 r ≡ prefix.now → length r ≡ 57
         → set.contains (set.from_list {R = slice_cmp nat_cmp} records.now.keys) r ≡ true → result ≡ true }
 {
@@ -143,7 +149,7 @@ impl Retirements {
     }
 
     // Whether the retirement is there.
-    fn contains(&self, retirement: &[u8; 57]) -> bool
+    fn contains(&self, retirement: &[u8; RETIREMENT_LEN]) -> bool
         ensures { result ≡ set.contains (set.from_list {R = slice_cmp nat_cmp} self.now) retirement.now }
     {
         search(&self.ascending, retirement).is_ok() || self.others.contains(retirement)
@@ -165,7 +171,7 @@ impl Retirements {
     }
 
     /// Keeps the record of a retirement, and answers whether it was not there.
-    pub fn keep(&mut self, retirement: [u8; 57]) -> Result<bool, NoMemory>
+    pub fn keep(&mut self, retirement: [u8; RETIREMENT_LEN]) -> Result<bool, NoMemory>
         ensures kept { OnOk result (set.from_list {R = slice_cmp nat_cmp} self.new
             ≡ set.insert (set.from_list self.old) retirement) }
         ensures first { IfOk result (λ first.
@@ -187,7 +193,7 @@ impl Retirements {
 
     /// Forgets the record of a retirement if it is the last that came above all before it, and else nothing: where it
     /// is kept elsewhere, too, the two together have what they had.
-    pub fn forget(&mut self, retirement: &[u8; 57])
+    pub fn forget(&mut self, retirement: &[u8; RETIREMENT_LEN])
         ensures { set.insert (set.from_list {R = slice_cmp nat_cmp} self.new) retirement.now
             ≡ set.insert (set.from_list self.old) retirement.now }
     {

@@ -34,7 +34,6 @@ mod site;
 mod world;
 
 pub use fault::{DeliverFault, ReplyFault};
-pub use lines::{push_events, push_site};
 pub use outcome::{EventFault, Outcome};
 pub use rehearse::run_rehearse;
 pub use running::run;

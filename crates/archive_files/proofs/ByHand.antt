@@ -24,6 +24,6 @@ pub use denote.RattleType.{owns}
 pub use denote.Memory.{mem}
 pub use denote.Ref.{MutRef, mut_vals, mut_Tells, Bor}
 pub use denote.Signature.{plain}
-pub use denote.Builtin.{u8}
+pub use denote.Builtin.{u8, u64}
 pub use denote.Exit.{yes}
 pub use denote.Slice.{ShrSlice, slice_val, shr_slice_vals, shr_slice_Tells}

@@ -1,6 +1,8 @@
 pub mod Accounts
+pub mod Same
 pub mod Publishings
 pub mod Asked
+pub mod Compared
 mod PlacesHeld
 pub mod Described
 mod ByHand

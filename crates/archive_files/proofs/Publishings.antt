@@ -1,15 +1,18 @@
 -- What was called for OUT, one call more at a time.
-use Rattle.std.proofs.Common.{◌≡◌, ◌∙◌, ◌⊎◌, ℕ, true, false, List, [], ◌∷◌, ◌++◌, length, map, Ok, Option, Some, None, refl, sym, ap, inl, inr, append_assoc, append-nil, arith, subst, ◌<◌, ◌+◌, ◌==◌, take, ◌≤◌}
+use Rattle.std.proofs.Common.{◌≡◌, ◌∙◌, ◌⊎◌, ℕ, true, false, ◌&&◌, List, [], ◌∷◌, ◌++◌, length, map, Ok, Option, Some, None, refl, sym, ap, inl, inr, append_assoc, append-nil, arith, subst, ◌<◌, ◌+◌, ◌==◌, take, ◌≤◌}
 use Rattle.std.proofs.lemmas.List.{length-append, length-take-le, map-append}
 use Rattle.std.proofs.lemmas.Bool.{and_parts}
 use Rattle.std.proofs.lemmas.Grind.{not_there}
 use Rattle.std.specs.List.{concat}
 use Rattle.archive_records.proofs.Puts.{concat-push}
-use Rattle.archive_files.specs.FileCalls.{FileCall, FindsNoLink, Leads, Creates, Opens, Writes, Syncs, Removes, are_probes, bytes_in, drafting, publishing, writing}
+use Rattle.archive_files.specs.FileCalls.{FileCall, Begins, Compares, Finds, FindsLink, FindsNoLink, FindsNothing, Gives, Leads, Creates, Opens, Writes, Syncs, Removes, are_probes, bytes_in, drafting, is_probe, publishing, writing}
 use Rattle.archive_files.specs.OutFiles.{IsSoFar, Stage, Through, Drafted, WritesTo, draft_account, has_calls, is_drafted, is_settled, takes_bytes}
+use Rattle.archive_files.proofs.Same.{both_probes, probes_append}
 use Rattle.archive_files.specs.declared.out_file.OutState.{OutState}
 use Rattle.archive_files.specs.declared.out_file.OutState.TheVariants as state
-use Rattle.archive_files.specs.Publishing.{HandsOn, IsBeside, IsDrafted, IsPublished, IsTargetOf, IsTested, IsWritable, IsWrittenThrough, account, folder_of, number_of, place, took_nothing}
+use Rattle.archive_files.specs.Publishing.{BeginsSo, FindsReplaced, HandsOn, IsBeside, IsDrafted, IsPublished, IsRemoved, IsTakenBack, IsTargetOf, IsTested, IsWritable, IsWrittenThrough, account, both_give, draft_mode, folder_of, number_of, place, there, took_nothing}
+use Rattle.archive_files.specs.Replacing.{GivesWay}
+use Rattle.archive_files.specs.declared.found.Found.{Found}
 use Rattle.archive_files.specs.declared.replaceable.Replaces.{Replaces}
 use Rattle.archive_files.specs.declared.replaceable.Replaces.TheVariants.{ArchivesBelow, Summaries, Indexes, SameBytes}
 
@@ -31,16 +34,34 @@ bytes_behind : (probes ys : List FileCall) → are_probes probes ≡ true → by
 bytes_behind probes ys are = bytes_append probes ys ∙ ap (λ t. t ++ bytes_in ys) (probes_bytes probes are)
 
 pub writable_probes : (path : List ℕ) (probes : List FileCall) → IsWritable path probes → are_probes probes ≡ true
-writable_probes path probes (inl other) = ap are_probes other
+writable_probes path probes (inl (found, file, other)) = ap are_probes other
 writable_probes path probes (inr descriptor) = ap are_probes descriptor.0
 
 pub target_probes : (replaces : Replaces) (path target : List ℕ) (probes : List FileCall)
     → IsTargetOf replaces path target probes → are_probes probes ≡ true
 target_probes replaces path target probes (inl none) = ap are_probes none.1
-target_probes replaces path target probes (inr (found, (bytes, gives, is), inl file)) =
-    ap are_probes (file.1 ∙ ap (λ f. f ++ FindsNoLink path ∷ []) is)
-target_probes replaces path target probes (inr (found, (bytes, gives, is), inr link)) =
-    ap are_probes (link ∙ ap (λ f. f ++ Leads path target ∷ []) is)
+target_probes replaces path target probes (inr (found, is, inl file)) =
+    ap are_probes (file.1 ∙ ap (λ f. f ++ FindsNoLink path ∷ []) is.probes_are)
+target_probes replaces path target probes (inr (found, is, inr link)) =
+    ap are_probes (link ∙ ap (λ f. f ++ FindsLink path ∷ Leads path target ∷ []) is.probes_are)
+
+-- what was found first is what is there, whatever is asked behind it
+pub there_first : (path : List ℕ) (found : Found) (rest calls more new : List FileCall) → calls ≡ Finds path found ∷ rest
+    → new ≡ calls ++ more → there new ≡ Some found
+there_first path found rest calls more new first is = ap there (is ∙ ap (λ cs. cs ++ more) first)
+
+-- a file was found there, opened, and begins so
+pub found_begun : (path : List ℕ) (found : Found) (bytes : List ℕ) (calls opened new : List FileCall)
+    → calls ≡ Finds path found ∷ [] → opened ≡ calls ++ [] → new ≡ opened ++ Begins path bytes ∷ []
+    → new ≡ Finds path found ∷ Begins path bytes ∷ []
+found_begun path found bytes calls opened new first after is =
+    is ∙ ap (λ cs. cs ++ Begins path bytes ∷ []) (after ∙ append-nil calls ∙ first)
+
+pub finds_replaced : (replaces : Replaces) (path : List ℕ) (found : Found) (bytes : List ℕ) (new : List FileCall)
+    → found.is_file ≡ true → GivesWay replaces bytes → new ≡ Finds path found ∷ Begins path bytes ∷ []
+    → FindsReplaced replaces path new
+finds_replaced replaces path found bytes new file gives is =
+    record { found = found; bytes = bytes; is_file = file; gives_way = gives; probes_are = is }
 
 -- OUT is begun
 pub begun_through : (replaces : Replaces) (path : List ℕ) (probes new : List FileCall) → IsWritable path probes → new ≡ probes ++ Opens path ∷ []
@@ -52,11 +73,11 @@ begun_through replaces path probes new writable is = (
 
 pub begun_drafted : (replaces : Replaces) (path draft target : List ℕ) (probes new : List FileCall)
     → IsTargetOf replaces path target probes
-    → IsBeside draft target → new ≡ probes ++ Creates draft ∷ []
+    → IsBeside draft target → new ≡ probes ++ Creates draft (draft_mode (there probes)) ∷ []
     → IsSoFar replaces (Some path) (Drafted draft target) new × (bytes_in new ≡ [])
 begun_drafted replaces path draft target probes new led beside is = (
   (path, refl, record { probes = probes; pieces = []; target_is = led; beside = beside; calls_are = is }),
-  ap bytes_in is ∙ bytes_behind probes (Creates draft ∷ []) (target_probes replaces path target probes led),
+  ap bytes_in is ∙ bytes_behind probes (Creates draft (draft_mode (there probes)) ∷ []) (target_probes replaces path target probes led),
 )
 
 bytes_written : (pieces : List (List ℕ)) → bytes_in (map Writes pieces) ≡ concat pieces
@@ -83,8 +104,8 @@ more_drafted replaces path draft target bytes calls d = record {
   target_is = d.target_is;
   beside = d.beside;
   calls_are = ap (λ cs. cs ++ Writes bytes ∷ []) d.calls_are
-      ∙ append_assoc d.probes (drafting draft d.pieces) (Writes bytes ∷ [])
-      ∙ ap (λ cs. d.probes ++ Creates draft ∷ cs) (sym (map-append Writes d.pieces (bytes ∷ [])));
+      ∙ append_assoc d.probes (drafting draft (draft_mode (there d.probes)) d.pieces) (Writes bytes ∷ [])
+      ∙ ap (λ cs. d.probes ++ Creates draft (draft_mode (there d.probes)) ∷ cs) (sym (map-append Writes d.pieces (bytes ∷ [])));
 }
 
 -- more bytes are written
@@ -115,13 +136,20 @@ hands_on_through path replaces calls so =
       }),
     )
 
+pub begins_probes : (path bytes : List ℕ) (calls : List FileCall) → BeginsSo path bytes calls → are_probes calls ≡ true
+begins_probes path bytes calls (inl (none, is)) = ap are_probes is
+begins_probes path bytes calls (inr (found, is)) = ap are_probes is
+
 pub tested_probes : (replaces : Replaces) (draft target : List ℕ) (tests : List FileCall)
     → IsTested replaces draft target tests → are_probes tests ≡ true
-tested_probes ArchivesBelow draft target tests (inl none) = ap are_probes none
-tested_probes ArchivesBelow draft target tests (inr (bytes, kind, covers)) = ap are_probes covers
-tested_probes Summaries draft target tests (bytes, gives, is) = ap are_probes is
-tested_probes Indexes draft target tests (bytes, gives, is) = ap are_probes is
-tested_probes SameBytes draft target tests is = ap are_probes is
+tested_probes ArchivesBelow draft target tests (inl none) = begins_probes target [] tests none
+tested_probes ArchivesBelow draft target tests (inr (found, bytes, kind, covers)) = ap are_probes covers
+tested_probes Summaries draft target tests (bytes, gives, is) = begins_probes target bytes tests is
+tested_probes Indexes draft target tests (bytes, gives, is) = begins_probes target bytes tests is
+tested_probes SameBytes draft target tests (inl (inl is)) = ap are_probes is
+tested_probes SameBytes draft target tests (inl (inr (found, size, is))) = ap are_probes is
+tested_probes SameBytes draft target tests (inr is) =
+    ap are_probes is.calls_are ∙ both_probes draft target is.pieces
 
 -- and so is what was drafted and put in place
 pub hands_on_draft : (path : Option (List ℕ)) (replaces : Replaces) (draft target : List ℕ) (calls new : List FileCall)
@@ -133,7 +161,7 @@ hands_on_draft path replaces draft target calls new so put =
     let d : IsDrafted replaces so.0 draft target calls = so.2 in
     let tests = put.0 in
     let last = publishing draft target (folder_of target) in
-    let calls_are : new ≡ d.probes ++ drafting draft d.pieces ++ tests ++ last =
+    let calls_are : new ≡ d.probes ++ drafting draft (draft_mode (there d.probes)) d.pieces ++ tests ++ last =
     put.2 ∙ ap (λ cs. cs ++ tests ++ last) d.calls_are in (
       so.0,
       so.1,
@@ -147,10 +175,10 @@ hands_on_draft path replaces draft target calls new so put =
         tests = tests;
         tested = put.1;
         whole = sym (ap bytes_in calls_are
-            ∙ bytes_same (d.probes ++ drafting draft d.pieces ++ tests) last refl
-            ∙ bytes_same (d.probes ++ drafting draft d.pieces) tests
+            ∙ bytes_same (d.probes ++ drafting draft (draft_mode (there d.probes)) d.pieces ++ tests) last refl
+            ∙ bytes_same (d.probes ++ drafting draft (draft_mode (there d.probes)) d.pieces) tests
             (probes_bytes tests (tested_probes replaces draft target tests put.1))
-            ∙ bytes_behind d.probes (drafting draft d.pieces) (target_probes replaces so.0 target d.probes d.target_is)
+            ∙ bytes_behind d.probes (drafting draft (draft_mode (there d.probes)) d.pieces) (target_probes replaces so.0 target d.probes d.target_is)
             ∙ bytes_written d.pieces);
         calls_are = calls_are;
       }),
@@ -166,15 +194,62 @@ published_bytes replaces draft target folder calls new put =
 
 -- and so has one that was removed
 pub removed_bytes : (draft : List ℕ) (calls new : List FileCall)
-    → (tests : List FileCall) × (are_probes tests ≡ true)
-    × ((new ≡ calls ++ tests ++ Removes draft ∷ []) ⊎ (new ≡ calls ++ tests ++ Syncs ∷ Removes draft ∷ []))
-    → bytes_in new ≡ bytes_in calls
+    → IsTakenBack draft calls new → bytes_in new ≡ bytes_in calls
 removed_bytes draft calls new (tests, are, inl removed) =
     ap bytes_in removed ∙ bytes_same (calls ++ tests) (Removes draft ∷ []) refl
     ∙ bytes_same calls tests (probes_bytes tests are)
-removed_bytes draft calls new (tests, are, inr synced) =
-    ap bytes_in synced ∙ bytes_same (calls ++ tests) (Syncs ∷ Removes draft ∷ []) refl
+removed_bytes draft calls new (tests, are, inr (said, probe, synced)) =
+    ap bytes_in synced
+    ∙ bytes_same (calls ++ tests) (Syncs ∷ said ∷ Removes draft ∷ []) (said_bytes said probe)
     ∙ bytes_same calls tests (probes_bytes tests are)
+  where
+    said_bytes : (said : FileCall) → is_probe said ≡ true → bytes_in (Syncs ∷ said ∷ Removes draft ∷ []) ≡ []
+    said_bytes said probe =
+        bytes_append (said ∷ []) (Removes draft ∷ [])
+        ∙ ap (λ t. t ++ []) (probes_bytes (said ∷ []) (ap (λ b. b && true) probe))
+
+-- a draft that was removed behind its calls
+pub taken_back : (replaces : Replaces) (path : Option (List ℕ)) (draft target : List ℕ) (calls new : List FileCall)
+    → IsSoFar replaces path (Drafted draft target) calls → IsTakenBack draft calls new → IsRemoved replaces path new
+taken_back replaces path draft target calls new so taken = inr (inr (inl (
+  so.0,
+  so.1,
+  record { draft = draft; target = target; drafted = calls; is_drafted = so.2; taken_back = taken },
+)))
+
+-- one that could not be synced
+pub removed_unsynced : (draft : List ℕ) (calls tested said new tests : List FileCall) → tested ≡ calls ++ tests
+    → are_probes tests ≡ true → are_probes said ≡ true → new ≡ tested ++ said ++ Removes draft ∷ []
+    → IsTakenBack draft calls new
+removed_unsynced draft calls tested said new tests is asked probe removed = (
+  tests ++ said,
+  probes_append tests said asked probe,
+  inl (removed ∙ ap (λ cs. cs ++ said ++ Removes draft ∷ []) is
+      ∙ ap (λ cs. cs ++ Removes draft ∷ []) (append_assoc calls tests said)),
+)
+
+-- one that was synced and could not be renamed
+pub removed_unnamed : (draft : List ℕ) (calls tested synced renamed new tests : List FileCall) (said : FileCall)
+    → tested ≡ calls ++ tests → are_probes tests ≡ true → synced ≡ tested ++ Syncs ∷ [] → is_probe said ≡ true
+    → renamed ≡ synced ++ said ∷ [] → new ≡ renamed ++ Removes draft ∷ [] → IsTakenBack draft calls new
+removed_unnamed draft calls tested synced renamed new tests said is asked sync probe refused removed = (
+  tests,
+  asked,
+  inr (
+    said,
+    probe,
+    removed ∙ ap (λ cs. cs ++ Removes draft ∷ []) (refused ∙ ap (λ cs. cs ++ said ∷ []) sync
+        ∙ append_assoc tested (Syncs ∷ []) (said ∷ []))
+        ∙ append_assoc tested (Syncs ∷ said ∷ []) (Removes draft ∷ [])
+        ∙ ap (λ cs. cs ++ Syncs ∷ said ∷ Removes draft ∷ []) is,
+  ),
+)
+
+-- and that at once
+pub removed_at_once : (draft : List ℕ) (calls new : List FileCall) → new ≡ calls ++ Removes draft ∷ []
+    → IsTakenBack draft calls new
+removed_at_once draft calls new is =
+    ([], refl, inl (is ∙ ap (λ cs. cs ++ Removes draft ∷ []) (sym (append-nil calls))))
 
 -- ---- states
 
@@ -194,7 +269,7 @@ takes_unsettled stage takes = cc
 drafted_some : (replaces : Replaces) (path : Option (List ℕ)) (stage : Stage) (calls : List FileCall)
     → is_drafted stage ≡ true → calls ≡ [] → IsSoFar replaces path stage calls → ⊥
 drafted_some replaces path (Drafted d t) calls drafted none so =
-    let some = ap length (sym none ∙ so.2.calls_are) ∙ length-append so.2.probes (drafting d so.2.pieces) in
+    let some = ap length (sym none ∙ so.2.calls_are) ∙ length-append so.2.probes (drafting d (draft_mode (there so.2.probes)) so.2.pieces) in
     grind (arith, some)
 drafted_some replaces path stage calls drafted none so = cc
 

@@ -12,7 +12,7 @@ use Rattle.archive_files.specs.declared.system_files.SystemFiles.{SystemFiles}
 abbrev pub AreFresh : {F T E : Type 0} {reads : Reads T} {writes : Writes T} {seeks : Seeks T} {lists : Reads E}
     → SystemFiles F T E reads writes seeks lists → Type 0
 AreFresh files =
-    (files.others.entries ≡ []) × (files.same.entries ≡ []) × (option_map string_bytes files.out.draft.path ≡ None)
+    (files.compared.entries ≡ []) × (option_map string_bytes files.out.draft.path ≡ None)
     × (files.out.draft.replaces ≡ ArchivesBelow)
     × (stage_of files.out.draft.state ≡ Untouched) × (files.out.draft.failures ≡ 0)
     × (files.out.draft.calls.entries ≡ []) × (files.out.target.published ≡ None)

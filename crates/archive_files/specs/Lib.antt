@@ -2,6 +2,7 @@ pub mod FileCalls
 pub mod Opened
 pub mod InputStates
 pub mod AtTurns
+pub mod Identities
 pub mod OutFiles
 pub mod Replacing
 pub mod Publishing

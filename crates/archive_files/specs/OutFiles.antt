@@ -2,7 +2,7 @@
 use Rattle.std.specs.Prelude.{◌≡◌, ◌≢◌, ℕ, Bool, true, false, List, [], Option, Some, None, Result, IsErr, string_bytes}
 use Rattle.std.specs.Io.KnownBytes.{WriteAppends}
 use Rattle.archive_files.specs.FileCalls.{FileCall, bytes_in}
-use Rattle.archive_files.specs.Publishing.{IsDrafted, IsRemoved, IsTargetOf, IsWritable, IsWrittenThrough, account}
+use Rattle.archive_files.specs.Publishing.{IsDrafted, IsRemoved, IsTargetOf, IsWritable, IsWrittenThrough, account, there}
 use Rattle.archive_files.specs.declared.out_file.OutState.{OutState}
 use Rattle.archive_files.specs.declared.out_file.OutState.TheVariants as state
 use Rattle.archive_files.specs.declared.published.Published.{Published}
@@ -23,7 +23,7 @@ pub data Stage : Type 0 where
 abbrev pub stage_of : {T : Type 0} → OutState T → Stage
 stage_of state.Untouched = Untouched
 stage_of (state.Through file) = Through
-stage_of (state.Drafted draft) = Drafted (string_bytes draft.path) (string_bytes draft.target)
+stage_of (state.Drafted draft) = Drafted (string_bytes draft.own.path) (string_bytes draft.target)
 stage_of (state.Refused fault) = Refused fault
 stage_of state.Removed = Removed
 stage_of state.Settled = Settled
@@ -34,7 +34,7 @@ abbrev pub WritesTo : {T E : Type 0} → (T → Option (List ℕ)) → OutState 
 WritesTo contents (state.Through old) (state.Through new) result bytes =
     WriteAppends (contents old) (contents new) result bytes
 WritesTo contents (state.Drafted old) (state.Drafted new) result bytes =
-    WriteAppends (contents old.file) (contents new.file) result bytes
+    WriteAppends (contents old.own.file) (contents new.own.file) result bytes
 WritesTo contents (state.Through old) _ result bytes = ⊥
 WritesTo contents (state.Drafted old) _ result bytes = ⊥
 WritesTo contents _ _ result bytes = IsErr result
@@ -92,7 +92,8 @@ fault_of Settled = None
 -- OUT is written so, of whose path the system said this, where these files are replaced
 abbrev pub IsWayTo : Replaces → List ℕ → Way → List FileCall → Type 0
 IsWayTo replaces path way.Through probes = IsWritable path probes
-IsWayTo replaces path (way.Beside target access) probes = IsTargetOf replaces path (string_bytes target) probes
+IsWayTo replaces path (way.Beside target found) probes =
+    IsTargetOf replaces path (string_bytes target) probes × (found ≡ there probes)
 
 -- what was called for OUT so far, which has this path, if it has one, and replaces these files
 abbrev pub IsSoFar : Replaces → Option (List ℕ) → Stage → List FileCall → Type 0

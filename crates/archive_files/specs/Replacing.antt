@@ -1,5 +1,5 @@
 -- Which files a command replaces, by the bytes that they begin with.
-use Rattle.std.specs.Prelude.{◌≡◌, ◌⊎◌, ℕ, List, [], Option, Some, None}
+use Rattle.std.specs.Prelude.{◌≡◌, ◌⊎◌, ℕ, List, []}
 use Rattle.archive_records.specs.Kind.{kind_of, magic_of}
 use Rattle.archive_records.specs.declared.format.Format.{Format}
 use Rattle.archive_records.specs.declared.kind.TextKind.{TextKind}
@@ -7,11 +7,6 @@ use Rattle.archive_records.specs.declared.kind.TextKind.TheVariants.{Archive, Su
 use Rattle.archive_index.specs.Text.{index_magic}
 use Rattle.archive_files.specs.declared.replaceable.Replaces.{Replaces}
 use Rattle.archive_files.specs.declared.replaceable.Replaces.TheVariants.{ArchivesBelow, Summaries, Indexes, SameBytes}
-
--- what a file begins with, of which this was read: nothing, if it is empty
-abbrev pub first_bytes : Option (List ℕ) → List ℕ
-first_bytes None = []
-first_bytes (Some bytes) = bytes
 
 -- The magic of a kind of file, in one of its formats.
 abbrev pub IsMagicOf : TextKind → List ℕ → Type 0

@@ -1,19 +1,20 @@
-//! What was called of the system for one output, in order. Only clauses read it: it takes no memory, and its methods do
-//! nothing at run time.
+//! What was called of the system for one output, in order, and what it said. Only clauses read it: it takes no memory, and
+//! its methods do nothing at run time.
 
 ghost use Rattle.std.specs.Prelude.{◌≡◌, List, [], ◌∷◌, ◌++◌};
 ghost use Rattle.std.specs.Borrow.{ftrue};
-ghost use Rattle.archive_files.specs.FileCalls.{FileCall, Creates, Opens, Removes, Renames, Syncs, SyncsFolder, Writes};
-ghost use Rattle.archive_files.specs.FileCalls.{Agrees, Begins, FindsNoLink, FindsNothing, Leads, call_of, compared};
-ghost use Rattle.archive_files.specs.FileCalls.{found};
-ghost use Rattle.archive_files.specs.Replacing.{first_bytes};
+ghost use Rattle.std.specs.IoError.{error_kind};
+ghost use Rattle.archive_files.specs.FileCalls.{Compares, FileCall, Finds, Gives, Opens, Removes, Renames, Syncs};
+ghost use Rattle.archive_files.specs.FileCalls.{SyncsFolder, Writes, answered, begun, call_of, created, failed, found};
+ghost use Rattle.archive_files.specs.FileCalls.{led, linked, refused};
 
+use crate::found::Found;
 use crate::opened_file::LeadingBytes;
-use std::fs::Metadata;
+use std::io::{self, ErrorKind};
 use std::marker::{Model, PhantomData};
 
-/// The calls that were made for one output, and what the system said of its path. A call stands there once the system
-/// said that it was done; for the removal of a draft and the sync of its folder that is not asked.
+/// The calls that were made for one output, and what the system said. A call stands there once the system said that it was
+/// done, and one that failed by that; of the removal of a draft and the sync of its folder that is not asked.
 #[derive(Drop)]
 pub struct FileCalls {
     marker: PhantomData<u8>,
@@ -34,23 +35,118 @@ impl FileCalls {
         }
     }
 
-    // The number of a call stands for its name, since a ghost list takes only bytes.
-    fn note(&mut self, _number: &[u8], _path: &[u8], _other: &[u8])
-        ensures { self.new.entries ≡ self.old.entries ++ call_of _number.now _path.now _other.now ∷ [] }
+    // The number of a call stands for its name, since a ghost list takes only numbers; what the system said follows it.
+    fn note(&mut self, _numbers: &[u64], _path: &[u8], _other: &[u8])
+        ensures { self.new.entries ≡ self.old.entries ++ call_of _numbers.now _path.now _other.now ∷ [] }
     {}
 
-    /// A file was created that was not there.
-    pub fn creates(&mut self, path: &str)
-        ensures { self.new.entries ≡ self.old.entries ++ Creates path.now ∷ [] }
+    /// A path was asked of, and the system said this.
+    pub fn finds(&mut self, path: &str, answer: &io::Result<Found>)
+        ensures { self.new.entries ≡ self.old.entries ++ found path.now answer.now }
     {
-        self.note(&[0], path.as_bytes(), &[]);
+        match answer {
+            Ok(found) => self.finds_file(path, found),
+            Err(error) => self.fails(path, error),
+        }
     }
 
-    /// What is there was opened and emptied.
-    pub fn opens(&mut self, path: &str)
-        ensures { self.new.entries ≡ self.old.entries ++ Opens path.now ∷ [] }
+    // What the system said of a file.
+    fn finds_file(&mut self, path: &str, found: &Found)
+        ensures { self.new.entries ≡ self.old.entries ++ Finds path.now found.now ∷ [] }
     {
-        self.note(&[1], path.as_bytes(), &[]);
+        let number = if found.is_file { 7 } else { 8 };
+        self.note(
+            &[
+                number,
+                found.size,
+                found.device,
+                found.number,
+                found.mode as u64,
+                found.user as u64,
+                found.group as u64,
+            ],
+            path.as_bytes(),
+            &[],
+        );
+    }
+
+    /// It was asked whether a path itself is a link.
+    pub fn finds_link(&mut self, path: &str, is_link: bool)
+        ensures { self.new.entries ≡ self.old.entries ++ linked path.now is_link }
+    {
+        if is_link {
+            self.note(&[9], path.as_bytes(), &[]);
+        } else {
+            self.note(&[10], path.as_bytes(), &[]);
+        }
+    }
+
+    /// It was asked which path a path leads to.
+    pub fn leads(&mut self, path: &str, answer: &io::Result<String>)
+        ensures { self.new.entries ≡ self.old.entries ++ led path.now answer.now }
+    {
+        match answer {
+            Ok(target) => self.note(&[11], path.as_bytes(), target.as_bytes()),
+            Err(error) => self.fails(path, error),
+        }
+    }
+
+    /// The first bytes of the file at a path were read; `None` if it is empty.
+    pub fn begins(&mut self, path: &str, answer: &io::Result<Option<LeadingBytes>>)
+        ensures { self.new.entries ≡ self.old.entries ++ begun path.now answer.now }
+    {
+        match answer {
+            Ok(Some(bytes)) => self.note(&[12], path.as_bytes(), bytes),
+            Ok(None) => self.note(&[12], path.as_bytes(), &[]),
+            Err(error) => self.fails(path, error),
+        }
+    }
+
+    /// The next bytes of the file at a path were read.
+    pub fn gives(&mut self, path: &str, bytes: &[u8], answer: &io::Result<()>)
+        ensures { self.new.entries ≡ self.old.entries ++ answered (Gives path.now bytes.now) path.now answer.now }
+    {
+        match answer {
+            Ok(()) => self.note(&[13], path.as_bytes(), bytes),
+            Err(error) => self.fails(path, error),
+        }
+    }
+
+    /// The archive at the first path neither has nor covers so many records of the one at the second.
+    pub fn compares(&mut self, draft: &str, target: &str, lost: u64)
+        ensures { self.new.entries ≡ self.old.entries ++ Compares draft.now target.now lost ∷ [] }
+    {
+        self.note(&[14, lost], draft.as_bytes(), target.as_bytes());
+    }
+
+    /// A file was opened to be read, of which only a failure is noted.
+    pub fn opens_to_read<T>(&mut self, path: &str, answer: &io::Result<T>)
+        ensures { self.new.entries ≡ self.old.entries ++ refused path.now answer.now }
+    {
+        if let Err(error) = answer {
+            self.fails(path, error);
+        }
+    }
+
+    /// What is there was to be opened and emptied.
+    pub fn opens<T>(&mut self, path: &str, answer: &io::Result<T>)
+        ensures { self.new.entries ≡ self.old.entries ++ answered (Opens path.now) path.now answer.now }
+    {
+        match answer {
+            Ok(_) => self.note(&[1], path.as_bytes(), &[]),
+            Err(error) => self.fails(path, error),
+        }
+    }
+
+    /// A file was to be created that was not there, with this mode. Nothing is noted of a path that is taken.
+    pub fn creates<T>(&mut self, path: &str, mode: u32, answer: &io::Result<T>)
+        ensures { self.new.entries ≡ self.old.entries ++ created path.now mode answer.now }
+    {
+        match answer {
+            Ok(_) => self.note(&[0, mode as u64], path.as_bytes(), &[]),
+            Err(error) if error.kind() == ErrorKind::AlreadyExists => {}
+            Err(error) => self.fails(path, error),
+        }
     }
 
     /// Bytes were written to the file that was created or opened.
@@ -60,18 +156,25 @@ impl FileCalls {
         self.note(&[2], bytes, &[]);
     }
 
-    /// Its bytes are on the disk.
-    pub fn syncs(&mut self)
-        ensures { self.new.entries ≡ self.old.entries ++ Syncs ∷ [] }
+    /// Its bytes, which are at this path, were to be on the disk.
+    pub fn syncs(&mut self, path: &str, answer: &io::Result<()>)
+        ensures { self.new.entries ≡ self.old.entries ++ answered Syncs path.now answer.now }
     {
-        self.note(&[3], &[], &[]);
+        match answer {
+            Ok(()) => self.note(&[3], &[], &[]),
+            Err(error) => self.fails(path, error),
+        }
     }
 
-    /// A file got the path of another one, which is gone.
-    pub fn renames(&mut self, draft: &str, target: &str)
-        ensures { self.new.entries ≡ self.old.entries ++ Renames draft.now target.now ∷ [] }
+    /// A file was to get the path of another one, which is gone then.
+    pub fn renames(&mut self, draft: &str, target: &str, answer: &io::Result<()>)
+        ensures { self.new.entries ≡ self.old.entries
+            ++ answered (Renames draft.now target.now) target.now answer.now }
     {
-        self.note(&[4], draft.as_bytes(), target.as_bytes());
+        match answer {
+            Ok(()) => self.note(&[4], draft.as_bytes(), target.as_bytes()),
+            Err(error) => self.fails(target, error),
+        }
     }
 
     /// The names of a folder were to be on the disk.
@@ -88,63 +191,14 @@ impl FileCalls {
         self.note(&[6], path.as_bytes(), &[]);
     }
 
-    /// A path leads to a file of which the system said this.
-    pub fn finds(&mut self, path: &str, metadata: &Metadata)
-        ensures { self.new.entries ≡ self.old.entries ++ found path.now metadata.now ∷ [] }
+    // A call of a path failed, of which the system said this.
+    fn fails(&mut self, path: &str, error: &io::Error)
+        ensures { self.new.entries ≡ self.old.entries ++ failed path.now (error_kind error.now) ∷ [] }
     {
-        if metadata.is_file() {
-            self.note(&[7], path.as_bytes(), &[]);
-        } else {
-            self.note(&[8], path.as_bytes(), &[]);
+        match error.kind() {
+            ErrorKind::NotFound => self.note(&[15], path.as_bytes(), &[]),
+            ErrorKind::OutOfMemory => self.note(&[16], path.as_bytes(), &[]),
+            _ => self.note(&[17], path.as_bytes(), &[]),
         }
-    }
-
-    /// A path leads to nothing, as the system said.
-    pub fn finds_nothing(&mut self, path: &str)
-        ensures { self.new.entries ≡ self.old.entries ++ FindsNothing path.now ∷ [] }
-    {
-        self.note(&[9], path.as_bytes(), &[]);
-    }
-
-    /// The path itself is no link, as the system said.
-    pub fn finds_no_link(&mut self, path: &str)
-        ensures { self.new.entries ≡ self.old.entries ++ FindsNoLink path.now ∷ [] }
-    {
-        self.note(&[10], path.as_bytes(), &[]);
-    }
-
-    /// The path leads to this one, as the system said.
-    pub fn leads(&mut self, path: &str, target: &str)
-        ensures { self.new.entries ≡ self.old.entries ++ Leads path.now target.now ∷ [] }
-    {
-        self.note(&[11], path.as_bytes(), target.as_bytes());
-    }
-
-    /// What is at a path begins with these bytes; `None` if it is empty, or nothing is there.
-    pub fn begins(&mut self, path: &str, beginning: &Option<LeadingBytes>)
-        ensures { self.new.entries ≡ self.old.entries ++ Begins path.now (first_bytes beginning.now) ∷ [] }
-    {
-        match beginning {
-            Some(bytes) => self.note(&[12], path.as_bytes(), bytes),
-            None => self.note(&[12], path.as_bytes(), &[]),
-        }
-    }
-
-    /// A draft neither has nor covers so many records of the archive at a path.
-    pub fn compares(&mut self, draft: &str, target: &str, lost: u64)
-        ensures { self.new.entries ≡ self.old.entries ++ compared draft.now target.now lost ∷ [] }
-    {
-        if lost == 0 {
-            self.note(&[13], draft.as_bytes(), target.as_bytes());
-        } else {
-            self.note(&[14], draft.as_bytes(), target.as_bytes());
-        }
-    }
-
-    /// What is at a path has no other bytes than a draft.
-    pub fn agrees(&mut self, draft: &str, target: &str)
-        ensures { self.new.entries ≡ self.old.entries ++ Agrees draft.now target.now ∷ [] }
-    {
-        self.note(&[15], draft.as_bytes(), target.as_bytes());
     }
 }

@@ -1,58 +1,47 @@
-//! Which file of the system a path names. What the system tells of it is in no contract.
+//! Which file of the system a path names.
 
-ghost use Rattle.std.specs.Prelude.{◌≡◌, ℕ, List, ◌∷◌, [], ◌++◌, Contains, false, map, true};
+ghost use Rattle.std.specs.Prelude.{◌≡◌, ◌++◌, [], Result, false, map, true};
+ghost use Rattle.std.specs.declared.io.Error.{Error};
+ghost use Rattle.archive_files.specs.FileCalls.{found};
+ghost use Rattle.archive_files.specs.Identities.{AreApart, IsMet, is_same};
+ghost use Rattle.archive_files.specs.declared.found.Found.{Found};
 
-use crate::call_log::CallLog;
-use std::fs;
-use std::os::unix::fs::MetadataExt;
+use crate::file_calls::FileCalls;
+use crate::system_calls::System;
 use std::rt::Files;
 
-/// A regular file: all its paths and links name one device, and one number on it.
-#[derive(Clone, Copy, PartialEq, Eq)]
-struct Identity {
-    device: u64,
-    number: u64,
-}
-
-/// The file that a path names, where it is there, is a regular file and the system tells its number.
-fn identity_of<F: Files>(files: &F, path: &str) -> Option<Identity> {
-    let metadata = fs::metadata(files, path).ok()?;
-    if !metadata.is_file() || metadata.ino() == 0 {
-        return None;
-    }
-    Some(Identity {
-        device: metadata.dev(),
-        number: metadata.ino(),
-    })
-}
-
 /// Whether two paths name one regular file, as other spellings, symbolic links and hard links do.
-fn is_same_file<F: Files>(files: &F, left: &str, right: &str) -> bool {
-    match (identity_of(files, left), identity_of(files, right)) {
-        (Some(left), Some(right)) => left == right,
+fn is_same_file<F: Files>(
+    system: &System<'_, F>,
+    left: &str,
+    right: &str,
+    calls: &mut FileCalls,
+) -> bool
+    ensures { (a : Result Found Error) × (b : Result Found Error) × (result ≡ is_same a b)
+        × (calls.new.entries ≡ calls.old.entries ++ found left.now a ++ found right.now b) }
+{
+    match (system.metadata(left, calls), system.metadata(right, calls)) {
+        (Ok(left), Ok(right)) => left.is_one(&right),
         _ => false,
     }
 }
 
-/// Whether none of these paths names the regular file that `path` names. Each that was found to name another is noted
-/// in `others`, up to the first that names this one, which is noted in `same`.
+/// Whether none of these paths names the regular file that `path` names. They are asked of up to the first that does.
 pub fn are_other_files<F: Files>(
-    files: &F,
+    system: &System<'_, F>,
     path: &str,
     inputs: &[&str],
-    others: &mut CallLog,
-    same: &mut CallLog,
+    calls: &mut FileCalls,
 ) -> bool
-    ensures others { result ≡ true → others.new.entries ≡ others.old.entries ++ map (λ p. p.now) inputs.now }
-    ensures same { result ≡ false → (input : List ℕ)
-        × Contains (map (λ p. p.now) inputs.now) input × (same.new.entries ≡ same.old.entries ++ input ∷ []) }
+    ensures apart { calls.old.entries ≡ [] → result ≡ true
+        → AreApart path.now (map (λ p. p.now) inputs.now) calls.new.entries }
+    ensures met { calls.old.entries ≡ [] → result ≡ false
+        → IsMet path.now (map (λ p. p.now) inputs.now) calls.new.entries }
 {
     'inputs: for input in inputs {
-        if is_same_file(files, path, input) {
-            same.note(input.as_bytes());
+        if is_same_file(system, path, input, calls) {
             return false;
         }
-        others.note(input.as_bytes());
     }
     true
 }

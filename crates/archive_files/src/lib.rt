@@ -2,6 +2,7 @@
 //!
 //! - `call_log`: a list of calls that only clauses read;
 //! - `file_calls`: the same, of the calls for one output;
+//! - `found`: what the system said of a path; `system_calls`: one function for each call of the system for OUT;
 //! - `opened_file`: a file that is read from its start; `placed_file`: one that is read from any place;
 //! - `disks`: [`Disk`], files by their paths; `system_disk`: those of the system;
 //! - `input_state`: an input that is opened at its turn;
@@ -9,8 +10,8 @@
 //! - `identities`: which file a path names;
 //! - `descriptors`: the paths of descriptors; `ways`: how OUT is written, by what its path leads to;
 //! - `replaceable`: which file at OUT's path may be replaced;
-//! - `losses`: of which kind a file in its place is, and what would be lost of an archive; `sameness`: whether it has
-//!   the same bytes;
+//! - `losses`: of which kind a file in its place is, and what would be lost of an archive; `sides`: the two archives
+//!   that are compared; `sameness`: whether it has the same bytes;
 //! - `drafts`: a file beside OUT, which is renamed when it is whole;
 //! - `published`: a published output;
 //! - `out_file`: OUT before it is published;
@@ -73,6 +74,7 @@ mod descriptors;
 mod disks;
 mod drafts;
 mod file_calls;
+mod found;
 mod identities;
 mod input_state;
 mod inputs;
@@ -84,6 +86,8 @@ mod placed_file;
 mod published;
 mod replaceable;
 mod sameness;
+mod sides;
+mod system_calls;
 mod system_disk;
 mod system_files;
 mod ways;

@@ -1,31 +1,32 @@
-//! What would be lost of an archive where a draft takes its place. What files hold is in no contract.
+//! What would be lost of an archive where a draft takes its place.
 
-ghost use Rattle.std.specs.Prelude.{◌≡◌, ◌∷◌, ◌++◌, [], IfOk, List, OnErr, OnOk, true};
-ghost use Rattle.archive_files.specs.FileCalls.{Begins, FileCall, are_probes, compared};
-ghost use Rattle.archive_files.specs.Publishing.{IsTested};
-ghost use Rattle.archive_files.specs.Replacing.{GivesWay, first_bytes};
+ghost use Rattle.std.specs.Prelude.{◌≡◌, ◌≤◌, ◌∷◌, ◌++◌, IfOk, List, OnErr, OnOk, [], length, true};
+ghost use Rattle.std.specs.Io.KnownBytes.{ReadConsumes};
+ghost use Rattle.byte_device.specs.Devices.{stream};
+ghost use Rattle.record_merge.specs.Losses.{Loses};
+ghost use Rattle.archive_files.specs.FileCalls.{Compares, FileCall, are_probes, first_bytes};
+ghost use Rattle.archive_files.specs.Publishing.{BeginsSo, IsTested};
+ghost use Rattle.archive_files.specs.Replacing.{GivesWay};
 ghost use Rattle.archive_files.specs.declared.replaceable.Replaces.TheVariants.{ArchivesBelow};
 
 use crate::file_calls::FileCalls;
 use crate::opened_file::LeadingBytes;
-use crate::replaceable::{Obstacle, OutFault, Replaces, beginning_of, test_kind};
+use crate::replaceable::{Obstacle, OutFault, Replaces, test_kind};
+use crate::sides::{ArchiveSide, side_of};
+use crate::system_calls::System;
 use archive_records::{MergeCause, MergeFault, RecordFaultKind};
-use byte_device::Reading;
+use byte_device::Source;
 use memory::Heap;
 use record_merge::lost_operations;
 use std::alloc::Global;
-use std::fs;
-use std::io::{self, BufReader, ErrorKind};
+use std::io::{self, ErrorKind, Read};
 use std::rt::Files;
-
-/// How many bytes of a file are read at a time.
-const PIECE: usize = 64 * 1024;
 
 /// Tests whether an archive may take the place of what is at its target: nothing, an empty file, or an archive that has
 /// no record which the draft neither has nor covers.
 pub fn test_losses<F: Files>(
     alloc: Global,
-    files: &F,
+    system: &System<'_, F>,
     draft: &str,
     target: &str,
     calls: &mut FileCalls,
@@ -35,10 +36,10 @@ pub fn test_losses<F: Files>(
     ensures refused { OnErr result ((tests : List FileCall) × (are_probes tests ≡ true)
         × (calls.new.entries ≡ calls.old.entries ++ tests)) }
 {
-    if given_way(files, target, Replaces::ArchivesBelow, calls)?.is_none() {
+    if given_way(system, target, Replaces::ArchivesBelow, calls)?.is_none() {
         return Ok(());
     }
-    match lost_at(alloc, files, draft, target, calls)? {
+    match lost_at(alloc, system, draft, target, calls)? {
         0 => Ok(()),
         lost => Err(OutFault::NotReplaced(Obstacle::Loses(lost))),
     }
@@ -47,19 +48,39 @@ pub fn test_losses<F: Files>(
 /// How many records of the archive at the target the draft neither has nor covers.
 fn lost_at<F: Files>(
     alloc: Global,
-    files: &F,
+    system: &System<'_, F>,
     draft: &str,
     target: &str,
     calls: &mut FileCalls,
 ) -> Result<u64, OutFault>
     ensures lost { IfOk result
-        (λ lost. calls.new.entries ≡ calls.old.entries ++ compared draft.now target.now lost ∷ []) }
-    ensures refused { OnErr result (calls.new.entries ≡ calls.old.entries) }
+        (λ lost. calls.new.entries ≡ calls.old.entries ++ Compares draft.now target.now lost ∷ []) }
+    ensures refused { OnErr result ((tests : List FileCall) × (are_probes tests ≡ true)
+        × (calls.new.entries ≡ calls.old.entries ++ tests)) }
 {
     let heap = Heap::new(alloc)?;
-    let mut new = reading_of(alloc, files, draft)?;
-    let mut old = reading_of(alloc, files, target)?;
-    match lost_operations(&heap, &mut new, &mut old) {
+    let mut new = side_at(alloc, system, draft, calls)?;
+    let mut old = side_at(alloc, system, target, calls)?;
+    lost_between(&heap, &mut new, &mut old, calls)
+}
+
+/// How many records of the old archive the new one neither has nor covers.
+fn lost_between<'d, 't, R: Read + Drop>(
+    heap: &Heap,
+    new: &mut ArchiveSide<'d, R>,
+    old: &mut ArchiveSide<'t, R>,
+    calls: &mut FileCalls,
+) -> Result<u64, OutFault>
+    ensures lost { IfOk result (λ lost.
+        Loses (stream ⟦<ArchiveSide<'d, R> as Source>⟧.left ⟦<ArchiveSide<'d, R> as Source>⟧.failures new.old new.new)
+        (stream ⟦<ArchiveSide<'t, R> as Source>⟧.left ⟦<ArchiveSide<'t, R> as Source>⟧.failures old.old old.new)
+        lost) }
+    ensures noted { IfOk result (λ lost. calls.new.entries
+        ≡ calls.old.entries ++ Compares new.old.path.now old.old.path.now lost ∷ []) }
+    ensures refused { OnErr result (calls.new.entries ≡ calls.old.entries) }
+{
+    let (draft, target) = (new.path(), old.path());
+    match lost_operations(heap, new, old) {
         Ok(lost) => {
             calls.compares(draft, target, lost);
             Ok(lost)
@@ -70,47 +91,62 @@ fn lost_at<F: Files>(
 
 /// What the file at a path begins with, which has to give way: `None` if it is empty, or nothing is there.
 pub fn given_way<F: Files>(
-    files: &F,
+    system: &System<'_, F>,
     path: &str,
     replaces: Replaces,
     calls: &mut FileCalls,
 ) -> Result<Option<LeadingBytes>, OutFault>
     ensures begins { IfOk result (λ beginning. GivesWay replaces (first_bytes beginning)
-        × (calls.new.entries ≡ calls.old.entries ++ Begins path.now (first_bytes beginning) ∷ [])) }
+        × (tests : List FileCall) × BeginsSo path.now (first_bytes beginning) tests
+        × (calls.new.entries ≡ calls.old.entries ++ tests)) }
     ensures refused { OnErr result ((tests : List FileCall) × (are_probes tests ≡ true)
         × (calls.new.entries ≡ calls.old.entries ++ tests)) }
 {
-    let beginning = match beginning_at(files, path) {
+    let beginning = match beginning_at(system, path, calls) {
         Ok(beginning) => beginning,
         Err(error) => return Err(refused(error)),
     };
-    calls.begins(path, &beginning);
     test_kind(replaces, &beginning)?;
     Ok(beginning)
 }
 
 /// The first bytes of the file at a path: `None` if it is empty, or nothing is there.
-fn beginning_at<F: Files>(files: &F, path: &str) -> io::Result<Option<LeadingBytes>> {
-    let size = match fs::metadata(files, path) {
-        Ok(metadata) => metadata.len(),
+fn beginning_at<F: Files>(
+    system: &System<'_, F>,
+    path: &str,
+    calls: &mut FileCalls,
+) -> io::Result<Option<LeadingBytes>>
+    ensures begins { IfOk result (λ beginning. (tests : List FileCall) × BeginsSo path.now (first_bytes beginning) tests
+        × (calls.new.entries ≡ calls.old.entries ++ tests)) }
+    ensures refused { OnErr result ((tests : List FileCall) × (are_probes tests ≡ true)
+        × (calls.new.entries ≡ calls.old.entries ++ tests)) }
+{
+    let size = match system.metadata(path, calls) {
+        Ok(there) => there.size,
         Err(error) if error.kind() == ErrorKind::NotFound => return Ok(None),
         Err(error) => return Err(error),
     };
-    beginning_of(&mut fs::open(files, path)?, size)
+    system.open(path, false, calls)?.beginning(size, calls)
 }
 
-/// A file, read from its beginning.
-fn reading_of<F: Files>(
+/// The archive at a path, read from its beginning.
+fn side_at<'p, F: Files>(
     alloc: Global,
-    files: &F,
-    path: &str,
-) -> Result<Reading<BufReader<F::File>>, OutFault> {
-    let file = match fs::open(files, path) {
-        Ok(file) => file,
+    system: &System<'_, F>,
+    path: &'p str,
+    calls: &mut FileCalls,
+) -> Result<ArchiveSide<'p, F::File>, OutFault>
+    ensures path { IfOk result (λ side. side.path.now ≡ path.now) }
+    ensures opened { OnOk result (calls.new.entries ≡ calls.old.entries) }
+    ensures refused { OnErr result ((tests : List FileCall) × (are_probes tests ≡ true)
+        × (calls.new.entries ≡ calls.old.entries ++ tests)) }
+{
+    let opened = match system.open(path, false, calls) {
+        Ok(opened) => opened,
         Err(error) => return Err(refused(error)),
     };
-    match BufReader::with_capacity(alloc, PIECE, file) {
-        Ok(reader) => Ok(Reading::new(reader)),
+    match side_of(alloc, opened) {
+        Ok(side) => Ok(side),
         Err(error) => Err(refused(error)),
     }
 }

@@ -15,12 +15,13 @@ use crate::drafts::{Draft, create_draft, put_draft, remove_draft};
 use crate::file_calls::FileCalls;
 use crate::published::Published;
 use crate::replaceable::{Obstacle, OutFault, Replaces};
+use crate::system_calls::System;
 use crate::ways::{Way, way_to};
 use byte_device::{Failed, Sink};
 use std::alloc::Global;
 use std::io::{self, Write};
+use std::mem;
 use std::rt::Files;
-use std::{fs, mem};
 
 /// How often a device fails at most.
 pub const MOST_FAILURES: u64 = u64::MAX;
@@ -30,7 +31,7 @@ pub const MOST_FAILURES: u64 = u64::MAX;
 #[derive(Drop)]
 pub struct OutFile<'a, F: Files> {
     alloc: Global,
-    files: &'a F,
+    system: System<'a, F>,
     process: u32,
     path: Option<String>,
     replaces: Replaces,
@@ -67,7 +68,7 @@ enum OutState<T> {
 #[tactic(auto, using(crate::proofs::Publishings::begun_drafted, crate::proofs::Publishings::probes_bytes))]
 fn begun<F: Files>(
     alloc: Global,
-    files: &F,
+    system: &System<'_, F>,
     process: u32,
     path: &str,
     replaces: Replaces,
@@ -79,18 +80,13 @@ fn begun<F: Files>(
     ensures begun { IfOk result (λ state. has_calls (stage_of state) ≡ true) }
     ensures refused { calls.old.entries ≡ [] → OnErr result (are_probes calls.new.entries ≡ true) }
 {
-    match way_to(alloc, files, path, replaces, calls)? {
-        Way::Through => {
-            let file = match fs::create(files, path) {
-                Ok(file) => file,
-                Err(error) => return Err(OutFault::NotCreated(Some(error))),
-            };
-            calls.opens(path);
-            Ok(OutState::Through(file))
-        }
-        Way::Beside(target, access) => {
-            let draft = create_draft(alloc, files, process, target, access)?;
-            calls.creates(&draft.path);
+    match way_to(alloc, system, path, replaces, calls)? {
+        Way::Through => match system.create(path, calls) {
+            Ok(file) => Ok(OutState::Through(file)),
+            Err(error) => Err(OutFault::NotCreated(Some(error))),
+        },
+        Way::Beside(target, there) => {
+            let draft = create_draft(alloc, system, process, target, there, calls)?;
             Ok(OutState::Drafted(draft))
         }
     }
@@ -99,7 +95,7 @@ fn begun<F: Files>(
 /// How far OUT is once it was begun; without a path there is none.
 fn first_state<F: Files>(
     alloc: Global,
-    files: &F,
+    system: &System<'_, F>,
     process: u32,
     path: &Option<String>,
     replaces: Replaces,
@@ -113,7 +109,7 @@ fn first_state<F: Files>(
     let Some(path) = path else {
         return OutState::Refused(OutFault::NotCreated(None));
     };
-    match begun(alloc, files, process, path, replaces, calls) {
+    match begun(alloc, system, process, path, replaces, calls) {
         Ok(state) => state,
         Err(fault) => OutState::Refused(fault),
     }
@@ -122,7 +118,7 @@ fn first_state<F: Files>(
 /// Begins OUT where no bytes came before.
 fn begin<F: Files>(
     alloc: Global,
-    files: &F,
+    system: &System<'_, F>,
     process: u32,
     path: &Option<String>,
     replaces: Replaces,
@@ -139,7 +135,7 @@ fn begin<F: Files>(
     ensures same { stage_of state.old ≢ Untouched → state.new ≡ state.old }
 {
     if let OutState::Untouched = state {
-        *state = first_state(alloc, files, process, path, replaces, calls);
+        *state = first_state(alloc, system, process, path, replaces, calls);
     }
 }
 
@@ -153,7 +149,7 @@ fn write<T: Write>(state: &mut OutState<T>, bytes: &[u8]) -> Result<usize, Optio
 {
     match state {
         OutState::Through(file) => file.write(bytes).map_err(Some),
-        OutState::Drafted(draft) => draft.file.write(bytes).map_err(Some),
+        OutState::Drafted(draft) => draft.own.write(bytes).map_err(Some),
         OutState::Untouched | OutState::Refused(_) | OutState::Removed | OutState::Settled => Err(
             None,
         ),
@@ -163,7 +159,7 @@ fn write<T: Write>(state: &mut OutState<T>, bytes: &[u8]) -> Result<usize, Optio
 /// Publishes what was written, and tells whether that was done. A draft that could not be put there is removed.
 fn finish<F: Files>(
     alloc: Global,
-    files: &F,
+    system: &System<'_, F>,
     replaces: Replaces,
     state: &mut OutState<F::File>,
     calls: &mut FileCalls,
@@ -182,7 +178,7 @@ fn finish<F: Files>(
 {
     match mem::replace(state, OutState::Settled) {
         OutState::Through(_) => true,
-        OutState::Drafted(draft) => match put_draft(alloc, files, &draft, replaces, calls) {
+        OutState::Drafted(draft) => match put_draft(alloc, system, &draft, replaces, calls) {
             Ok(()) => true,
             Err(fault) => {
                 *state = OutState::Refused(fault);
@@ -197,7 +193,7 @@ fn finish<F: Files>(
 }
 
 /// Removes the draft of an output that was not published.
-fn remove<F: Files>(files: &F, state: &mut OutState<F::File>, calls: &mut FileCalls)
+fn remove<F: Files>(system: &System<'_, F>, state: &mut OutState<F::File>, calls: &mut FileCalls)
     ensures so_far { (replaces : Replaces) (path : Option (List ℕ)) → IsSoFar replaces path (stage_of state.old) calls.old.entries
         → IsSoFar replaces path (stage_of state.new) calls.new.entries }
     ensures removed { (replaces : Replaces) (path : Option (List ℕ)) → IsSoFar replaces path (stage_of state.old) calls.old.entries
@@ -209,7 +205,7 @@ fn remove<F: Files>(files: &F, state: &mut OutState<F::File>, calls: &mut FileCa
     ensures fault { fault_of (stage_of state.new) ≡ fault_of (stage_of state.old) }
 {
     match mem::replace(state, OutState::Removed) {
-        OutState::Drafted(draft) => remove_draft(files, &draft, calls),
+        OutState::Drafted(draft) => remove_draft(system, &draft, calls),
         other => *state = other,
     }
 }
@@ -225,7 +221,7 @@ impl<'a, F: Files> OutFile<'a, F> {
     {
         OutFile {
             alloc,
-            files,
+            system: System::new(files),
             process,
             path: None,
             replaces: Replaces::ArchivesBelow,
@@ -258,11 +254,6 @@ impl<'a, F: Files> OutFile<'a, F> {
         ensures calls { self.new.calls ≡ self.old.calls }
     {
         self.replaces = replaces;
-    }
-
-    /// The files of the system.
-    pub(crate) fn files(&self) -> &'a F {
-        self.files
     }
 
     /// Why it was not begun, or not published, if it was not.
@@ -310,7 +301,7 @@ impl<'a, F: Files> OutFile<'a, F> {
     {
         if !finish(
             self.alloc,
-            self.files,
+            &self.system,
             self.replaces,
             &mut self.state,
             &mut self.calls,
@@ -338,7 +329,7 @@ impl<'a, F: Files> OutFile<'a, F> {
         ensures settled { is_settled (stage_of self.new.state) ≡ is_settled (stage_of self.old.state) }
         ensures fault { fault_of (stage_of self.new.state) ≡ fault_of (stage_of self.old.state) }
     {
-        remove(self.files, &mut self.state, &mut self.calls);
+        remove(&self.system, &mut self.state, &mut self.calls);
     }
 }
 
@@ -380,7 +371,7 @@ impl<'a, F: Files> Sink for OutFile<'a, F> {
         }
         begin(
             self.alloc,
-            self.files,
+            &self.system,
             self.process,
             &self.path,
             self.replaces,

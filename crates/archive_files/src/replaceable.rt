@@ -1,7 +1,8 @@
 //! Which file at OUT's path is replaced, by what it begins with, and why one is not. What files hold is in no contract.
 
 ghost use Rattle.std.specs.Prelude.{◌≡◌, ◌≢◌, ℕ, IsOk, List, None, Ok, OnOk, Some, false, true};
-ghost use Rattle.archive_files.specs.Replacing.{GivesWay, IsOfKind, first_bytes};
+ghost use Rattle.archive_files.specs.FileCalls.{first_bytes};
+ghost use Rattle.archive_files.specs.Replacing.{GivesWay, IsOfKind};
 
 use crate::opened_file::{LEADING_LEN, LeadingBytes};
 use archive_records::TextKind;

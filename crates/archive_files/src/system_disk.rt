@@ -7,15 +7,12 @@ use crate::call_log::CallLog;
 use crate::disks::Disk;
 use crate::opened_file::OpenedFile;
 use crate::placed_file::PlacedFile;
-use byte_device::CannotOpen;
+use byte_device::{CannotOpen, PIECE_LEN};
 use memory::NoMemory;
 use std::alloc::Global;
 use std::fs;
 use std::io::{self, BufReader, ErrorKind, Read};
 use std::rt::Files;
-
-/// How many bytes of a file are read at a time.
-const PIECE: usize = 64 * 1024;
 
 /// The files of the system, one of which is read.
 #[derive(Drop)]
@@ -85,7 +82,7 @@ fn reader_of<T: Read + Drop>(
     ensures other { IfErr result (λ reason. error_kind reason ≢ ErrorKind.OutOfMemory
         → wanting.new.entries ≡ wanting.old.entries) }
 {
-    match BufReader::with_capacity(alloc, PIECE, file) {
+    match BufReader::with_capacity(alloc, PIECE_LEN, file) {
         Ok(reader) => Ok(reader),
         Err(reason) => {
             note_wanting(&reason, path, wanting);

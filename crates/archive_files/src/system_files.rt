@@ -8,11 +8,13 @@ ghost use Rattle.archive_files.specs.OutFiles.{Untouched, stage_of};
 ghost use Rattle.archive_files.specs.Publishing.{IsPath};
 
 use crate::call_log::CallLog;
+use crate::file_calls::FileCalls;
 use crate::identities::are_other_files;
 use crate::inputs::{SystemInput, make_inputs};
 use crate::out_file::OutFile;
 use crate::out_path::OutPath;
 use crate::replaceable::Replaces;
+use crate::system_calls::System;
 use byte_device::Output;
 use memory::NoMemory;
 use std::alloc::Global;
@@ -22,13 +24,12 @@ use std::rt::Files;
 #[derive(Drop)]
 pub struct SystemFiles<'a, F: Files> {
     alloc: Global,
+    files: &'a F,
     pub out: Output<OutFile<'a, F>, OutPath<'a, F>>,
     /// The paths that it made inputs for.
     asked: CallLog,
-    /// The inputs that were found to be other files than OUT's.
-    others: CallLog,
-    /// The input that was found to be OUT's own file.
-    same: CallLog,
+    /// What the system said of OUT and of each input, before anything was opened.
+    compared: FileCalls,
 }
 
 impl<'a, F: Files> SystemFiles<'a, F> {
@@ -39,13 +40,13 @@ impl<'a, F: Files> SystemFiles<'a, F> {
     {
         SystemFiles {
             alloc,
+            files,
             out: Output {
                 draft: OutFile::new(alloc, files, process),
                 target: OutPath::new(files),
             },
             asked: CallLog::new(),
-            others: CallLog::new(),
-            same: CallLog::new(),
+            compared: FileCalls::new(),
         }
     }
 
@@ -59,8 +60,8 @@ impl<'a, F: Files> SystemFiles<'a, F> {
     pub fn begin(&mut self, path: &str, inputs: &[&str], replaces: Replaces) -> Result<(), NoMemory>
         requires { AreFresh self.old }
         ensures asked { self.new.asked.entries ≡ self.old.asked.entries }
-        ensures path { OnOk result (IsPath (Some path.now) (map (λ p. p.now) inputs.now) self.new.others.entries
-            self.new.same.entries (option_map string_bytes self.new.out.draft.path)) }
+        ensures path { OnOk result (IsPath (Some path.now) (map (λ p. p.now) inputs.now) self.new.compared.entries
+            (option_map string_bytes self.new.out.draft.path)) }
         ensures replaces { OnOk result (self.new.out.draft.replaces ≡ replaces) }
         ensures untouched { stage_of self.new.out.draft.state ≡ Untouched }
         ensures unfailed { self.new.out.draft.failures ≡ 0 }
@@ -68,8 +69,8 @@ impl<'a, F: Files> SystemFiles<'a, F> {
         ensures published { self.new.out.target.published ≡ None }
     {
         self.out.draft.take_rule(replaces);
-        let files = self.out.draft.files();
-        if are_other_files(files, path, inputs, &mut self.others, &mut self.same) {
+        let system = System::new(self.files);
+        if are_other_files(&system, path, inputs, &mut self.compared) {
             let path = String::from_str(self.alloc, path)?;
             self.out.draft.take_path(path);
         }
@@ -83,11 +84,10 @@ impl<'a, F: Files> SystemFiles<'a, F> {
             (self.new.asked.entries ≡ self.old.asked.entries ++ map (λ p. p.now) paths.now) }
         ensures first { AreFirstAsked self.old.asked.entries self.new.asked.entries (map (λ p. p.now) paths.now) }
         ensures out { self.new.out ≡ self.old.out }
-        ensures others { (self.new.others ≡ self.old.others) × (self.new.same ≡ self.old.same) }
+        ensures compared { self.new.compared ≡ self.old.compared }
     {
-        let files = self.out.draft.files();
         let mut inputs = Vec::new(self.alloc);
-        make_inputs(self.alloc, files, paths, &mut self.asked, &mut inputs)?;
+        make_inputs(self.alloc, self.files, paths, &mut self.asked, &mut inputs)?;
         Ok(inputs)
     }
 }

@@ -1,3 +1,4 @@
+pub mod Sorted
 pub mod Kept
 pub mod Texts
 pub mod Ascending

@@ -15,7 +15,7 @@ use byte_device::{Bytes, Failed, Source};
 use memory::Heap;
 
 /// How many bytes a magic has.
-const MAGIC_LEN: usize = 8;
+const MAGIC_LEN: usize = archive_records::MAGIC_LEN as usize;
 
 /// Takes the first eight bytes, fewer where the input ends, and says how many came.
 fn take_magic<R: Source>(r: &mut R, magic: &mut [u8]) -> Result<usize, Failed>

@@ -9,14 +9,13 @@ ghost use Rattle.archive_index.specs.InnerReading.{AreChecked};
 ghost use Rattle.archive_index.specs.Text.{check_entry};
 ghost use Rattle.archive_index.specs.declared.index_fault.IndexFaultKind.TheVariants.{Device, OutOfMemory};
 
-use crate::entry::{ENTRY_LEN, claim_in};
+use crate::entry::{ENTRY_LEN, PLACED_LEN, claim_in};
 use crate::{IndexEntry, IndexFault, IndexFaultKind};
-use archive_records::{ADMISSION, ADMISSION_HEAD_LEN, RETIREMENT, number_at};
+use archive_records::{
+    ADMISSION, ADMISSION_HEAD_LEN, LARGEST_SLICE, RETIREMENT, RETIREMENT_LEN, number_at,
+};
 use checked_pages::{Claim, pages_in};
 use memory::Heap;
-
-/// How many bytes a slice has at most.
-const LARGEST_SLICE: u64 = 4294967295;
 
 /// How many bytes a digest has.
 const DIGEST_LEN: u128 = 32;
@@ -47,7 +46,7 @@ fn has_length(bytes: &[u8]) -> bool
         let head = ADMISSION_HEAD_LEN as u64;
         head <= length && length <= head + LARGEST_SLICE
     } else {
-        length == 57
+        length == RETIREMENT_LEN as u64
     }
 }
 
@@ -70,7 +69,7 @@ fn has_claim(bytes: &[u8], end: u64) -> bool
         let claim = claim_in(bytes);
         u128::from(claim.offset) + stored_size(&claim) <= u128::from(end)
     } else {
-        &bytes[74..] == &[0; 48][..]
+        &bytes[PLACED_LEN..] == &[0; 48][..]
     }
 }
 

@@ -16,7 +16,7 @@ use byte_device::{Failed, Placed, ReadFault, read_at};
 use memory::Heap;
 
 /// How many bytes the magic has.
-pub(crate) const MAGIC_LEN: u64 = 8;
+pub(crate) const MAGIC_LEN: u64 = archive_records::MAGIC_LEN as u64;
 
 /// How many bytes the end record has.
 const END_LEN: u64 = 41;

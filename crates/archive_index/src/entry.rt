@@ -12,18 +12,15 @@ ghost use Rattle.archive_index.specs.Entry.{has_kind, has_length, has_tag, lengt
 ghost use Rattle.archive_index.specs.Entry.{placed_bytes, placed_entry, tag_byte};
 
 use archive_core::{FindRow, FindState, Record};
-use archive_records::{Entry, RETIREMENT, digest_in, key_in, number_at};
+use archive_records::{ENTRY_LEN as SUMMARY_LEN, Entry, RETIREMENT, digest_in, key_in, number_at};
 use checked_pages::Claim;
 use std::cmp::Ordering;
 
 /// How long an entry is.
 pub(crate) const ENTRY_LEN: usize = 122;
 
-/// How many bytes of it say what the record is, and where it stands.
+/// How many bytes of it say what the record is, as its entry of a summary does, and where it stands.
 pub(crate) const PLACED_LEN: usize = 74;
-
-/// How many bytes of it say what the record is: they are its entry of a summary.
-const SUMMARY_LEN: usize = 57;
 
 /// An entry of an index.
 #[derive(Clone, Copy)]
@@ -51,7 +48,7 @@ pub fn no_claim() -> Claim
 }
 
 // The entry of a summary that a row has.
-fn entry_of(row: &FindRow) -> [u8; 57]
+fn entry_of(row: &FindRow) -> [u8; SUMMARY_LEN]
     ensures { result ≡ tag_byte row.now.state ∷ (key_bytes row.now.key ++ row.now.digest.0) }
 {
     match row.state {
@@ -129,7 +126,7 @@ pub(crate) fn claim_in(bytes: &[u8]) -> Claim
     let mut root = [0; 32];
     root.copy_from_slice(&bytes[90..]);
     Claim {
-        offset: number_at(bytes, 74),
+        offset: number_at(bytes, PLACED_LEN),
         size: number_at(bytes, 82),
         root,
     }

@@ -8,11 +8,9 @@ ghost use Rattle.archive_index.specs.Index.{AreIndexEntries, AreIndexed, lengths
 ghost use Rattle.archive_index.specs.Text.{placed_of};
 
 use crate::IndexEntry;
+use archive_records::{END_LEN, MAGIC_LEN};
 use memory::Heap;
 use std::marker::Model;
-
-/// How many bytes the magic and the end record of an archive have together.
-const FRAME_LEN: u128 = 17;
 
 /// The entries of an index, in ascending byte order. A contract sees it as the list of their bytes.
 #[derive(Drop)]
@@ -36,7 +34,7 @@ fn framed_size(entries: &[IndexEntry]) -> u128
     requires { All HasItsFields entries.now }
     ensures { result ≡ 17 + sum_by length_in (map entry_bytes entries.now) }
 {
-    let mut size = FRAME_LEN;
+    let mut size = MAGIC_LEN + END_LEN as u128;
     'adding: for entry in entries {
         size += u128::from(entry.length);
     }

@@ -4,8 +4,9 @@ use Rattle.std.specs.List.{AllByRecursion, concat}
 use Rattle.std.proofs.lemmas.Bool.{and_parts, false_from_ne_true, or_right}
 use Rattle.std.proofs.lemmas.List.Sums.{fold-append}
 use Rattle.std.proofs.lemmas.Slice.Eq.{bytes_eq-Decides}
-use Rattle.archive_files.specs.FileCalls.{FileCall, Creates, Opens, Writes, Syncs, Renames, SyncsFolder, Removes, FindsOther, Leads, are_probes, drafting, is_probe, publishing, writing}
-use Rattle.archive_files.specs.Publishing.{IsDescriptor, IsDraftRemoved, IsDrafted, IsReplaced, IsTargetOf, IsWrittenThrough, folder_of}
+use Rattle.archive_files.specs.FileCalls.{FileCall, Creates, Opens, Writes, Syncs, Renames, SyncsFolder, Removes, Finds, FindsLink, Leads, are_probes, drafting, is_probe, publishing, writing}
+use Rattle.archive_files.specs.Publishing.{IsDescriptor, IsDraftRemoved, IsDrafted, IsReplaced, IsTargetOf, IsWrittenThrough, draft_mode, folder_of, there}
+use Rattle.archive_files.specs.declared.found.Found.{Found}
 use Rattle.archive_files.specs.declared.replaceable.Replaces.{Replaces}
 use Rattle.archive_files.proofs.Publishings.{target_probes, tested_probes}
 use Rattle.archive_laws.specs.Crashes.{DraftState, MayBeAt, Old, New, Torn, Touched, behind, no_draft, replay}
@@ -45,7 +46,7 @@ both_off target (call ∷ calls) more off also = (off.0, both_off target calls m
 
 -- calls that only ask change nothing
 asks : (target : List ℕ) (d : DraftState) (call : FileCall) → is_probe call ≡ true → behind target d call ≡ d
-asks target d (Creates p) probe = cc
+asks target d (Creates p m) probe = cc
 asks target d (Opens p) probe = cc
 asks target d (Writes b) probe = cc
 asks target d Syncs probe = cc
@@ -72,7 +73,7 @@ all_write target (piece ∷ pieces) =
     let rest = all_write target pieces in
     ((λ d still. still, rest.0), λ d. rest.1 (behind target d (Writes piece)) ∙ append_assoc d.bytes piece (concat pieces))
 
-module _ (draft target : List ℕ) (other : draft ≢ target) (probes : List FileCall) (pieces : List (List ℕ)) (tests : List FileCall)
+module _ (draft target : List ℕ) (other : draft ≢ target) (probes : List FileCall) (mode : ℕ) (pieces : List (List ℕ)) (tests : List FileCall)
     (asked : are_probes probes ≡ true) (tested : are_probes tests ≡ true) where
   -- a call at the draft
   still_apart : (d : DraftState) → IsStill d → IsStill (behind target d (Removes draft))
@@ -80,20 +81,20 @@ module _ (draft target : List ℕ) (other : draft ≢ target) (probes : List Fil
 
   -- all calls up to the tests
   abbrev front : List FileCall
-  front = probes ++ drafting draft pieces ++ tests
+  front = probes ++ drafting draft mode pieces ++ tests
 
   front_off : AllByRecursion (IsOff target) front
   front_off =
-      both_off target (probes ++ drafting draft pieces) tests
-      (both_off target probes (drafting draft pieces) (all_ask target probes asked).0 (still_apart, (all_write target pieces).0)) (all_ask target tests tested).0
+      both_off target (probes ++ drafting draft mode pieces) tests
+      (both_off target probes (drafting draft mode pieces) (all_ask target probes asked).0 (still_apart, (all_write target pieces).0)) (all_ask target tests tested).0
 
   front_bytes : (replay target front).bytes ≡ concat pieces
   front_bytes =
-      ap (λ e. e.bytes) (fold-append (behind target) no_draft (probes ++ drafting draft pieces) tests
-      ∙ (all_ask target tests tested).1 (fold (behind target) no_draft (probes ++ drafting draft pieces))
-      ∙ fold-append (behind target) no_draft probes (drafting draft pieces)
-      ∙ ap (λ e. fold (behind target) e (drafting draft pieces)) ((all_ask target probes asked).1 no_draft))
-      ∙ (all_write target pieces).1 (behind target no_draft (Creates draft))
+      ap (λ e. e.bytes) (fold-append (behind target) no_draft (probes ++ drafting draft mode pieces) tests
+      ∙ (all_ask target tests tested).1 (fold (behind target) no_draft (probes ++ drafting draft mode pieces))
+      ∙ fold-append (behind target) no_draft probes (drafting draft mode pieces)
+      ∙ ap (λ e. fold (behind target) e (drafting draft mode pieces)) ((all_ask target probes asked).1 no_draft))
+      ∙ (all_write target pieces).1 (behind target no_draft (Creates draft mode))
 
   -- behind some of the calls, the last of which put the draft in its place
   placed : (folder : List ℕ) (n : ℕ) → IsWhole (concat pieces) (replay target (take n (front ++ publishing draft target folder)))
@@ -136,9 +137,9 @@ module _ (path text : List ℕ) (replaces : Replaces) (calls : List FileCall) (i
   whole_at : (done : ℕ) → IsWhole text (replay is.target (take done calls))
   whole_at done =
       subst (λ cs. IsWhole text (replay is.target (take done cs))) (sym is.calls_are)
-      (subst (λ t. IsWhole t (replay is.target (take done (front is.draft is.target is.beside.apart is.probes is.pieces is.tests asked_first are_tested
+      (subst (λ t. IsWhole t (replay is.target (take done (front is.draft is.target is.beside.apart is.probes (draft_mode (there is.probes)) is.pieces is.tests asked_first are_tested
       ++ publishing is.draft is.target (folder_of is.target))))) is.whole
-      (placed is.draft is.target is.beside.apart is.probes is.pieces is.tests asked_first are_tested (folder_of is.target) done))
+      (placed is.draft is.target is.beside.apart is.probes (draft_mode (there is.probes)) is.pieces is.tests asked_first are_tested (folder_of is.target) done))
 
   pub any_moment : (before left : Option (List ℕ)) (done : ℕ) → MayBeAt before (replay is.target (take done calls)) left
       → (left ≡ before) ⊎ (left ≡ Some text)
@@ -155,7 +156,7 @@ module _ (path text : List ℕ) (replaces : Replaces) (calls : List FileCall) (i
       leaves left _
       (subst (λ cs. IsWhole text (replay is.target cs)) (take_all (length calls) calls (omega arith)) (whole_at (length calls)))
       (ap (λ cs. (replay is.target cs).kept) is.calls_are
-      ∙ kept is.draft is.target is.beside.apart is.probes is.pieces is.tests asked_first are_tested (folder_of is.target)) may
+      ∙ kept is.draft is.target is.beside.apart is.probes (draft_mode (there is.probes)) is.pieces is.tests asked_first are_tested (folder_of is.target)) may
     where
       leaves : (left : Option (List ℕ)) (d : DraftState) → IsWhole text d → d.kept ≡ true → MayBeAt before d left → left ≡ Some text
       leaves _ d whole kept (Old unkept) = cc
@@ -169,33 +170,38 @@ module _ (path text : List ℕ) (replaces : Replaces) (calls : List FileCall) (i
       by_case : IsTargetOf replaces path is.target is.probes → (is.target ≡ path) ⊎ Contains calls (Leads path is.target)
       by_case (inl none) = inl none.0
       by_case (inr (found, replaced, inl file)) = inl file.0
-      by_case (inr (found, (bytes, gives, is_found), inr link)) =
+      by_case (inr (found, replaced, inr link)) =
           inr (subst (λ cs. Contains cs (Leads path is.target))
           (sym (is.calls_are
-          ∙ ap (λ probes. probes ++ drafting is.draft is.pieces ++ is.tests ++ publishing is.draft is.target (folder_of is.target))
-          (link ∙ ap (λ f. f ++ Leads path is.target ∷ []) is_found)))
-          (2, grind arith, refl))
+          ∙ ap (λ probes. probes ++ drafting is.draft (draft_mode (there is.probes)) is.pieces ++ is.tests
+          ++ publishing is.draft is.target (folder_of is.target))
+          (link ∙ ap (λ f. f ++ FindsLink path ∷ Leads path is.target ∷ []) replaced.probes_are)))
+          (3, grind arith, refl))
 
 pub removed_leaves : (replaces : Replaces) (path : List ℕ) (calls : List FileCall) (before left : Option (List ℕ)) (done : ℕ)
     (is : IsDraftRemoved replaces path calls) → MayBeAt before (replay is.target (take done calls)) left → left ≡ before
 removed_leaves replaces path calls before left done is may =
-    elim is.calls_are [
+    elim is.taken_back.2 [
       | inl at_once ↦ leaves left _ (still_at (Removes is.draft ∷ []) at_once (apart, tt)) may
-      | inr synced ↦ leaves left _ (still_at (Syncs ∷ Removes is.draft ∷ []) synced ((λ d still. still), (apart, tt))) may
+      | inr synced ↦ leaves left _ (still_at (Syncs ∷ synced.0 ∷ Removes is.draft ∷ []) synced.2
+          ((λ d still. still), (said_off synced.0 synced.1, (apart, tt)))) may
     ]
   where
+    said_off : (said : FileCall) → is_probe said ≡ true → IsOff is.target said
+    said_off said probe d still = subst IsStill (sym (asks is.target d said probe)) still
+
     drafted : IsDrafted replaces path is.draft is.target is.drafted
     drafted = is.is_drafted
 
     apart : (d : DraftState) → IsStill d → IsStill (behind is.target d (Removes is.draft))
-    apart = still_apart is.draft is.target drafted.beside.apart [] [] [] refl refl
+    apart = still_apart is.draft is.target drafted.beside.apart [] 0 [] [] refl refl
 
-    still_at : (rest : List FileCall) → calls ≡ is.drafted ++ is.tests ++ rest → AllByRecursion (IsOff is.target) rest
+    still_at : (rest : List FileCall) → calls ≡ is.drafted ++ is.taken_back.0 ++ rest → AllByRecursion (IsOff is.target) rest
         → IsStill (replay is.target (take done calls))
     still_at rest are off =
-        subst (λ cs. IsStill (replay is.target (take done cs))) (sym (are ∙ ap (λ cs. cs ++ is.tests ++ rest) drafted.calls_are))
-        (removed is.draft is.target drafted.beside.apart drafted.probes drafted.pieces is.tests
-        (target_probes replaces path is.target drafted.probes drafted.target_is) is.are_tests rest done off)
+        subst (λ cs. IsStill (replay is.target (take done cs))) (sym (are ∙ ap (λ cs. cs ++ is.taken_back.0 ++ rest) drafted.calls_are))
+        (removed is.draft is.target drafted.beside.apart drafted.probes (draft_mode (there drafted.probes)) drafted.pieces is.taken_back.0
+        (target_probes replaces path is.target drafted.probes drafted.target_is) is.taken_back.1 rest done off)
 
     leaves : (left : Option (List ℕ)) (d : DraftState) → IsStill d → MayBeAt before d left → left ≡ before
     leaves _ d still (Old unkept) = refl
@@ -205,9 +211,13 @@ removed_leaves replaces path calls before left done is may =
 
 -- what was written to is no regular file, as the system said, or a descriptor
 pub no_file : (path text : List ℕ) (calls : List FileCall) (is : IsWrittenThrough path text calls)
-    → Contains calls (FindsOther path) ⊎ IsDescriptor path
+    → ((found : Found) × (found.is_file ≡ false) × Contains calls (Finds path found)) ⊎ IsDescriptor path
 no_file path text calls is = elim is.writable [
-  | inl other ↦ inl (subst (λ cs. Contains cs (FindsOther path))
-      (sym (is.calls_are ∙ ap (λ probes. probes ++ writing path is.pieces) other)) (0, grind arith, refl))
+  | inl other ↦ inl (
+    other.0,
+    other.1,
+    subst (λ cs. Contains cs (Finds path other.0))
+        (sym (is.calls_are ∙ ap (λ probes. probes ++ writing path is.pieces) other.2)) (0, grind arith, refl),
+  )
   | inr descriptor ↦ inr descriptor.1
 ]

@@ -5,8 +5,9 @@ use Rattle.archive_records.specs.declared.format.Format.{Format}
 use Rattle.archive_records.specs.declared.format.Format.TheVariants as format
 use Rattle.archive_records.specs.declared.kind.TextKind.TheVariants.{Archive, Summary}
 use Rattle.archive_index.specs.Text.{index_magic}
-use Rattle.archive_files.specs.FileCalls.{FileCall, Agrees, Begins, Covers}
-use Rattle.archive_files.specs.Publishing.{IsReplaced, IsTested}
+use Rattle.archive_files.specs.FileCalls.{FileCall, Begins, Compares, Finds, FindsNothing, Gives}
+use Rattle.archive_files.specs.Publishing.{BeginsSo, IsReplaced, IsTested, both_give}
+use Rattle.archive_files.specs.declared.found.Found.{Found}
 use Rattle.archive_files.specs.Replacing.{GivesWay, IsMagicOf}
 use Rattle.archive_files.specs.declared.replaceable.Replaces.{Replaces}
 use Rattle.archive_files.specs.declared.replaceable.Replaces.TheVariants.{ArchivesBelow, Summaries, Indexes, SameBytes}
@@ -27,13 +28,22 @@ fifth bytes (one, kind, is) = ap (λ b. get_or b 4 0) is ∙ of_archive one kind
 fifth_of : (a b : List ℕ) → a ≡ b → get_or a 4 0 ≡ 0x41 → get_or b 4 0 ≡ 0x41
 fifth_of a b is at = ap (λ l. get_or l 4 0) (sym is) ∙ at
 
--- the entry of a list of one
-alone : {A : Type 0} (x y : A) → Contains (x ∷ []) y → x ≡ y
-alone x y (zero, lt, is) = is
-alone x y (suc i, lt, is) = absurd (omega arith)
-
-begins_alike : (target a b : List ℕ) → Begins target a ≡ Begins target b → a ≡ b
-begins_alike target a b is = cc
+-- what the file at a path begins with, where it is asked
+begins_with : (path bytes other : List ℕ) (calls : List FileCall) → BeginsSo path bytes calls
+    → Contains calls (Begins path other) → bytes ≡ other
+begins_with path bytes other calls (inl (none, is)) there =
+    absurd (nowhere (subst (λ cs. Contains cs (Begins path other)) is there))
+  where
+    nowhere : Contains (FindsNothing path ∷ []) (Begins path other) → ⊥
+    nowhere (zero, lt, at) = cc at
+    nowhere (suc i, lt, at) = omega arith
+begins_with path bytes other calls (inr (found, is)) there =
+    second (subst (λ cs. Contains cs (Begins path other)) is there)
+  where
+    second : Contains (Finds path found ∷ Begins path bytes ∷ []) (Begins path other) → bytes ≡ other
+    second (zero, lt, at) = cc at
+    second (suc zero, lt, at) = cc at
+    second (suc (suc i), lt, at) = absurd (omega arith)
 
 -- what begins as an archive is no summary, no index and not empty
 no_summary : (bytes : List ℕ) → GivesWay Summaries bytes → IsMagicOf Archive bytes → ⊥
@@ -46,48 +56,82 @@ no_index : (bytes : List ℕ) → GivesWay Indexes bytes → IsMagicOf Archive b
 no_index bytes (inl none) archive = let h = fifth_of bytes [] none (fifth bytes archive) in grind (arith, h)
 no_index bytes (inr is) archive = let h = fifth_of bytes index_magic is (fifth bytes archive) in grind (arith, h)
 
+-- files that are the same are not asked for their kind
+same_unasked : (draft target bytes : List ℕ) (pieces : List (List ℕ))
+    → Contains (both_give draft target pieces) (Begins target bytes) → ⊥
+same_unasked draft target bytes [] (i, lt, at) = omega arith
+same_unasked draft target bytes (piece ∷ pieces) (zero, lt, at) = cc at
+same_unasked draft target bytes (piece ∷ pieces) (suc zero, lt, at) = cc at
+same_unasked draft target bytes (piece ∷ pieces) (suc (suc i), lt, at) =
+    same_unasked draft target bytes pieces (i, omega arith, at)
+
+unasked : (draft target bytes : List ℕ) (tests : List FileCall) → IsTested SameBytes draft target tests
+    → Contains tests (Begins target bytes) → ⊥
+unasked draft target bytes tests (inl (inl is)) there = one (subst (λ ts. Contains ts (Begins target bytes)) is there)
+  where
+    one : Contains (FindsNothing target ∷ []) (Begins target bytes) → ⊥
+    one (zero, lt, at) = cc at
+    one (suc i, lt, at) = omega arith
+unasked draft target bytes tests (inl (inr (found, size, is))) there =
+    one (subst (λ ts. Contains ts (Begins target bytes)) is there)
+  where
+    one : Contains (Finds target found ∷ []) (Begins target bytes) → ⊥
+    one (zero, lt, at) = cc at
+    one (suc i, lt, at) = omega arith
+unasked draft target bytes tests (inr same) there =
+    later (subst (λ ts. Contains ts (Begins target bytes)) same.calls_are there)
+  where
+    later : Contains (Finds target same.of_target ∷ Finds draft same.of_draft ∷ both_give draft target same.pieces)
+        (Begins target bytes) → ⊥
+    later (zero, lt, at) = cc at
+    later (suc zero, lt, at) = cc at
+    later (suc (suc i), lt, at) = same_unasked draft target bytes same.pieces (i, omega arith, at)
+
 -- an archive there is compared with the draft
 covered : (replaces : Replaces) (draft target bytes : List ℕ) (tests : List FileCall)
     → IsTested replaces draft target tests → Contains tests (Begins target bytes) → IsMagicOf Archive bytes
-    → Contains tests (Covers draft target)
-covered SameBytes draft target bytes tests is there archive =
-    let same : Agrees draft target ≡ Begins target bytes =
-    alone (Agrees draft target) (Begins target bytes) (subst (λ ts. Contains ts (Begins target bytes)) is there) in cc
+    → Contains tests (Compares draft target 0)
+covered SameBytes draft target bytes tests is there archive = absurd (unasked draft target bytes tests is there)
 covered ArchivesBelow draft target bytes tests (inl is) there archive =
-    let same : [] ≡ bytes = begins_alike target [] bytes
-    (alone (Begins target []) (Begins target bytes) (subst (λ ts. Contains ts (Begins target bytes)) is there)) in
-    let h = fifth_of bytes [] (sym same) (fifth bytes archive) in absurd (grind (arith, h))
-covered ArchivesBelow draft target bytes tests (inr (found, kind, is)) there archive =
-    subst (λ ts. Contains ts (Covers draft target)) (sym is) (1, grind arith, refl)
-covered Summaries draft target bytes tests (found, gives, is) there archive =
-    let same : found ≡ bytes = begins_alike target found bytes
-    (alone (Begins target found) (Begins target bytes) (subst (λ ts. Contains ts (Begins target bytes)) is there)) in
-    absurd (no_summary found gives (subst (IsMagicOf Archive) (sym same) archive))
-covered Indexes draft target bytes tests (found, gives, is) there archive =
-    let same : found ≡ bytes = begins_alike target found bytes
-    (alone (Begins target found) (Begins target bytes) (subst (λ ts. Contains ts (Begins target bytes)) is there)) in
-    absurd (no_index found gives (subst (IsMagicOf Archive) (sym same) archive))
+    let h = fifth_of bytes [] (sym (begins_with target [] bytes tests is there)) (fifth bytes archive) in
+    absurd (grind (arith, h))
+covered ArchivesBelow draft target bytes tests (inr (found, first, kind, is)) there archive =
+    subst (λ ts. Contains ts (Compares draft target 0)) (sym is) (2, grind arith, refl)
+covered Summaries draft target bytes tests (first, gives, is) there archive =
+    absurd (no_summary first gives
+    (subst (IsMagicOf Archive) (sym (begins_with target first bytes tests is there)) archive))
+covered Indexes draft target bytes tests (first, gives, is) there archive =
+    absurd (no_index first gives
+    (subst (IsMagicOf Archive) (sym (begins_with target first bytes tests is there)) archive))
 
 -- and what is there is of the kind that is written, unless a slice is
+begun_there : (replaces : Replaces) (target bytes : List ℕ) (tests : List FileCall) → GivesWay replaces bytes
+    → BeginsSo target bytes tests
+    → Contains tests (FindsNothing target)
+    ⊎ ((bytes : List ℕ) × GivesWay replaces bytes × Contains tests (Begins target bytes))
+begun_there replaces target bytes tests gives (inl (none, is)) =
+    inl (subst (λ ts. Contains ts (FindsNothing target)) (sym is) (0, grind arith, refl))
+begun_there replaces target bytes tests gives (inr (found, is)) =
+    inr (bytes, gives, subst (λ ts. Contains ts (Begins target bytes)) (sym is) (1, grind arith, refl))
+
 of_kind : (replaces : Replaces) (draft target : List ℕ) (tests : List FileCall) → IsTested replaces draft target tests
-    → (replaces ≡ SameBytes) ⊎ ((bytes : List ℕ) × GivesWay replaces bytes × Contains tests (Begins target bytes))
+    → (replaces ≡ SameBytes) ⊎ Contains tests (FindsNothing target)
+    ⊎ ((bytes : List ℕ) × GivesWay replaces bytes × Contains tests (Begins target bytes))
 of_kind SameBytes draft target tests is = inl refl
-of_kind ArchivesBelow draft target tests (inl is) =
-    inr ([], inl refl, subst (λ ts. Contains ts (Begins target [])) (sym is) (0, grind arith, refl))
-of_kind ArchivesBelow draft target tests (inr (bytes, kind, is)) =
-    inr (bytes, inr kind, subst (λ ts. Contains ts (Begins target bytes)) (sym is) (0, grind arith, refl))
-of_kind Summaries draft target tests (bytes, gives, is) =
-    inr (bytes, gives, subst (λ ts. Contains ts (Begins target bytes)) (sym is) (0, grind arith, refl))
-of_kind Indexes draft target tests (bytes, gives, is) =
-    inr (bytes, gives, subst (λ ts. Contains ts (Begins target bytes)) (sym is) (0, grind arith, refl))
+of_kind ArchivesBelow draft target tests (inl is) = inr (begun_there ArchivesBelow target [] tests (inl refl) is)
+of_kind ArchivesBelow draft target tests (inr (found, bytes, kind, is)) =
+    inr (inr (bytes, inr kind, subst (λ ts. Contains ts (Begins target bytes)) (sym is) (1, grind arith, refl)))
+of_kind Summaries draft target tests (bytes, gives, is) = inr (begun_there Summaries target bytes tests gives is)
+of_kind Indexes draft target tests (bytes, gives, is) = inr (begun_there Indexes target bytes tests gives is)
 
 pub archives_covered : (path text bytes : List ℕ) (replaces : Replaces) (calls : List FileCall)
     (is : IsReplaced path replaces text calls) → Contains is.tests (Begins is.target bytes) → IsMagicOf Archive bytes
-    → Contains is.tests (Covers is.draft is.target)
+    → Contains is.tests (Compares is.draft is.target 0)
 archives_covered path text bytes replaces calls is there archive =
     covered replaces is.draft is.target bytes is.tests is.tested there archive
 
 pub kind_there : (path text : List ℕ) (replaces : Replaces) (calls : List FileCall)
     (is : IsReplaced path replaces text calls)
-    → (replaces ≡ SameBytes) ⊎ ((bytes : List ℕ) × GivesWay replaces bytes × Contains is.tests (Begins is.target bytes))
+    → (replaces ≡ SameBytes) ⊎ Contains is.tests (FindsNothing is.target)
+    ⊎ ((bytes : List ℕ) × GivesWay replaces bytes × Contains is.tests (Begins is.target bytes))
 kind_there path text replaces calls is = of_kind replaces is.draft is.target is.tests is.tested

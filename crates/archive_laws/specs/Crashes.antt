@@ -3,8 +3,8 @@
 use Rattle.std.specs.Prelude.{◌≡◌, ℕ, Bool, true, false, ◌||◌, List, [], ◌++◌, fold, Option, Some}
 use Rattle.std.specs.Str.{bytes_eq}
 use Rattle.archive_files.specs.FileCalls.{FileCall, Creates, Opens, Writes, Syncs, Renames, SyncsFolder, Removes}
-use Rattle.archive_files.specs.FileCalls.{FindsFile, FindsOther, FindsNothing, FindsNoLink, Leads, Begins}
-use Rattle.archive_files.specs.FileCalls.{Agrees, Covers, Loses}
+use Rattle.archive_files.specs.FileCalls.{Finds, FindsNothing, FindsLink, FindsNoLink, Leads, Begins, Gives}
+use Rattle.archive_files.specs.FileCalls.{Compares, WantsMemory, Refuses}
 
 -- The draft behind some calls: its bytes, whether they are on the disk, whether it was renamed to the target, whether
 -- that is on the disk, and whether a call was made at the target itself.
@@ -19,18 +19,19 @@ pub record DraftState : Type 0 where
 abbrev pub no_draft : DraftState
 no_draft = record { bytes = []; synced = false; renamed = false; kept = false; touched = false }
 
--- the draft behind one call more, of which one that only asks changes nothing
+-- the draft behind one call more, of which one that only asks, or failed, changes nothing
 abbrev pub behind : List ℕ → DraftState → FileCall → DraftState
-behind target d (FindsFile path) = d
-behind target d (FindsOther path) = d
+behind target d (Finds path found) = d
 behind target d (FindsNothing path) = d
+behind target d (FindsLink path) = d
 behind target d (FindsNoLink path) = d
 behind target d (Leads path to) = d
 behind target d (Begins path bytes) = d
-behind target d (Covers draft to) = d
-behind target d (Agrees draft to) = d
-behind target d (Loses draft to) = d
-behind target d (Creates path) = record d { bytes = []; synced = false; touched = d.touched || bytes_eq path target }
+behind target d (Gives path bytes) = d
+behind target d (Compares draft to lost) = d
+behind target d (WantsMemory path) = d
+behind target d (Refuses path) = d
+behind target d (Creates path mode) = record d { bytes = []; synced = false; touched = d.touched || bytes_eq path target }
 behind target d (Opens path) = record d { touched = d.touched || bytes_eq path target }
 behind target d (Writes bytes) = record d { bytes = d.bytes ++ bytes; synced = false }
 behind target d Syncs = record d { synced = true }

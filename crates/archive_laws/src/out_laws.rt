@@ -1,7 +1,8 @@
 //! What a crash leaves at the path of an output, whatever call it is stopped behind. Each law speaks of the calls that
 //! a command makes for its output.
-ghost use Rattle.std.specs.Prelude.{◌≡◌, ◌⊎◌, ℕ, Contains, List, Option, Some, take};
-ghost use Rattle.archive_files.specs.FileCalls.{Begins, Covers, FileCall, FindsOther, Leads};
+ghost use Rattle.std.specs.Prelude.{◌≡◌, ◌⊎◌, ℕ, Contains, List, Option, Some, false, take};
+ghost use Rattle.archive_files.specs.FileCalls.{Begins, Compares, FileCall, Finds, FindsNothing, Leads};
+ghost use Rattle.archive_files.specs.declared.found.Found.{Found};
 ghost use Rattle.archive_files.specs.Publishing.{IsDescriptor, IsDraftRemoved, IsReplaced, IsWrittenThrough};
 ghost use Rattle.archive_files.specs.Replacing.{GivesWay, IsMagicOf};
 ghost use Rattle.archive_files.specs.declared.replaceable.Replaces.{Replaces};
@@ -37,7 +38,7 @@ pub fn removed_leaves_it()
 /// A regular file is not written to: bytes that go to no draft go to what the system said is none, or to a descriptor.
 pub fn never_written_through()
     ensures { (path text : List ℕ) (calls : List FileCall) (is : IsWrittenThrough path text calls)
-        → Contains calls (FindsOther path) ⊎ IsDescriptor path }
+        → ((found : Found) × (found.is_file ≡ false) × Contains calls (Finds path found)) ⊎ IsDescriptor path }
 {}
 
 /// What is at the place of OUT's path gives way, whatever the command: what begins as an archive to an archive that has
@@ -46,9 +47,9 @@ pub fn archives_give_way_to_those_above()
     ensures archives { (path text bytes : List ℕ) (replaces : Replaces) (calls : List FileCall)
         (is : IsReplaced path replaces text calls)
         → Contains is.tests (Begins is.target bytes) → IsMagicOf Archive bytes
-        → Contains is.tests (Covers is.draft is.target) }
+        → Contains is.tests (Compares is.draft is.target 0) }
     ensures kinds { (path text : List ℕ) (replaces : Replaces) (calls : List FileCall)
         (is : IsReplaced path replaces text calls)
-        → (replaces ≡ SameBytes)
+        → (replaces ≡ SameBytes) ⊎ Contains is.tests (FindsNothing is.target)
         ⊎ ((bytes : List ℕ) × GivesWay replaces bytes × Contains is.tests (Begins is.target bytes)) }
 {}

@@ -16,7 +16,7 @@ use Rattle.archive_core.specs.declared.lookup.Where.{Where}
 use Rattle.archive_core.proofs.Members.{in_cons, in_front, in_rest, one_with_members, pairs_more, to_map}
 use Rattle.archive_reading.specs.Keys.{AnswersAs}
 use Rattle.source_frames.specs.AddressFrames.{AreFramesOf}
-use Rattle.source_frames.specs.FoundFrames.{frames_under}
+use Rattle.address_frames.specs.FoundFrames.{frames_under}
 use Rattle.source_frames.specs.Frames.{FrameRecord}
 use Rattle.archive_queries.specs.InnerSources.{AreSourcesOf, frames_in, slices_of}
 use Rattle.archive_queries.specs.Sources.{AreFramesAt, IsSourced}

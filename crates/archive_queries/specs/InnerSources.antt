@@ -7,7 +7,7 @@ use Rattle.archive_core.specs.Find.{AreAnswering}
 use Rattle.archive_core.specs.Lookup.{file_address}
 use Rattle.archive_core.specs.declared.keys.SliceKey.{SliceKey}
 use Rattle.archive_core.specs.declared.lookup.Where.{Where}
-use Rattle.source_frames.specs.FoundFrames.{frames_under}
+use Rattle.address_frames.specs.FoundFrames.{frames_under}
 use Rattle.source_frames.specs.Frames.{FrameRecord}
 use Rattle.archive_queries.specs.Sources.{AreFramesAt}
 use Rattle.archive_queries.specs.declared.sources.SlicedFrames.{SlicedFrames}

@@ -7,10 +7,11 @@ ghost use Rattle.archive_queries.specs.InnerSources.{AreSourcesOf, frames_in};
 ghost use Rattle.archive_queries.specs.Sources.{AreFramesAt};
 ghost use Rattle.report_text.specs.FrameLists.{list_view, lists_view};
 
+use address_frames::{AddressFrames, frames_of};
 use archive_core::{Archive, Slice, SliceKey, Where};
 use memory::{Heap, NoMemory};
 use sorted_archive::file_address;
-use source_frames::{AddressFrames, Frame, frames_of};
+use source_frames::Frame;
 
 /// A slice that answers, and the frames that were found in it.
 #[derive(Drop)]
@@ -37,7 +38,7 @@ fn addresses_in(heap: Heap, slice: &Slice, places: &[Where]) -> Result<Vec<u64, 
 }
 
 impl<'s> SlicedFrames<'s> {
-    /// The frames of places in a slice, found in one pass over its DWARF.
+    /// The frames of places in a slice, found together.
     fn of(heap: Heap, slice: &'s Slice, places: &[Where]) -> Result<SlicedFrames<'s>, NoMemory>
         ensures slice { IfOk result (λ it. it.slice.now ≡ slice.now) }
         ensures frames { IfOk result (λ it. (place : Where) → Contains places.now place

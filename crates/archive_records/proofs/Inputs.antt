@@ -340,12 +340,12 @@ summary_no_fault s fault are few f = no_fault Summary_file (summary_text s) (lis
 -- ---- the whole input
 
 -- a text of this kind was read, and says this
-abbrev pub IsSaid : (file : TextKind) → Option (List ℕ) → Option (List ℕ) → Meaning file → Type 0
-IsSaid Archive_text a b o = IsReadTo Archive_text a b o
-IsSaid Operations_text a b operations = AreRead a b operations
-IsSaid Summary_text a b s = IsReadTo Summary_text a b s
+abbrev pub IsReadAs : (file : TextKind) → Option (List ℕ) → Option (List ℕ) → Meaning file → Type 0
+IsReadAs Archive_text a b o = IsReadTo Archive_text a b o
+IsReadAs Operations_text a b operations = AreRead a b operations
+IsReadAs Summary_text a b s = IsReadTo Summary_text a b s
 
-pub read_whole : {R : Type 0} (file : TextKind) (m : Meaning file) (left : R → Option (List ℕ)) (failures : R → ℕ) (old new : R) → IsSaid file (left old) (left new) m → IsAtEnd (left new) → failures new ≡ failures old → IsReadWhole file m left failures old new
+pub read_whole : {R : Type 0} (file : TextKind) (m : Meaning file) (left : R → Option (List ℕ)) (failures : R → ℕ) (old new : R) → IsReadAs file (left old) (left new) m → IsAtEnd (left new) → failures new ≡ failures old → IsReadWhole file m left failures old new
 read_whole Archive_text o left failures old new h end unfailed = record {
   is = IsReadTo-content (left old) (left new) o h;
   few = IsReadTo-few (left old) (left new) o h;

@@ -23,7 +23,7 @@ use Rattle.archive_records.proofs.FaultKinds.{memory_blames}
 use Rattle.archive_records.proofs.Undecided.{cut_text}
 use Rattle.archive_records.proofs.Contents.{sorted-InOrder, sorted-entries, AreEntries-entries}
 use Rattle.archive_records.proofs.Formats.{in_order_old, operations_form, summary_form}
-use Rattle.archive_records.proofs.Inputs.{IsReadTo, IsReadTo-content, IsSaid, read_whole, refused}
+use Rattle.archive_records.proofs.Inputs.{IsReadTo, IsReadTo-content, IsReadAs, read_whole, refused}
 use Rattle.archive_records.proofs.Listed.{operations_in}
 use Rattle.archive_records.proofs.Versions.{kept_set, kept_records}
 
@@ -38,7 +38,7 @@ pub record Says {T : Type 0} (file : TextKind) (Makes : List (List ℕ) → T �
   pub meaning : Meaning file
   pub is : IsMeaning file meaning
   pub makes : Makes (records_in file meaning) value
-  pub said : IsSaid file a b meaning
+  pub said : IsReadAs file a b meaning
 
 -- the set of the records that are taken was read
 pub read_to : {T : Type 0} {Makes : List (List ℕ) → T → Type 0} {a b : Option (List ℕ)} {value : T} {file : TextKind} (m : IsGathered file Makes a b value) → IsReadTo file a b (set_of (taken_of m.format m.records))

@@ -1,7 +1,7 @@
 //! Bytes from a source that are read over those of the last record.
 
 ghost use Rattle.std.specs.Prelude.{◌≡◌, ◌≢◌, ◌+◌, ◌^◌, ◌<◌, ◌≤◌, ◌++◌, MatchResult};
-ghost use Rattle.std.specs.Prelude.{ℕ, length, take, drop, vec_capacity};
+ghost use Rattle.std.specs.Prelude.{ℕ, length, take, drop, max, vec_capacity, OnOk};
 ghost use Rattle.std.specs.Ordering.{nat_cmp, ordering_then};
 ghost use Rattle.std.specs.Cmp.Lexicographic.{slice_cmp};
 ghost use Rattle.std.specs.declared.cmp.Ordering.TheVariants.{Equal};
@@ -10,7 +10,7 @@ ghost use Rattle.archive_records.specs.Reader.{BlamesReader, Fills, Pulls, seen_
 
 use crate::fault::RecordFaultKind;
 use byte_device::{Failed, Source};
-use memory::Heap;
+use memory::{Heap, NoMemory};
 use std::cmp::Ordering;
 
 /// A record as it comes: its first `at` bytes, and behind them what is left of the last one.
@@ -73,6 +73,21 @@ fn lengthen(bytes: &mut Vec<u8, Heap>, count: usize)
     }
 }
 
+/// Makes room for `least` bytes in all where there is none: twice the room that there was, but no more than `most`. So
+/// the room for a large record grows to its length, and a length that is only claimed takes no memory.
+fn make_room(bytes: &mut Vec<u8, Heap>, least: usize, most: usize) -> Result<(), NoMemory>
+    requires within { least ≤ most }
+    ensures same { bytes.new.items ≡ bytes.old.items }
+    ensures room { OnOk result (least ≤ vec_capacity bytes.new) }
+    ensures most { OnOk result (vec_capacity bytes.new ≤ max (vec_capacity bytes.old) most) }
+{
+    if least <= bytes.capacity() {
+        return Ok(());
+    }
+    let room = bytes.capacity().saturating_mul(2).max(least).min(most);
+    bytes.reserve_exact(room - bytes.len())
+}
+
 /// Pulls a piece of a record of which the last one differs straight behind what came of it.
 fn pull_behind<R: Source>(r: &mut R, want: usize, buffer: &mut Buffer) -> Result<usize, Failed>
     requires within { buffer.old.at ≤ length buffer.old.bytes.items }
@@ -118,8 +133,8 @@ pub fn fill<R: Source>(
     let end = buffer.at + count;
     'filling: while buffer.at < end {
         let want = (end - buffer.at).min(chunk.len());
-        let missing = (buffer.at + want).saturating_sub(buffer.bytes.len());
-        if let Err(_) = buffer.bytes.reserve(missing) {
+        let most = end.max(chunk.len());
+        if let Err(NoMemory) = make_room(&mut buffer.bytes, buffer.at + want, most) {
             return Err(RecordFaultKind::OutOfMemory);
         }
         match pull_piece(r, &mut chunk[..want], buffer) {

@@ -7,7 +7,7 @@ ghost use Rattle.archive_core.specs.Record.{borrowed_bytes};
 ghost use Rattle.archive_core.specs.Summary.{entry};
 ghost use Rattle.archive_records.specs.Entry.{entry_bytes, IsEntry};
 
-use crate::head::{ADMISSION, digest_in, key_in};
+use crate::head::{ADMISSION, ENTRY_LEN, digest_in, key_in};
 use archive_core::{Digest, RETIREMENT, Record, SliceKey, tagged_bytes};
 use std::cmp::Ordering;
 
@@ -32,7 +32,7 @@ impl Entry {
     }
 
     /// The entry as it stands in a summary's text: a tag, the key, and the digest.
-    pub fn bytes(&self) -> [u8; 57]
+    pub fn bytes(&self) -> [u8; ENTRY_LEN]
         ensures { result ≡ entry_bytes self.now }
     {
         match self {

@@ -8,12 +8,9 @@ ghost use Rattle.archive_records.specs.Reader.{BlamesReader, Fills, IsHead, byte
 use crate::buffer::{Buffer, fill};
 use crate::fault::RecordFaultKind;
 use crate::format::Format;
-use crate::head::{body_length_of, head_length_of};
+use crate::head::{LARGEST_SLICE, body_length_of, head_length_of};
 use byte_device::Source;
 use std::cmp::Ordering;
-
-/// The greatest length of a slice.
-const LARGEST_SLICE: u64 = 4294967295;
 
 /// Reads the head of the next record, and says how long it is.
 fn read_head<R: Source>(

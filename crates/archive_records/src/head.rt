@@ -13,7 +13,8 @@ ghost use Rattle.archive_records.specs.Text.{end_record};
 
 use crate::format::Format;
 use archive_core::{
-    ArchKey, CheckedSlice, Digest, RETIREMENT, Record, SliceFacts, SliceKey, key_prefix,
+    ArchKey, CheckedSlice, Digest, RETIREMENT, RETIREMENT_LEN, Record, SliceFacts, SliceKey,
+    key_prefix,
 };
 use byteorder::{BigEndian, ByteOrder};
 use uuid::Uuid;
@@ -25,12 +26,16 @@ pub const ADMISSION: u8 = 2;
 
 pub const END: u8 = 3;
 
-pub const RETIREMENT_LEN: usize = 57;
+/// How many bytes an entry of a summary has: a tag, a key and a digest, as a retirement's record.
+pub const ENTRY_LEN: usize = RETIREMENT_LEN;
 
-pub const ENTRY_LEN: usize = 57;
-
+/// How many bytes of an admission's record stand before its slice.
 pub const ADMISSION_HEAD_LEN: usize = 33;
 
+/// How many bytes a slice has at most.
+pub const LARGEST_SLICE: u64 = 4294967295;
+
+/// How many bytes the end record of an archive or a summary has.
 pub const END_LEN: usize = 9;
 
 // How long an admission's head is.
@@ -123,7 +128,7 @@ pub fn has_key(bytes: &[u8], key: &SliceKey) -> bool
 }
 
 /// What stands before the slice in its admission's record.
-pub fn admission_head(slice: &CheckedSlice<'_>) -> [u8; 33]
+pub fn admission_head(slice: &CheckedSlice<'_>) -> [u8; ADMISSION_HEAD_LEN]
     ensures head { result ≡ 2 ∷ (key_bytes (key_of slice.now) ++ to_be_bytes w64 (length slice.now)) }
     ensures short { length slice.now < 2 ^ 32 }
 {
@@ -137,7 +142,7 @@ pub fn admission_head(slice: &CheckedSlice<'_>) -> [u8; 33]
 
 /// The end record of so many records.
 #[tactic(auto, unfolding(crate::specs::Text::end_record))]
-pub fn end_bytes(count: u64) -> [u8; 9]
+pub fn end_bytes(count: u64) -> [u8; END_LEN]
     ensures { result ≡ end_record count }
 {
     let mut record = [0; END_LEN];

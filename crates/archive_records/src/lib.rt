@@ -46,13 +46,13 @@ mod retired;
 mod summary;
 mod writing;
 
-pub use archive_core::{RETIREMENT, key_prefix, retirement_bytes};
+pub use archive_core::{RETIREMENT, RETIREMENT_LEN, key_prefix, retirement_bytes};
 pub use entry::Entry;
 pub use fault::{MergeCause, MergeFault, RecordFault, RecordFaultKind};
 pub use format::Format;
 pub use head::{
-    ADMISSION, ADMISSION_HEAD_LEN, MAGIC_LEN, admission_head, digest_in, end_bytes, has_key,
-    key_in, number_at,
+    ADMISSION, ADMISSION_HEAD_LEN, END_LEN, ENTRY_LEN, LARGEST_SLICE, MAGIC_LEN, admission_head,
+    digest_in, end_bytes, has_key, key_in, number_at,
 };
 pub use kind::TextKind;
 pub use next::NextRecord;

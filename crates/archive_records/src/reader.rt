@@ -21,17 +21,14 @@ use crate::head::record_in;
 use crate::kind::TextKind;
 use crate::next::{NextRecord, read_next};
 use crate::retired::{retirement_in, retires_beside, take};
-use archive_core::{Record, Retirements, SliceFacts};
-use byte_device::{Failed, Source, is_at_end};
+use archive_core::{RETIREMENT_LEN, Record, Retirements, SliceFacts};
+use byte_device::{Failed, PIECE_LEN, Source, is_at_end};
 use memory::{Heap, NoMemory};
 use std::cmp::Ordering;
 use std::marker::Model;
 
 /// How many records a file has at most.
 pub const MOST: u64 = 9223372036854775807;
-
-/// How many bytes are pulled at once, at most.
-const CHUNK: usize = 65536;
 
 /// What was read so far: contracts see where the reader stands.
 #[derive(Drop)]
@@ -148,7 +145,7 @@ impl RecordReader {
             × StopsInMagicOf file bytes fault.kind) }
         ensures reader { FaultBlamesReader R.left R.failures r.old r.new result }
     {
-        let Ok(mut chunk) = chunk_of(CHUNK, &heap) else {
+        let Ok(mut chunk) = chunk_of(PIECE_LEN, &heap) else {
             return Err(RecordFault::out_of_memory(0));
         };
         let retired = Retirements::none(&heap);
@@ -229,14 +226,14 @@ impl RecordReader {
     }
 
     /// The last record, where it is a retirement.
-    pub fn last_retirement(&self) -> Option<[u8; 57]>
+    pub fn last_retirement(&self) -> Option<[u8; RETIREMENT_LEN]>
         ensures { result ≡ retirement_in self.now.last }
     {
         retirement_in(&self.buffer.bytes)
     }
 
     /// Forgets a retirement that is kept elsewhere, where it is the last that was read.
-    pub fn forget(&mut self, retirement: &[u8; 57])
+    pub fn forget(&mut self, retirement: &[u8; RETIREMENT_LEN])
         ensures same { self.new ≡ record self.old { retired = self.new.retired } }
         ensures others { set.insert (set_of self.new.retired) retirement.now
             ≡ set.insert (set_of self.old.retired) retirement.now }

@@ -7,8 +7,8 @@ ghost use Rattle.archive_records.specs.declared.fault.RecordFaultKind.TheVariant
 ghost use Rattle.archive_records.specs.Reader.{IsFound, IsFoundOfLast, Keeps, retirement_in, set_of, with_shared};
 
 use crate::fault::RecordFaultKind;
-use crate::head::{ADMISSION_HEAD_LEN, RETIREMENT_LEN};
-use archive_core::{CheckedSlice, RETIREMENT, Retirements, SliceFacts};
+use crate::head::ADMISSION_HEAD_LEN;
+use archive_core::{CheckedSlice, RETIREMENT, RETIREMENT_LEN, Retirements, SliceFacts};
 
 /// Whether one of them covers the whole record, by what was found out of its slice. A digest that is asked for is
 /// found out for whoever asks next.
@@ -48,7 +48,7 @@ pub fn retires_beside(
 }
 
 /// The record of a retirement.
-fn record_of(bytes: &[u8]) -> [u8; 57]
+fn record_of(bytes: &[u8]) -> [u8; RETIREMENT_LEN]
     requires { length bytes.now ≡ 57 }
     ensures { result ≡ bytes.now }
 {
@@ -58,7 +58,7 @@ fn record_of(bytes: &[u8]) -> [u8; 57]
 }
 
 /// These bytes, where they are the record of a retirement.
-pub fn retirement_in(bytes: &[u8]) -> Option<[u8; 57]>
+pub fn retirement_in(bytes: &[u8]) -> Option<[u8; RETIREMENT_LEN]>
     ensures { result ≡ retirement_in bytes.now }
 {
     if bytes.len() == RETIREMENT_LEN && bytes[0] == RETIREMENT {

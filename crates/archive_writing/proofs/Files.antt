@@ -9,8 +9,7 @@ use Rattle.std.proofs.lemmas.List.{length-map, append-nil}
 use Rattle.archive_core.specs.Content.{Operations, IsMade, changes, content_of, covering, joined, with_record, with_records}
 use Rattle.archive_core.specs.Record.{admission_record}
 use Rattle.archive_core.proofs.Made.{alike_insert, bytes_same, contains_made, joined_made_right, made_alike, made_is_alike}
-use Rattle.admission.specs.File.{is_admissible, parts, admissible, IsAcceptedFile}
-use Rattle.archive_writing.specs.Slicing.{slice_in}
+use Rattle.admission.specs.File.{is_admissible, slice_in, parts, admissible, IsAcceptedFile}
 use Rattle.admission.specs.Take.{admitted, taken_of, taken_rows}
 use Rattle.admission.specs.declared.taken.Taken.{Taken}
 use Rattle.admission.proofs.RowPlaces.{rows_number}

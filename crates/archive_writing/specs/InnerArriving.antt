@@ -7,8 +7,7 @@ use Rattle.std.specs.FinSet as set
 use Rattle.join_core.specs.Listing.{listing}
 use Rattle.archive_core.specs.Content.{Operations}
 use Rattle.archive_core.specs.Record.{admission_record}
-use Rattle.admission.specs.File.{parts}
-use Rattle.archive_writing.specs.Slicing.{slice_in}
+use Rattle.admission.specs.File.{parts, slice_in}
 use Rattle.admission.specs.Take.{admitted, taken_of}
 use Rattle.admission.specs.declared.taken.Taken.{Taken}
 use Rattle.admission.specs.declared.taken.Taken.TheVariants.{Added, Known, Skipped}

@@ -13,4 +13,3 @@ pub mod Joining
 pub mod Copying
 pub mod InnerTelling
 pub mod InnerArriving
-pub mod Slicing

@@ -1,8 +1,7 @@
 //! `admit IN OUT FILE...`.
 ghost use Rattle.std.specs.Prelude.{◌≡◌, ◌++◌, ℕ, List, length, map, string_bytes, OnOk, IfOk, IfErr};
 ghost use Rattle.join_core.specs.Listing.{listing};
-ghost use Rattle.admission.specs.File.{admissible, parts, IsAcceptedFile, IsTakeFault};
-ghost use Rattle.archive_writing.specs.Slicing.{slice_in};
+ghost use Rattle.admission.specs.File.{admissible, parts, slice_in, IsAcceptedFile, IsTakeFault};
 ghost use Rattle.admission.specs.Take.{admitted, taken_rows};
 ghost use Rattle.archive_writing.specs.Admit.{admit_as_it_comes, file_rows};
 ghost use Rattle.archive_writing.specs.InnerArriving.{AreFirstRows, HasCome, lines_again, records_in};
@@ -21,9 +20,8 @@ ghost use Rattle.command_core.specs.Outputs.{out_of, outs, writer};
 
 use crate::arriving::{Arrivals, tell_rows};
 use crate::notes::{Note, note_retired};
-use crate::slicing::slice_file;
 use crate::telling::tell_operations;
-use admission::TakeFault;
+use admission::{TakeFault, slice_file};
 use archive_core::Slice;
 use byte_device::{Output, Sink, Source, Target};
 use command_core::{

@@ -3,7 +3,6 @@
 //! Each reads what comes in by its other words first, and writes OUT as its first input comes.
 //!
 //! - `new`, `admit`, `retire`, `merge`, `migrate`, `apply`, `summary`, `delta`: a command each;
-//! - `slicing`: the slices of a file, each with its bytes to itself;
 //! - `arriving`: the slices of files, each once, and the rows that tell them;
 //! - `joining`: IN, merged with an archive that is at hand;
 //! - `telling`: IN, merged with operations that are at hand, and what each of these is to IN;
@@ -41,7 +40,6 @@ mod migrate;
 mod new;
 mod notes;
 mod retire;
-mod slicing;
 mod summary;
 mod telling;
 

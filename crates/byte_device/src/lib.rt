@@ -1,9 +1,9 @@
 //! Devices that give and take bytes and count their failures: in order, or from any place; and files by their
 //! paths, each of which gives bytes.
 //!
-//! - [`Source`] and [`Sink`], in order: `buffers` in memory, `streams` of files, `limited` for tests; `reading`:
-//!   [`read_to_end`], all the bytes; `writing`: [`put`], a whole text;
-//! - [`Placed`], from any place: `placed_memory`, `placing` of files, `placed_pieces` for tests;
+//! - [`Source`] and [`Sink`], in order: `buffers` in memory, `streams` of files, `limited` for tests, `nowhere`, which
+//!   keeps nothing; `reading`: [`read_to_end`], all the bytes; `writing`: [`put`], a whole text;
+//! - [`Placed`], from any place: `placing` of files, `placed_pieces` in memory;
 //!   `placed_reading`: [`read_at`], so many bytes from a place;
 //! - `targets`: [`Output`], a draft that takes bytes, and the [`Target`] at which it is published;
 //! - `disks`: why a file cannot be opened or created.
@@ -17,7 +17,7 @@ ghost use Rattle.byte_device.specs.Places.{TakenAt, HasSize};
 mod buffers;
 mod disks;
 mod limited;
-mod placed_memory;
+mod nowhere;
 mod placed_pieces;
 mod placed_reading;
 mod placing;
@@ -29,7 +29,7 @@ mod writing;
 pub use buffers::{Bytes, Grown};
 pub use disks::{CannotCreate, CannotOpen};
 pub use limited::{Pieces, Short};
-pub use placed_memory::PlacedBytes;
+pub use nowhere::Nowhere;
 pub use placed_pieces::PlacedPieces;
 pub use placed_reading::read_at;
 pub use placing::Placing;
@@ -37,6 +37,9 @@ pub use reading::{ReadFault, is_at_end, read_to_end};
 pub use streams::{Reading, Writing};
 pub use targets::{Output, Target};
 pub use writing::{WriteFault, push_all, put};
+
+/// How many bytes are asked of a device at a time, where no less is wanted.
+pub const PIECE_LEN: usize = 64 * 1024;
 
 /// The device failed in this call: no byte was given or taken, and its count of failures rose by
 /// one. A device whose count is at its greatest, 2^64 - 1, fails every call.

@@ -4,11 +4,8 @@ ghost use Rattle.std.specs.Prelude.{◌≡◌, ◌+◌, ◌^◌, ◌<◌, ◌≤
 ghost use Rattle.byte_device.specs.Devices.{FailedIn};
 ghost use Rattle.byte_device.specs.Places.{EndsBefore, Stands};
 
-use crate::{Failed, Placed, ReadFault};
+use crate::{Failed, PIECE_LEN, Placed, ReadFault};
 use memory::{Heap, NoMemory};
-
-// How many bytes room is made for at once.
-const PIECE: usize = 64 * 1024;
 
 /// Reads `count` bytes from the place on; none where fewer stand there.
 ///
@@ -52,7 +49,7 @@ fn make_room(bytes: &mut Vec<u8, Heap>, filled: usize, most: usize) -> Result<()
     ensures kept { OnOk result (take filled bytes.new.items ≡ take filled bytes.old.items) }
 {
     if filled == bytes.len() {
-        bytes.resize(filled + PIECE.min(most - filled), 0)?;
+        bytes.resize(filled + PIECE_LEN.min(most - filled), 0)?;
     }
     Ok(())
 }

@@ -5,11 +5,8 @@ ghost use Rattle.std.specs.Prelude.{true, false, OnOk, OnErr, IfOk, IfSome, Err}
 ghost use Rattle.std.specs.Io.KnownBytes.{Consumes, IsAtEnd};
 ghost use Rattle.byte_device.specs.Devices.{FailedIn};
 
-use crate::{Failed, Source};
+use crate::{Failed, PIECE_LEN, Source};
 use memory::{Heap, NoMemory};
-
-// How many bytes room is made for at once, and are asked of a source at most at a time.
-const PIECE: usize = 64 * 1024;
 
 /// Why a source was not read to its end.
 #[derive(Clone, Copy, Debug, PartialEq, Eq)]
@@ -76,7 +73,7 @@ fn make_room(bytes: &mut Vec<u8, Heap>, filled: usize) -> Result<(), NoMemory>
     ensures kept { OnOk result (take filled bytes.new.items ≡ take filled bytes.old.items) }
 {
     if filled == bytes.len() {
-        bytes.resize(filled + PIECE, 0)?;
+        bytes.resize(filled + PIECE_LEN, 0)?;
     }
     Ok(())
 }

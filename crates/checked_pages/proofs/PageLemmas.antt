@@ -1,5 +1,5 @@
 -- Pages of bytes that are stored in a text.
-use Rattle.std.proofs.Common.{◌≡◌, ℕ, ◌+◌, ◌-◌, ◌*◌, ◌<◌, ◌≤◌, List, length, take, drop, ◌++◌, refl, sym, ap, ◌∙◌, subst, arith, length-take, length-drop, length-append, min, inl, inr, zero, suc, [], ◌∷◌, ◌≢◌, set}
+use Rattle.std.proofs.Common.{◌≡◌, ℕ, ◌+◌, ◌-◌, ◌*◌, ◌<◌, ◌≤◌, List, length, take, drop, ◌++◌, refl, sym, ap, ◌∙◌, subst, arith, length-take, length-append, min, inl, inr, zero, suc, [], ◌∷◌, ◌≢◌, set}
 use Rattle.std.specs.Prelude.{slice_index_or}
 use Rattle.std.proofs.lemmas.List.{append-nil, append_assoc, get_or-set_other, get_or-set_same, drop-drop, drop-take, take-take, take_all, take_at, drop_at}
 use Rattle.std.proofs.lemmas.Bool.{cases_lt}
@@ -163,7 +163,7 @@ more_came all before part offset next done n there e p =
 
 -- ---- pages that are stored
 
--- one page digest more
+-- the same from any page on
 one_more : (count i : ℕ) (all : List ℕ) → digests_from (suc count) i all ≡ digests_from count i all ++ sha256 (page_of all (i + count))
 unfolding digests_from
 one_more zero i all = append-nil (sha256 (page_of all i)) ∙ ap (λ n. sha256 (page_of all n)) (omega arith)
@@ -171,13 +171,7 @@ one_more (suc count) i all =
     ap (λ rest. sha256 (page_of all i) ++ rest) (one_more count (i + 1) all ∙ ap (λ n. digests_from count (i + 1) all ++ sha256 (page_of all n)) (omega arith))
     ∙ sym (append_assoc (sha256 (page_of all i)) (digests_from count (i + 1) all) (sha256 (page_of all (i + suc count))))
 
--- a page, by how many bytes it has
-pub page_by_length : (all : List ℕ) (i n : ℕ) → 16384 * i < length all → n ≡ min (length all - 16384 * i) 16384 → take (16384 * i + n - 16384 * i) (drop (16384 * i) all) ≡ page_of all i
-page_by_length all i n h is =
-    let less : 16384 * i + n - 16384 * i ≡ n = omega arith in
-    let rest : List ℕ = drop (16384 * i) all in
-    ap (λ k. take k rest) (less ∙ is ∙ omega (arith, length-drop (16384 * i) all)) ∙ sym (take_both 16384 (length rest) rest) ∙ ap (take 16384) (take_all (length rest) rest (omega arith))
-
+-- the page digests of one page more
 pub next_page : (count : ℕ) (all : List ℕ) → digests_from (count + 1) 0 all ≡ digests_from count 0 all ++ sha256 (page_of all count)
 next_page count all =
     let next : count + 1 ≡ suc count = omega arith in

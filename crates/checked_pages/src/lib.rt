@@ -9,13 +9,15 @@
 //! - `checking`: so many bytes, compared with their digest;
 //! - `pages`: [`Pages`], stored bytes, and those of their pages that are known;
 //! - `opening`: [`Pages::open`], the bytes that a claim names; `reading`: [`Pages::read`], some of them;
-//! - `storing`: [`page_digests`], what stands before bytes where they are stored; `numbers`: the numbers among them;
+//! - `halving`: [`partition_point`], which of the rows that stand in pages are below what is sought ([`Sought`]);
+//! - `storing`: the claim of bytes that are stored; `numbers`: the numbers among them;
 //! - `laws`: what is supposed of SHA-256, and when nothing is.
 #![tactic(auto)]
 
 mod checking;
 mod claim;
 mod fault;
+mod halving;
 pub mod laws;
 mod numbers;
 mod opening;
@@ -25,7 +27,7 @@ mod storing;
 
 pub use claim::Claim;
 pub use fault::CheckFault;
+pub use halving::{Sought, partition_point};
 pub use numbers::{u32_be_at, u64_be_at};
 pub use opening::{PAGE_LEN, pages_in};
 pub use pages::Pages;
-pub use storing::page_digests;

@@ -31,8 +31,8 @@ pub use faults::{CommandFault, InputName, Status, Why};
 pub use outputs::publish_output;
 pub use publishing::{publish, publish_bytes, publish_draft, publish_report, publish_summary};
 pub use sources::{
-    answer_input, read_crash, read_entries, read_events, read_file, read_input, read_input_part,
-    read_operations, read_rows, read_summary_input, refusal, refused_behind, test_input,
+    read_crash, read_entries, read_events, read_file, read_input, read_operations, read_rows,
+    read_summary_input, refusal, refused_behind,
 };
 pub use statuses::{found_status, status_of};
-pub use together::{answer_all, answer_archives, bytes_of, join_part, read_parts};
+pub use together::{answer_all, answer_archives, bytes_of, read_parts};

@@ -1,4 +1,4 @@
--- A word as it is shown.
+-- A word or a path as it is shown.
 use Rattle.std.specs.Prelude.{ℕ, List, ◌++◌, codes, encode_utf8, flat_map, if◌then◌else◌}
 use Rattle.std.specs.{Char.is_control, Str.chars}
 use Rattle.archive_words.specs.Words.{hex_digits}

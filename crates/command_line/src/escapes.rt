@@ -1,4 +1,4 @@
-//! Words as they are shown: a control character, which a terminal obeys, is escaped.
+//! Words and paths as they are shown: a control character, which a terminal obeys, is escaped.
 
 ghost use Rattle.std.specs.Prelude.{◌≡◌, ◌++◌, IfOk, OnOk, string_bytes};
 ghost use Rattle.command_line.specs.Shown.{shown, shown_character};

@@ -3,7 +3,7 @@
 //! - `commands`: the table of the commands, with their helps and arguments;
 //! - `values`: the values of an argument;
 //! - `lines`: what a command line asks for;
-//! - `escapes`: words as they are shown;
+//! - `escapes`: words and paths as they are shown;
 //! - `line_faults`: why a line asks for nothing;
 //! - `clap_commands`: the commands of the table, as `clap` builds them;
 //! - `spelled_values`: the values that the words of an argument spell;
@@ -31,6 +31,7 @@ mod spelled_values;
 mod values;
 
 pub use commands::{Argument, Form, Kind, Role, form_text, is_input, is_input_of};
+pub use escapes::shown;
 pub use line_faults::LineFault;
 pub use lines::Line;
 pub use parsing::read_line;

@@ -16,10 +16,10 @@ mod text_sections;
 mod units;
 mod value;
 
-pub use form::{Class, fixed_size, read_value, skip_value};
+pub use form::{fixed_size, read_value, skip_value};
 pub use leb128::{signed_leb128, unsigned_leb128};
 pub use little_endian::{u16_le_at, u32_le_at, u64_le_at};
-pub use text::{before_nul, read_text, text_in};
+pub use text::read_text;
 pub use text_sections::TextSections;
 pub use units::{Units, split_unit};
 pub use value::Value;

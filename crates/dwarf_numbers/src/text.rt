@@ -9,7 +9,7 @@ use memchr::memchr;
 
 /// The bytes before the first NUL, or all of them if there is none.
 #[tactic(auto, using(crate::proofs::Texts::parts_at_nul))]
-pub fn before_nul(bytes: &[u8]) -> &[u8]
+fn before_nul(bytes: &[u8]) -> &[u8]
     ensures { result.now ≡ before_first is_nul bytes.now }
 {
     match memchr(0, bytes) {
@@ -28,7 +28,7 @@ pub fn read_text(bytes: &[u8]) -> Option<(&[u8], &[u8])>
 
 /// The text from an offset of a section of texts, as `__debug_str` is; it ends before its NUL or with the section.
 /// `None` if the offset is not below the section's size.
-pub fn text_in(section: &[u8], offset: u64) -> Option<&[u8]>
+pub(crate) fn text_in(section: &[u8], offset: u64) -> Option<&[u8]>
     ensures { option_map (λ x. x.now) result ≡ text_in section.now offset }
 {
     if (section.len() as u64) <= offset {

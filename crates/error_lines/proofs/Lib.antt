@@ -3,3 +3,4 @@ pub mod Numbers
 pub mod Numbered
 pub mod Saying
 pub mod Reasons
+pub mod OneLine

@@ -1,9 +1,9 @@
 -- What is said on standard error.
-use Rattle.std.specs.Prelude.{◌≡◌, ◌⊎◌, ℕ, Bool, true, false, ◌||◌, ◌==◌, List, [], ◌∷◌, ◌++◌, ◌-◌, codes, drop}
-use Rattle.std.specs.Prelude.{if◌then◌else◌, length, nat_eq, nat_lt, take, Option, Some, Result, Ok, Err}
+use Rattle.std.specs.Prelude.{◌≡◌, ◌⊎◌, ℕ, Bool, true, false, ◌==◌, List, [], ◌∷◌, ◌++◌, ◌-◌, codes, drop}
+use Rattle.std.specs.Prelude.{if◌then◌else◌, length, nat_eq, take, Option, Some, Result, Ok, Err}
 use Rattle.std.specs.List.{ends_with, flat_map, list_any, starts_with}
 use Rattle.clap.specs.Words.{Text}
-use Rattle.command_line.specs.Lines.{Line}
+use Rattle.command_line.specs.{Lines.Line, Shown.shown}
 use Rattle.report_text.specs.Report.{line}
 use Rattle.command_core.specs.declared.{failures.Failure.Failure, faults.Status.Status}
 use Rattle.command_core.specs.{FaultTexts.failure_text, Outputs.FailsBehind, Outputs.Takes, Outputs.Writer}
@@ -37,21 +37,15 @@ SaysLine standard_error text false =
 abbrev pub has_line_feed : List ℕ → Bool
 has_line_feed text = list_any (λ byte. byte == 10) text
 
--- a byte of a path for which that is shown otherwise: of a control character, or one that may begin one
-abbrev pub is_control : ℕ → Bool
-is_control byte = nat_lt byte 0x20 || (byte == 0x7f) || (byte == 0xc2)
-
 -- The line that helps with the failure of a line: two spaces, what the failure is of, and the path of that very file,
--- and behind these what is free. A path with a control character is shown otherwise. It is one line.
+-- as it is shown, and behind these what is free. It is one line.
 pub record IsHelp (asked : Line) (failure : Failure) (help : List ℕ) : Type 0 where
   pub path : Text
   pub path_is : Some path ≡ file_of asked failure
-  pub shown : List ℕ
-  pub shown_is : list_any is_control path ≡ false → shown ≡ path
-  pub shown_feedless : has_line_feed shown ≡ false
+  pub shown_feedless : has_line_feed (shown path) ≡ false
   pub free : List ℕ
   pub free_feedless : has_line_feed free ≡ false
-  pub help_is : help ≡ line (codes "  " ++ subject_of failure ++ codes " is " ++ shown ++ free)
+  pub help_is : help ≡ line (codes "  " ++ subject_of failure ++ codes " is " ++ shown path ++ free)
 
 -- What is said behind the line of a failure: nothing, or the line that helps with it, or its beginning where the writer
 -- failed.

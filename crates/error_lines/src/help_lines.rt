@@ -2,12 +2,13 @@
 //! system says, and begins with two spaces, so that it is taken for no other.
 
 ghost use Rattle.std.specs.Prelude.{◌≡◌, ◌++◌, codes, false, IfOk, List, string_bytes, ℕ};
-ghost use Rattle.std.specs.List.{list_any};
+ghost use Rattle.command_line.specs.Shown.{shown};
 ghost use Rattle.report_text.specs.Report.{line};
 ghost use Rattle.error_lines.specs.Hints.{subject_text};
-ghost use Rattle.error_lines.specs.StandardError.{has_line_feed, is_control};
+ghost use Rattle.error_lines.specs.StandardError.{has_line_feed};
 
 use crate::hints::Help;
+use command_line::shown;
 use memory::NoMemory;
 use std::alloc::Global;
 use std::fmt::{Display, Write};
@@ -18,19 +19,6 @@ fn has_line_feed(text: &[u8]) -> bool
     ensures { result ≡ has_line_feed text.now }
 {
     text.iter().any(|byte| *byte == b'\n')
-}
-
-/// Whether a byte of a path may be of a control character.
-fn is_control(byte: u8) -> bool
-    ensures { result ≡ is_control byte }
-{
-    byte < 0x20 || byte == 0x7f || byte == 0xc2
-}
-
-fn has_control(path: &[u8]) -> bool
-    ensures { result ≡ list_any is_control path.now }
-{
-    path.iter().any(|byte| is_control(*byte))
 }
 
 /// A text, if it is one line, and else none.
@@ -44,23 +32,6 @@ fn one_line(text: &str) -> &str
     }
 }
 
-/// A path as it is shown: one that has a character which a terminal obeys is quoted, with that escaped.
-fn shown(alloc: Global, path: &str) -> Result<String, NoMemory>
-    ensures same { list_any is_control path.now ≡ false → IfOk result (λ shown. string_bytes shown ≡ path.now) }
-    ensures one { IfOk result (λ shown. has_line_feed (string_bytes shown) ≡ false) }
-{
-    if !has_control(path.as_bytes()) {
-        return Ok(String::from_str(alloc, path)?);
-    }
-    let mut quoted = String::new(alloc);
-    if path.chars().any(char::is_control) {
-        write!(quoted, "{path:?}")?;
-    } else {
-        quoted.push_str(path)?;
-    }
-    Ok(String::from_str(alloc, one_line(&quoted))?)
-}
-
 /// What is free in a line.
 fn free<T: Display>(alloc: Global, told: &T) -> Result<String, NoMemory>
     ensures { IfOk result (λ free. has_line_feed (string_bytes free) ≡ false) }
@@ -70,12 +41,13 @@ fn free<T: Display>(alloc: Global, told: &T) -> Result<String, NoMemory>
     Ok(String::from_str(alloc, one_line(&free))?)
 }
 
-/// The line that helps with a failure.
+/// The line that helps with a failure. It is one line whatever the path.
+#[tactic(auto, using(crate::proofs::OneLine::feedless))]
 pub fn help_line(alloc: Global, help: &Help<'_>) -> Result<String, NoMemory>
-    ensures { IfOk result (λ text. (shown free : List ℕ)
-        × (list_any is_control help.now.path.now ≡ false → shown ≡ help.now.path.now)
-        × (has_line_feed shown ≡ false) × (has_line_feed free ≡ false)
-        × (string_bytes text ≡ line (codes "  " ++ subject_text help.now.subject ++ codes " is " ++ shown ++ free))) }
+    ensures one { has_line_feed (shown help.now.path.now) ≡ false }
+    ensures text { IfOk result (λ text. (free : List ℕ) × (has_line_feed free ≡ false)
+        × (string_bytes text ≡ line (codes "  " ++ subject_text help.now.subject
+        ++ codes " is " ++ shown help.now.path.now ++ free))) }
 {
     let subject = help.subject;
     let path = shown(alloc, help.path)?;

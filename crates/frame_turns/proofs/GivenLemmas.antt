@@ -18,13 +18,14 @@ use Rattle.source_frames.specs.UnitAddresses.{IsUnitOf, read_unit}
 use Rattle.pending_addresses.specs.Rising.{AreRising}
 use Rattle.frame_turns.specs.Given.{Takes, TurnRecord, AreDistinct, AreTurnsBy, AreTurnsIn, AreTurnsWithUnits, HasUnit, IsTurnWithFrames, addresses}
 use Rattle.frame_turns.specs.Turns.{IsTurnBy, IsUnitTurn}
-use Rattle.frame_turns.specs.UnitSteps.{AreUnitSteps, IsStep}
+use Rattle.frame_turns.specs.UnitSteps.{AreUnitSteps}
+use Rattle.source_frames.specs.ByUnit.{IsPlaced}
 use Rattle.frame_turns.specs.ByProgram.{AreBoundariesBy, places}
-use Rattle.frame_turns.specs.ByUnit.{addresses_under}
-use Rattle.frame_turns.specs.declared.by_unit.AddressList.{AddressList}
+use Rattle.source_frames.specs.ByUnit.{addresses_under}
+use Rattle.source_frames.specs.declared.unit_lists.AddressList.{AddressList}
 use Rattle.frame_turns.specs.declared.unit_by_unit.UnitBoundaries.{UnitBoundaries}
 use Rattle.frame_turns.proofs.UnitStepLemmas.{boundary_step, none_is, own_is, step_boundary, step_unit, last_step}
-use Rattle.frame_turns.proofs.ByUnitLemmas.{in_one, of_one}
+use Rattle.source_frames.proofs.ByUnitLemmas.{in_one, of_one}
 
 -- ---- numbers that are distinct
 
@@ -103,7 +104,7 @@ pub no_frames : (s : DebugSectionsRecord) (a : ℕ) (place : Option ℕ) → opt
 no_frames s a place none is = record { place = place; is_unit = is; are_frames = subst (λ (u : Option UnitRecord). AreFramesIn s u a []) (sym none) refl }
 
 module _ (s : DebugSectionsRecord) (starts : List ℕ) (places : List (Option ℕ)) (steps : AreUnitSteps s starts places) (place : Option ℕ) (own xs : List ℕ)
-    (given : (a : ℕ) → Contains own a ↔ IsStep starts places a place) (rising : AreRising xs) (fits : (a : ℕ) → Contains xs a → a < 2 ^ 64) (same : (a : ℕ) → Contains xs a ↔ Contains own a)
+    (given : (a : ℕ) → Contains own a ↔ IsPlaced starts places a place) (rising : AreRising xs) (fits : (a : ℕ) → Contains xs a → a < 2 ^ 64) (same : (a : ℕ) → Contains xs a ↔ Contains own a)
     (none : option_and_then (read_unit s) place ≡ None) (apart : (a : ℕ) → IsUnitOf s a place → IsUnitTurn s a → ⊥) where
   bare : (a : ℕ) → Contains xs a ↔ (IsUnitOf s a place × IsTurnBy s a)
   bare a = (
@@ -238,7 +239,7 @@ module _ (s : DebugSectionsRecord) (all : List ℕ) (count place : ℕ) (given n
   }
 
 pub far_end : (s : DebugSectionsRecord) (starts : List ℕ) (at : List (Option ℕ)) (by_unit : tree_map.BTreeMap ℕ AddressList) (units : List UnitBoundaries) (count : ℕ) (given : List TurnRecord)
-    → AreUnitSteps s starts at → ((place a : ℕ) → Contains (addresses_under by_unit place) a ↔ IsStep starts at a (Some place)) → AreBoundariesBy by_unit units
+    → AreUnitSteps s starts at → ((place a : ℕ) → Contains (addresses_under by_unit place) a ↔ IsPlaced starts at a (Some place)) → AreBoundariesBy by_unit units
     → length (places units) ≤ count → SoFar s (places units) count given → AreTurnsWithUnits s given
 far_end s starts at by_unit units count given steps under are past far =
     let all : take count (places units) ≡ places units = take_all count (places units) past in

@@ -1,4 +1,3 @@
-mod ByUnitLemmas
 mod CollectLemmas
 mod GivenLemmas
 mod MergeLemmas

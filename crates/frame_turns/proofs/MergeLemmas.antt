@@ -10,7 +10,7 @@ use Rattle.source_frames.specs.Frames.{FrameRecord}
 use Rattle.pending_addresses.specs.Rising.{AreRising, IsCountBelow}
 use Rattle.frame_turns.specs.Between.{AreFramesAt, AreTurnsBetween, AreTurnsFrom, IsBelow, IsFrom, IsMerged, IsNextAbove, IsNextStart, IsStart, IsTurnOfParts, PartsRecord}
 use Rattle.frame_turns.specs.Given.{TurnRecord, addresses}
-use Rattle.frame_turns.proofs.ByUnitLemmas.{in_one, of_one}
+use Rattle.source_frames.proofs.ByUnitLemmas.{in_one, of_one}
 use Rattle.frame_turns.proofs.GivenLemmas.{pairs_append}
 
 -- ---- numbers that rise

@@ -17,11 +17,11 @@ use Rattle.source_frames.specs.DebugUnits.{UnitRecord}
 use Rattle.source_frames.specs.UnitLines.{LinesRecord, line_unit, lines_of, program_offset}
 use Rattle.pending_addresses.specs.Rising.{AreRising}
 use Rattle.frame_turns.specs.ByProgram.{AreBoundariesBy, places, rows_at}
-use Rattle.frame_turns.specs.ByUnit.{addresses_or_none, addresses_under}
+use Rattle.source_frames.specs.ByUnit.{addresses_or_none, addresses_under}
 use Rattle.frame_turns.specs.Given.{AreDistinct}
-use Rattle.frame_turns.specs.declared.by_unit.AddressList.{AddressList}
+use Rattle.source_frames.specs.declared.unit_lists.AddressList.{AddressList}
 use Rattle.frame_turns.specs.declared.unit_by_unit.UnitBoundaries.{UnitBoundaries}
-use Rattle.frame_turns.proofs.ByUnitLemmas.{in_one, not_in_none, of_one}
+use Rattle.source_frames.proofs.ByUnitLemmas.{in_one, not_in_none, of_one}
 use Rattle.frame_turns.proofs.GivenLemmas.{distinct_append}
 
 abbrev pub at : tree_map.BTreeMap ℕ AddressList → ℕ → Option AddressList

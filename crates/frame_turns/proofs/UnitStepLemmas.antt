@@ -8,7 +8,8 @@ use Rattle.source_frames.specs.UnitAddresses.{IsUnitOf}
 use Rattle.source_frames.proofs.UnitAddressLemmas.{one_place}
 use Rattle.pending_addresses.specs.Rising.{AreRising}
 use Rattle.frame_turns.specs.Turns.{boundaries}
-use Rattle.frame_turns.specs.UnitSteps.{AreUnitSteps, IsStep}
+use Rattle.frame_turns.specs.UnitSteps.{AreUnitSteps}
+use Rattle.source_frames.specs.ByUnit.{IsPlaced}
 use Rattle.frame_turns.proofs.StayLemmas.{IsFree, unit_none_before, unit_stays}
 
 pub own_is : (s : DebugSectionsRecord) (a place own : ℕ) → IsUnitOf s a (Some own) → IsUnitOf s a (Some place) → own ≡ place
@@ -20,16 +21,16 @@ none_is s a place is other = none-some place (one_place s a None (Some place) is
 -- ---- boundaries with their units
 
 module _ (s : DebugSectionsRecord) (starts : List ℕ) (places : List (Option ℕ)) (steps : AreUnitSteps s starts places) (a : ℕ) (p : Option ℕ) where
-  pub step_unit : IsStep starts places a p → IsUnitOf s a p
+  pub step_unit : IsPlaced starts places a p → IsUnitOf s a p
   step_unit (i, within, start, place) =
       let is = steps.units.each i within in
       let here = subst (λ (x : ℕ). IsUnitOf s x (get_or places i None)) start is in
       subst (λ (o : Option ℕ). IsUnitOf s a o) place here
 
-  pub step_boundary : IsStep starts places a p → Contains (boundaries s) a
+  pub step_boundary : IsPlaced starts places a p → Contains (boundaries s) a
   step_boundary (i, within, start, place) = (steps.all a).0 (i, within, get_or_default starts i a 0 within ∙ start)
 
-  pub boundary_step : Contains (boundaries s) a → IsUnitOf s a p → IsStep starts places a p
+  pub boundary_step : Contains (boundaries s) a → IsUnitOf s a p → IsPlaced starts places a p
   boundary_step h is =
       let at = (steps.all a).1 h in
       let start : get_or starts at.0 0 ≡ a = get_or_default starts at.0 0 a at.1 ∙ at.2 in
@@ -101,7 +102,7 @@ module _ (s : DebugSectionsRecord) (starts : List ℕ) (places : List (Option �
 
 -- the last boundary not above an address that has a unit is one of this unit
 pub last_step : (s : DebugSectionsRecord) (starts : List ℕ) (places : List (Option ℕ)) (a place : ℕ) → AreUnitSteps s starts places → a < 2 ^ 64 → IsUnitOf s a (Some place)
-    → (n : ℕ) × IsLast starts a n × IsStep starts places (get_or starts n 0) (Some place)
+    → (n : ℕ) × IsLast starts a n × IsPlaced starts places (get_or starts n 0) (Some place)
 last_step s starts places a place steps fits is = elim (last_below starts a (length starts) (omega arith) (λ k from inside. absurd (omega arith))) [
   | inl last ↦ (last.0, last.1, (last.0, last.1.within, refl, one_place s a (get_or places last.0 None) (Some place) (unit_at_last s starts places a steps last.0 fits last.1) is))
   | inr above ↦ absurd (none-some place (one_place s a None (Some place) (nowhere s starts places a steps above) is))

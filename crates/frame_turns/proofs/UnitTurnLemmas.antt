@@ -1,59 +1,36 @@
 -- The turns of a unit are those from its boundaries on.
-use Rattle.std.proofs.Common.{◌≡◌, ℕ, zero, suc, ◌+◌, ◌<◌, ◌≤◌, ◌^◌, List, [], ◌∷◌, length, get_or, map, Option, Some, None, refl, sym, ap, subst, ◌∙◌, inl}
+use Rattle.std.proofs.Common.{◌≡◌, ℕ, ◌+◌, ◌<◌, ◌≤◌, ◌^◌, List, length, get_or, map, Option, Some, None, refl, sym, ap, subst, ◌∙◌, inl}
 use Rattle.std.proofs.Common.{inr, arith, ◌↔◌, flat_map, reverse, Contains}
 use Rattle.std.proofs.lemmas.Bool.{cases_eq}
 use Rattle.std.proofs.lemmas.List.{get_or_default}
 use Rattle.std.proofs.lemmas.List.Elements.{All-weaker, Contains-append_cases, Contains-append_left, Contains-append_right}
-use Rattle.std.proofs.lemmas.Option.{none-some, same_Some, slice_get_within}
-use Rattle.debug_entries.specs.Entries.{EntryRecord}
-use Rattle.function_links.specs.Links.{AreEntriesOfLink, AreFramesOfRowAndLink, AreLinkSteps, IsLinkOf, LinkRecord}
-use Rattle.function_links.proofs.LinkFrameLemmas.{frames_from}
-use Rattle.line_programs.specs.Covering.{IsCovering}
+use Rattle.std.proofs.lemmas.Option.{same_Some}
+use Rattle.function_links.specs.Links.{AreLinkSteps, IsLinkOf}
+use Rattle.function_links.proofs.LinkFrameLemmas.{frames_in_unit, number_within}
 use Rattle.line_programs.specs.declared.registers.Row.{Row}
 use Rattle.function_links.specs.AddressSteps.{at_step}
 use Rattle.function_links.specs.RowSteps.{AreRowSteps}
 use Rattle.source_frames.specs.AddressFrames.{AreFramesBy, AreFramesIn, AreFramesInUnit, rows_of}
 use Rattle.source_frames.specs.DebugSections.{DebugSectionsRecord}
 use Rattle.source_frames.specs.DebugUnits.{UnitRecord}
-use Rattle.source_frames.specs.Frames.{AreFramesOfChain, FrameRecord, location_of_row}
+use Rattle.source_frames.specs.Frames.{FrameRecord}
 use Rattle.source_frames.specs.Scopes.{scopes_of}
 use Rattle.source_frames.specs.UnitAddresses.{IsUnitOf, read_unit}
 use Rattle.source_frames.specs.UnitLines.{LinesRecord, lines_of}
 use Rattle.frame_turns.specs.Between.{AreFramesAt, AreSteps, AreTurnsFrom, IsCountTo, IsFrom, IsStart, IsTurnOfParts, PartsRecord}
 use Rattle.frame_turns.specs.Given.{AreTurnsIn, IsTurnWithFrames, TurnRecord}
 use Rattle.frame_turns.specs.Turns.{IsTurnBy, boundaries, ends_of, unit_turns}
-use Rattle.frame_turns.specs.UnitSteps.{AreUnitSteps, IsStep}
+use Rattle.frame_turns.specs.UnitSteps.{AreUnitSteps}
+use Rattle.source_frames.specs.ByUnit.{IsPlaced}
 use Rattle.frame_turns.proofs.StayLemmas.{IsFree, unit_stays}
 use Rattle.frame_turns.proofs.UnitStepLemmas.{own_is, step_boundary, step_unit, last_step, none_after_last}
 use Rattle.frame_turns.proofs.StartLemmas.{count_at_start, step_some}
 
--- the frames of a row and a link are those of the row and of the entries of the link
-frames_of_chain : (s : DebugSectionsRecord) (lines : LinesRecord) (unit : UnitRecord) (links : List LinkRecord) (row : Option Row) (number : ℕ) (entries : List EntryRecord) (frames : List FrameRecord)
-    → AreEntriesOfLink s unit links number entries → AreFramesOfRowAndLink lines links row number frames → AreFramesOfChain s lines unit entries row frames
-frames_of_chain s lines unit links None zero [] frames are told = told
-frames_of_chain s lines unit links (Some row) zero [] frames are told = told
-frames_of_chain s lines unit links None zero (e ∷ es) frames are told = absurd (none-some are.0 are.1)
-frames_of_chain s lines unit links (Some row) zero (e ∷ es) frames are told = absurd (none-some are.0 are.1)
-frames_of_chain s lines unit links None (suc n) [] frames are told = absurd (omega (arith, are))
-frames_of_chain s lines unit links (Some row) (suc n) [] frames are told = absurd (omega (arith, are))
-frames_of_chain s lines unit links None (suc n) (e ∷ es) frames are told = frames_from s lines unit links (suc n) (location_of_row None) (e ∷ es) frames are told
-frames_of_chain s lines unit links (Some row) (suc n) (e ∷ es) frames are told = frames_from s lines unit links (suc n) (location_of_row (Some row)) (e ∷ es) frames are told
-
 module _ (s : DebugSectionsRecord) (unit : UnitRecord) (parts : PartsRecord) (lines_are : parts.lines ≡ lines_of s unit) (row_steps : AreRowSteps (rows_of parts.lines) parts.row_starts parts.rows)
     (link_steps : AreLinkSteps s unit parts.links parts.link_starts parts.numbers) where
-  frames_in_unit : (a : ℕ) (frames : List FrameRecord) → AreFramesAt parts a frames → AreFramesInUnit s unit a frames
-  frames_in_unit a frames are =
-      let row = at_step None parts.row_starts parts.rows a in
-      let number = at_step 0 parts.link_starts parts.numbers a in
-      let link : IsLinkOf s unit parts.links a number = link_steps.each a in
-      record {
-        chain = link.chain;
-        row = row;
-        contain = link.contain;
-        covers = subst (λ (l : LinesRecord). IsCovering (rows_of l) a row) lines_are (row_steps.each a);
-        are_frames = subst (λ (l : LinesRecord). AreFramesOfChain s l unit (reverse link.chain) row frames) lines_are
-            (frames_of_chain s parts.lines unit parts.links row number (reverse link.chain) frames link.are_entries are);
-      }
+  frames_in : (a : ℕ) (frames : List FrameRecord) → AreFramesAt parts a frames → AreFramesInUnit s unit a frames
+  frames_in a frames are =
+      frames_in_unit s unit parts.lines parts.links a (at_step 0 parts.link_starts parts.numbers a) (at_step None parts.row_starts parts.rows a) frames lines_are (link_steps.each a) (row_steps.each a) are
 
   abbrev scope_turns : List ℕ
   scope_turns = flat_map (λ scope. ends_of scope.ranges) (scopes_of s unit)
@@ -82,11 +59,6 @@ module _ (s : DebugSectionsRecord) (unit : UnitRecord) (parts : PartsRecord) (li
   ]
 
   -- the steps of rows and of links
-  number_within : (number : ℕ) (entries : List EntryRecord) → AreEntriesOfLink s unit parts.links number entries → number ≤ length parts.links
-  number_within number [] are = omega (arith, are)
-  number_within zero (e ∷ es) are = omega arith
-  number_within (suc n) (e ∷ es) are = let w = slice_get_within parts.links n are.0 are.1 in omega (arith, w)
-
   step_within : (i : ℕ) → i < length parts.numbers → get_or parts.numbers i 0 ≤ length parts.links
   step_within i h =
       let start = get_or parts.link_starts i 0 in
@@ -95,13 +67,13 @@ module _ (s : DebugSectionsRecord) (unit : UnitRecord) (parts : PartsRecord) (li
       let here : get_or parts.numbers i 0 ≡ at_step 0 parts.link_starts parts.numbers start =
       step_some 0 (get_or parts.numbers i 0) parts.link_starts parts.numbers start (i + 1) i link_steps.count refl h (get_or_default parts.numbers i 0 (get_or parts.numbers i 0) h) to in
       let link : IsLinkOf s unit parts.links start (at_step 0 parts.link_starts parts.numbers start) = link_steps.each start in
-      let w = number_within (at_step 0 parts.link_starts parts.numbers start) (reverse link.chain) link.are_entries in omega (arith, here, w)
+      let w = number_within s unit parts.links (at_step 0 parts.link_starts parts.numbers start) (reverse link.chain) link.are_entries in omega (arith, here, w)
 
   pub are_steps : AreSteps parts
   are_steps = record { rows_rise = row_steps.rising; links_rise = link_steps.rising; row_count = row_steps.count; number_count = link_steps.count; within = step_within }
 
   module _ (place : ℕ) (read : Some unit ≡ read_unit s place) (starts : List ℕ) (places : List (Option ℕ)) (steps : AreUnitSteps s starts places) (froms : List ℕ)
-      (given : (a : ℕ) → Contains froms a ↔ IsStep starts places a (Some place)) where
+      (given : (a : ℕ) → Contains froms a ↔ IsPlaced starts places a (Some place)) where
     free_from : (from a : ℕ) → ((t : ℕ) → Contains starts t → from < t → a < t) → IsFree from a (boundaries s)
     free_from from a none = record { none = λ t h l. let u = none t ((steps.all t).1 h) l.0 in let v = l.1 in omega (arith, u, v) }
 
@@ -127,7 +99,7 @@ module _ (s : DebugSectionsRecord) (unit : UnitRecord) (parts : PartsRecord) (li
         record {
           place = Some place;
           is_unit = is;
-          are_frames = subst (λ (u : Option UnitRecord). AreFramesIn s u a frames) read (frames_in_unit a frames are);
+          are_frames = subst (λ (u : Option UnitRecord). AreFramesIn s u a frames) read (frames_in a frames are);
         }
 
     -- each turn of the unit is from a boundary on

@@ -10,9 +10,9 @@ use Rattle.std.specs.Option.{option_and_then, option_map_or}
 use Rattle.function_links.specs.RowSteps.{AreRowSteps}
 use Rattle.source_frames.specs.DebugSections.{DebugSectionsRecord}
 use Rattle.pending_addresses.specs.Rising.{AreRising}
-use Rattle.frame_turns.specs.ByUnit.{addresses_under}
+use Rattle.source_frames.specs.ByUnit.{addresses_under}
 use Rattle.frame_turns.specs.Given.{AreDistinct}
-use Rattle.frame_turns.specs.declared.by_unit.AddressList.{AddressList}
+use Rattle.source_frames.specs.declared.unit_lists.AddressList.{AddressList}
 use Rattle.frame_turns.specs.declared.unit_by_unit.LastRows.{LastRows}
 use Rattle.frame_turns.specs.declared.unit_by_unit.UnitBoundaries.{UnitBoundaries}
 

@@ -1,7 +1,6 @@
 pub mod Turns
 pub mod UnitSteps
 pub mod Given
-pub mod ByUnit
 pub mod Taking
 pub mod UnitNumbers
 pub mod Between

@@ -9,7 +9,7 @@ use Rattle.code_ranges.specs.declared.range.CodeRange.{CodeRange}
 use Rattle.source_frames.specs.AddressFrames.{rows_of}
 use Rattle.source_frames.specs.DebugSections.{DebugSectionsRecord, debug_sections}
 use Rattle.source_frames.specs.DebugUnits.{UnitRecord}
-use Rattle.source_frames.specs.FoundFrames.{IsInUnit}
+use Rattle.source_frames.specs.FoundUnits.{IsInUnit}
 use Rattle.source_frames.specs.Scopes.{scopes_of}
 use Rattle.source_frames.specs.UnitAddresses.{own_ranges}
 use Rattle.source_frames.specs.UnitLines.{lines_of}

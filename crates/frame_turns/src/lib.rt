@@ -6,14 +6,12 @@
 //! where the ranges of functions begin and end, and at the addresses of rows. So the turns are the boundaries, and of
 //! each unit those of these addresses whose unit it is.
 //!
-//! The modules in reading order: `unit_boundaries`, where the units change; `unit_steps`, the unit of each address;
-//! `by_unit`, the boundaries under their units; `taker`, [`FrameTaker`], what takes turns with their frames, told by
+//! The modules in reading order: `unit_boundaries`, where the units change; `unit_steps`, the unit of each address; `taker`, [`FrameTaker`], what takes turns with their frames, told by
 //! number; `names` and `numbers`, those of the names, paths and links of a unit; `next_start` and `merging`, the turns
 //! of a unit from one boundary to the next; `unit_by_unit`, [`give_turns`], all turns of an image; `laws`, that the
 //! frames stay the same between two turns.
 #![tactic(auto)]
 
-mod by_unit;
 pub mod laws;
 mod merging;
 mod names;

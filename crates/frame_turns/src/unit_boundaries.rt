@@ -16,7 +16,7 @@ use code_ranges::{Arange, Aranges, Ranges, named_units};
 use dwarf_numbers::split_unit;
 use memory::{Heap, NoMemory};
 use pending_addresses::sorted_once;
-use source_frames::{DebugInfo, DebugUnit};
+use source_frames::DebugInfo;
 use std::collections::BTreeSet;
 
 /// Adds where ranges begin and end.
@@ -51,27 +51,6 @@ fn push_tuples(starts: &mut Vec<u64, Heap>, tuples: Aranges<'_>) -> Result<(), N
     Ok(())
 }
 
-/// The ranges of a unit that no set of `__debug_aranges` names.
-#[tactic(auto, unfolding(source_frames::specs::UnitAddresses::own_ranges))]
-fn own_ranges<'a>(
-    info: &DebugInfo<'a>,
-    named: &BTreeSet<u64, Heap>,
-    offset: u64,
-    bytes: &'a [u8],
-) -> Ranges<'a>
-    requires { (unit : ℕ) → tree_set.contains nat_cmp named.now unit
-        ≡ is_named info.now.sections.debug_aranges.now unit }
-    ensures { result ≡ own_ranges (sections_view info.now.sections) offset bytes.now }
-{
-    if named.contains(&offset) {
-        return Ranges::none();
-    }
-    match DebugUnit::read(&info.abbreviations, offset, bytes) {
-        Some(unit) => unit.first_ranges(&info.sections),
-        None => Ranges::none(),
-    }
-}
-
 /// Adds where the ranges of the units begin and end that no set names.
 fn push_units(
     starts: &mut Vec<u64, Heap>,
@@ -88,7 +67,7 @@ fn push_units(
     let mut rest = section;
     'units: while let Some((bytes, after)) = split_unit(rest) {
         let offset = (section.len() - rest.len()) as u64;
-        push_ranges(starts, own_ranges(info, named, offset, bytes))?;
+        push_ranges(starts, info.own_ranges(named, offset, bytes))?;
         rest = after;
     }
     Ok(())

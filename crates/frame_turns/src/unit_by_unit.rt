@@ -4,16 +4,16 @@ ghost use Rattle.std.specs.Prelude.{◌≡◌, ◌↔◌, ◌<◌, ◌^◌, ℕ,
 ghost use Rattle.std.specs.List.{Contains};
 ghost use Rattle.std.specs.BTreeMap as tree_map;
 ghost use Rattle.frame_turns.specs.ByProgram.{AreBoundariesBy, AreRowsOfLast, rows_at};
-ghost use Rattle.frame_turns.specs.ByUnit.{addresses_under};
+ghost use Rattle.source_frames.specs.ByUnit.{addresses_under};
 ghost use Rattle.frame_turns.specs.Given.{AreTurnsIn, AreTurnsOf, AreTurnsWithUnits, Takes, TurnRecord, without_frames};
-ghost use Rattle.frame_turns.specs.UnitSteps.{AreUnitSteps, IsStep};
+ghost use Rattle.frame_turns.specs.UnitSteps.{AreUnitSteps};
+ghost use Rattle.source_frames.specs.ByUnit.{IsPlaced};
 ghost use Rattle.source_frames.specs.FrameViews.{lines_view};
 ghost use Rattle.source_frames.specs.AddressFrames.{rows_of};
 ghost use Rattle.source_frames.specs.DebugSections.{DebugSectionsRecord};
 ghost use Rattle.pending_addresses.specs.Rising.{AreRising};
 ghost use Rattle.source_frames.specs.SectionsViews.{sections_view};
 
-use crate::by_unit::{ByUnit, by_unit, take_unit};
 use crate::merging::UnitParts;
 use crate::taker::FrameTaker;
 use crate::unit_steps::UnitSteps;
@@ -22,7 +22,7 @@ use function_links::RowSteps;
 use macho_image::Image;
 use memory::{Heap, NoMemory};
 use pending_addresses::sorted_once;
-use source_frames::{DebugInfo, UnitLines};
+use source_frames::{ByUnit, DebugInfo, UnitLines, take_unit};
 
 /// A unit: where its program stands, its offset, and its boundaries.
 #[derive(Drop)]
@@ -88,7 +88,7 @@ fn give_unit<'a, T: FrameTaker<'a>>(
     requires steps { AreUnitSteps (sections_view info.now.sections) steps.now.starts.items steps.now.places.items }
     requires rising { AreRising of.now.boundaries.items }
     requires boundaries { (a : ℕ) → Contains of.now.boundaries.items a
-        ↔ IsStep steps.now.starts.items steps.now.places.items a (Some of.now.place) }
+        ↔ IsPlaced steps.now.starts.items steps.now.places.items a (Some of.now.place) }
     requires last { AreRowsOfLast (sections_view info.now.sections) last.old }
     ensures given { OnOk result ((given : List TurnRecord)
         × Takes (T.has_taken taker.old) (T.has_taken taker.new) given
@@ -146,7 +146,7 @@ fn give_units<'a, T: FrameTaker<'a>>(
     requires lines { line_units.now ≡ info.now.sections.debug_line.now }
     requires steps { AreUnitSteps (sections_view info.now.sections) steps.now.starts.items steps.now.places.items }
     requires boundaries { (place a : ℕ) → Contains (addresses_under by_unit place) a
-        ↔ IsStep steps.now.starts.items steps.now.places.items a (Some place) }
+        ↔ IsPlaced steps.now.starts.items steps.now.places.items a (Some place) }
     ensures { OnOk result ((given : List TurnRecord)
         × Takes (T.has_taken taker.old) (T.has_taken taker.new) given
         × AreTurnsWithUnits (sections_view info.now.sections) given) }
@@ -186,7 +186,7 @@ pub fn give_turns<'a, T: FrameTaker<'a>>(
     let info = DebugInfo::read(heap.share(), image)?;
     let line_units = Units::read(heap.share(), info.sections.debug_line)?;
     let steps = UnitSteps::read(heap.share(), &info)?;
-    let (without, by_unit) = by_unit(heap.share(), &steps)?;
+    let (without, by_unit) = steps.by_unit(heap.share())?;
     let without = sorted_once(without);
     give_without(taker, &without)?;
     give_units(heap, &info, &line_units, &steps, by_unit, taker)?;

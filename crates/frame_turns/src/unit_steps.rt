@@ -1,15 +1,17 @@
 //! The units of addresses, from one boundary to the next.
 
-ghost use Rattle.std.specs.Prelude.{IfOk};
+ghost use Rattle.std.specs.Prelude.{◌≡◌, ◌↔◌, ℕ, IfOk, None, Some, length};
+ghost use Rattle.std.specs.List.{Contains};
 ghost use Rattle.frame_turns.specs.Between.{IsCountTo, IsNextAbove};
 ghost use Rattle.pending_addresses.specs.Rising.{AreRising};
 ghost use Rattle.frame_turns.specs.UnitSteps.{AreUnitSteps};
+ghost use Rattle.source_frames.specs.ByUnit.{IsPlaced, addresses_under};
 ghost use Rattle.source_frames.specs.SectionsViews.{sections_view};
 
 use crate::next_start::start_at;
 use crate::unit_boundaries::boundaries;
 use memory::{Heap, NoMemory};
-use source_frames::DebugInfo;
+use source_frames::{ByUnit, DebugInfo, by_unit};
 
 /// The boundaries of units, ascending, each with the offset of the unit from there on.
 #[derive(Drop)]
@@ -35,6 +37,17 @@ impl UnitSteps {
         let starts = boundaries(heap.share(), info)?;
         let places = info.units_of(heap, &starts)?;
         Ok(UnitSteps { starts, places })
+    }
+
+    /// The boundaries that have no unit, and the others under the offsets of their units.
+    pub fn by_unit(&self, heap: Heap) -> Result<(Vec<u64, Heap>, ByUnit), NoMemory>
+        requires { length self.now.places.items ≡ length self.now.starts.items }
+        ensures without { IfOk result (λ x. (a : ℕ) → Contains x.0.items a
+            ↔ IsPlaced self.now.starts.items self.now.places.items a None) }
+        ensures under { IfOk result (λ x. (place a : ℕ) → Contains (addresses_under x.1 place) a
+            ↔ IsPlaced self.now.starts.items self.now.places.items a (Some place)) }
+    {
+        by_unit(heap, &self.starts, &self.places)
     }
 
     /// The first boundary after an address.

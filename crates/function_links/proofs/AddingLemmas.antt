@@ -1,20 +1,20 @@
 -- An entry is added, if it has ranges.
-use Rattle.std.proofs.Common.{◌≡◌, ◌≢◌, ℕ, ◌+◌, false, List, [], ◌∷◌, ◌++◌, length, refl, sym, ap, subst, ◌∙◌, arith}
+use Rattle.std.proofs.Common.{◌≡◌, ◌≢◌, ℕ, ◌+◌, false, List, [], ◌∷◌, ◌++◌, length, Option, refl, sym, ap, subst, ◌∙◌, arith}
 use Rattle.std.specs.Option.{option_map}
 use Rattle.std.proofs.lemmas.List.{append-nil}
 use Rattle.code_ranges.specs.EntryRanges.{UnitRangesRecord}
 use Rattle.code_ranges.specs.declared.range.CodeRange.{CodeRange}
 use Rattle.debug_entries.specs.Entries.{EntryRecord}
-use Rattle.source_frames.specs.ChainSteps.{scope_of}
 use Rattle.source_frames.specs.DebugSections.{DebugSectionsRecord}
 use Rattle.source_frames.specs.DebugUnits.{UnitRecord}
 use Rattle.source_frames.specs.Frames.{location_of_call}
 use Rattle.source_frames.specs.Names.{IsName}
-use Rattle.source_frames.specs.Scopes.{ScopeRecord, is_function, scope_ranges}
+use Rattle.source_frames.specs.Scopes.{ScopeRecord, is_function, scope_of, scope_ranges}
+use Rattle.function_links.specs.Asked.{asked_ranges, asked_scope}
 use Rattle.function_links.specs.OpenFunctions.{Adds, Closes, Takes}
 use Rattle.function_links.specs.declared.functions.Function.{Function}
 use Rattle.function_links.specs.declared.functions.Open.{Open}
-use Rattle.source_frames.proofs.SettledLemmas.{no_ranges}
+use Rattle.source_frames.proofs.ScopeLemmas.{no_ranges}
 
 -- a function of the entry
 pub adds_one : (s : DebugSectionsRecord) (unit : UnitRecord) (scope : ScopeRecord) (ranges next : List CodeRange) (opened now_open : List Open) (functions after : List Function) (f : Function) (index : ℕ) → next ≡ ranges ++ scope.ranges → length next ≢ length ranges → index ≡ length functions
@@ -31,33 +31,39 @@ adds_one s unit scope ranges next opened now_open functions after f index more o
   );
 }
 
-pub none_pushed : (unit : UnitRangesRecord) (left : ℕ) (entry : EntryRecord) (ranges : List CodeRange) → is_function entry ≡ false → ranges ≡ ranges ++ scope_ranges unit left entry
-none_pushed unit left entry ranges e = sym (ap (λ (rs : List CodeRange). ranges ++ rs) (no_ranges unit left entry e) ∙ append-nil ranges)
+no_asked : (asked : Option (List ℕ)) (unit : UnitRangesRecord) (left : ℕ) (entry : EntryRecord) → is_function entry ≡ false → asked_ranges asked (scope_ranges unit left entry) ≡ []
+no_asked asked unit left entry e = ap (asked_ranges asked) (no_ranges unit left entry e)
 
-pub takes_none : (s : DebugSectionsRecord) (unit : UnitRecord) (u : UnitRangesRecord) (left depth : ℕ) (entry : EntryRecord) (ranges_end : ℕ) (opened now_open : List Open) (before after : List Function) → is_function entry ≡ false → Closes depth opened now_open before after
-    → Takes s unit (scope_of u left depth entry) ranges_end opened now_open before after
-takes_none s unit u left depth entry ranges_end opened now_open before after e closes = record {
+pub none_pushed : (asked : Option (List ℕ)) (unit : UnitRangesRecord) (left : ℕ) (entry : EntryRecord) (ranges : List CodeRange) → is_function entry ≡ false → ranges ≡ ranges ++ asked_ranges asked (scope_ranges unit left entry)
+none_pushed asked unit left entry ranges e = sym (ap (λ (rs : List CodeRange). ranges ++ rs) (no_asked asked unit left entry e) ∙ append-nil ranges)
+
+pub takes_none : (s : DebugSectionsRecord) (unit : UnitRecord) (asked : Option (List ℕ)) (u : UnitRangesRecord) (left depth : ℕ) (entry : EntryRecord) (ranges_end : ℕ) (opened now_open : List Open) (before after : List Function) → is_function entry ≡ false
+    → Closes depth opened now_open before after → Takes s unit (asked_scope asked (scope_of u left depth entry)) ranges_end opened now_open before after
+takes_none s unit asked u left depth entry ranges_end opened now_open before after e closes = record {
   left = now_open;
   closed = after;
   closes = closes;
   adds = record {
     without = λ none. (refl, refl);
-    with_ranges = λ some. absurd (omega (arith, ap (λ (rs : List CodeRange). length rs) (no_ranges u left entry e)));
+    with_ranges = λ some. absurd (omega (arith, some, ap (λ (rs : List CodeRange). length rs) (no_asked asked u left entry e)));
   };
 }
 
 -- an entry is taken by closing what it does not stand in, and adding it
-pub takes_added : (s : DebugSectionsRecord) (unit : UnitRecord) (u : UnitRangesRecord) (left depth : ℕ) (entry read : EntryRecord) (own : List CodeRange) (ranges_end : ℕ) (opened stay now_open : List Open) (before closed after : List Function) → read ≡ entry → own ≡ scope_ranges u left read
-    → Closes depth opened stay before closed → Adds s unit (record { depth = depth; entry = read; ranges = own }) ranges_end stay now_open closed after → Takes s unit (scope_of u left depth entry) ranges_end opened now_open before after
-takes_added s unit u left depth entry read own ranges_end opened stay now_open before closed after same ranges closes adds =
-    let as_read : Adds s unit (scope_of u left depth read) ranges_end stay now_open closed after = subst (λ (rs : List CodeRange). Adds s unit (record { depth = depth; entry = read; ranges = rs }) ranges_end stay now_open closed after) ranges adds in
+pub takes_added : (s : DebugSectionsRecord) (unit : UnitRecord) (asked : Option (List ℕ)) (u : UnitRangesRecord) (left depth : ℕ) (entry read : EntryRecord) (own : List CodeRange) (ranges_end : ℕ) (opened stay now_open : List Open) (before closed after : List Function) → read ≡ entry → own ≡ scope_ranges u left read
+    → Closes depth opened stay before closed → Adds s unit (asked_scope asked (record { depth = depth; entry = read; ranges = own })) ranges_end stay now_open closed after
+    → Takes s unit (asked_scope asked (scope_of u left depth entry)) ranges_end opened now_open before after
+takes_added s unit asked u left depth entry read own ranges_end opened stay now_open before closed after same ranges closes adds =
+    let as_read : Adds s unit (asked_scope asked (scope_of u left depth read)) ranges_end stay now_open closed after =
+    subst (λ (rs : List CodeRange). Adds s unit (asked_scope asked (record { depth = depth; entry = read; ranges = rs })) ranges_end stay now_open closed after) ranges adds in
     record {
       left = stay;
       closed = closed;
       closes = closes;
-      adds = subst (λ (e : EntryRecord). Adds s unit (scope_of u left depth e) ranges_end stay now_open closed after) same as_read;
+      adds = subst (λ (e : EntryRecord). Adds s unit (asked_scope asked (scope_of u left depth e)) ranges_end stay now_open closed after) same as_read;
     }
 
-pub ranges_added : (u : UnitRangesRecord) (left : ℕ) (entry read : EntryRecord) (own before ranges after : List CodeRange) → read ≡ entry → own ≡ scope_ranges u left read → ranges ≡ before → after ≡ ranges ++ own → after ≡ before ++ scope_ranges u left entry
-ranges_added u left entry read own before ranges after same is kept more =
-    more ∙ ap (λ (rs : List CodeRange). rs ++ own) kept ∙ ap (λ (rs : List CodeRange). before ++ rs) (is ∙ ap (scope_ranges u left) same)
+pub ranges_added : (asked : Option (List ℕ)) (u : UnitRangesRecord) (left : ℕ) (entry read : EntryRecord) (own before ranges after : List CodeRange) → read ≡ entry → own ≡ scope_ranges u left read → ranges ≡ before → after ≡ ranges ++ asked_ranges asked own
+    → after ≡ before ++ asked_ranges asked (scope_ranges u left entry)
+ranges_added asked u left entry read own before ranges after same is kept more =
+    more ∙ ap (λ (rs : List CodeRange). rs ++ asked_ranges asked own) kept ∙ ap (λ (rs : List CodeRange). before ++ asked_ranges asked rs) (is ∙ ap (scope_ranges u left) same)

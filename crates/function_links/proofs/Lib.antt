@@ -1,6 +1,8 @@
 pub mod LinkFrameLemmas
 pub mod AfterLemmas
 pub mod ChainLemmas
+pub mod SameChain
+pub mod AskedLemmas
 pub mod MakingLemmas
 pub mod TakingLemmas
 pub mod StartLemmas

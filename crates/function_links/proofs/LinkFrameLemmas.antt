@@ -1,19 +1,22 @@
 -- The frames of links are those of their entries.
-use Rattle.std.proofs.Common.{◌≡◌, ℕ, List, [], ◌∷◌, Some, refl, sym, ap, subst, ◌∙◌}
-use Rattle.std.proofs.lemmas.Option.{none-some, same_Some}
+use Rattle.std.proofs.Common.{◌≡◌, ◌≤◌, ℕ, zero, suc, length, List, [], ◌∷◌, Option, Some, None, reverse, refl, sym, ap, subst, ◌∙◌, arith}
+use Rattle.std.proofs.lemmas.Option.{none-some, same_Some, slice_get_within}
+use Rattle.line_programs.specs.Covering.{IsCovering}
+use Rattle.line_programs.specs.declared.registers.Row.{Row}
 use Rattle.debug_entries.specs.Entries.{EntryRecord}
+use Rattle.source_frames.specs.AddressFrames.{AreFramesInUnit, rows_of}
 use Rattle.source_frames.specs.DebugSections.{DebugSectionsRecord}
 use Rattle.source_frames.specs.DebugUnits.{UnitRecord}
-use Rattle.source_frames.specs.Frames.{AreFramesFrom, FrameRecord, location_of_call}
-use Rattle.function_links.specs.Links.{AreEntriesOfLink, AreFramesOfLink, LinkRecord, frame_at_place, link_at}
+use Rattle.source_frames.specs.Frames.{AreFramesFrom, AreFramesOfChain, FrameRecord, location_of_call, location_of_row}
+use Rattle.function_links.specs.Links.{AreEntriesOfLink, AreFramesOfLink, AreFramesOfRowAndLink, IsLinkOf, LinkRecord, frame_at_place, link_at}
 use Rattle.source_frames.specs.Names.{IsName}
-use Rattle.source_frames.specs.UnitLines.{LinesRecord}
+use Rattle.source_frames.specs.UnitLines.{LinesRecord, lines_of}
 use Rattle.source_frames.specs.declared.frame.SourceLocation.{SourceLocation}
 
 no_link : (links : List LinkRecord) (number : ℕ) (link : LinkRecord) → number ≡ 0 → link_at links number ≡ Some link → ⊥
 no_link links number link none is = none-some link (subst (λ n. link_at links n ≡ Some link) none is)
 
-pub frames_from : (s : DebugSectionsRecord) (lines : LinesRecord) (unit : UnitRecord) (links : List LinkRecord) (number : ℕ) (place : SourceLocation) (entries : List EntryRecord) (frames : List FrameRecord)
+frames_from : (s : DebugSectionsRecord) (lines : LinesRecord) (unit : UnitRecord) (links : List LinkRecord) (number : ℕ) (place : SourceLocation) (entries : List EntryRecord) (frames : List FrameRecord)
     → AreEntriesOfLink s unit links number entries → AreFramesOfLink lines links place number frames → AreFramesFrom s lines unit place entries frames
 frames_from s lines unit links number place [] [] are told = refl
 frames_from s lines unit links number place [] (f ∷ fs) are told = absurd (no_link links number told.0 are told.1)
@@ -30,3 +33,33 @@ frames_from s lines unit links number place (e ∷ es) (f ∷ fs) are told =
       },
       frames_from s lines unit links are.0.caller (location_of_call e) es fs are.5 (subst (λ (p : SourceLocation). AreFramesOfLink lines links p are.0.caller fs) are.4 more),
     )
+
+-- the frames of a row and a link are those of the row and of the entries of the link
+frames_of_chain : (s : DebugSectionsRecord) (lines : LinesRecord) (unit : UnitRecord) (links : List LinkRecord) (row : Option Row) (number : ℕ) (entries : List EntryRecord) (frames : List FrameRecord)
+    → AreEntriesOfLink s unit links number entries → AreFramesOfRowAndLink lines links row number frames → AreFramesOfChain s lines unit entries row frames
+frames_of_chain s lines unit links None zero [] frames are told = told
+frames_of_chain s lines unit links (Some row) zero [] frames are told = told
+frames_of_chain s lines unit links None zero (e ∷ es) frames are told = absurd (none-some are.0 are.1)
+frames_of_chain s lines unit links (Some row) zero (e ∷ es) frames are told = absurd (none-some are.0 are.1)
+frames_of_chain s lines unit links None (suc n) [] frames are told = absurd (omega (arith, are))
+frames_of_chain s lines unit links (Some row) (suc n) [] frames are told = absurd (omega (arith, are))
+frames_of_chain s lines unit links None (suc n) (e ∷ es) frames are told = frames_from s lines unit links (suc n) (location_of_row None) (e ∷ es) frames are told
+frames_of_chain s lines unit links (Some row) (suc n) (e ∷ es) frames are told = frames_from s lines unit links (suc n) (location_of_row (Some row)) (e ∷ es) frames are told
+
+-- so they are those of an address in the unit
+pub frames_in_unit : (s : DebugSectionsRecord) (unit : UnitRecord) (lines : LinesRecord) (links : List LinkRecord) (a number : ℕ) (row : Option Row) (frames : List FrameRecord) → lines ≡ lines_of s unit
+    → IsLinkOf s unit links a number → IsCovering (rows_of lines) a row → AreFramesOfRowAndLink lines links row number frames → AreFramesInUnit s unit a frames
+frames_in_unit s unit lines links a number row frames same link covers are = record {
+  chain = link.chain;
+  row = row;
+  contain = link.contain;
+  covers = subst (λ (l : LinesRecord). IsCovering (rows_of l) a row) same covers;
+  are_frames = subst (λ (l : LinesRecord). AreFramesOfChain s l unit (reverse link.chain) row frames) same
+      (frames_of_chain s lines unit links row number (reverse link.chain) frames link.are_entries are);
+}
+
+-- the number of a link is among those of the links
+pub number_within : (s : DebugSectionsRecord) (unit : UnitRecord) (links : List LinkRecord) (number : ℕ) (entries : List EntryRecord) → AreEntriesOfLink s unit links number entries → number ≤ length links
+number_within s unit links number [] are = omega (arith, are)
+number_within s unit links zero (e ∷ es) are = omega arith
+number_within s unit links (suc n) (e ∷ es) are = let w = slice_get_within links n are.0 are.1 in omega (arith, w)

@@ -1,5 +1,5 @@
 -- How far the functions of a unit are read.
-use Rattle.std.proofs.Common.{◌≡◌, ℕ, ◌+◌, ◌<◌, nat_le, true, List, [], ◌∷◌, ◌++◌, length, take, Some, slice_get, refl, sym, ap, subst, ◌∙◌, inl, inr, arith, append_assoc}
+use Rattle.std.proofs.Common.{◌≡◌, ℕ, ◌+◌, ◌<◌, nat_le, true, List, [], ◌∷◌, ◌++◌, length, take, Option, Some, slice_get, refl, sym, ap, subst, ◌∙◌, inl, inr, arith, append_assoc}
 use Rattle.std.specs.Prelude.{flat_map}
 use Rattle.std.specs.Option.{option_map}
 use Rattle.std.proofs.lemmas.Bool.{cases_eq, le-leb}
@@ -12,11 +12,11 @@ use Rattle.source_frames.specs.DebugSections.{DebugSectionsRecord}
 use Rattle.source_frames.specs.DebugUnits.{UnitRecord}
 use Rattle.source_frames.specs.Frames.{location_of_call}
 use Rattle.source_frames.specs.Names.{IsName}
-use Rattle.source_frames.specs.ChainSteps.{scope_of}
-use Rattle.source_frames.specs.Scopes.{ScopeRecord, left_after_scope, scope_ranges, scopes_from, scopes_of}
-use Rattle.source_frames.proofs.NestedLemmas.{scopes_more, scopes_none}
+use Rattle.source_frames.specs.Scopes.{ScopeRecord, left_after_scope, scope_of, scope_ranges, scopes_from}
+use Rattle.source_frames.proofs.ScopeLemmas.{scopes_more, scopes_none}
+use Rattle.function_links.specs.Asked.{asked_ranges, asked_scope, asked_scopes}
 use Rattle.function_links.specs.OpenFunctions.{Adds, Closes, Takes}
-use Rattle.function_links.specs.UnitFunctions.{AreFunctions, FunctionRecord, IsFunction, functions_from, functions_of}
+use Rattle.function_links.specs.UnitFunctions.{AreFunctions, FunctionRecord, IsFunction, functions_from}
 use Rattle.function_links.specs.declared.functions.Function.{Function}
 use Rattle.function_links.specs.declared.functions.Open.{Open}
 use Rattle.function_links.proofs.ClosingLemmas.{was_open, was_kept}
@@ -116,13 +116,13 @@ pub record AreReadTo (s : DebugSectionsRecord) (unit : UnitRecord) (all : List F
   pub so_far : AreSoFar s unit done functions ranges
   pub open_to : AreOpenTo done functions opened rest
 
-pub read_none : (s : DebugSectionsRecord) (unit : UnitRecord) (rest : List ScopeRecord) (functions : List Function) (ranges : List CodeRange) (opened : List Open) → rest ≡ scopes_of s unit → functions ≡ [] → ranges ≡ [] → opened ≡ []
-    → AreReadTo s unit (functions_of s unit) rest functions ranges opened
-read_none s unit rest functions ranges opened same none no_ranges none_open = rw (same, none, no_ranges, none_open) (record {
+pub read_none : (s : DebugSectionsRecord) (unit : UnitRecord) (scopes rest : List ScopeRecord) (functions : List Function) (ranges : List CodeRange) (opened : List Open) → rest ≡ scopes → functions ≡ [] → ranges ≡ [] → opened ≡ []
+    → AreReadTo s unit (functions_from 0 scopes) rest functions ranges opened
+read_none s unit scopes rest functions ranges opened same none no_ranges none_open = rw (same, none, no_ranges, none_open) (record {
   done = [];
   others = refl;
   so_far = none_so_far s unit;
-  open_to = none_open_yet (scopes_of s unit);
+  open_to = none_open_yet scopes;
 })
 
 module _ (s : DebugSectionsRecord) (unit : UnitRecord) (all : List FunctionRecord) (scope : ScopeRecord) (rest : List ScopeRecord) (functions : List Function) (ranges next_ranges : List CodeRange) (opened : List Open)
@@ -185,18 +185,21 @@ read_taken s unit all scope rest opened next before after ranges next_ranges mor
     let shallow = closed_shallow scope.depth opened t.left before t.closed so.done (scope ∷ rest) t.closes out so.open_to in
     read_added s unit all scope rest t.closed ranges next_ranges t.left more shallow closed next after t.adds
 
-pub read_next : (s : DebugSectionsRecord) (unit : UnitRecord) (all : List FunctionRecord) (u : UnitRangesRecord) (left next_left : ℕ) (p : PlacedRecord) (entries rest : List PlacedRecord) (opened next : List Open) (before after : List Function) (ranges next_ranges : List CodeRange) → entries ≡ p ∷ rest
-    → next_left ≡ left_after_scope u left p.entry → next_ranges ≡ ranges ++ scope_ranges u left p.entry → Takes s unit (scope_of u left p.depth p.entry) (length next_ranges) opened next before after
-    → AreReadTo s unit all (scopes_from u left entries) before ranges opened → AreReadTo s unit all (scopes_from u next_left rest) after next_ranges next
-read_next s unit all u left next_left p entries rest opened next before after ranges next_ranges step after_it more t so =
-    let here : scopes_from u left entries ≡ scope_of u left p.depth p.entry ∷ scopes_from u (left_after_scope u left p.entry) rest = ap (scopes_from u left) step ∙ scopes_more u left p rest in
-    rw after_it (read_taken s unit all (scope_of u left p.depth p.entry) (scopes_from u (left_after_scope u left p.entry) rest) opened next before after ranges next_ranges more t
+pub read_next : (s : DebugSectionsRecord) (unit : UnitRecord) (all : List FunctionRecord) (asked : Option (List ℕ)) (u : UnitRangesRecord) (left next_left : ℕ) (p : PlacedRecord) (entries rest : List PlacedRecord) (opened next : List Open) (before after : List Function) (ranges next_ranges : List CodeRange)
+    → entries ≡ p ∷ rest → next_left ≡ left_after_scope u left p.entry → next_ranges ≡ ranges ++ asked_ranges asked (scope_ranges u left p.entry)
+    → Takes s unit (asked_scope asked (scope_of u left p.depth p.entry)) (length next_ranges) opened next before after
+    → AreReadTo s unit all (asked_scopes asked (scopes_from u left entries)) before ranges opened → AreReadTo s unit all (asked_scopes asked (scopes_from u next_left rest)) after next_ranges next
+read_next s unit all asked u left next_left p entries rest opened next before after ranges next_ranges step after_it more t so =
+    let scope = asked_scope asked (scope_of u left p.depth p.entry) in
+    let others = asked_scopes asked (scopes_from u (left_after_scope u left p.entry) rest) in
+    let here : asked_scopes asked (scopes_from u left entries) ≡ scope ∷ others = ap (asked_scopes asked) (ap (scopes_from u left) step ∙ scopes_more u left p rest) in
+    rw after_it (read_taken s unit all scope others opened next before after ranges next_ranges more t
     (subst (λ (scopes : List ScopeRecord). AreReadTo s unit all scopes before ranges opened) here so))
 
 -- after the last entry all are closed
-are_functions : (s : DebugSectionsRecord) (unit : UnitRecord) (functions : List Function) (ranges : List CodeRange) (opened : List Open) → AreShallow 0 opened → AreReadTo s unit (functions_of s unit) [] functions ranges opened → AreFunctions s unit functions ranges
-are_functions s unit functions ranges opened shallow so =
-    let same : functions_of s unit ≡ so.done = so.others ∙ ap (λ (fs : List FunctionRecord). so.done ++ fs) (from_none (length functions)) ∙ append-nil so.done in
+are_functions : (s : DebugSectionsRecord) (unit : UnitRecord) (scopes : List ScopeRecord) (functions : List Function) (ranges : List CodeRange) (opened : List Open) → AreShallow 0 opened → AreReadTo s unit (functions_from 0 scopes) [] functions ranges opened → AreFunctions s unit scopes functions ranges
+are_functions s unit scopes functions ranges opened shallow so =
+    let same : functions_from 0 scopes ≡ so.done = so.others ∙ ap (λ (fs : List FunctionRecord). so.done ++ fs) (from_none (length functions)) ∙ append-nil so.done in
     record {
       count = so.so_far.count ∙ ap (λ (fs : List FunctionRecord). length fs) (sym same);
       ranges_are = so.so_far.ranges_are ∙ ap ranges_of (sym same);
@@ -214,10 +217,10 @@ are_functions s unit functions ranges opened shallow so =
       ends = λ i f is. so.so_far.range_ends i f is ∙ ap (λ (fs : List FunctionRecord). length (ranges_of (take (i + 1) fs))) (sym same);
     }
 
-pub read_all : (s : DebugSectionsRecord) (unit : UnitRecord) (u : UnitRangesRecord) (left : ℕ) (entries : List PlacedRecord) (opened last_open : List Open) (before after : List Function) (ranges : List CodeRange) → entries ≡ []
-    → Closes 0 opened last_open before after → AreReadTo s unit (functions_of s unit) (scopes_from u left entries) before ranges opened → AreFunctions s unit after ranges
-read_all s unit u left entries opened last_open before after ranges none c so =
-    let here : scopes_from u left entries ≡ [] = ap (scopes_from u left) none ∙ scopes_none u left in
-    let all = subst (λ (scopes : List ScopeRecord). AreReadTo s unit (functions_of s unit) scopes before ranges opened) here so in
-    are_functions s unit after ranges last_open (closed_shallow 0 opened last_open before after all.done [] c out_of_all all.open_to)
-    (read_closed s unit (functions_of s unit) [] 0 opened last_open before after ranges c out_of_all all)
+pub read_all : (s : DebugSectionsRecord) (unit : UnitRecord) (scopes : List ScopeRecord) (asked : Option (List ℕ)) (u : UnitRangesRecord) (left : ℕ) (entries : List PlacedRecord) (opened last_open : List Open) (before after : List Function) (ranges : List CodeRange) → entries ≡ []
+    → Closes 0 opened last_open before after → AreReadTo s unit (functions_from 0 scopes) (asked_scopes asked (scopes_from u left entries)) before ranges opened → AreFunctions s unit scopes after ranges
+read_all s unit scopes asked u left entries opened last_open before after ranges none c so =
+    let here : asked_scopes asked (scopes_from u left entries) ≡ [] = ap (asked_scopes asked) (ap (scopes_from u left) none ∙ scopes_none u left) in
+    let all = subst (λ (rest : List ScopeRecord). AreReadTo s unit (functions_from 0 scopes) rest before ranges opened) here so in
+    are_functions s unit scopes after ranges last_open (closed_shallow 0 opened last_open before after all.done [] c out_of_all all.open_to)
+    (read_closed s unit (functions_from 0 scopes) [] 0 opened last_open before after ranges c out_of_all all)

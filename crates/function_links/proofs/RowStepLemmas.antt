@@ -1,15 +1,16 @@
 -- The rows that cover starts, and the addresses after them.
-use Rattle.std.proofs.Common.{◌≡◌, ℕ, zero, suc, ◌+◌, ◌<◌, ◌≤◌, ◌⊎◌, true, false, nat_lt, List, [], ◌∷◌, length, map, get_or, slice_get, Option, Some, None, refl, sym, ap, subst, ◌∙◌, inl, inr, arith}
+use Rattle.std.proofs.Common.{◌≡◌, ℕ, zero, suc, ◌+◌, ◌<◌, ◌≤◌, ◌⊎◌, true, false, nat_lt, List, [], ◌∷◌, length, map, get_or, replicate, slice_get, Option, Some, None, refl, sym, ap, subst, ◌∙◌, inl, inr, arith}
 use Rattle.std.specs.Prelude.{◌↔◌}
 use Rattle.std.specs.List.{Contains}
 use Rattle.std.proofs.lemmas.Bool.{cases_Bool, cases_eq, cases_lt, ltb-true, ltb-false}
 use Rattle.std.proofs.lemmas.Grind.{get_or_default_zero}
+use Rattle.std.proofs.lemmas.List.{get_or-replicate, length-replicate}
 use Rattle.std.proofs.lemmas.Option.{none-some, same_Some, slice_get-get_or}
-use Rattle.line_programs.specs.Covering.{CoversAt, IsCovering}
+use Rattle.line_programs.specs.Covering.{AreCovering, CoversAt, IsCovering}
 use Rattle.line_programs.specs.Inner.{covers, covered, covering_with}
 use Rattle.line_programs.specs.declared.registers.Row.{Row}
 use Rattle.function_links.specs.AddressSteps.{at_step}
-use Rattle.function_links.specs.RowCover.{AreKnown, Covers}
+use Rattle.function_links.specs.RowCover.{AreCovered, AreKnown, Covers}
 use Rattle.pending_addresses.specs.Rising.{IsCountBelow, AreRising}
 use Rattle.function_links.specs.RowSteps.{AreRowSteps}
 use Rattle.line_programs.proofs.CoveringLemmas.{IsCovered, covering_with-is, step_end, step_none, step_some, test_false, test_true}
@@ -188,16 +189,33 @@ covering_stays s a rows None upto none is = λ i row covers. is i row (covers_ba
 covering_stays s a rows (Some row) upto none is =
     (is.0, covers_there s a rows is.0 row upto none is.1, λ before other l covers. is.2 before other l (covers_back s a rows before other upto none covers))
 
-module _ (all : List Row) (starts next : List ℕ) (rows : List (Option Row)) (before : Option Row) (rising : AreRising starts)
-    (same : (a : ℕ) → Contains starts a ↔ Contains (map address all) a) (known : AreKnown starts next rows before [] all) where
-  row_there : (i : ℕ) → i < length starts → get_or rows i None ≡ covering_with (get_or starts i 0) None all
-  row_there i h = elim (cases_eq (get_or next i 0) i) [
+-- after the last row each start has the first one that covers it
+pub known_all : (all : List Row) (starts next : List ℕ) (rows : List (Option Row)) (before : Option Row) → AreKnown starts next rows before [] all → AreCovered all starts rows
+known_all all starts next rows before known = record {
+  count = known.count;
+  each = λ i h. elim (cases_eq (get_or next i 0) i) [
     | inl w ↦ known.blank i h w ∙ (sym (step_end (get_or starts i 0) before) ∙ known.waits i h w)
     | inr not ↦ known.found i h not
-  ]
+  ];
+}
 
+pub covering_of : (all : List Row) (starts : List ℕ) (rows : List (Option Row)) → AreCovered all starts rows → AreCovering all starts rows
+covering_of all starts rows are = record {
+  len = are.count;
+  each = λ i h. subst (λ (found : Option Row). IsCovering all (get_or starts i 0) found) (sym (are.each i h)) (covering_with-is (get_or starts i 0) all);
+}
+
+-- no rows cover nothing
+pub covering_none : (starts : List ℕ) (rows : List (Option Row)) → rows ≡ replicate (length starts) None → AreCovering [] starts rows
+covering_none starts rows none = covering_of [] starts rows (record {
+  count = ap (λ (rs : List (Option Row)). length rs) none ∙ length-replicate (length starts) None;
+  each = λ i h. ap (λ (rs : List (Option Row)). get_or rs i None) none ∙ get_or-replicate (length starts) i None None h;
+})
+
+module _ (all : List Row) (starts : List ℕ) (rows : List (Option Row)) (rising : AreRising starts)
+    (same : (a : ℕ) → Contains starts a ↔ Contains (map address all) a) (known : AreCovered all starts rows) where
   row_value : (i : ℕ) → i < length starts → slice_get rows i ≡ Some (covering_with (get_or starts i 0) None all)
-  row_value i h = slice_get-get_or rows i None (let n = known.count in omega (arith, n, h)) ∙ ap Some (row_there i h)
+  row_value i h = slice_get-get_or rows i None (let n = known.count in omega (arith, n, h)) ∙ ap Some (known.each i h)
 
   row_start : (i : ℕ) (row : Row) → slice_get all i ≡ Some row → (j : ℕ) × (j < length starts) × (get_or starts j 0 ≡ address row)
   row_start i row e =

@@ -3,8 +3,8 @@ use Rattle.std.proofs.Common.{◌≡◌, ℕ, zero, suc, ◌+◌, ◌-◌, ◌<�
 use Rattle.std.specs.Prelude.{◌↔◌}
 use Rattle.std.specs.List.{Contains, flat_map}
 use Rattle.std.specs.Borrow.{Bor}
-use Rattle.std.specs.Option.{option_map}
-use Rattle.std.proofs.lemmas.Bool.{cases_Bool, cases_eq, cases_lt, le-leb, le-ltb, leb-false, lt-leb, lt-ltb, ltb-false, ltb-true}
+use Rattle.std.specs.Option.{option_map, option_map_or}
+use Rattle.std.proofs.lemmas.Bool.{both_ways, cases_Bool, cases_eq, cases_lt, le-leb, le-ltb, leb-false, lt-leb, lt-ltb, ltb-false, ltb-true}
 use Rattle.std.proofs.lemmas.Grind.{get_or_default_zero}
 use Rattle.std.proofs.lemmas.List.{append-nil, drop_all, length-map, map-append, reverse-append, reverse-reverse}
 use Rattle.std.proofs.lemmas.List.Concat.{flat_map-append}
@@ -17,21 +17,21 @@ use Rattle.function_links.specs.AddressSteps.{at_step}
 use Rattle.source_frames.specs.DebugSections.{DebugSectionsRecord}
 use Rattle.source_frames.specs.DebugUnits.{UnitRecord}
 use Rattle.source_frames.specs.Names.{IsName}
-use Rattle.source_frames.specs.Scopes.{IsChain, ScopeRecord, scopes_of}
-use Rattle.function_links.specs.UnitFunctions.{AreFunctions, FunctionRecord, functions_after, functions_from, functions_of, is_past}
+use Rattle.source_frames.specs.Scopes.{IsChain, ScopeRecord, contains_at, scopes_of}
+use Rattle.function_links.specs.UnitFunctions.{AreFunctions, FunctionRecord, functions_after, functions_from}
 use Rattle.function_links.specs.declared.functions.Function.{Function}
 use Rattle.pending_addresses.specs.Rising.{AreRising}
 use Rattle.pending_addresses.specs.Waiting.{Waits}
-use Rattle.function_links.specs.Links.{AreEntriesOfLink, AreLinkSteps, IsLinkOf, LinkRecord, ends_of_ranges, link_at}
+use Rattle.function_links.specs.Links.{AreCallersBefore, AreEntriesOfLink, AreLinkSteps, AreLinksAmong, IsLinkOf, LinkRecord, ends_of_ranges, link_at}
 use Rattle.function_links.specs.LinkViews.{link_view, links_view}
 use Rattle.function_links.specs.Making.{AreMade, made_at}
 use Rattle.function_links.specs.Taking.{AreFunctionsOfLink, AreOf, IsUpTo, chain_in, end_of}
 use Rattle.function_links.specs.declared.links.Link.{Link}
-use Rattle.function_links.proofs.AfterLemmas.{after_here, after_none, after_past, after_skip, after_zero, from_bare, from_with}
+use Rattle.function_links.proofs.AfterLemmas.{after_none, from_bare, from_with}
 use Rattle.function_links.proofs.ChainLemmas.{entries_of, is_chain}
 use Rattle.function_links.proofs.MakingLemmas.{get_there}
 use Rattle.function_links.proofs.PartLemmas.{all_ranges}
-use Rattle.function_links.proofs.TakingLemmas.{after_not}
+use Rattle.function_links.proofs.SameChain.{same_chain}
 use Rattle.pending_addresses.proofs.RisingLists.{rising_rest}
 use Rattle.function_links.proofs.RowStepLemmas.{above_first}
 
@@ -70,26 +70,20 @@ alike_in a s (r ∷ rs) alike =
     let high = (alike r.high (1, omega arith, refl)).1 in
     let rest = alike_in a s rs (λ x h. alike x (Contains-append_right (r.low ∷ r.high ∷ []) (ends_of_ranges rs) x h)) in cc
 
-alike_step : (a s : ℕ) (f : FunctionRecord) (fs : List FunctionRecord) → in_ranges a f.ranges ≡ in_ranges s f.ranges
-    → ((room : ℕ) (end : Option ℕ) (index : ℕ) → functions_after room a end index fs ≡ functions_after room s end index fs)
-    → (room : ℕ) (end : Option ℕ) (index : ℕ) → functions_after room a end index (f ∷ fs) ≡ functions_after room s end index (f ∷ fs)
-alike_step a s f fs same rest zero end index = after_zero a end index (f ∷ fs) ∙ sym (after_zero s end index (f ∷ fs))
-alike_step a s f fs same rest (suc room) end index = elim (cases_Bool (is_past end index)) [
-  | inl past ↦ after_past room a end index f fs past ∙ sym (after_past room s end index f fs past)
-  | inr before ↦ elim (cases_Bool (in_ranges a f.ranges)) [
-    | inl has ↦ after_here room a end index f fs before has
-        ∙ (ap (λ (gs : List FunctionRecord). f ∷ gs) (rest room (Some f.end) (index + 1)) ∙ sym (after_here room s end index f fs before (sym same ∙ has)))
-    | inr not ↦ after_skip room a end index f fs before not ∙ (rest (suc room) end (index + 1) ∙ sym (after_skip room s end index f fs before (sym same ∙ not)))
-  ]
-]
+-- the ends of the ranges of an entry are among those of all
+ends_at : (scopes : List ScopeRecord) (i : ℕ) (scope : ScopeRecord) → slice_get scopes i ≡ Some scope → (x : ℕ) → Contains (ends_of_ranges scope.ranges) x → Contains (flat_map (λ s. ends_of_ranges s.ranges) scopes) x
+ends_at [] i scope is x h = absurd (none-some scope is)
+ends_at (s ∷ ss) zero scope is x h =
+    let same : scope ≡ s = same_Some scope s (sym is) in
+    Contains-append_left (ends_of_ranges s.ranges) (flat_map (λ t. ends_of_ranges t.ranges) ss) x (subst (λ (t : ScopeRecord). Contains (ends_of_ranges t.ranges) x) same h)
+ends_at (s ∷ ss) (suc i) scope is x h = Contains-append_right (ends_of_ranges s.ranges) (flat_map (λ t. ends_of_ranges t.ranges) ss) x (ends_at ss i scope is x h)
 
-alike_after : (a s : ℕ) (fs : List FunctionRecord) → AreAlike a s (ends_of_ranges (all_ranges fs)) → (room : ℕ) (end : Option ℕ) (index : ℕ) → functions_after room a end index fs ≡ functions_after room s end index fs
-alike_after a s [] alike = λ room end index. after_none room a end index ∙ sym (after_none room s end index)
-alike_after a s (f ∷ fs) alike =
-    let parts = ends-append f.ranges (all_ranges fs) in
-    alike_step a s f fs
-    (alike_in a s f.ranges (λ x h. alike x (subst (λ (xs : List ℕ). Contains xs x) (sym parts) (Contains-append_left (ends_of_ranges f.ranges) (ends_of_ranges (all_ranges fs)) x h))))
-    (alike_after a s fs (λ x h. alike x (subst (λ (xs : List ℕ). Contains xs x) (sym parts) (Contains-append_right (ends_of_ranges f.ranges) (ends_of_ranges (all_ranges fs)) x h))))
+alike_at : (a s : ℕ) (scopes : List ScopeRecord) → AreAlike a s (flat_map (λ t. ends_of_ranges t.ranges) scopes) → (i : ℕ) → contains_at a scopes i ≡ contains_at s scopes i
+alike_at a s scopes alike i = of (slice_get scopes i) refl
+  where
+    of : (o : Option ScopeRecord) → slice_get scopes i ≡ o → option_map_or (λ t. in_ranges a t.ranges) o false ≡ option_map_or (λ t. in_ranges s t.ranges) o false
+    of None is = refl
+    of (Some scope) is = alike_in a s scope.ranges (λ x h. alike x (ends_at scopes i scope is x h))
 
 -- no range begins up to an address
 none_in : (a : ℕ) (ranges : List CodeRange) → ((x : ℕ) → Contains (ends_of_ranges ranges) x → a < x) → in_ranges a ranges ≡ false
@@ -98,12 +92,12 @@ none_in a (r ∷ rs) above =
     let low : nat_le r.low a ≡ false = lt-leb r.low a (above r.low (0, omega arith, refl)) in
     let rest = none_in a rs (λ x h. above x (Contains-append_right (r.low ∷ r.high ∷ []) (ends_of_ranges rs) x h)) in rw (low, rest) refl
 
-none_after : (a : ℕ) (fs : List FunctionRecord) → ((x : ℕ) → Contains (ends_of_ranges (all_ranges fs)) x → a < x) → (room : ℕ) (end : Option ℕ) (index : ℕ) → functions_after room a end index fs ≡ []
-none_after a [] above = λ room end index. after_none room a end index
-none_after a (f ∷ fs) above = λ room end index.
-    let not = none_in a f.ranges (λ x h. above x (subst (λ (xs : List ℕ). Contains xs x) (sym (ends-append f.ranges (all_ranges fs))) (Contains-append_left (ends_of_ranges f.ranges) (ends_of_ranges (all_ranges fs)) x h))) in
-    after_not room a end index f fs not
-    ∙ none_after a fs (λ x h. above x (subst (λ (xs : List ℕ). Contains xs x) (sym (ends-append f.ranges (all_ranges fs))) (Contains-append_right (ends_of_ranges f.ranges) (ends_of_ranges (all_ranges fs)) x h))) room end (index + 1)
+none_at : (a : ℕ) (scopes : List ScopeRecord) → ((x : ℕ) → Contains (flat_map (λ t. ends_of_ranges t.ranges) scopes) x → a < x) → (i : ℕ) → contains_at a scopes i ≡ false
+none_at a scopes above i = of (slice_get scopes i) refl
+  where
+    of : (o : Option ScopeRecord) → slice_get scopes i ≡ o → option_map_or (λ t. in_ranges a t.ranges) o false ≡ false
+    of None is = refl
+    of (Some scope) is = none_in a scope.ranges (λ x h. above x (ends_at scopes i scope is x h))
 
 -- ---- the step of an address
 
@@ -181,11 +175,11 @@ made_function : (functions : List Function) (links : List Link) (last number : �
 made_function functions links last zero link made is = absurd (none-some link is)
 made_function functions links last (suc i) link made is = let m = made.each i link is in (m.of, m.there, m.name, m.call)
 
-entries_of_link : (sections : DebugSectionsRecord) (unit : UnitRecord) (functions : List Function) (ranges : List CodeRange) (links : List Link) (last number : ℕ) (chain : List FunctionRecord)
-    → AreFunctions sections unit functions ranges → AreMade functions links last → AreFunctionsOfLink (functions_of sections unit) links number chain
+entries_of_link : (sections : DebugSectionsRecord) (unit : UnitRecord) (scopes : List ScopeRecord) (functions : List Function) (ranges : List CodeRange) (links : List Link) (last number : ℕ) (chain : List FunctionRecord)
+    → AreFunctions sections unit scopes functions ranges → AreMade functions links last → AreFunctionsOfLink (functions_from 0 scopes) links number chain
     → AreEntriesOfLink sections unit (links_view links) number (entries_of chain)
-entries_of_link sections unit functions ranges links last number [] are made of = of
-entries_of_link sections unit functions ranges links last number (f ∷ fs) are made of =
+entries_of_link sections unit scopes functions ranges links last number [] are made of = of
+entries_of_link sections unit scopes functions ranges links last number (f ∷ fs) are made of =
     let link = of.0 in
     let g = made_function functions links last number link made of.1 in
     let is = are.each link.function f g.0 of.3 g.1 in (
@@ -194,13 +188,13 @@ entries_of_link sections unit functions ranges links last number (f ∷ fs) are 
       of.2,
       subst (λ (n : Option (List ℕ)). IsName sections (record { unit = unit; entry = f.entry }) n) (ap (λ (l : Option (Bor (List ℕ))). option_map (λ n. n.now) l) (sym g.2)) is.name,
       g.3 ∙ is.call,
-      entries_of_link sections unit functions ranges links last link.caller fs are made of.4,
+      entries_of_link sections unit scopes functions ranges links last link.caller fs are made of.4,
     )
 
 -- ---- all together
 
-pub are_of : (sections : DebugSectionsRecord) (unit : UnitRecord) (functions : List Function) (ranges : List CodeRange) → AreFunctions sections unit functions ranges → AreOf (functions_of sections unit) functions ranges
-are_of sections unit functions ranges are = record {
+pub are_of : (sections : DebugSectionsRecord) (unit : UnitRecord) (scopes : List ScopeRecord) (functions : List Function) (ranges : List CodeRange) → AreFunctions sections unit scopes functions ranges → AreOf (functions_from 0 scopes) functions ranges
+are_of sections unit scopes functions ranges are = record {
   count = are.count;
   end = λ i r f of is. (are.each i r f of is).end;
   ranges_are = are.ranges_are;
@@ -226,52 +220,70 @@ map_reverse (f ∷ fs) =
 reverse_entries : (chain : List FunctionRecord) → reverse (entries_of (reverse chain)) ≡ entries_of chain
 reverse_entries chain = ap (λ (es : List EntryRecord). reverse es) (map_reverse chain) ∙ reverse-reverse (entries_of chain)
 
-module _ (sections : DebugSectionsRecord) (unit : UnitRecord) (functions : List Function) (ranges : List CodeRange) (links : List Link) (last : ℕ) (starts numbers next : List ℕ) (are : AreFunctions sections unit functions ranges)
-    (made : AreMade functions links last) (rising : AreRising starts) (same : (a : ℕ) → Contains starts a ↔ Contains (ends_of_ranges ranges) a) (count : length numbers ≡ length starts)
-    (each : (i : ℕ) → i < length starts → IsUpTo (functions_of sections unit) links (Waits next i) (slice_index starts i) (slice_index numbers i) (length (functions_of sections unit))) where
-  ends_in : (x : ℕ) → Contains (ends_of_ranges (all_ranges (functions_of sections unit))) x → Contains starts x
-  ends_in x h = (same x).1 (subst (λ (rs : List CodeRange). Contains (ends_of_ranges rs) x) (sym are.ranges_are) h)
+-- each link stands in one before it
+callers_before : (functions : List Function) (links : List Link) (last : ℕ) → AreMade functions links last → AreCallersBefore (links_view links)
+callers_before functions links last made i link is =
+    let n = length-map links link_view in let w = slice_get_within (links_view links) i link is in
+    let l = get_there links i (omega (arith, n, w)) in
+    let e : link_view l.0 ≡ link = same_Some (link_view l.0) link (sym (slice_get-map link_view links i ∙ ap (λ (o : Option Link). option_map link_view o) l.1) ∙ is) in
+    let c = (made.each i l.0 l.1).caller in subst (λ (r : LinkRecord). r.caller ≤ i) e c
 
-  link_of : (a i : ℕ) → IsLastStart starts a i → IsLinkOf sections unit (links_view links) a (get_or numbers i 0)
+-- the links of starts
+module _ (sections : DebugSectionsRecord) (unit : UnitRecord) (scopes : List ScopeRecord) (functions : List Function) (ranges : List CodeRange) (links : List Link) (last : ℕ) (starts numbers next : List ℕ) (are : AreFunctions sections unit scopes functions ranges)
+    (made : AreMade functions links last) (count : length numbers ≡ length starts)
+    (each : (i : ℕ) → i < length starts → IsUpTo (functions_from 0 scopes) links (Waits next i) (slice_index starts i) (slice_index numbers i) (length (functions_from 0 scopes))) where
+  pub links_among : AreLinksAmong sections unit scopes (links_view links) starts numbers
+  links_among = record {
+    count = count;
+    each = λ i h.
+        let is = each i h in
+        record {
+          chain = entries_of (reverse is.chain);
+          contain = subst (λ (fs : List FunctionRecord). IsChain (slice_index starts i) scopes (entries_of fs)) (sym (whole_chain (functions_from 0 scopes) links next i (slice_index starts i) (slice_index numbers i) is))
+              (is_chain (slice_index starts i) scopes);
+          are_entries = subst (λ (es : List EntryRecord). AreEntriesOfLink sections unit (links_view links) (slice_index numbers i) es) (sym (reverse_entries is.chain))
+              (entries_of_link sections unit scopes functions ranges links last (slice_index numbers i) is.chain are made is.are);
+        };
+    callers = callers_before functions links last made;
+  }
+
+-- those of starts at which all ranges begin and end are those of all addresses
+module _ (sections : DebugSectionsRecord) (unit : UnitRecord) (functions : List Function) (ranges : List CodeRange) (links : List LinkRecord) (starts numbers : List ℕ) (are : AreFunctions sections unit (scopes_of sections unit) functions ranges)
+    (rising : AreRising starts) (same : (a : ℕ) → Contains starts a ↔ Contains (ends_of_ranges ranges) a) (among : AreLinksAmong sections unit (scopes_of sections unit) links starts numbers) where
+  same_ends : (a : ℕ) → Contains starts a ↔ Contains (flat_map (λ scope. ends_of_ranges scope.ranges) (scopes_of sections unit)) a
+  same_ends a = subst (λ (xs : List ℕ). Contains starts a ↔ Contains xs a) (ap ends_of_ranges are.ranges_are ∙ ends_from 0 (scopes_of sections unit)) (same a)
+
+  link_of : (a i : ℕ) → IsLastStart starts a i → IsLinkOf sections unit links a (get_or numbers i 0)
   link_of a i at =
-      let of = functions_of sections unit in
-      let is = each i at.within in
-      let chain = whole_chain of links next i (slice_index starts i) (slice_index numbers i) is in
-      let there : chain_in of (slice_index starts i) ≡ chain_in of a = sym (alike_after a (slice_index starts i) of (alike_start starts a i (ends_of_ranges (all_ranges of)) rising at ends_in) 256 None 0) in
+      let scopes = scopes_of sections unit in
+      let start = get_or starts i 0 in
+      let is = among.each i at.within in
+      let alike = alike_start starts a i (flat_map (λ scope. ends_of_ranges scope.ranges) scopes) rising at (λ x h. (same_ends x).1 h) in
       record {
-        chain = entries_of (reverse is.chain);
-        contain = subst (λ (fs : List FunctionRecord). IsChain a (scopes_of sections unit) (entries_of fs)) (sym (chain ∙ there)) (is_chain a (scopes_of sections unit));
-        are_entries = subst (λ (es : List EntryRecord). AreEntriesOfLink sections unit (links_view links) (get_or numbers i 0) es) (sym (reverse_entries is.chain))
-            (entries_of_link sections unit functions ranges links last (get_or numbers i 0) is.chain are made is.are);
+        chain = is.chain;
+        contain = same_chain start a scopes scopes (λ j. refl) (λ j. sym (alike_at a start scopes alike j)) (λ j s there. (s, there, refl)) is.chain is.contain;
+        are_entries = is.are_entries;
       }
 
-  none_of : (a : ℕ) → ((i : ℕ) → i < length starts → a < get_or starts i 0) → IsLinkOf sections unit (links_view links) a 0
+  none_of : (a : ℕ) → ((i : ℕ) → i < length starts → a < get_or starts i 0) → IsLinkOf sections unit links a 0
   none_of a above = record {
     chain = [];
-    contain = subst (λ (fs : List FunctionRecord). IsChain a (scopes_of sections unit) (entries_of fs))
-        (none_after a (functions_of sections unit) (λ x h.
-        let there = ends_in x h in
+    contain = λ i within contains. both_ways (contains_at a (scopes_of sections unit) i)
+        (none_at a (scopes_of sections unit) (λ x h.
+        let there = (same_ends x).1 h in
         let at : get_or starts there.0 0 ≡ x = sym (get_or_default_zero starts there.0 x there.1) ∙ there.2 in
-        let up = above there.0 there.1 in omega (arith, up, at)) 256 None 0)
-        (is_chain a (scopes_of sections unit));
+        let up = above there.0 there.1 in omega (arith, up, at)) i) contains;
     are_entries = refl;
   }
 
-  callers_before : (i : ℕ) (link : LinkRecord) → slice_get (links_view links) i ≡ Some link → link.caller ≤ i
-  callers_before i link is =
-      let n = length-map links link_view in let w = slice_get_within (links_view links) i link is in
-      let l = get_there links i (omega (arith, n, w)) in
-      let e : link_view l.0 ≡ link = same_Some (link_view l.0) link (sym (slice_get-map link_view links i ∙ ap (λ (o : Option Link). option_map link_view o) l.1) ∙ is) in
-      let c = (made.each i l.0 l.1).caller in subst (λ (r : LinkRecord). r.caller ≤ i) e c
-
-  pub link_steps : AreLinkSteps sections unit (links_view links) starts numbers
+  pub link_steps : AreLinkSteps sections unit links starts numbers
   link_steps = record {
     rising = rising;
-    same = λ a. subst (λ (xs : List ℕ). Contains starts a ↔ Contains xs a) (ap ends_of_ranges are.ranges_are ∙ ends_from 0 (scopes_of sections unit)) (same a);
-    count = count;
-    each = λ a. elim (step_of 0 starts numbers a count rising) [
-      | inl x ↦ subst (λ n. IsLinkOf sections unit (links_view links) a n) (sym x.1) (none_of a x.0)
-      | inr y ↦ subst (λ n. IsLinkOf sections unit (links_view links) a n) (sym y.2) (link_of a y.0 y.1)
+    same = same_ends;
+    count = among.count;
+    each = λ a. elim (step_of 0 starts numbers a among.count rising) [
+      | inl x ↦ subst (λ n. IsLinkOf sections unit links a n) (sym x.1) (none_of a x.0)
+      | inr y ↦ subst (λ n. IsLinkOf sections unit links a n) (sym y.2) (link_of a y.0 y.1)
     ];
-    callers = callers_before;
+    callers = among.callers;
   }

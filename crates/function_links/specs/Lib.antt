@@ -1,4 +1,5 @@
 pub mod Apart
+pub mod Asked
 pub mod Links
 pub mod LinkViews
 pub mod Making

@@ -1,6 +1,6 @@
 -- The functions of the chains of addresses, as links that addresses share.
 use Rattle.std.specs.Prelude.{ℕ, zero, suc, List, [], ◌∷◌, ◌≡◌, ◌<◌, ◌≤◌, ◌↔◌, length, flat_map, slice_get}
-use Rattle.std.specs.Prelude.{reverse, Option, Some, None}
+use Rattle.std.specs.Prelude.{reverse, slice_index, Option, Some, None}
 use Rattle.std.specs.List.{Contains}
 use Rattle.code_ranges.specs.declared.range.CodeRange.{CodeRange}
 use Rattle.debug_entries.specs.Entries.{EntryRecord}
@@ -10,7 +10,7 @@ use Rattle.source_frames.specs.DebugUnits.{UnitRecord}
 use Rattle.source_frames.specs.Frames.{FrameRecord, path_in, location_of_call, location_of_row}
 use Rattle.source_frames.specs.Names.{IsName}
 use Rattle.pending_addresses.specs.Rising.{AreRising}
-use Rattle.source_frames.specs.Scopes.{IsChain, scopes_of}
+use Rattle.source_frames.specs.Scopes.{IsChain, ScopeRecord, scopes_of}
 use Rattle.source_frames.specs.UnitLines.{LinesRecord}
 use Rattle.source_frames.specs.declared.frame.SourceLocation.{SourceLocation}
 use Rattle.line_programs.specs.declared.registers.Row.{Row}
@@ -36,12 +36,16 @@ AreEntriesOfLink sections unit links number (e ∷ es) =
     × IsName sections (record { unit = unit; entry = e }) link.name × (link.call ≡ location_of_call e)
     × AreEntriesOfLink sections unit links link.caller es
 
--- the link of a number has the chain of an address
-pub record IsLinkOf (sections : DebugSectionsRecord) (unit : UnitRecord) (links : List LinkRecord) (address number : ℕ)
-    : Type 0 where
+-- the link of a number has the chain of an address, among some entries of a unit
+pub record IsLinkAmong (sections : DebugSectionsRecord) (unit : UnitRecord) (scopes : List ScopeRecord)
+    (links : List LinkRecord) (address number : ℕ) : Type 0 where
   pub chain : List EntryRecord
-  pub contain : IsChain address (scopes_of sections unit) chain
+  pub contain : IsChain address scopes chain
   pub are_entries : AreEntriesOfLink sections unit links number (reverse chain)
+
+-- among all entries
+abbrev pub IsLinkOf : DebugSectionsRecord → UnitRecord → List LinkRecord → ℕ → ℕ → Type 0
+IsLinkOf sections unit links address number = IsLinkAmong sections unit (scopes_of sections unit) links address number
 
 -- where ranges begin and end
 abbrev pub ends_of_ranges : List CodeRange → List ℕ
@@ -50,6 +54,19 @@ ends_of_ranges ranges = flat_map (λ range. range.low ∷ range.high ∷ []) ran
 -- each link stands in one before it, or in none
 abbrev pub AreCallersBefore : List LinkRecord → Type 0
 AreCallersBefore links = (i : ℕ) (link : LinkRecord) → slice_get links i ≡ Some link → link.caller ≤ i
+
+-- for each of some addresses the number of its link, among some entries of a unit
+pub record AreLinksAmong (sections : DebugSectionsRecord) (unit : UnitRecord) (scopes : List ScopeRecord)
+    (links : List LinkRecord) (addresses numbers : List ℕ) : Type 0 where
+  pub count : length numbers ≡ length addresses
+  pub each : (i : ℕ) → i < length addresses
+      → IsLinkAmong sections unit scopes links (slice_index addresses i) (slice_index numbers i)
+  pub callers : AreCallersBefore links
+
+-- among all entries
+abbrev pub AreLinksOf : DebugSectionsRecord → UnitRecord → List LinkRecord → List ℕ → List ℕ → Type 0
+AreLinksOf sections unit links addresses numbers =
+    AreLinksAmong sections unit (scopes_of sections unit) links addresses numbers
 
 -- a step at exactly the addresses at which the ranges of functions begin or end, ascending, each with the number of the
 -- link of the addresses from there on up to the next one

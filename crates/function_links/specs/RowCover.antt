@@ -28,3 +28,9 @@ pub record AreKnown (starts next : List ℕ) (rows : List (Option Row)) (before 
       → covering_with (slice_index starts i) before left ≡ covering_with (slice_index starts i) None all
   pub found : (i : ℕ) → i < length starts → slice_index next i ≢ i
       → slice_index_or rows i None ≡ covering_with (slice_index starts i) None all
+
+-- each start has the first row that covers it
+pub record AreCovered (all : List Row) (starts : List ℕ) (rows : List (Option Row)) : Type 0 where
+  pub count : length rows ≡ length starts
+  pub each : (i : ℕ) → i < length starts
+      → slice_index_or rows i None ≡ covering_with (slice_index starts i) None all

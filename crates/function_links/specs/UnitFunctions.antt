@@ -9,7 +9,7 @@ use Rattle.source_frames.specs.DebugSections.{DebugSectionsRecord}
 use Rattle.source_frames.specs.DebugUnits.{UnitRecord}
 use Rattle.source_frames.specs.Frames.{location_of_call}
 use Rattle.source_frames.specs.Names.{IsName}
-use Rattle.source_frames.specs.Scopes.{ScopeRecord, scopes_of}
+use Rattle.source_frames.specs.Scopes.{ScopeRecord}
 use Rattle.function_links.specs.declared.functions.Function.{Function}
 
 -- a function: its entry, its ranges, and how many functions there are up to the last that stands in it
@@ -38,10 +38,6 @@ functions_from before (scope ∷ scopes) =
     } ∷ functions_from (before + 1) scopes
     else functions_from before scopes
 
--- the functions of a unit
-abbrev pub functions_of : DebugSectionsRecord → UnitRecord → List FunctionRecord
-functions_of sections unit = functions_from 0 (scopes_of sections unit)
-
 -- whether a function stands no longer in another one, if there is one
 abbrev pub is_past : Option ℕ → ℕ → Bool
 is_past None index = false
@@ -64,12 +60,12 @@ pub record IsFunction (sections : DebugSectionsRecord) (unit : UnitRecord) (of :
   pub call : function.call ≡ location_of_call of.entry
   pub end : function.end ≡ of.end
 
--- the functions of a unit with their ranges, one after another
-pub record AreFunctions (sections : DebugSectionsRecord) (unit : UnitRecord) (functions : List Function)
-    (ranges : List CodeRange) : Type 0 where
-  pub count : length functions ≡ length (functions_of sections unit)
-  pub ranges_are : ranges ≡ flat_map (λ f. f.ranges) (functions_of sections unit)
-  pub each : (i : ℕ) (of : FunctionRecord) (f : Function) → slice_get (functions_of sections unit) i ≡ Some of
+-- the functions of entries of a unit with their ranges, one after another
+pub record AreFunctions (sections : DebugSectionsRecord) (unit : UnitRecord) (scopes : List ScopeRecord)
+    (functions : List Function) (ranges : List CodeRange) : Type 0 where
+  pub count : length functions ≡ length (functions_from 0 scopes)
+  pub ranges_are : ranges ≡ flat_map (λ f. f.ranges) (functions_from 0 scopes)
+  pub each : (i : ℕ) (of : FunctionRecord) (f : Function) → slice_get (functions_from 0 scopes) i ≡ Some of
       → slice_get functions i ≡ Some f → IsFunction sections unit of f
   pub ends : (i : ℕ) (f : Function) → slice_get functions i ≡ Some f
-      → f.ranges_end ≡ length (flat_map (λ g. g.ranges) (take (i + 1) (functions_of sections unit)))
+      → f.ranges_end ≡ length (flat_map (λ g. g.ranges) (take (i + 1) (functions_from 0 scopes)))

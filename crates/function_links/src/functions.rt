@@ -4,20 +4,22 @@ ghost use Rattle.std.specs.Prelude.{◌≡◌, ◌≤◌, ◌++◌, ◌⊎◌, I
 ghost use Rattle.std.specs.Option.{option_map};
 ghost use Rattle.code_ranges.specs.UnitViews.{unit_view as ranges_view};
 ghost use Rattle.debug_entries.specs.EntryViews.{entry_view, unread_view};
-ghost use Rattle.source_frames.specs.ChainSteps.{scope_of};
 ghost use Rattle.source_frames.specs.Names.{IsName};
-ghost use Rattle.source_frames.specs.Scopes.{left_after_scope, scope_ranges};
+ghost use Rattle.source_frames.specs.Scopes.{left_after_scope, scope_of, scope_ranges, scopes_of};
 ghost use Rattle.source_frames.specs.SectionsViews.{sections_view};
 ghost use Rattle.source_frames.specs.UnitViews.{unit_view};
+ghost use Rattle.function_links.specs.Asked.{asked_ranges, asked_scope, asked_scopes, has_asked};
 ghost use Rattle.function_links.specs.FunctionNames.{AreNumbered, HasName};
 ghost use Rattle.function_links.specs.OpenFunctions.{Adds, AreAmong, Closes, Takes};
 ghost use Rattle.function_links.specs.Origins.{AreNamed, IsNamedAt};
 ghost use Rattle.function_links.specs.UnitFunctions.{AreFunctions};
+ghost use Rattle.pending_addresses.specs.Rising.{AreRising};
 
 use crate::origins::{Origins, nameless_origin};
 use code_ranges::{CodeRange, Ranges, UnitRanges};
 use debug_entries::{Entries, Entry, UnreadEntry};
 use memory::{Heap, NoMemory};
+use pending_addresses::count_below;
 use source_frames::{DebugInfo, DebugUnit, SourceLocation, UnitEntry, is_function, scope_ranges};
 
 /// A function of a unit.
@@ -49,7 +51,7 @@ pub(crate) struct Open {
     pub index: usize,
 }
 
-/// The functions of a unit that have ranges, in the order of their entries.
+/// The functions of a unit that have ranges, or ranges that have asked addresses, in the order of their entries.
 #[derive(Drop)]
 pub struct Functions<'a> {
     pub functions: Vec<Function<'a>, Heap>,
@@ -58,12 +60,35 @@ pub struct Functions<'a> {
     origins: Origins,
 }
 
-/// Adds ranges.
-fn push_ranges(all: &mut Vec<CodeRange, Heap>, ranges: Ranges<'_>) -> Result<(), NoMemory>
-    ensures { OnOk result (all.new.items ≡ all.old.items ++ ranges.entry) }
+/// Whether a range has one of the addresses that are asked, which ascend, if not all are.
+fn has_asked(asked: Option<&[u64]>, range: CodeRange) -> bool
+    requires { IfSome asked (λ all. AreRising all.now) }
+    ensures { result ≡ has_asked (option_map (λ all. all.now) asked.entry) range }
+{
+    let Some(asked) = asked else {
+        return true;
+    };
+    let first = count_below(asked, range.low);
+    if first >= asked.len() {
+        return false;
+    }
+    asked[first] < range.high
+}
+
+/// Adds the ranges that have an asked address.
+fn push_ranges(
+    all: &mut Vec<CodeRange, Heap>,
+    ranges: Ranges<'_>,
+    asked: Option<&[u64]>,
+) -> Result<(), NoMemory>
+    requires { IfSome asked (λ all. AreRising all.now) }
+    ensures { OnOk result (all.new.items ≡ all.old.items
+        ++ asked_ranges (option_map (λ all. all.now) asked.entry) ranges.entry) }
 {
     for range in ranges {
-        all.push(range)?;
+        if has_asked(asked, range) {
+            all.push(range)?;
+        }
     }
     Ok(())
 }
@@ -116,27 +141,31 @@ impl<'a> Functions<'a> {
         Named { name, number }
     }
 
-    /// Adds an entry that is of a function, if it has ranges.
+    /// Adds an entry that is of a function, if it has ranges that have asked addresses.
     fn push_entry(
         &mut self,
         info: &DebugInfo<'a>,
         unit: &DebugUnit<'a>,
+        asked: Option<&[u64]>,
         opened: &mut Vec<Open, Heap>,
         depth: usize,
         entry: &Entry<'a>,
         ranges: Ranges<'a>,
     ) -> Result<(), NoMemory>
-        requires { AreNamed (sections_view info.now.sections) self.old.functions.items self.old.origins }
-        ensures ranges { OnOk result (self.new.ranges.items ≡ self.old.ranges.items ++ ranges.entry) }
+        requires asked { IfSome asked (λ all. AreRising all.now) }
+        requires named { AreNamed (sections_view info.now.sections) self.old.functions.items self.old.origins }
+        ensures ranges { OnOk result (self.new.ranges.items
+            ≡ self.old.ranges.items ++ asked_ranges (option_map (λ all. all.now) asked.entry) ranges.entry) }
         ensures added { OnOk result (Adds (sections_view info.now.sections) (unit_view unit.now)
-            (record { depth = depth; entry = entry_view entry.now; ranges = ranges.entry })
+            (asked_scope (option_map (λ all. all.now) asked.entry)
+            (record { depth = depth; entry = entry_view entry.now; ranges = ranges.entry }))
             (length self.new.ranges.items) opened.old.items opened.new.items
             self.old.functions.items self.new.functions.items) }
         ensures named { OnOk result
             (AreNamed (sections_view info.now.sections) self.new.functions.items self.new.origins) }
     {
         let before = self.ranges.len();
-        push_ranges(&mut self.ranges, ranges)?;
+        push_ranges(&mut self.ranges, ranges, asked)?;
         if self.ranges.len() == before {
             return Ok(());
         }
@@ -156,26 +185,30 @@ impl<'a> Functions<'a> {
         Ok(())
     }
 
-    /// Adds an entry of a depth, if it is of a function and has ranges. Of its list, `left` entries count at most, and
-    /// `left` is then how many more may count.
+    /// Adds an entry of a depth, if it is of a function and has ranges that have asked addresses. Of its list, `left`
+    /// entries count at most, and `left` is then how many more may count.
     fn take(
         &mut self,
         info: &DebugInfo<'a>,
         unit: &DebugUnit<'a>,
+        asked: Option<&[u64]>,
         ranges: &UnitRanges<'a>,
         left: &mut u128,
         opened: &mut Vec<Open, Heap>,
         depth: usize,
         entry: &UnreadEntry<'_, 'a>,
     ) -> Result<(), NoMemory>
+        requires asked { IfSome asked (λ all. AreRising all.now) }
         requires among { AreAmong (length self.old.functions.items) opened.old.items }
         requires named { AreNamed (sections_view info.now.sections) self.old.functions.items self.old.origins }
         ensures left { OnOk result (left.new
             ≡ left_after_scope (ranges_view ranges.now) left.old (unread_view entry.now)) }
         ensures ranges { OnOk result (self.new.ranges.items ≡ self.old.ranges.items
-            ++ scope_ranges (ranges_view ranges.now) left.old (unread_view entry.now)) }
+            ++ asked_ranges (option_map (λ all. all.now) asked.entry)
+            (scope_ranges (ranges_view ranges.now) left.old (unread_view entry.now))) }
         ensures taken { OnOk result (Takes (sections_view info.now.sections) (unit_view unit.now)
-            (scope_of (ranges_view ranges.now) left.old depth (unread_view entry.now))
+            (asked_scope (option_map (λ all. all.now) asked.entry)
+            (scope_of (ranges_view ranges.now) left.old depth (unread_view entry.now)))
             (length self.new.ranges.items) opened.old.items opened.new.items
             self.old.functions.items self.new.functions.items) }
         ensures named { OnOk result
@@ -187,18 +220,23 @@ impl<'a> Functions<'a> {
         }
         let entry = entry.read();
         let own = scope_ranges(ranges, &entry, left);
-        self.push_entry(info, unit, opened, depth, &entry, own)
+        self.push_entry(info, unit, asked, opened, depth, &entry, own)
     }
 
-    /// The functions of a unit. It takes the time of the unit, which is read once, and of their names, and the memory
-    /// of 100 bytes for each, of 16 for each of their ranges, and of 24 KiB for the places that have names.
+    /// The functions of a unit that have ranges, or those with the ranges that have one of the asked addresses, which
+    /// ascend. It takes the time of the unit, which is read once, and of their names, and the memory of 100 bytes for
+    /// each, of 16 for each of their ranges, and of 24 KiB for the places that have names.
     pub fn read(
         heap: Heap,
         info: &DebugInfo<'a>,
         unit: &DebugUnit<'a>,
+        asked: Option<&[u64]>,
     ) -> Result<Functions<'a>, NoMemory>
-        requires { unit.now.header.entries_offset ≤ length unit.now.bytes.now }
+        requires within { unit.now.header.entries_offset ≤ length unit.now.bytes.now }
+        requires asked { IfSome asked (λ all. AreRising all.now) }
         ensures are { IfOk result (λ all. AreFunctions (sections_view info.now.sections) (unit_view unit.now)
+            (asked_scopes (option_map (λ all. all.now) asked.entry)
+            (scopes_of (sections_view info.now.sections) (unit_view unit.now)))
             all.functions.items all.ranges.items) }
         ensures numbered { IfOk result (λ all. AreNumbered all.functions.items) }
     {
@@ -214,6 +252,7 @@ impl<'a> Functions<'a> {
             all.take(
                 info,
                 unit,
+                asked,
                 &ranges,
                 &mut left,
                 &mut opened,

@@ -1,15 +1,16 @@
 //! The functions that contain each address of a unit, as links that addresses share.
 
-ghost use Rattle.std.specs.Prelude.{◌≤◌, ◌<◌, ◌↔◌, ℕ, IfOk, length};
+ghost use Rattle.std.specs.Prelude.{◌≡◌, ◌≤◌, ◌<◌, ◌↔◌, ℕ, List, IfOk, length};
 ghost use Rattle.std.specs.List.{Contains};
 ghost use Rattle.function_links.specs.FunctionNames.{AreNumbered};
-ghost use Rattle.function_links.specs.Links.{AreLinkSteps, ends_of_ranges};
+ghost use Rattle.function_links.specs.Links.{AreLinkSteps, AreLinksAmong, AreLinksOf, ends_of_ranges};
 ghost use Rattle.function_links.specs.LinkViews.{links_view};
 ghost use Rattle.function_links.specs.NameNumbers.{AreNamesNumbered};
 ghost use Rattle.function_links.specs.Taking.{AreParts};
 ghost use Rattle.function_links.specs.UnitFunctions.{AreFunctions};
 ghost use Rattle.source_frames.specs.DebugSections.{DebugSectionsRecord};
 ghost use Rattle.source_frames.specs.DebugUnits.{UnitRecord};
+ghost use Rattle.source_frames.specs.Scopes.{ScopeRecord, scopes_of};
 ghost use Rattle.source_frames.specs.SectionsViews.{sections_view};
 ghost use Rattle.source_frames.specs.UnitViews.{unit_view};
 ghost use Rattle.pending_addresses.specs.Rising.{AreRising};
@@ -66,16 +67,18 @@ fn starts_of(heap: Heap, ranges: &[CodeRange]) -> Result<Vec<u64, Heap>, NoMemor
 }
 
 impl<'a> Links<'a> {
-    /// The links of some functions.
-    fn of(heap: Heap, all: &Functions<'a>) -> Result<Links<'a>, NoMemory>
+    /// The links of some functions at starts, which ascend.
+    fn of(heap: Heap, all: &Functions<'a>, starts: Vec<u64, Heap>) -> Result<Links<'a>, NoMemory>
         requires parts { AreParts all.now.functions.items all.now.ranges.items }
         requires numbered { AreNumbered all.now.functions.items }
-        ensures steps { IfOk result (λ links. (sections : DebugSectionsRecord) (unit : UnitRecord)
-            → AreFunctions sections unit all.now.functions.items all.now.ranges.items
-            → AreLinkSteps sections unit (links_view links.links.items) links.starts.items links.numbers.items) }
+        requires rising { AreRising starts.items }
+        ensures starts { IfOk result (λ links. links.starts.items ≡ starts.items) }
+        ensures among { IfOk result (λ links. (sections : DebugSectionsRecord) (unit : UnitRecord)
+            (scopes : List ScopeRecord)
+            → AreFunctions sections unit scopes all.now.functions.items all.now.ranges.items
+            → AreLinksAmong sections unit scopes (links_view links.links.items) starts.items links.numbers.items) }
         ensures names { IfOk result (λ links. AreNamesNumbered links.name_count links.links.items) }
     {
-        let starts = starts_of(heap.share(), &all.ranges)?;
         let count = starts.len();
         let waiting = Waiting::new(heap.share(), count)?;
         let making = Making {
@@ -112,7 +115,29 @@ impl<'a> Links<'a> {
             (links_view links.links.items) links.starts.items links.numbers.items) }
         ensures names { IfOk result (λ links. AreNamesNumbered links.name_count links.links.items) }
     {
-        let functions = Functions::read(heap.share(), info, unit)?;
-        Links::of(heap, &functions)
+        let functions = Functions::read(heap.share(), info, unit, None)?;
+        let starts = starts_of(heap.share(), &functions.ranges)?;
+        let links = Links::of(heap, &functions, starts)?;
+        Ok(links)
+    }
+
+    /// The links of some addresses of a unit, which ascend: they are the starts, and no address between them is told
+    /// of. It takes the time of the unit, which is read once, and the memory of the addresses and of the functions that
+    /// contain one.
+    pub fn at(
+        heap: Heap,
+        info: &DebugInfo<'a>,
+        unit: &DebugUnit<'a>,
+        addresses: &[u64],
+    ) -> Result<Links<'a>, NoMemory>
+        requires within { unit.now.header.entries_offset ≤ length unit.now.bytes.now }
+        requires rising { AreRising addresses.now }
+        ensures { IfOk result (λ links. AreLinksOf (sections_view info.now.sections) (unit_view unit.now)
+            (links_view links.links.items) addresses.now links.numbers.items) }
+    {
+        let functions = Functions::read(heap.share(), info, unit, Some(addresses))?;
+        let starts = addresses.to_vec(heap.share())?;
+        let links = Links::of(heap, &functions, starts)?;
+        Ok(links)
     }
 }

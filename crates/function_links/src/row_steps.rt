@@ -4,8 +4,9 @@ ghost use Rattle.std.specs.Prelude.{◌≡◌, ◌<◌, ◌≤◌, ◌+◌, ◌+
 ghost use Rattle.std.specs.Prelude.{true, false};
 ghost use Rattle.source_frames.specs.AddressFrames.{rows_of};
 ghost use Rattle.source_frames.specs.FrameViews.{lines_view};
+ghost use Rattle.line_programs.specs.Covering.{AreCovering};
 ghost use Rattle.line_programs.specs.declared.registers.Row.{Row};
-ghost use Rattle.function_links.specs.RowCover.{AreKnown, Covers};
+ghost use Rattle.function_links.specs.RowCover.{AreCovered, AreKnown, Covers};
 ghost use Rattle.pending_addresses.specs.Rising.{IsCountBelow, AreRising};
 ghost use Rattle.function_links.specs.RowSteps.{AreRowSteps};
 
@@ -110,6 +111,22 @@ impl RowSteps {
         }
     }
 
+    /// The rows that cover starts, which ascend.
+    fn covering(heap: Heap, starts: Vec<u64, Heap>, rows: Rows<'_>) -> Result<RowSteps, NoMemory>
+        requires { AreRising starts.items }
+        ensures starts { IfOk result (λ steps. steps.starts.items ≡ starts.items) }
+        ensures rows { IfOk result (λ steps. AreCovered rows.entry starts.items steps.rows.items) }
+    {
+        let count = starts.len();
+        let mut waiting = Waiting::new(heap.share(), count)?;
+        let mut steps = RowSteps {
+            starts,
+            rows: vec![in heap; None; count]?,
+        };
+        steps.cover_all(&mut waiting, rows);
+        Ok(steps)
+    }
+
     /// Those of rows, which are given twice.
     fn of_rows(heap: Heap, rows: Rows<'_>, again: Rows<'_>) -> Result<RowSteps, NoMemory>
         requires { again ≡ rows }
@@ -118,13 +135,7 @@ impl RowSteps {
         let mut starts = Vec::new(heap.share());
         push_addresses(&mut starts, rows)?;
         let starts = sorted_once(starts);
-        let count = starts.len();
-        let mut waiting = Waiting::new(heap.share(), count)?;
-        let mut steps = RowSteps {
-            starts,
-            rows: vec![in heap; None; count]?,
-        };
-        steps.cover_all(&mut waiting, again);
+        let steps = RowSteps::covering(heap, starts, again)?;
         Ok(steps)
     }
 
@@ -149,6 +160,39 @@ impl RowSteps {
         match &lines.program {
             Some(program) => RowSteps::of_rows(heap, Rows::of(program), Rows::of(program)),
             None => Ok(RowSteps::none(heap)),
+        }
+    }
+
+    /// Those of rows at some addresses, which ascend.
+    fn of_rows_at(heap: Heap, rows: Rows<'_>, addresses: &[u64]) -> Result<RowSteps, NoMemory>
+        requires { AreRising addresses.now }
+        ensures { IfOk result (λ steps. AreCovering rows.entry addresses.now steps.rows.items) }
+    {
+        let starts = addresses.to_vec(heap.share())?;
+        let steps = RowSteps::covering(heap, starts, rows)?;
+        Ok(steps)
+    }
+
+    /// Those of no rows at some addresses.
+    fn none_at(heap: Heap, addresses: &[u64]) -> Result<RowSteps, NoMemory>
+        ensures { IfOk result (λ steps. AreCovering [] addresses.now steps.rows.items) }
+    {
+        let starts = addresses.to_vec(heap.share())?;
+        let rows = vec![in heap; None; addresses.len()]?;
+        Ok(RowSteps { starts, rows })
+    }
+
+    /// Those at some addresses, which ascend: they are the starts, and no address between them is told of. The program
+    /// is run once, and it takes the memory of the addresses.
+    #[tactic(auto, unfolding(source_frames::specs::AddressFrames::rows_of))]
+    pub fn at(heap: Heap, lines: &UnitLines<'_>, addresses: &[u64]) -> Result<RowSteps, NoMemory>
+        requires range { IfSome lines.now.program (λ p. 0 < p.header.line_range) }
+        requires rising { AreRising addresses.now }
+        ensures { IfOk result (λ steps. AreCovering (rows_of (lines_view lines.now)) addresses.now steps.rows.items) }
+    {
+        match &lines.program {
+            Some(program) => RowSteps::of_rows_at(heap, Rows::of(program), addresses),
+            None => RowSteps::none_at(heap, addresses),
         }
     }
 }

@@ -2,7 +2,7 @@
 use Rattle.std.proofs.Common.{◌≡◌, ◌≢◌, ℕ, zero, suc, ◌+◌, ◌<◌, Bool, true, false, cond, eqb, ◌&&◌, ◌||◌, List, [], ◌∷◌, ◌++◌, length, map, take, get_or, refl, sym, ap, ◌∙◌, inl, inr, arith}
 use Rattle.std.specs.Prelude.{All, Contains, filter}
 use Rattle.std.specs.List.{AllPairs, dedup, dedup_from, list_any, swap}
-use Rattle.std.specs.List.Sorted.{IsPermutation, IsSortedBy}
+use Rattle.std.specs.List.Sorted.{IsPermutation}
 use Rattle.std.proofs.lemmas.Bool.{cases_order}
 use Rattle.std.proofs.lemmas.Bool.Decides.{nat_tests}
 use Rattle.std.proofs.lemmas.List.Edits.{swapped_from_swap}
@@ -35,13 +35,6 @@ dedup_map {X} {Y} same f (x ∷ xs) = from x xs
     from : (k : X) (xs : List X) → map f (dedup_from (λ x y. same (f x) (f y)) k xs) ≡ dedup_from same (f k) (map f xs)
     from k [] = refl
     from k (x ∷ xs) = grind (arith, from k xs, from x xs)
-
-pub sorted_map : {X Y : Type 0} (f : X → Y) (less : Y → Y → Bool) (xs : List X) → IsSortedBy (λ a b. less (f a) (f b)) xs → IsSortedBy less (map f xs)
-sorted_map f less [] h = λ k d low high. absurd (omega (arith, high))
-sorted_map f less (x ∷ xs) h = λ k d low high.
-    let next : k + 1 < length (x ∷ xs) = omega (arith, high, length-map (x ∷ xs) f) in
-    let this : k < length (x ∷ xs) = omega (arith, next) in
-    (λ i. less (get_or-map f (x ∷ xs) (k + 1) x d next i) (get_or-map f (x ∷ xs) k x d this i)) ∙ h k x low next
 
 -- what is made of an element that was read
 module _ {X Y : Type 0} (f : X → Y) (xs : List X) (i : ℕ) (x : X) (lt : i < length xs) (is : x ≡ get_or xs i x) where

@@ -13,7 +13,6 @@ ghost use Rattle.indexed_answers.specs.InnerAnswering.{AreFramesBased, AreFrames
 ghost use Rattle.indexed_answers.specs.Told.{HasNoLinesBy};
 ghost use Rattle.indexed_answers.specs.Views.{list_in};
 
-use crate::own::address_of;
 use archive_core::Where;
 use byte_device::Placed;
 use checked_pages::{CheckFault, Pages};
@@ -37,7 +36,7 @@ fn frames_of<P: Placed>(
         (λ text. (slice all : List ℕ) (steps : List StepRecord) → AreStored text (claim_view pages.old.claim) all
         → AreFrameSteps slice steps → IsOpened table.now pages.old text all steps → ⊥) }
 {
-    match address_of(base, asked) {
+    match asked.address_by(base) {
         Some(address) => table.frames_at(heap, device, pages, address),
         None => Ok(Vec::new(heap)),
     }

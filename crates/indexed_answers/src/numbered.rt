@@ -6,9 +6,10 @@ ghost use Rattle.indexed_answers.specs.Among.{subject_of};
 ghost use Rattle.indexed_answers.specs.Told.{is_companion};
 
 use archive_index::IndexEntry;
+use archive_records::ENTRY_LEN;
 
-/// How many bytes the tag, the key and the digest of an entry are.
-pub(crate) const SLICE_LEN: usize = 57;
+/// How many bytes the tag, the key and the digest of an entry are: its entry of a summary.
+pub(crate) const SLICE_LEN: usize = ENTRY_LEN;
 
 /// An entry, the number of its index, and its own number among the entries of that, each from 0 on.
 #[derive(Clone, Copy)]

@@ -3,10 +3,9 @@ use Rattle.std.proofs.Common.{◌≡◌, ℕ, ◌+◌, ◌-◌, ◌<◌, ◌^◌
 use Rattle.std.specs.Prelude.{filter}
 use Rattle.std.specs.Int.{w64, to_be_bytes}
 use Rattle.std.specs.List.{AllByRecursion, AllZip}
-use Rattle.std.specs.List.Sorted.{IsSortedBy}
 use Rattle.std.proofs.Math.ListN.{length-map}
 use Rattle.std.proofs.Math.Seq.{take-append_seam, drop-append_seam, get_or-append_right}
-use Rattle.std.proofs.lemmas.List.{map-append, append-nil, get_or-map, take_more}
+use Rattle.std.proofs.lemmas.List.{map-append, append-nil, take_more}
 use Rattle.std.proofs.lemmas.List.Elements.{filter_more}
 use Rattle.archive_core.specs.Key.{IsKey, key_bytes}
 use Rattle.archive_core.specs.Part.{is_under}
@@ -136,11 +135,3 @@ module _ (entries : List IndexEntry) (i : ℕ) (e : IndexEntry) (lt : i < length
   one_front bytes_of made after x grown of same =
       ap (map bytes_of) grown ∙ map-append bytes_of made (x ∷ []) ∙ (λ j. same j ++ (of ∙ ap (take 57) at) j ∷ [])
       ∙ sym (ap (map (take 57)) (take_more all i [] within) ∙ map-append (take 57) (take i all) (get_or all i [] ∷ []))
-
--- what is sorted by what is made of it
-pub sorted_made : {X Y : Type 0} (f : X → Y) (less : Y → Y → Bool) (xs : List X) → IsSortedBy (λ a b. less (f a) (f b)) xs → IsSortedBy less (map f xs)
-sorted_made f less [] sorted = λ k d low high. absurd (omega arith)
-sorted_made f less (x ∷ xs) sorted = λ k d low high.
-    let within : k + 1 < length (x ∷ xs) = omega (arith, high, length-map (x ∷ xs) f) in
-    let inside : k < length (x ∷ xs) = omega (arith, within) in
-    (λ i. less (get_or-map f (x ∷ xs) (k + 1) x d within i) (get_or-map f (x ∷ xs) k x d inside i)) ∙ sorted k x low within

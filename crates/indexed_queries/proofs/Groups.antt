@@ -24,10 +24,16 @@ three_more R [] [] [] x y z all one = (one, tt)
 three_more R (a ∷ xs) (b ∷ ys) (c ∷ zs) x y z all one = (all.0, three_more R xs ys zs x y z all.1 one)
 three_more R xs ys zs x y z all one = absurd all
 
-pub three_long : {X Y Z : Type 0} (R : X → Y → Z → Type 0) (xs : List X) (ys : List Y) (zs : List Z) → AllThree R xs ys zs → length zs ≡ length ys
+three_long : {X Y Z : Type 0} (R : X → Y → Z → Type 0) (xs : List X) (ys : List Y) (zs : List Z) → AllThree R xs ys zs → length zs ≡ length ys
 three_long R [] [] [] all = refl
 three_long R (_ ∷ xs) (_ ∷ ys) (_ ∷ zs) all = ap suc (three_long R xs ys zs all.1)
 three_long R xs ys zs all = absurd all
+
+-- as many indexes are read as there are archives
+pub as_many : {I P : Type 0} (indexes : List (Reader I)) (whole : P → Option (List ℕ)) (failures : P → ℕ) (before seen : List P)
+    (all : List (List (List ℕ))) → AreReadWith indexes (readers whole failures before seen) all → length seen ≡ length before → length all ≡ length seen
+as_many indexes whole failures before seen all read long =
+    three_long IsReadWith indexes (readers whole failures before seen) all read ∙ readers_long whole failures before seen long ∙ sym long
 
 -- ---- indexes that were read with their archives
 

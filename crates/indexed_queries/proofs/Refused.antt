@@ -1,16 +1,11 @@
 -- What is refused, from what reading an index and its archive came to.
-use Rattle.std.proofs.Common.{arith, ◌≡◌, ◌≢◌, ℕ, List, [], Option, Some, None, Ok, Err, inr, refl, subst}
+use Rattle.std.proofs.Common.{◌≡◌, ◌≢◌, ℕ, List, Option, Some, None, Ok, Err, inr, refl, subst}
 use Rattle.std.specs.Prelude.{IfSome}
 use Rattle.archive_core.specs.Summary.{Entries}
-use Rattle.command_core.specs.Ends.{EndsReport}
 use Rattle.command_core.specs.Inputs.{AreRead, Reader, IsRefusal, Unfailed, reader}
-use Rattle.command_core.specs.Outputs.{Takes, Writer}
 use Rattle.command_core.specs.declared.faults.CommandFault.{CommandFault}
 use Rattle.command_core.specs.declared.faults.CommandFault.TheVariants.{Input, OutOfMemory}
-use Rattle.command_core.specs.declared.faults.InputName.{InputName}
 use Rattle.command_core.specs.declared.faults.InputName.TheVariants.{Index}
-use Rattle.command_core.specs.declared.faults.Status.{Status}
-use Rattle.command_core.specs.declared.faults.Why.{Why}
 use Rattle.command_core.specs.declared.faults.Why.TheVariants.{Index as IndexFaulty}
 use Rattle.archive_index.specs.declared.index_fault.IndexFault.{IndexFault}
 use Rattle.archive_index.specs.declared.index_fault.IndexFaultKind.{IndexFaultKind}
@@ -61,9 +56,3 @@ module _ {R S : Type 0} (number : ℕ) (index : Reader R) (archive : Reader S) w
   archive_refused (Input at why) entries holds unfailed r = inr (entries, holds, unfailed, r)
   archive_refused OutOfMemory entries holds unfailed r = (unfailed, r)
   archive_refused fault entries holds unfailed r = absurd r
-
--- ---- how a command ends so
-
-pub query_refused : (Makes : Status → List ℕ → Type 0) (Refuses : InputName → Why → Type 0) (NoneFailed : Type 0) (report : Writer) (fault : CommandFault) → IsRefusal Refuses NoneFailed fault → Takes report []
-    → EndsReport (record { Makes = Makes; Refuses = Refuses; Unfailed = NoneFailed }) report (Err fault)
-query_refused Makes Refuses NoneFailed report fault r t = grind arith

@@ -16,7 +16,6 @@ use Rattle.command_core.specs.declared.faults.CommandFault.TheVariants.{Input, O
 use Rattle.command_core.specs.declared.faults.InputName.{InputName}
 use Rattle.command_core.specs.declared.faults.Status.{Status}
 use Rattle.command_core.specs.declared.faults.Why.{Why}
-use Rattle.command_core.proofs.Readers.{readers_long}
 use Rattle.command_core.proofs.Parts.{refusal_of}
 use Rattle.indexed_answers.specs.Among.{EntryAt}
 use Rattle.indexed_answers.specs.AmongAsked.{BlamesAmong, HasText, HaveTexts, IsUntoldAmong, each_known}
@@ -24,20 +23,13 @@ use Rattle.indexed_answers.specs.declared.fault.AnswerFault.{AnswerFault}
 use Rattle.indexed_answers.specs.declared.fault.AnswerFault.TheVariants as answer
 use Rattle.indexed_answers.proofs.Columns.{zip_as}
 use Rattle.indexed_queries.specs.Several.{AreRefusedLater, AreUnfailedTogether, MakesTogether}
-use Rattle.indexed_queries.specs.Together.{AreAllKept, AreReadWith, HoldNamed, IsKept, IsReadWith}
-use Rattle.indexed_queries.proofs.Groups.{later_readers, read_earlier, three_long, unfailed_through}
+use Rattle.indexed_queries.specs.Together.{AreAllKept, AreReadWith, HoldNamed, IsKept}
+use Rattle.indexed_queries.proofs.Groups.{later_readers, read_earlier, unfailed_through}
 use Rattle.indexed_symbols.specs.Asking.{AreGiven, AreRefusedAsking, AreTiedUnder, AreUntold, IsAnsweredByTables, IsChanged, IsLineless, IsUntoldUnder, IsUnreadTable, TellTables}
 use Rattle.indexed_symbols.specs.Frames.{AreToldAt, IsFrameByTables, TellTablesOfFrames, keys_of}
 use Rattle.indexed_symbols.specs.InnerAsking.{AreHeldUnder, AreRefusedUnder, IsUntoldBy, NoneFailed, command_fault}
 use Rattle.indexed_symbols.specs.Symbolicate.{symbolicate_at}
 use Rattle.indexed_symbols.proofs.States.{all_kept, fails_alone, none_failed_of, read_before, texts_of}
-
--- as many indexes are read as there are archives
-pub as_many : {I P : Type 0} (indexes : List (Reader I)) (whole : P → Option (List ℕ)) (failures : P → ℕ) (before seen : List P)
-    (all : List (List (List ℕ)))
-    → AreReadWith indexes (readers whole failures before seen) all → length seen ≡ length before → length all ≡ length seen
-as_many indexes whole failures before seen all read long =
-    three_long IsReadWith indexes (readers whole failures before seen) all read ∙ readers_long whole failures before seen long ∙ sym long
 
 -- after the indexes were read
 module _ {I P : Type 0} (left : I → Option (List ℕ)) (failures : I → ℕ) (whole : P → Option (List ℕ)) (failures_at : P → ℕ)

@@ -9,5 +9,4 @@ pub mod Paths
 pub mod PathViews
 -- the words of inner functions: no contract of a public one has them
 pub mod Inner
-pub mod Pending
 pub mod Runs

@@ -4,8 +4,8 @@
 //!
 //! The modules in reading order: `opcodes`, the constants; `header`; `names`, the names of directories and files, as
 //! `name_lists` (versions 2 to 4) and `name_entries` (version 5) read them; `path`, the paths of files; `instruction`,
-//! and `reading`, how an instruction is written; `registers`; `rows`, one after another; `one_pass`, the rows of
-//! many addresses in one pass; `laws`, what the definitions say of each other.
+//! and `reading`, how an instruction is written; `registers`; `rows`, one after another; `laws`, what the definitions
+//! say of each other.
 #![tactic(auto)]
 
 mod header;
@@ -14,7 +14,6 @@ pub mod laws;
 mod name_entries;
 mod name_lists;
 mod names;
-mod one_pass;
 mod opcodes;
 mod path;
 mod reading;
@@ -24,7 +23,6 @@ mod rows;
 pub use header::{Header, Program};
 pub use instruction::Instruction;
 pub use names::{Name, Names};
-pub use one_pass::covering_rows;
 pub use path::PathParts;
 pub use registers::{Registers, Row};
 pub use rows::Rows;

@@ -1,17 +1,24 @@
 -- The halvings over the runs and steps of a table.
-use Rattle.std.proofs.Common.{◌≡◌, ℕ, ◌+◌, ◌<◌, ◌≤◌, List, [], ◌∷◌, ◌++◌, length, get_or, refl, sym, ap, ◌∙◌, subst, inl, inr, arith, length-append, Option, Some, None}
+use Rattle.std.proofs.Common.{◌≡◌, ℕ, ◌+◌, ◌-◌, ◌<◌, ◌≤◌, List, [], ◌∷◌, ◌++◌, length, get_or, refl, sym, ap, ◌∙◌, subst, inl, inr, nat_lt, nat_le, arith, length-append, Option, Some, None}
+use Rattle.std.specs.Prelude.{Decides}
 use Rattle.std.proofs.lemmas.Bool.{cases_lt}
+use Rattle.std.proofs.lemmas.Bool.Decides.{nat_tests}
 use Rattle.std.proofs.lemmas.List.{append-nil, append_assoc, map-append}
 use Rattle.std.proofs.Math.ListN.{length-map}
+use Rattle.checked_pages.specs.Halving.{IsEdge}
+use Rattle.checked_pages.specs.Views.{ArePagesOf}
+use Rattle.checked_pages.specs.declared.pages.Pages.{Pages}
 use Rattle.source_frames.specs.Frames.{FrameRecord}
 use Rattle.line_tables.specs.FrameViews.{owned_frame_view, owned_frames}
 use Rattle.line_tables.specs.Inner.{AreBelow, IsChainNumber, IsMaybeChain, IsRunRow, IsStepRow, run_halves, step_halves}
 use Rattle.line_tables.specs.LineText.{LineParts, parts_of}
+use Rattle.line_tables.specs.Opened.{IsOpened, IsTextOf}
 use Rattle.line_tables.specs.Runs.{lower_half, runs_of, upper_half}
 use Rattle.line_tables.specs.Steps.{AreAscending, IsStepFor, StepRecord, frames_at, starts_of}
 use Rattle.line_tables.specs.declared.frame.OwnedFrame.{OwnedFrame}
 use Rattle.line_tables.specs.declared.row.Run.{Run}
 use Rattle.line_tables.specs.declared.row.Step.{Step}
+use Rattle.line_tables.specs.declared.table.LineTable.{LineTable}
 use Rattle.line_tables.proofs.RunLemmas.{below_by_lower, below_by_upper, half_at, no_run, upper_at, within_by_lower}
 use Rattle.line_tables.proofs.StepLemmas.{frames_there, no_step, start_at, starts_long}
 
@@ -40,9 +47,52 @@ others_from all limit middle rising other j low l = elim (cases_lt middle j) [
       subst (λ n. limit ≤ get_or all n 0) same here
 ]
 
--- the two parts that are left when a halving ends
-pub halved : (all : List ℕ) (limit low high : ℕ) → low ≤ high → high ≤ low → low ≤ length all → AreBelowTo all limit low → AreOthersFrom all limit high → AreBelow all limit low
-halved all limit low high within ends most below others = record { within = most; below = below; others = λ j l m. others j (omega (arith, l, ends)) m }
+-- the places of numbers that ascend, from one before which all are below to one from which on none is: where those that
+-- are below end
+pub below_edge : (all : List ℕ) (limit from to place : ℕ) → AreAscending all → to ≤ length all → from ≤ to → AreBelowTo all limit from → AreOthersFrom all limit to
+    → IsEdge (λ i. get_or all i 0 < limit) from to place → AreBelow all limit place
+below_edge all limit from to place rising within in_order below others edge = record {
+  within = omega (arith, edge.most in_order, within);
+  below = elim (cases_lt from place) [
+    | inl more ↦
+        let last : place - 1 + 1 ≡ place = omega (arith, more) in
+        let there : place - 1 < length all = omega (arith, more, edge.most in_order, within) in
+        subst (AreBelowTo all limit) last (below_to all limit (place - 1) rising there (edge.before more))
+    | inr none ↦ λ j l. below j (omega (arith, l, none))
+  ];
+  others = elim (cases_lt place to) [
+    | inl more ↦ others_from all limit place rising (edge.at more)
+    | inr none ↦ λ j l m. others j (omega (arith, l, none)) m
+  ];
+}
+
+-- a number that is another one decides what that does
+pub less_decides : (value limit n : ℕ) → n ≡ value → Decides (nat_lt n limit) (value < limit)
+less_decides value limit n same = (
+  λ t.
+      let less : n < limit = grind (arith, nat_tests, t) in
+      omega (arith, less, same),
+  λ l.
+      let less : n < limit = omega (arith, l, same) in
+      grind (arith, nat_tests),
+)
+
+pub up_to_decides : (value limit n m : ℕ) → n ≡ value → m ≡ limit → Decides (nat_le n m) (value ≤ limit)
+up_to_decides value limit n m same also = (
+  λ t.
+      let within : n ≤ m = grind (arith, nat_tests, t) in
+      omega (arith, within, same, also),
+  λ l.
+      let within : n ≤ m = omega (arith, l, same, also) in
+      grind (arith, nat_tests),
+)
+
+-- the table that a search is among is opened
+pub opened_of : (table : LineTable) (pages : Pages) (text all : List ℕ) (steps : List StepRecord) → ArePagesOf pages text all → IsTextOf table all steps → IsOpened table pages text all steps
+opened_of table pages text all steps pages_of is = record { are_pages = pages_of; stands = is.stands; widths = is.widths; head = is.head }
+
+pub text_of : (table : LineTable) (pages : Pages) (text all : List ℕ) (steps : List StepRecord) → IsOpened table pages text all steps → IsTextOf table all steps
+text_of table pages text all steps opened = record { stands = opened.stands; widths = opened.widths; head = opened.head }
 
 -- ---- runs
 
@@ -94,19 +144,28 @@ module _ (steps : List StepRecord) (address first end : ℕ) (bounds : AreBounds
       let there : j < length (starts_of steps) = omega (arith, to, bounds_within) in
       omega (arith, half j there, bounds.lower.others j from (omega (arith, there, long)), bounds.higher.below j to)
 
-  pub row_below : (middle : ℕ) (row : Step) → IsStepRow steps middle row → first ≤ middle → middle < end → row.lower ≤ lower_half address → get_or (starts_of steps) middle 0 < address + 1
-  row_below middle row is from to not_above =
-      let within : middle < length steps = omega (arith, to, bounds_within, starts_long steps) in
-      let start : get_or (starts_of steps) middle 0 ≡ (get_or steps middle no_step).start = start_at steps middle no_step 0 within in
-      let lower : lower_half (get_or (starts_of steps) middle 0) ≤ lower_half address = omega (arith, not_above, is.lower no_step, ap lower_half start) in
-      omega (arith, within_by_lower (get_or (starts_of steps) middle 0) address (same_half middle from to) lower)
+  -- in the bounds the lower halves decide
+  pub lower_below : (place : ℕ) → first ≤ place → place < end → lower_half (get_or (starts_of steps) place 0) ≤ lower_half address → get_or (starts_of steps) place 0 < address + 1
+  lower_below place from to not_above = omega (arith, within_by_lower (get_or (starts_of steps) place 0) address (same_half place from to) not_above)
 
-  pub row_other : (middle : ℕ) (row : Step) → IsStepRow steps middle row → first ≤ middle → middle < end → lower_half address < row.lower → get_or (starts_of steps) middle 0 < address + 1 → ⊥
-  row_other middle row is from to above less =
-      let within : middle < length steps = omega (arith, to, bounds_within, starts_long steps) in
-      let start : get_or (starts_of steps) middle 0 ≡ (get_or steps middle no_step).start = start_at steps middle no_step 0 within in
-      let lower : lower_half address < lower_half (get_or (starts_of steps) middle 0) = omega (arith, above, is.lower no_step, ap lower_half start) in
-      omega (arith, less, below_by_lower address (get_or (starts_of steps) middle 0) (sym (same_half middle from to)) lower)
+  pub below_lower : (place : ℕ) → first ≤ place → place < end → get_or (starts_of steps) place 0 < address + 1 → lower_half (get_or (starts_of steps) place 0) ≤ lower_half address
+  below_lower place from to less = elim (cases_lt (lower_half address) (lower_half (get_or (starts_of steps) place 0))) [
+    | inl above ↦ omega (arith, less, below_by_lower address (get_or (starts_of steps) place 0) (sym (same_half place from to)) above)
+    | inr not_above ↦ not_above
+  ]
+
+  -- where the lower halves in the bounds end to be below
+  pub bounds_edge : (place : ℕ) → IsEdge (λ i. lower_half (get_or (starts_of steps) i 0) ≤ lower_half address) first end place → IsEdge (λ i. get_or (starts_of steps) i 0 < address + 1) first end place
+  bounds_edge place edge = record {
+    least = edge.least;
+    most = edge.most;
+    before = λ more. lower_below (place - 1) (omega (arith, more)) (omega (arith, more, edge.most bounds_rise)) (edge.before more);
+    at = λ more less. edge.at more (below_lower place edge.least more less);
+  }
+
+-- the lower half of the step of a place, by its row
+pub lower_of_row : (steps : List StepRecord) (place : ℕ) (row : Step) → IsStepRow steps place row → place < length steps → row.lower ≡ lower_half (get_or (starts_of steps) place 0)
+lower_of_row steps place row is within = is.lower no_step ∙ sym (ap lower_half (start_at steps place no_step 0 within))
 
 -- ---- the step of an address
 

@@ -28,6 +28,12 @@ pub record HaveWidths (steps : List StepRecord) : Type 0 where
   pub lines : HaveFewLines steps
   pub few : AreFew (parts_of steps)
 
+-- these bytes end with the table of these steps, whose head was read
+pub record IsTextOf (table : LineTable) (all : List ℕ) (steps : List StepRecord) : Type 0 where
+  pub stands : IsRestFrom all table.offset (line_text steps)
+  pub widths : HaveWidths steps
+  pub head : IsHeadOf table (parts_of steps)
+
 -- The bytes of these pages end with the table of these steps, which was opened.
 pub record IsOpened (table : LineTable) (pages : Pages) (text all : List ℕ) (steps : List StepRecord) : Type 0 where
   pub are_pages : ArePagesOf pages text all

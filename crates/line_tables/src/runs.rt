@@ -10,7 +10,39 @@ ghost use Rattle.line_tables.specs.Steps.{AreAscending, StepRecord, starts_of};
 use crate::row::{RUN_LEN, Run};
 use crate::table::LineTable;
 use byte_device::Placed;
-use checked_pages::{CheckFault, Pages, u32_be_at};
+use checked_pages::{CheckFault, Pages, Sought, partition_point, u32_be_at};
+
+/// The runs of a table whose upper half is below a limit.
+#[derive(Drop)]
+struct UppersBelow<'t> {
+    table: &'t LineTable,
+    limit: u64,
+}
+
+impl<'t> Sought for UppersBelow<'t> {
+    ghost use Rattle.std.specs.Prelude.{slice_index};
+    ghost use Rattle.line_tables.specs.Opened.{IsTextOf};
+
+    ghost Rows = { List StepRecord };
+
+    ghost stand = { λ s steps all. IsTextOf s.table.now all steps };
+
+    ghost is_held = { λ s all. (steps : List StepRecord) × IsTextOf s.table.now all steps };
+
+    ghost is_below = { λ s steps place. slice_index (run_halves steps) place < s.limit };
+
+    ghost count = { λ s. s.table.now.runs };
+
+    fn is_below<P: Placed>(
+        &self,
+        device: &mut P,
+        pages: &mut Pages,
+        place: u64,
+    ) -> Result<bool, CheckFault> {
+        let row = self.table.run_at(device, pages, place)?;
+        Ok(u64::from(row.upper) < self.limit)
+    }
+}
 
 impl LineTable {
     /// The run of an index.
@@ -50,18 +82,8 @@ impl LineTable {
             → IsOpened self.now pages.old text all steps → AreBelow (run_halves steps) limit count)
             (IsUnstored self.now pages.old) }
     {
-        let mut low = 0;
-        let mut high = self.runs;
-        'halving: while low < high {
-            let middle = low + (high - low) / 2;
-            let row = self.run_at(device, pages, middle)?;
-            if u64::from(row.upper) < limit {
-                low = middle + 1;
-            } else {
-                high = middle;
-            }
-        }
-        Ok(low)
+        let sought = UppersBelow { table: self, limit };
+        partition_point(device, pages, &sought, 0, self.runs)
     }
 
     /// How many steps have a start whose upper half is below a limit.

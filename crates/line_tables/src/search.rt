@@ -12,7 +12,41 @@ use crate::halves::{lower_half, upper_half};
 use crate::row::{STEP_LEN, Step};
 use crate::table::LineTable;
 use byte_device::Placed;
-use checked_pages::{CheckFault, Pages, u32_be_at};
+use checked_pages::{CheckFault, Pages, Sought, partition_point, u32_be_at};
+
+/// The steps of a table whose lower half is not above that of an address.
+#[derive(Drop)]
+struct LowersUpTo<'t> {
+    table: &'t LineTable,
+    address: u64,
+}
+
+impl<'t> Sought for LowersUpTo<'t> {
+    ghost use Rattle.std.specs.Prelude.{slice_index};
+    ghost use Rattle.line_tables.specs.Opened.{IsTextOf};
+    ghost use Rattle.line_tables.specs.Runs.{lower_half};
+
+    ghost Rows = { List StepRecord };
+
+    ghost stand = { λ s steps all. IsTextOf s.table.now all steps };
+
+    ghost is_held = { λ s all. (steps : List StepRecord) × IsTextOf s.table.now all steps };
+
+    ghost is_below = { λ s steps place.
+        lower_half (slice_index (starts_of steps) place) ≤ lower_half s.address };
+
+    ghost count = { λ s. s.table.now.steps };
+
+    fn is_below<P: Placed>(
+        &self,
+        device: &mut P,
+        pages: &mut Pages,
+        place: u64,
+    ) -> Result<bool, CheckFault> {
+        let step = self.table.step_at(device, pages, place)?;
+        Ok(step.lower <= lower_half(self.address))
+    }
+}
 
 impl LineTable {
     /// The step of an index.
@@ -54,19 +88,13 @@ impl LineTable {
             (IsUnstored self.now pages.old) }
     {
         let upper = u64::from(upper_half(address));
-        let lower = lower_half(address);
-        let mut low = self.steps_below(device, pages, upper)?;
-        let mut high = self.steps_below(device, pages, upper + 1)?;
-        'halving: while low < high {
-            let middle = low + (high - low) / 2;
-            let step = self.step_at(device, pages, middle)?;
-            if step.lower <= lower {
-                low = middle + 1;
-            } else {
-                high = middle;
-            }
-        }
-        Ok(low)
+        let low = self.steps_below(device, pages, upper)?;
+        let high = self.steps_below(device, pages, upper + 1)?;
+        let sought = LowersUpTo {
+            table: self,
+            address,
+        };
+        partition_point(device, pages, &sought, low, high)
     }
 
     /// The number of the location of an address; 0 where it has no frames.

@@ -2,7 +2,7 @@
 use Rattle.std.proofs.Common.{◌≡◌, ℕ, zero, suc, ◌<◌, ◌≤◌, ◌^◌, true, false, List, [], ◌∷◌, ◌++◌, map, length, slice_get, get_or, Option, Some, refl, sym, ap}
 use Rattle.std.proofs.Common.{◌∙◌, inl, inr, arith, ◌⊎◌, subst, is_eq, Ordering, option_map}
 use Rattle.std.proofs.lemmas.Bool.{cases_eq}
-use Rattle.std.proofs.lemmas.List.{append-nil, append_assoc, get_or-map, get_or_append_left, get_or_push, length-append, length-map, length_push, map-append}
+use Rattle.std.proofs.lemmas.List.{append-nil, get_or-map, get_or_append_left, get_or_push, length-append, length-map, length_push, map-append}
 use Rattle.std.proofs.lemmas.Option.{get_or_from_slice_get, slice_get-get_or, slice_get-map, slice_get_within}
 use Rattle.line_programs.specs.Paths.{PathRecord}
 use Rattle.source_frames.specs.Frames.{FrameRecord}
@@ -99,9 +99,6 @@ goes_on d old x n new h = elim h.kept [
 
 pub stays : {A : Type 0} (old new : List A) → new ≡ old → GoesOn old new
 stays old new e = record { more = []; is = e ∙ sym (append-nil old) }
-
-pub goes_further : {A : Type 0} (one two three : List A) → GoesOn one two → GoesOn two three → GoesOn one three
-goes_further one two three a b = record { more = a.more ++ b.more; is = b.is ∙ ap (λ l. l ++ b.more) a.is ∙ append_assoc one a.more b.more }
 
 -- ---- the whole grows
 

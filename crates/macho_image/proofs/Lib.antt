@@ -4,6 +4,7 @@ pub mod Walk
 pub mod Images
 pub mod FaultLemmas
 pub mod Existence
+pub mod Names
 pub mod SectionLemmas
 pub mod KindLemmas
 pub mod SectionPlaces

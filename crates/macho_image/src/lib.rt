@@ -30,6 +30,7 @@ pub use fault::ImageFault;
 pub use image::Image;
 pub use load_command::LoadCommand;
 pub use load_commands::LoadCommands;
+pub use name::before_nul;
 pub use section::Section;
 pub use sections::Sections;
 pub use segment::{SegmentCommand64, SegmentSections};

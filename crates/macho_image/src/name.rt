@@ -1,26 +1,20 @@
-//! Names of segments and sections, which take sixteen bytes, filled up with NUL.
+//! Names: those of segments and sections, which take sixteen bytes, filled up with NUL, and any that ends with one.
 
 ghost use Rattle.std.specs.Prelude.{◌≡◌, ◌+◌, ◌≤◌, ◌==◌, length};
-ghost use Rattle.std.specs.List.{before_first, position};
+ghost use Rattle.std.specs.List.{before_first};
 ghost use Rattle.macho_image.specs.Layout.{name_at};
 
 use crate::loader::NAME_LEN;
-
-/// The index of the first NUL.
-fn nul_in(field: &[u8]) -> Option<usize>
-    ensures { result ≡ position (λ b. b == 0) field.now }
-{
-    field.iter().position(|byte| *byte == 0)
-}
+use memchr::memchr;
 
 /// What stands before the first NUL, or all.
-#[tactic(auto, using(crate::proofs::SectionLemmas::parts_at_nul))]
-fn before_nul(field: &[u8]) -> &[u8]
-    ensures { result.now ≡ before_first (λ b. b == 0) field.now }
+#[tactic(auto, using(crate::proofs::Names::parts_at_nul))]
+pub fn before_nul(bytes: &[u8]) -> &[u8]
+    ensures { result.now ≡ before_first (λ b. b == 0) bytes.now }
 {
-    match nul_in(field) {
-        Some(end) => &field[..end],
-        None => field,
+    match memchr(0, bytes) {
+        Some(end) => &bytes[..end],
+        None => bytes,
     }
 }
 

@@ -4,7 +4,7 @@ use Rattle.std.proofs.lemmas.Bool.{cases_lt}
 use Rattle.std.proofs.lemmas.List.{drop-drop, take_all, get_or_append_left, get_or_push}
 use Rattle.macho_symbols.specs.NulPlaces.{nul_from}
 use Rattle.macho_symbols.proofs.Pieces.{before}
-use Rattle.macho_symbols.proofs.Overlaps.{before_drop, before_take}
+use Rattle.macho_symbols.proofs.SuffixLemmas.{before_drop, before_take}
 
 -- it is the same from all places between another one and it
 pub same_nul : (strings : List ℕ) (earlier index : ℕ) → earlier ≤ index → index ≤ nul_from strings earlier → nul_from strings index ≡ nul_from strings earlier
@@ -12,7 +12,7 @@ same_nul strings earlier index h l =
     let k = index - earlier in
     let behind : drop k (drop earlier strings) ≡ drop index strings = drop-drop k earlier strings ∙ ap (λ n. drop n strings) (omega (arith, h)) in
     let rest : before (drop index strings) ≡ drop k (before (drop earlier strings)) =
-    ap before (sym behind) ∙ before_drop k (drop earlier strings) (omega (arith, h, l)) in
+    ap before (sym behind) ∙ sym (before_drop k (drop earlier strings) (omega (arith, h, l))) in
     omega (arith, h, l, ap length rest, length-drop k (before (drop earlier strings)))
 
 -- where the first bytes from a place have one, it is there

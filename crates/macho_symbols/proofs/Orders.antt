@@ -1,18 +1,22 @@
--- Orders of several parts, and the first of some candidates.
-use Rattle.std.proofs.Common.{◌≡◌, ◌≢◌, ◌⊎◌, inl, inr, zero, suc, Bool, true, List, [], ◌∷◌, Option, Some, None, Contains, arith, refl, ap, subst, sym, ◌∙◌}
-use Rattle.std.specs.Ordering.{ordering_then, is_ne, is_lt}
-use Rattle.std.specs.declared.cmp.Ordering.{Ordering}
+-- The first of some candidates.
+use Rattle.std.proofs.Common.{◌≡◌, ◌≢◌, ◌⊎◌, inl, inr, zero, suc, Bool, true, List, [], ◌∷◌, Option, Some, None, MatchOption, cond, Contains, arith, refl, ap, subst, sym, ◌∙◌}
+use Rattle.std.specs.Ordering.{is_lt}
 use Rattle.std.specs.declared.cmp.Ordering.TheVariants.{Less}
 use Rattle.std.proofs.lemmas.Cmp.{upto}
 use Rattle.std.proofs.lemmas.Bool.{cond_both, cases_Bool}
 use Rattle.macho_symbols.specs.Symbols.{Tuple}
 use Rattle.macho_symbols.specs.Nearest.{tuple_cmp, IsFirst}
 use Rattle.macho_symbols.proofs.Order.{UpTo, tuples_total, upto_itself, not_less, upto_other, upto_less}
-use Rattle.macho_symbols.specs.Halving.{IsFirstOrNone, first_of_two}
 
--- an order of several parts, told by its first two, where these differ
-pub heads_decide : (value kind name heads : Ordering) → heads ≡ ordering_then value kind → is_ne heads ≡ true → heads ≡ ordering_then value (ordering_then kind name)
-heads_decide value kind name heads e h = grind arith
+-- the first of some in the order of candidates, or none where there is none
+abbrev pub IsFirstOrNone : (Tuple → Type 0) → Option Tuple → Type 0
+IsFirstOrNone among found = MatchOption found ((c : Tuple) → among c → ⊥) (IsFirst among)
+
+-- the first of two, either of which may be none
+abbrev pub first_of_two : Option Tuple → Option Tuple → Option Tuple
+first_of_two best None = best
+first_of_two None (Some c) = Some c
+first_of_two (Some b) (Some c) = cond (is_lt (tuple_cmp c b)) (Some c) (Some b)
 
 -- the same ones have the same first
 pub first_of_same : (P Q : Tuple → Type 0) (r : Option Tuple) → ((c : Tuple) → P c → Q c) → ((c : Tuple) → Q c → P c) → IsFirstOrNone P r → IsFirstOrNone Q r

@@ -4,11 +4,13 @@ pub mod Fault
 pub mod Nearest
 pub mod Found
 pub mod Views
-pub mod Extents
+pub mod SectionNumbers
+pub mod SectionPlaces
 pub mod Rows
+pub mod Steps
 pub mod NulPlaces
 pub mod Table
+pub mod Suffixes
 -- the words of inner functions: no contract of a public one has them
-pub mod SectionNumbers
-pub mod Overlaps
-pub mod Halving
+pub mod InnerCandidates
+pub mod InnerRanks

@@ -1,32 +1,23 @@
--- The candidates of an image in the order of an address table.
-use Rattle.std.specs.Prelude.{ℕ, List, ◌≡◌, ◌≢◌, ◌<◌, length, slice_index_or, Contains, ◌⊎◌}
-use Rattle.std.specs.declared.cmp.Ordering.TheVariants.{Less}
-use Rattle.macho_symbols.specs.Symbols.{strings_of}
-use Rattle.macho_symbols.specs.Nearest.{tuple_cmp}
-use Rattle.macho_symbols.specs.Views.{tuple_of, rows_of}
-use Rattle.macho_symbols.specs.declared.candidate.Candidate.{Candidate}
+-- The rows of a table by where they start, and which of them an address belongs to.
+use Rattle.std.specs.Prelude.{◌≡◌, ◌<◌, ◌≤◌, ℕ, List, length, slice_index_or, slice_get, Option, Some, MatchOption}
+use Rattle.macho_symbols.specs.declared.row.Row.{Row}
 
--- a row of an earlier section, or of the same one and a greater value
-abbrev pub Precedes : Candidate → Candidate → Type 0
-Precedes r s = (r.sect < s.sect) ⊎ ((r.sect ≡ s.sect) × (s.value < r.value))
+-- the starts ascend
+abbrev pub AreRising : List Row → Type 0
+AreRising rows = (i j : ℕ) (d : Row) → i < j → j < length rows
+    → (slice_index_or rows i d).start < (slice_index_or rows j d).start
 
--- a row of the same section and value
-abbrev pub IsBeside : Candidate → Candidate → Type 0
-IsBeside r s = (r.sect ≡ s.sect) × (r.value ≡ s.value)
+-- a row is the last that begins at an address or below it
+pub record IsLastNotAbove (rows : List Row) (address : ℕ) (row : Row) : Type 0 where
+  pub at : ℕ
+  pub stands : slice_get rows at ≡ Some row
+  pub not_above : row.start ≤ address
+  pub others : (j : ℕ) (d : Row) → at < j → j < length rows → address < (slice_index_or rows j d).start
 
--- sections rise along the rows, values fall in a section, and there is one row of each section and value
-abbrev pub AreFalling : List Candidate → Type 0
-AreFalling rows = (i j : ℕ) (d : Candidate) → i < j → j < length rows
-    → Precedes (slice_index_or rows i d) (slice_index_or rows j d)
+-- every row begins above an address
+abbrev pub AreAbove : List Row → ℕ → Type 0
+AreAbove rows address = (j : ℕ) (d : Row) → j < length rows → address < (slice_index_or rows j d).start
 
--- of each section and value that there is among some rows, the first one in the order of candidates
-pub record AreFirsts (strings : List ℕ) (rows firsts : List Candidate) : Type 0 where
-  pub members : (r : Candidate) → Contains firsts r → Contains rows r
-  pub each : (c : Candidate) → Contains rows c
-      → (r : Candidate) × Contains firsts r × IsBeside r c
-      × (tuple_cmp (tuple_of strings c) (tuple_of strings r) ≢ Less)
-  pub falling : AreFalling firsts
-
--- the rows tell of each section and value that candidates of an image have the first candidate
-abbrev pub AreRows : List ℕ → List Candidate → Type 0
-AreRows image rows = AreFirsts (strings_of image) (rows_of image) rows
+-- the row that an address belongs to, or none
+abbrev pub IsRowFor : List Row → ℕ → Option Row → Type 0
+IsRowFor rows address found = MatchOption found (AreAbove rows address) (IsLastNotAbove rows address)

@@ -1,9 +1,8 @@
 -- What candidates, finds and symbols of the code are in the definitions.
-use Rattle.std.specs.Prelude.{ℕ, List, ◌≡◌, ◌==◌, bit_and, Option, Some, None, if◌then◌else◌}
-use Rattle.std.specs.List.{before_first, filter_map}
+use Rattle.std.specs.Prelude.{ℕ, List, ◌≡◌, ◌==◌}
+use Rattle.std.specs.List.{before_first}
 use Rattle.macho_image.specs.declared.symtab_command.Symtab.{Symtab}
-use Rattle.macho_symbols.specs.Symbols.{Tuple, table_of, name_of, is_candidate, entries_of}
-use Rattle.macho_symbols.specs.Nlist.{n_strx, n_type, n_sect, n_value}
+use Rattle.macho_symbols.specs.Symbols.{Tuple, table_of, name_of}
 use Rattle.macho_symbols.specs.Fault.{HasSymbols}
 use Rattle.macho_symbols.specs.Found.{FoundRecord}
 use Rattle.macho_symbols.specs.declared.name.Name.{Name}
@@ -16,23 +15,7 @@ name_view n = before_first (λ b. b == 0) n.from.now
 
 -- what counts of a candidate of the code, with its name out of the string table
 unfoldable pub tuple_of : List ℕ → Candidate → Tuple
-tuple_of strings c = record { value = c.value; external = c.external; name = name_of strings c.strx; sect = c.sect }
-
--- an entry that is a candidate, with the place of its name
-unfoldable pub row_in : List ℕ → List ℕ → Option Candidate
-row_in image entry =
-    if is_candidate image entry
-    then Some (record {
-      value = n_value entry;
-      strx = n_strx entry;
-      sect = n_sect entry;
-      external = bit_and (n_type entry) 0x01 == 1;
-    })
-    else None
-
--- the candidates of an image with the places of their names, in the order of its symbol table
-unfoldable pub rows_of : List ℕ → List Candidate
-rows_of image = filter_map (row_in image) (entries_of image)
+tuple_of strings c = record { value = c.value; external = c.external; name = name_of strings c.n_strx; sect = c.sect }
 
 -- what was found, without where its names lie
 abbrev pub found_view : Found → FoundRecord

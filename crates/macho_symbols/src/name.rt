@@ -7,20 +7,8 @@ ghost use Rattle.std.specs.Cmp.Lexicographic.{slice_cmp, pointwise};
 ghost use Rattle.macho_symbols.specs.Symbols.{name_of};
 ghost use Rattle.macho_symbols.specs.Views.{name_view};
 
-use macho_image::Symtab;
-use memchr::memchr;
+use macho_image::{Symtab, before_nul};
 use std::cmp::Ordering;
-
-/// What stands before the first NUL, or all.
-#[tactic(auto, using(crate::proofs::Names::parts_at_nul))]
-pub fn before_nul(bytes: &[u8]) -> &[u8]
-    ensures { result.now ≡ before_first (λ b. b == 0) bytes.now }
-{
-    match memchr(0, bytes) {
-        Some(end) => &bytes[..end],
-        None => bytes,
-    }
-}
 
 /// The string table of an image with this LC_SYMTAB, or as much of it as there is.
 pub(crate) fn strings_in<'b>(image: &'b [u8], symtab: &Symtab) -> &'b [u8]
@@ -94,29 +82,6 @@ impl<'a> Name<'a> {
         ensures { not result ≡ nat_lt 0 (length (name_view self.now)) }
     {
         self.from.is_empty() || self.from[0] == 0
-    }
-
-    /// Its first bytes, so many or all that it has.
-    fn beginning(&self, size: usize) -> Name<'a>
-        ensures { name_view result ≡ take size (name_view self.now) }
-    {
-        Name {
-            from: split_piece(self.from, size).0,
-        }
-    }
-
-    /// Whether it has fewer bytes than so many. It looks at no more than these.
-    pub(crate) fn is_shorter(&self, size: usize) -> bool
-        ensures { result ≡ nat_lt (length (name_view self.now)) size }
-    {
-        self.beginning(size).bytes().len() < size
-    }
-
-    /// Compares as many first bytes of two names in byte order.
-    pub(crate) fn compare_beginnings(&self, other: &Name<'_>, size: usize) -> Ordering
-        ensures { result ≡ slice_cmp nat_cmp (take size (name_view self.now)) (take size (name_view other.now)) }
-    {
-        self.beginning(size).compare(&other.beginning(size))
     }
 
     /// All its bytes.

@@ -8,6 +8,7 @@ ghost use Rattle.macho_symbols.specs.Views.{found_view};
 
 use crate::entries::Entries;
 use crate::found::Found;
+use crate::name::Name;
 use crate::scan::Scan;
 use crate::symbols::Symbols;
 use std::marker::Model;
@@ -58,7 +59,7 @@ impl<'a> Scan<'a> {
             ≡ named_among self.now name.now (option_to_list (candidate_in self.now entry.now)) }
     {
         let candidate = self.candidate(entry)?;
-        if !candidate.name(self.symbols.strings()).is(name) {
+        if !Name::at(self.symbols.strings(), candidate.n_strx).is(name) {
             return None;
         }
         Some(self.found(candidate.value, &candidate))

@@ -6,20 +6,13 @@ ghost use Rattle.macho_symbols.specs.Symbols.{strings_of};
 ghost use Rattle.macho_symbols.specs.Nearest.{can_stand_for};
 ghost use Rattle.macho_symbols.specs.Found.{FindsNearest};
 ghost use Rattle.macho_symbols.specs.Views.{tuple_of, found_view};
-ghost use Rattle.macho_symbols.specs.Halving.{standing_at};
+ghost use Rattle.macho_symbols.specs.InnerCandidates.{IsAt, IsLeastOrNone, standing_at};
 
 use crate::candidate::Candidate;
-use crate::first::{Candidates, first_of};
+use crate::compared::ComparedNames;
 use crate::found::Found;
 use crate::scan::Scan;
 use crate::symbols::Symbols;
-
-/// The candidates that can stand for an address, by the indices of their entries.
-#[derive(Clone, Copy)]
-struct Standing<'s, 'a> {
-    scan: &'s Scan<'a>,
-    address: u64,
-}
 
 impl<'a> Scan<'a> {
     /// Whether a candidate can stand for an address.
@@ -29,38 +22,40 @@ impl<'a> Scan<'a> {
     {
         candidate.value <= address && self.is_in_section(candidate.sect, address)
     }
-}
 
-impl<'s, 'a> Candidates for Standing<'s, 'a> {
-    ghost at = { λ s. standing_at s.scan.now s.address };
-
-    fn count(self) -> usize {
-        let scan = self.scan;
-        scan.symbols.count()
-    }
-
-    fn at(self, index: usize) -> Option<Candidate> {
-        match self.scan.candidate_at(index) {
-            Some(candidate) if self.scan.can_stand_for(&candidate, self.address) => Some(candidate),
+    /// The candidate that the entry of an index is, if it can stand for an address.
+    fn standing_at(&self, index: usize, address: u64) -> Option<Candidate>
+        ensures { result ≡ standing_at self.now address index }
+    {
+        match self.candidate_at(index) {
+            Some(candidate) if self.can_stand_for(&candidate, address) => Some(candidate),
             _ => None,
         }
+    }
+
+    /// The first of the candidates that can stand for an address.
+    fn first_standing(&self, address: u64) -> Option<Candidate>
+        ensures { IsLeastOrNone (strings_of self.now) (IsAt (standing_at self.now address)) result }
+    {
+        let names = ComparedNames::by_pieces(self.symbols.strings());
+        let mut best = None;
+        'entries: for index in 0..self.symbols.count() {
+            best = Candidate::first_of(best, self.standing_at(index, address), &names);
+        }
+        best
     }
 }
 
 impl<'a> Symbols<'a> {
     /// The symbol that an address belongs to: of those in whose section it lies and that are not above it,
     /// the one with the greatest address; of several such an external one, then the one with the least
-    /// name, then the one with the least section number. It looks at every entry, and again where the
-    /// best name is so long that it may overlap with others.
+    /// name, then the one with the least section number. It looks at every entry once, and takes no memory; names that
+    /// overlap cost it what they share each time, which `AddressTable` does not.
     pub fn nearest_plain(&self, address: u64) -> Option<Found<'a>>
         ensures { FindsNearest self.now address (option_map found_view result) }
     {
         let scan = Scan::new(self);
-        let standing = Standing {
-            scan: &scan,
-            address,
-        };
-        let candidate = first_of(standing, self.strings())?;
+        let candidate = scan.first_standing(address)?;
         Some(scan.found(address, &candidate))
     }
 }

@@ -7,29 +7,29 @@ ghost use Rattle.macho_symbols.specs.Nlist.{n_strx, n_type, n_sect, n_value};
 use byteorder::{ByteOrder, LittleEndian};
 
 /// The size of `nlist_64` in bytes.
-pub const NLIST_64_LEN: usize = 16;
+pub(crate) const NLIST_64_LEN: usize = 16;
 
 /// Bits of `n_type`: any of them is set in an entry for a debugger.
-pub const N_STAB: u8 = 0xe0;
+pub(crate) const N_STAB: u8 = 0xe0;
 
 /// Bits of `n_type`: where the symbol is defined.
-pub const N_TYPE: u8 = 0x0e;
+pub(crate) const N_TYPE: u8 = 0x0e;
 
 /// A bit of `n_type`: the symbol is external.
-pub const N_EXT: u8 = 0x01;
+pub(crate) const N_EXT: u8 = 0x01;
 
 /// A value of the bits N_TYPE: the symbol is defined in the section `n_sect`.
-pub const N_SECT: u8 = 0xe;
+pub(crate) const N_SECT: u8 = 0xe;
 
 /// A value of `n_sect`: the symbol is in no section.
 pub(crate) const NO_SECT: u8 = 0;
 
 /// The greatest value of `n_sect`. The sections that a symbol can name are 1 to this.
-pub const MAX_SECT: u8 = 255;
+pub(crate) const MAX_SECT: u8 = 255;
 
 /// `n_strx`: where the name begins in the string table.
 #[tactic(auto, unfolding(macho_image::specs::Layout::u32_le_at))]
-pub fn n_strx(entry: &[u8]) -> u32
+pub(crate) fn n_strx(entry: &[u8]) -> u32
     requires { 16 ≤ length entry.now }
     ensures { result ≡ n_strx entry.now }
 {
@@ -54,7 +54,7 @@ pub(crate) fn n_sect(entry: &[u8]) -> u8
 
 /// `n_value`: the address.
 #[tactic(auto, unfolding(macho_image::specs::Layout::u64_le_at))]
-pub fn n_value(entry: &[u8]) -> u64
+pub(crate) fn n_value(entry: &[u8]) -> u64
     requires { 16 ≤ length entry.now }
     ensures { result ≡ n_value entry.now }
 {

@@ -4,7 +4,7 @@ ghost use Rattle.std.specs.Prelude.{◌≡◌, ◌≤◌, ℕ, IfOk, length};
 ghost use Rattle.macho_symbols.specs.Symbols.{name_of};
 ghost use Rattle.macho_symbols.specs.NulPlaces.{nul_from, AreNulPlaces};
 
-use crate::name::before_nul;
+use macho_image::before_nul;
 use memory::{Heap, NoMemory};
 
 /// How many bytes of the string table a block has.

@@ -1,21 +1,22 @@
 //! What a scan over the entries reads: the symbols, and the sections that their numbers name.
 
-ghost use Rattle.std.specs.Prelude.{◌≡◌, ◌≤◌, [], length};
+ghost use Rattle.std.specs.Prelude.{◌≡◌, ◌<◌, ◌≤◌, ◌^◌, [], IfOk, IfSome, length};
 ghost use Rattle.std.specs.Option.{option_map, option_map_or};
 ghost use Rattle.macho_image.specs.Sections.{section_of};
 ghost use Rattle.macho_image.specs.SectionViews.{section_view};
 ghost use Rattle.macho_symbols.specs.Symbols.{strings_of, is_in_section, name_in, is_candidate, candidate_in};
 ghost use Rattle.macho_symbols.specs.Found.{found_of};
-ghost use Rattle.macho_symbols.specs.Halving.{is_placed, row_at};
-ghost use Rattle.macho_symbols.specs.Views.{name_view, row_in, tuple_of, found_view};
+ghost use Rattle.macho_symbols.specs.InnerCandidates.{AreCandidates, is_placed, numbered_at, numbered_in};
+ghost use Rattle.macho_symbols.specs.Views.{name_view, tuple_of, found_view};
 
 use crate::candidate::Candidate;
 use crate::found::Found;
 use crate::name::Name;
 use crate::nlist::{N_EXT, N_SECT, N_STAB, N_TYPE, n_sect, n_strx, n_type, n_value};
-use crate::section_numbers::{N_SECT_COUNT, sections_by_number};
+use crate::section_numbers::{N_SECT_COUNT, is_inside, sections_by_number};
 use crate::symbols::Symbols;
 use macho_image::Section;
+use memory::{Heap, NoMemory};
 use std::marker::Model;
 
 /// The symbols of an image beside its sections by number, which are collected once where a scan begins. A
@@ -61,13 +62,13 @@ impl<'a> Scan<'a> {
         ensures { result ≡ is_in_section self.now number address }
     {
         match self.section(number) {
-            Some(section) => section.addr <= address && address - section.addr < section.size,
+            Some(section) => is_inside(&section, address),
             None => false,
         }
     }
 
     /// Whether an entry is a candidate if it has a name.
-    #[tactic(auto, unfolding(crate::specs::Halving::is_placed))]
+    #[tactic(auto, unfolding(crate::specs::InnerCandidates::is_placed))]
     pub(crate) fn is_placed(&self, entry: &[u8]) -> bool
         requires { 16 ≤ length entry.now }
         ensures { result ≡ is_placed self.now entry.now }
@@ -95,18 +96,19 @@ impl<'a> Scan<'a> {
     }
 
     /// The candidate that an entry is, if it is one.
-    #[tactic(auto, unfolding(crate::specs::Views::row_in, crate::specs::Views::tuple_of, crate::specs::Symbols::candidate_in, crate::specs::Symbols::tuple_in, crate::specs::Symbols::name_in))]
+    #[tactic(auto, unfolding(crate::specs::InnerCandidates::numbered_in, crate::specs::Views::tuple_of, crate::specs::Symbols::candidate_in, crate::specs::Symbols::tuple_in, crate::specs::Symbols::name_in))]
     pub(crate) fn candidate(&self, entry: &[u8]) -> Option<Candidate>
         requires { 16 ≤ length entry.now }
-        ensures row { result ≡ row_in self.now entry.now }
+        ensures numbered { result ≡ numbered_in self.now entry.now }
         ensures tuple { option_map (tuple_of (strings_of self.now)) result ≡ candidate_in self.now entry.now }
+        ensures small { IfSome result (λ candidate. candidate.sect < 2 ^ 8) }
     {
         if !self.is_candidate(entry) {
             return None;
         }
         Some(Candidate {
             value: n_value(entry),
-            strx: n_strx(entry),
+            n_strx: n_strx(entry),
             sect: n_sect(entry),
             external: n_type(entry) & N_EXT == 1,
         })
@@ -114,9 +116,23 @@ impl<'a> Scan<'a> {
 
     /// The candidate that the entry of an index is, if there is such an entry and it is one.
     pub(crate) fn candidate_at(&self, index: usize) -> Option<Candidate>
-        ensures { result ≡ row_at self.now index }
+        ensures numbered { result ≡ numbered_at self.now index }
+        ensures small { IfSome result (λ candidate. candidate.sect < 2 ^ 8) }
     {
         self.candidate(self.symbols.entry(index)?)
+    }
+
+    /// The entries that are candidates, in the order of the symbol table.
+    pub(crate) fn candidates(&self, heap: Heap) -> Result<Vec<Candidate, Heap>, NoMemory>
+        ensures { IfOk result (λ candidates. AreCandidates self.now candidates.items) }
+    {
+        let mut candidates = Vec::new(heap);
+        'entries: for index in 0..self.symbols.count() {
+            if let Some(candidate) = self.candidate_at(index) {
+                candidates.push(candidate)?;
+            }
+        }
+        Ok(candidates)
     }
 
     /// The names of the segment and of the section of a number, empty where there is no such section.
@@ -138,7 +154,7 @@ impl<'a> Scan<'a> {
     {
         let (segment, section) = self.section_names(candidate.sect);
         Found {
-            name: candidate.name(self.symbols.strings()).bytes(),
+            name: Name::at(self.symbols.strings(), candidate.n_strx).bytes(),
             address: candidate.value,
             offset: address - candidate.value,
             sect: candidate.sect,

@@ -1,9 +1,13 @@
 //! The sections of an image by the numbers that a symbol can name.
 
-ghost use Rattle.macho_symbols.specs.SectionNumbers.{AreByNumber};
+ghost use Rattle.std.specs.Prelude.{◌≡◌, IfOk};
+ghost use Rattle.macho_image.specs.Sections.{is_inside};
+ghost use Rattle.macho_image.specs.SectionViews.{section_view};
+ghost use Rattle.macho_symbols.specs.SectionNumbers.{AreByNumber, AreSectionsOf};
 
 use crate::nlist::MAX_SECT;
 use macho_image::{Image, Section};
+use memory::{Heap, NoMemory};
 
 /// How many numbers `n_sect` has, NO_SECT among them.
 pub(crate) const N_SECT_COUNT: usize = MAX_SECT as usize + 1;
@@ -18,4 +22,25 @@ pub(crate) fn sections_by_number<'a>(image: &Image<'a>) -> [Option<Section<'a>>;
         by_number[number] = sections.next();
     }
     by_number
+}
+
+/// The sections of an image that a symbol can name, from that of the number 1 on.
+pub fn collect_sections<'a>(
+    heap: Heap,
+    image: &Image<'a>,
+) -> Result<Vec<Section<'a>, Heap>, NoMemory>
+    ensures { IfOk result (λ all. AreSectionsOf image.now all.items) }
+{
+    let mut all = Vec::new(heap);
+    for section in image.sections().take(MAX_SECT as usize) {
+        all.push(section)?;
+    }
+    Ok(all)
+}
+
+/// Whether an address lies in a section, whose end may pass 2^64.
+pub(crate) fn is_inside(section: &Section<'_>, address: u64) -> bool
+    ensures { result ≡ is_inside address (section_view section.now) }
+{
+    section.addr <= address && address - section.addr < section.size
 }

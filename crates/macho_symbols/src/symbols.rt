@@ -116,7 +116,8 @@ impl<'a> Symbols<'a> {
     /// The string table.
     #[tactic(auto, unfolding(crate::specs::Symbols::strings_of))]
     pub(crate) fn strings(&self) -> &'a [u8]
-        ensures { result.now ≡ strings_of self.now }
+        ensures is { result.now ≡ strings_of self.now }
+        ensures few { length result.now < 2 ^ 32 }
     {
         strings_in(self.image.bytes(), &self.table)
     }
@@ -124,7 +125,7 @@ impl<'a> Symbols<'a> {
 
 /// Where the tables of an image lie; nowhere, where it has no LC_SYMTAB.
 #[tactic(auto, unfolding(crate::specs::Symbols::table_of))]
-pub fn table_of(image: &Image<'_>) -> Symtab
+fn table_of(image: &Image<'_>) -> Symtab
     ensures { result ≡ table_of image.now }
 {
     image.symtab().unwrap_or(Symtab {

@@ -12,7 +12,7 @@ use Rattle.archive_core.specs.declared.keys.SliceKey.{SliceKey}
 use Rattle.command_core.proofs.Readers.{readers_long}
 use Rattle.indexed_queries.specs.Find.{find_together}
 use Rattle.indexed_symbols.specs.{Frames.frames_at, Symbolicate.symbolicate_at}
-use Rattle.plan_commands.specs.QueryDispatch.{IsAlone, find_of, frames_of, if_paired, paired, symbolicate_of}
+use Rattle.plan_commands.specs.Queries.{IsAlone, find_of, frames_of, if_paired, paired, symbolicate_of}
 
 -- ---- inputs in two parts
 

@@ -9,7 +9,7 @@ use Rattle.command_core.specs.Outputs.{Outs, Takes, Writer, out_of}
 use Rattle.command_core.specs.declared.faults.CommandFault.{CommandFault, TheVariants.Input}
 use Rattle.command_core.specs.declared.faults.{Status.Status, Why.Why, InputName.InputName}
 use Rattle.slice_extraction.specs.{Extract.Extraction, Extract.Extracts, Extract.extract, Indexed.extract_at}
-use Rattle.plan_commands.specs.QueryDispatch.{IsAlone, extract_of, extraction_if_paired, paired}
+use Rattle.plan_commands.specs.Queries.{IsAlone, extract_of, extraction_if_paired, paired}
 use Rattle.plan_commands.proofs.Dispatched.{readers_alone, readers_paired}
 
 -- with an index

@@ -4,6 +4,8 @@ pub mod Pathless
 pub mod Outcomes
 pub mod Saying
 pub mod Noting
+pub mod Spared
+pub mod Openings
 pub mod Extracted
 mod Dispatched
 mod Asked

@@ -87,9 +87,9 @@ pub nothing_taken : (bytes : List ℕ) (failures : ℕ) → bytes ≡ [] → fai
 nothing_taken bytes failures none unfailed = rw (none, unfailed) refl
 
 -- OUT has its path by the plan
-pub path_from : {T E : Type 0} (r : Result T E) (a b : Option Text) (xs ys others same : List Text) (path : Option Text)
-    → a ≡ b → xs ≡ ys → OnOk r (IsPath a xs others same path) → OnOk r (IsPath b ys others same path)
-path_from r a b xs ys others same path asked inputs is =
+pub path_from : {T E : Type 0} (r : Result T E) (a b : Option Text) (xs ys : List Text) (compared : List FileCall)
+    (path : Option Text) → a ≡ b → xs ≡ ys → OnOk r (IsPath a xs compared path) → OnOk r (IsPath b ys compared path)
+path_from r a b xs ys compared path asked inputs is =
     rw (← asked, ← inputs) is
 
 -- without a path nothing was called

@@ -55,7 +55,7 @@ IsOutcome out (Err (Report n)) = IsPut out
 IsOutcome out (Err OutOfMemory) = IsNotPut out (Err OutOfMemory)
 
 -- What was called of the system in a command: the paths that inputs were made for, before it and after it, which alone
--- may be opened, the inputs that were found to be other files than OUT's, the one that was found to be OUT's own, the
+-- may be opened, what the system said of OUT's path and of theirs, the
 -- calls for OUT, and why it was not begun or not published, if it was not. What is told of an input stands first,
 -- with the paths that were opened for it; then what is known of OUT's draft and how often it failed, and of what was
 -- published.
@@ -67,8 +67,7 @@ pub record Calls (S D T : Type 0) : Type 0 where
   pub target_failures : T → ℕ
   pub asked_old : List Text
   pub asked_new : List Text
-  pub others : List Text
-  pub same : List Text
+  pub compared : List FileCall
   pub called : List FileCall
   pub fault : Option OutFault
 
@@ -85,8 +84,7 @@ calls_of told held draft_failures published target_failures old new = record {
   target_failures = target_failures;
   asked_old = old.asked.entries;
   asked_new = new.asked.entries;
-  others = new.others.entries;
-  same = new.same.entries;
+  compared = new.compared.entries;
   called = publishing_calls new.out.target.published ++ new.out.draft.calls.entries;
   fault = fault_of (stage_of new.out.draft.state);
 }
@@ -107,7 +105,7 @@ pub record IsCarriedOut {S D T : Type 0} (calls : Calls S D T) (line : Line) (re
   pub begun : Out D T
   pub done : Out D T
   pub ended : Result Status CommandFault
-  pub path_is : IsPath (out_of line) (inputs_of line) calls.others calls.same path
+  pub path_is : IsPath (out_of line) (inputs_of line) calls.compared path
   pub begun_is : calls.held begun.draft ≡ Some (account path replaces [])
   pub begun_unfailed : calls.draft_failures begun.draft ≡ 0
   pub nothing_published : calls.published begun.target ≡ None

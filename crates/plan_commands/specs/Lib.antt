@@ -1,5 +1,6 @@
-pub mod QueryDispatch
+pub mod Queries
 pub mod Plans
 pub mod Disks
+pub mod Openings
 pub mod Files
 pub mod Ends

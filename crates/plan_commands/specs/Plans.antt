@@ -1,5 +1,5 @@
 -- How the command of a plan ends.
-use Rattle.std.specs.Prelude.{◌≡◌, suc, Bool, true, false, List, [], ◌∷◌, take, drop, Result}
+use Rattle.std.specs.Prelude.{◌≡◌, suc, Bool, true, false, not, List, [], ◌∷◌, take, drop, Result}
 use Rattle.std.specs.FinSet as set
 use Rattle.command_line.specs.declared.plan.Plan.{Plan}
 use Rattle.command_line.specs.declared.plan.Plan.TheVariants as plan
@@ -13,7 +13,7 @@ use Rattle.archive_writing.specs.{Admit.admit_as_it_comes, Apply.apply_as_it_com
 use Rattle.archive_writing.specs.{Summary.summary, Notes.NotesMissing, Notes.NotesRetired, Retire.retire_as_it_comes}
 use Rattle.archive_writing.specs.{MergeStreams.merge_as_it_comes, Migrate.migrate_as_it_comes, declared.notes.Note.Note}
 use Rattle.indexed_queries.specs.Summary.{summary_at}
-use Rattle.plan_commands.specs.QueryDispatch.{NotesUnderscored, extract_of, find_of, frames_of, list_of, symbolicate_of}
+use Rattle.plan_commands.specs.Queries.{NotesUnderscored, extract_of, find_of, frames_of, list_of, symbolicate_of}
 use Rattle.archive_queries.specs.Name.{name}
 use Rattle.archive_exchange.specs.Rehearse.{rehearse}
 use Rattle.index_writing.specs.Index.{index}
@@ -61,6 +61,12 @@ only_reports (plan.Symbolicate _ _ _ _ _) = true
 only_reports (plan.Frames _ _) = true
 only_reports plan.Rehearse = true
 only_reports _ = false
+
+-- it writes OUT while it reads an archive, or once it has read it
+abbrev pub writes_archive : Plan → Bool
+writes_archive plan.New = false
+writes_archive (plan.Extract _ _ _) = false
+writes_archive asked = not (only_reports asked)
 
 -- what any plan does, over the same inputs
 abbrev pub deed_of : {S D T : Type 0} → Plan → List (Reader S) → List (Reader S) → Outs D T → Deed

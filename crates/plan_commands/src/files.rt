@@ -38,7 +38,7 @@ fn begin<F: Files>(
     requires { AreFresh files.old }
     ensures asked { files.new.asked.entries ≡ files.old.asked.entries }
     ensures path { OnOk result (IsPath (out_of (line_view line.now)) (inputs_of (line_view line.now))
-        files.new.others.entries files.new.same.entries (option_map string_bytes files.new.out.draft.path)) }
+        files.new.compared.entries (option_map string_bytes files.new.out.draft.path)) }
     ensures rule { OnOk result (out_of (line_view line.now) ≢ None → files.new.out.draft.replaces ≡ replaces) }
     ensures untouched { stage_of files.new.out.draft.state ≡ Untouched }
     ensures unfailed { files.new.out.draft.failures ≡ 0 }
@@ -62,7 +62,7 @@ fn inputs_for<'l, 'f, F: Files>(
         (files.new.asked.entries ≡ files.old.asked.entries ++ inputs_of (line_view line.now)) }
     ensures first { AreFirstAsked files.old.asked.entries files.new.asked.entries (inputs_of (line_view line.now)) }
     ensures out { files.new.out ≡ files.old.out }
-    ensures others { (files.new.others ≡ files.old.others) × (files.new.same ≡ files.old.same) }
+    ensures compared { files.new.compared ≡ files.old.compared }
 {
     let paths = line.inputs(files.alloc())?;
     files.inputs(&paths)

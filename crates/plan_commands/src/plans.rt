@@ -7,15 +7,13 @@ ghost use Rattle.command_line.specs.Plan.{least_inputs};
 ghost use Rattle.plan_commands.specs.Plans.{Executes, Notes, replaces_of};
 
 use crate::queries::answer;
-use crate::query_dispatch::{self, first_and_rest};
-use crate::updates;
+use crate::updates::{extract, write};
 use archive_core::Archive;
 use archive_files::Replaces;
-use archive_writing::{Note, run_migrate, run_new};
+use archive_writing::{Note, run_new};
 use byte_device::{Output, Placed, Sink, Source, Target};
 use command_core::{CommandFault, Status};
 use command_line::Plan;
-use index_writing::run_index;
 use memory::Heap;
 
 /// Which files the OUT of a plan replaces: a summary and an index their own kind, a slice its own bytes, an archive those
@@ -53,25 +51,23 @@ pub fn execute<A: Archive + Drop, L: Archive + Drop, S: Source + Placed, T: Targ
 {
     match plan {
         Plan::New => run_new::<A, _, _>(heap, out, report),
-        Plan::Admit => updates::admit(heap, inputs, notes, out, report),
-        Plan::Retire { key, digest } => {
-            updates::retire(heap, inputs, *key, *digest, notes, out, report)
-        }
-        Plan::Merge => updates::merge::<A, _, _, _>(heap, inputs, out, report),
-        Plan::Migrate => run_migrate(heap, first_and_rest(inputs).0, out, report),
-        Plan::Apply => updates::apply(heap, inputs, out, report),
         Plan::Extract { key, digest, more } => {
             let (archives, indexes) = inputs.split_at_mut(*more + 1);
-            query_dispatch::extract::<A, _, _, _>(heap, archives, indexes, key, digest, out, report)
+            extract::<A, _, _, _>(heap, archives, indexes, key, digest, out, report)
         }
-        Plan::Summary => updates::summary(heap, inputs, out, report),
-        Plan::Index => run_index(heap, first_and_rest(inputs).0, out, report),
-        Plan::Delta => updates::delta(heap, inputs, out, report),
         Plan::Find { .. }
         | Plan::List
         | Plan::Name { .. }
         | Plan::Symbolicate { .. }
         | Plan::Frames { .. }
         | Plan::Rehearse => answer::<A, L, _, _>(heap, plan, inputs, notes, report),
+        Plan::Admit
+        | Plan::Retire { .. }
+        | Plan::Merge
+        | Plan::Migrate
+        | Plan::Apply
+        | Plan::Summary
+        | Plan::Index
+        | Plan::Delta => write::<A, _, _, _>(heap, plan, inputs, notes, out, report),
     }
 }

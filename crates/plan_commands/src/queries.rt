@@ -1,19 +1,193 @@
-//! The plans that write no OUT, over the inputs of a line, which stand in the order of its words.
+//! The plans that write no OUT, over the inputs of a line, which stand in the order of its words: archives are read whole,
+//! or by their indexes.
 
-ghost use Rattle.std.specs.Prelude.{◌≡◌, ◌≤◌, OnOk, length, true};
-ghost use Rattle.command_core.specs.Inputs.{readers};
+ghost use Rattle.std.specs.Prelude.{◌≡◌, ◌<◌, ◌≤◌, ◌∷◌, IfErr, OnOk, length, true};
+ghost use Rattle.std.specs.Borrow.{Array, LendsBoth, sem};
+ghost use Rattle.command_core.specs.Ends.{EndsReport};
+ghost use Rattle.command_core.specs.Inputs.{reader, readers};
 ghost use Rattle.command_core.specs.Outputs.{writer};
 ghost use Rattle.command_line.specs.Plan.{least_inputs};
+ghost use Rattle.archive_queries.specs.Name.{name as name_of};
 ghost use Rattle.plan_commands.specs.Plans.{Answers, Notes, only_reports};
+ghost use Rattle.plan_commands.specs.Queries.{AddsUnderscored, NotesUnderscored};
+ghost use Rattle.plan_commands.specs.Queries.{IsAlone, find_of, frames_of, list_of, symbolicate_of};
 
-use crate::query_dispatch::{self, first_and_rest};
-use archive_core::Archive;
+use archive_core::{Archive, SliceKey};
 use archive_exchange::run_rehearse;
+use archive_queries::{answer_name, run_find, run_frames, run_list, run_symbolicate};
 use archive_writing::Note;
 use byte_device::{Placed, Sink, Source};
-use command_core::{CommandFault, Status};
+use command_core::{CommandFault, InputName, Status, Why, publish_report};
 use command_line::Plan;
-use memory::Heap;
+use indexed_queries::{run_find_at, run_find_together, run_list_at};
+use indexed_symbols::{run_frames_at, run_symbolicate_at};
+use memory::{Heap, NoMemory};
+use uuid::Uuid;
+
+/// The first of some, and the rest.
+pub fn first_and_rest<T>(items: &mut [T]) -> (&mut T, &mut [T])
+    requires { 0 < length items.old }
+    ensures parts { items.old ≡ result.0.now ∷ result.1.now }
+    ensures* writes_back { sem 𝓛 (LendsBoth (Array T.row 0) T.row (Array T.row 0) items.entry result ◌∷◌) }
+{
+    let (first, rest) = items.split_at_mut(1);
+    (&mut first[0], rest)
+}
+
+/// Refuses the first index that has no archive, or the first archive that has no index.
+pub fn test_pairs(archives: usize, indexes: usize) -> Result<(), CommandFault>
+    ensures same { OnOk result (indexes ≡ archives) }
+    ensures other { IfErr result (IsAlone archives indexes) }
+{
+    if indexes > archives {
+        return Err(CommandFault::Input(InputName::Index(archives as u64), Why::NoArchive));
+    }
+    if indexes < archives {
+        return Err(CommandFault::Input(InputName::Archive(indexes as u64), Why::NoIndex));
+    }
+    Ok(())
+}
+
+/// `find` over archives, which are read by these indexes, if there are some: of one archive by its index alone.
+fn find<A: Archive + Drop, S: Source + Placed, P: Sink>(
+    heap: Heap,
+    archives: &mut [S],
+    indexes: &mut [S],
+    uuid: &Uuid,
+    report: &mut P,
+) -> Result<Status, CommandFault>
+    requires { 0 < length archives.old }
+    ensures { EndsReport (find_of
+        (readers ⟦<S as Source>⟧.left ⟦<S as Source>⟧.failures archives.old archives.new)
+        (readers ⟦<S as Placed>⟧.whole ⟦<S as Placed>⟧.failures archives.old archives.new)
+        (readers ⟦<S as Placed>⟧.whole ⟦<S as Placed>⟧.failures indexes.old indexes.new) uuid.now)
+        (writer P.held P.failures report.old report.new) result }
+{
+    if indexes.is_empty() {
+        let (archive, others) = first_and_rest(archives);
+        return run_find::<A, _, _>(heap, archive, others, uuid, report);
+    }
+    test_pairs(archives.len(), indexes.len())?;
+    if archives.len() == 1 {
+        return match (indexes, archives) {
+            ([index], [archive]) => run_find_at(heap, index, archive, uuid, report),
+            _ => unreachable!(),
+        };
+    }
+    run_find_together::<A, _, _, _>(heap, indexes, archives, uuid, report)
+}
+
+/// `list` over an archive, which is read by its index, if there is one.
+fn list<S: Source + Placed, P: Sink>(
+    heap: Heap,
+    archive: &mut S,
+    indexes: &mut [S],
+    report: &mut P,
+) -> Result<Status, CommandFault>
+    ensures { EndsReport (list_of
+        (reader ⟦<S as Source>⟧.left ⟦<S as Source>⟧.failures archive.old archive.new)
+        (reader ⟦<S as Placed>⟧.whole ⟦<S as Placed>⟧.failures archive.old archive.new)
+        (readers ⟦<S as Placed>⟧.whole ⟦<S as Placed>⟧.failures indexes.old indexes.new))
+        (writer P.held P.failures report.old report.new) result }
+{
+    match indexes {
+        [] => run_list(heap, archive, report),
+        [index, ..] => run_list_at(heap, index, archive, report),
+    }
+}
+
+/// Adds a note that a symbol has this name with a `_` before it, if that is so.
+fn note_underscored(
+    heap: Heap,
+    notes: &mut Vec<Note, Heap>,
+    is_underscored: bool,
+    name: &[u8],
+) -> Result<(), NoMemory>
+    ensures { OnOk result (AddsUnderscored is_underscored name.now notes.old.items notes.new.items) }
+{
+    if is_underscored {
+        let name = Vec::from_slice(heap, name)?;
+        notes.push(Note::Underscored(name))?;
+    }
+    Ok(())
+}
+
+/// `name` over archives: a row for each symbol of this exact name. Where there is none, and a symbol has the name with a
+/// `_` before it, a note is added.
+fn name<S: Source, P: Sink>(
+    heap: Heap,
+    archive: &mut S,
+    others: &mut [S],
+    sought: &[u8],
+    notes: &mut Vec<Note, Heap>,
+    report: &mut P,
+) -> Result<Status, CommandFault>
+    ensures ends { EndsReport (name_of
+        (reader S.left S.failures archive.old archive.new)
+        (readers S.left S.failures others.old others.new) sought.now)
+        (writer P.held P.failures report.old report.new) result }
+    ensures noted { OnOk result (NotesUnderscored
+        (reader S.left S.failures archive.old archive.new)
+        (readers S.left S.failures others.old others.new) sought.now notes.old.items notes.new.items) }
+{
+    let answer = answer_name(heap.share(), archive, others, sought)?;
+    note_underscored(heap, notes, answer.is_underscored, sought)?;
+    publish_report(answer.status, &answer.text, report)
+}
+
+/// `symbolicate` over archives, which are read by these indexes, if there are some.
+fn symbolicate<A: Archive + Drop, S: Source + Placed, P: Sink>(
+    heap: Heap,
+    archives: &mut [S],
+    indexes: &mut [S],
+    key: &SliceKey,
+    load: Option<u64>,
+    lines: bool,
+    addresses: &[u64],
+    report: &mut P,
+) -> Result<Status, CommandFault>
+    requires { 0 < length archives.old }
+    ensures { EndsReport (symbolicate_of
+        (readers ⟦<S as Source>⟧.left ⟦<S as Source>⟧.failures archives.old archives.new)
+        (readers ⟦<S as Placed>⟧.whole ⟦<S as Placed>⟧.failures archives.old archives.new)
+        (readers ⟦<S as Placed>⟧.whole ⟦<S as Placed>⟧.failures indexes.old indexes.new) key.now load lines
+        addresses.now)
+        (writer P.held P.failures report.old report.new) result }
+{
+    if indexes.is_empty() {
+        let (archive, others) = first_and_rest(archives);
+        return run_symbolicate::<A, _, _>(
+            heap, archive, others, key, load, lines, addresses, report,
+        );
+    }
+    test_pairs(archives.len(), indexes.len())?;
+    run_symbolicate_at::<A, _, _, _>(heap, indexes, archives, key, load, lines, addresses, report)
+}
+
+/// `frames` over archives, which are read by these indexes, if there are some.
+fn frames<A: Archive + Drop, S: Source + Placed, P: Sink>(
+    heap: Heap,
+    lines: bool,
+    crash: &mut S,
+    archives: &mut [S],
+    indexes: &mut [S],
+    report: &mut P,
+) -> Result<Status, CommandFault>
+    requires { 0 < length archives.old }
+    ensures { EndsReport (frames_of lines
+        (reader ⟦<S as Source>⟧.left ⟦<S as Source>⟧.failures crash.old crash.new)
+        (readers ⟦<S as Source>⟧.left ⟦<S as Source>⟧.failures archives.old archives.new)
+        (readers ⟦<S as Placed>⟧.whole ⟦<S as Placed>⟧.failures archives.old archives.new)
+        (readers ⟦<S as Placed>⟧.whole ⟦<S as Placed>⟧.failures indexes.old indexes.new))
+        (writer P.held P.failures report.old report.new) result }
+{
+    if indexes.is_empty() {
+        let (archive, others) = first_and_rest(archives);
+        return run_frames::<A, _, _>(heap, lines, crash, archive, others, report);
+    }
+    test_pairs(archives.len(), indexes.len())?;
+    run_frames_at::<A, _, _, _, _>(heap, lines, crash, indexes, archives, report)
+}
 
 /// Carries out a plan that writes no OUT over its inputs. An archive of the type `L` is asked for addresses, and one of
 /// `A` for all else. What the command notes is added to `notes`.
@@ -37,15 +211,15 @@ pub fn answer<A: Archive + Drop, L: Archive + Drop, S: Source + Placed, P: Sink>
     match plan {
         Plan::Find { uuid, more } => {
             let (archives, indexes) = inputs.split_at_mut(*more + 1);
-            query_dispatch::find::<A, _, _>(heap, archives, indexes, uuid, report)
+            find::<A, _, _>(heap, archives, indexes, uuid, report)
         }
         Plan::List => {
             let (archive, indexes) = first_and_rest(inputs);
-            query_dispatch::list(heap, archive, indexes, report)
+            list(heap, archive, indexes, report)
         }
-        Plan::Name { name } => {
+        Plan::Name { name: sought } => {
             let (archive, others) = first_and_rest(inputs);
-            query_dispatch::name(heap, archive, others, name.as_bytes(), notes, report)
+            name(heap, archive, others, sought.as_bytes(), notes, report)
         }
         Plan::Symbolicate {
             key,
@@ -55,14 +229,14 @@ pub fn answer<A: Archive + Drop, L: Archive + Drop, S: Source + Placed, P: Sink>
             addresses,
         } => {
             let (archives, indexes) = inputs.split_at_mut(*more + 1);
-            query_dispatch::symbolicate::<L, _, _>(
+            symbolicate::<L, _, _>(
                 heap, archives, indexes, key, *load, *lines, addresses, report,
             )
         }
         Plan::Frames { lines, indexes } => {
             let (crash, rest) = first_and_rest(inputs);
             let (indexes, archives) = rest.split_at_mut(*indexes);
-            query_dispatch::frames::<L, _, _>(heap, *lines, crash, archives, indexes, report)
+            frames::<L, _, _>(heap, *lines, crash, archives, indexes, report)
         }
         Plan::Rehearse => run_rehearse::<A, _, _>(heap, first_and_rest(inputs).0, report),
         _ => unreachable!(),

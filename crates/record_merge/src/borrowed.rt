@@ -13,7 +13,7 @@ ghost use Rattle.archive_records.specs.Text.{end_record, text_of};
 ghost use Rattle.record_merge.specs.Borrowed.{AdvancesTo, last_bytes, left_of, seen_of};
 
 use crate::side::{Lookahead, MergeInput, ReadFrom, Side};
-use archive_core::{CheckedSlice, Operation, Record, Retirements, retirement};
+use archive_core::{CheckedSlice, Operation, RETIREMENT_LEN, Record, Retirements, retirement};
 use archive_records::{
     MAGIC_LEN, MOST, RecordFault, RecordFaultKind, admission_head, put_record, retirement_bytes,
 };
@@ -319,7 +319,7 @@ impl<'a> Side for BorrowedSide<'a> {
         }
     }
 
-    fn forget(&mut self, retirement: &[u8; 57]) {
+    fn forget(&mut self, retirement: &[u8; RETIREMENT_LEN]) {
         self.retired.forget(retirement);
     }
 }

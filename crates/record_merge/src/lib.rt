@@ -4,7 +4,7 @@
 //!   retirements of either, each kept once;
 //! - `telling`, `arrivals`: [`merge_telling`], which tells, too, what the records of the right side are to the left
 //!   one;
-//! - `losses`: [`lost_operations`], by which one archive is above another, over `nowhere`, a writer that keeps nothing;
+//! - `losses`: [`lost_operations`], by which one archive is above another, over a sink that keeps nothing;
 //!   `laws`: that none lost means above;
 //! - `borrowed`: [`BorrowedText`], the text of operations that stand in memory, and [`BorrowedSide`], which takes its
 //!   records as they stand. The right side of a merge is a [`Side`]: one of these, or [`MergeInput`], a text that is
@@ -53,7 +53,6 @@ mod borrowed;
 pub mod laws;
 mod losses;
 mod merging;
-mod nowhere;
 mod side;
 mod streams;
 mod telling;

@@ -5,11 +5,10 @@ ghost use Rattle.byte_device.specs.Devices.{stream};
 ghost use Rattle.record_merge.specs.Losses.{IsNotCompared, Loses};
 
 use crate::arrivals::number_of_new;
-use crate::nowhere::Nowhere;
 use crate::side::MergeInput;
 use crate::telling::merge_telling;
 use archive_records::MergeFault;
-use byte_device::Source;
+use byte_device::{Nowhere, Source};
 use memory::Heap;
 
 /// How many operations of the old archive the new one neither has nor covers by a retirement: those that are lost where

@@ -15,7 +15,7 @@ ghost use Rattle.byte_device.specs.Writes.{Puts};
 ghost use Rattle.record_merge.specs.Sides.{side_with};
 ghost use Rattle.record_merge.specs.MergeSteps.{Stands, StopsBeforeRecords, memory_for, unread_of, weight};
 
-use archive_core::Retirements;
+use archive_core::{RETIREMENT_LEN, Retirements};
 use archive_records::{NextRecord, RecordFault, RecordReader, TextKind};
 use byte_device::{Sink, Source, WriteFault, put};
 use memory::Heap;
@@ -117,7 +117,7 @@ pub trait Side: Sized + Drop {
         ensures same { self.new ≡ self.old };
 
     /// Forgets a retirement that is kept elsewhere, where it is the last that was read.
-    fn forget(&mut self, retirement: &[u8; 57])
+    fn forget(&mut self, retirement: &[u8; RETIREMENT_LEN])
         ensures ahead { (seen self.new).ahead ≡ (seen self.old).ahead }
         ensures same { (seen self.new).reader
             ≡ record (seen self.old).reader { retired = (seen self.new).reader.retired } }
@@ -199,7 +199,7 @@ impl Side for MergeInput {
         self.reader.covered_by(shared, retired)
     }
 
-    fn forget(&mut self, retirement: &[u8; 57]) {
+    fn forget(&mut self, retirement: &[u8; RETIREMENT_LEN]) {
         self.reader.forget(retirement);
     }
 }

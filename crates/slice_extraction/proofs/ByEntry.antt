@@ -13,13 +13,13 @@ use Rattle.command_core.specs.Outputs.{Outs, PublishesNothing, Takes, Writer, ou
 use Rattle.command_core.specs.declared.faults.CommandFault.{CommandFault}
 use Rattle.command_core.specs.declared.faults.CommandFault.TheVariants.{Input, Output, Report, OutOfMemory}
 use Rattle.command_core.specs.declared.faults.Status.{Status}
-use Rattle.command_core.proofs.Readers.{none_failed, readers_long, unfailed_more}
+use Rattle.command_core.proofs.Readers.{none_failed, unfailed_more}
 use Rattle.command_core.proofs.Parts.{refusal_of}
 use Rattle.indexed_answers.specs.Among.{AreTied, EntryAt, IsAmong}
 use Rattle.indexed_answers.specs.Named.{IsRowAt}
 use Rattle.indexed_queries.specs.Several.{AreRefusedLater, AreUnfailedTogether, HoldTogether}
-use Rattle.indexed_queries.specs.Together.{AreAllKept, AreLater, AreReadWith, IsFirstRefusedAtPlaces, IsFirstRefusedByIndex, IsKept, IsOneOf, IsReadWith}
-use Rattle.indexed_queries.proofs.Groups.{later_readers, one_of, read_earlier, three_long, unfailed_through}
+use Rattle.indexed_queries.specs.Together.{AreAllKept, AreLater, AreReadWith, IsFirstRefusedAtPlaces, IsFirstRefusedByIndex, IsKept, IsOneOf}
+use Rattle.indexed_queries.proofs.Groups.{as_many, later_readers, one_of, read_earlier, unfailed_through}
 use Rattle.slice_extraction.specs.Entries.{AreUnchosen, IsChosen, StopsSlice}
 use Rattle.slice_extraction.specs.Extract.{Extraction, Extracts}
 use Rattle.slice_extraction.specs.Indexed.{AreRefusedBefore, HoldTied, IsChosenFrom, LacksEntry, MakesEntry, StopsEntry, extract_at}
@@ -36,12 +36,6 @@ chosen_among key (Some digest) all x is = is.among
 -- so that its archive does
 pub archive_there : (key : SliceKey) (digest : Option Digest) (all : List (List (List ℕ))) (x : EntryAt) → IsChosen key digest all x → x.input < length all
 archive_there key digest all x is = let among = chosen_among key digest all x is in slice_get_within all x.input among.entries among.index_is
-
--- as many indexes are read as there are archives
-pub as_many : {I P : Type 0} (indexes : List (Reader I)) (whole : P → Option (List ℕ)) (failures : P → ℕ) (before seen : List P)
-    (all : List (List (List ℕ))) → AreReadWith indexes (readers whole failures before seen) all → length seen ≡ length before → length all ≡ length seen
-as_many indexes whole failures before seen all read long =
-    three_long IsReadWith indexes (readers whole failures before seen) all read ∙ readers_long whole failures before seen long ∙ sym long
 
 -- an index was refused
 pub refused_first : {I P D T : Type 0} (indexes : List (Reader I)) (archives : List (Reader P)) (key : SliceKey) (digest : Option Digest) (out : Outs D T) (report : Writer) (fault : CommandFault)

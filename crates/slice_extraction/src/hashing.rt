@@ -5,23 +5,7 @@ ghost use Rattle.byte_device.specs.Devices.{stream};
 ghost use Rattle.slice_extraction.specs.Copies.{HashesAt};
 
 use crate::copying::{CopyFault, copy_at};
-use byte_device::{Failed, Placed, Sink};
-
-/// A sink that keeps nothing. It never fails.
-#[derive(Drop)]
-struct Nowhere;
-
-impl Sink for Nowhere {
-    ghost use Rattle.std.specs.Prelude.{None};
-
-    ghost held = { λ _. None };
-
-    ghost failures = { λ _. 0 };
-
-    fn push(&mut self, bytes: &[u8]) -> Result<usize, Failed> {
-        Ok(bytes.len())
-    }
-}
+use byte_device::{Failed, Nowhere, Placed};
 
 /// The SHA-256 of `size` bytes from the place on; none where fewer stand there. The buffer has one piece at a time.
 pub fn hash_at<P: Placed>(

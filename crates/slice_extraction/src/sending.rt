@@ -12,19 +12,13 @@ ghost use Rattle.slice_extraction.specs.Wanted.{line_of};
 
 use crate::tested_copy::{SendFault, send_at};
 use archive_core::{Digest, SliceKey};
-use archive_records::{RecordFault, RecordFaultKind};
+use archive_records::{ADMISSION_HEAD_LEN, RecordFault, RecordFaultKind};
 use archive_words::Spelled;
-use byte_device::{Output, Placed, Sink, Target};
+use byte_device::{Output, PIECE_LEN, Placed, Sink, Target};
 use command_core::{CommandFault, InputName, Status, Why, publish_output, publish_report};
 use indexed_answers::NamedSlice;
 use memory::{Heap, NoMemory};
 use report_text::Text;
-
-/// How many bytes of a record stand before its slice.
-const HEAD_LEN: u128 = 33;
-
-/// How many bytes of a slice are held at a time.
-const PIECE_LEN: usize = 64 * 1024;
 
 /// The line of a slice under a key that was written: its digest, and how many bytes it has.
 pub(crate) fn line_of(
@@ -93,7 +87,14 @@ fn send_slice_at<P: Placed, W: Sink>(
         (offset + 33) size digest.now result }
 {
     let start = u128::from(offset);
-    send_at(device, start + HEAD_LEN, size, digest, buffer, w)
+    send_at(
+        device,
+        start + ADMISSION_HEAD_LEN as u128,
+        size,
+        digest,
+        buffer,
+        w,
+    )
 }
 
 /// Sends the slice that an entry names from its archive to a draft.

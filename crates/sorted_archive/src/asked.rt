@@ -2,7 +2,7 @@
 ghost use Rattle.std.specs.Prelude.{◌≡◌, ◌∷◌, [], ◌++◌, ℕ, List};
 ghost use Rattle.std.specs.Option.{option_map};
 ghost use Rattle.macho_symbols.specs.Views.{found_view};
-ghost use Rattle.archive_core.specs.Lookup.{IsOwn, IsOwnRow, Alone, file_address, unslid};
+ghost use Rattle.archive_core.specs.Lookup.{IsOwn, IsOwnRow, Alone, file_address};
 ghost use Rattle.archive_core.specs.Lookup.{own_view, own_row, answer_view};
 ghost use Rattle.archive_core.specs.Find.{is_kind};
 ghost use Rattle.sorted_archive.specs.InnerScan.{IsAnsweringOf};
@@ -102,18 +102,8 @@ pub fn file_address(slice: &Slice, asked: Where) -> Option<u64>
 {
     match asked {
         Where::File(address) => Some(address),
-        Where::Loaded { load, address } => unslid(slice.image().text_base()?, load, address),
-    }
-}
-
-// The address that a loaded one stands for: `address - load + base`, in whole numbers.
-fn unslid(base: u64, load: u64, address: u64) -> Option<u64>
-    ensures { result ≡ unslid base load address }
-{
-    if load <= address {
-        base.checked_add(address - load)
-    } else {
-        base.checked_sub(load - address)
+        // The load commands are read for a loaded address alone.
+        loaded => loaded.address_by(slice.image().text_base()),
     }
 }
 

@@ -1,9 +1,6 @@
 pub mod SectionLemmas
 pub mod NameLemmas
-pub mod ChainLemmas
-pub mod ScopeWalk
-pub mod SettledLemmas
-pub mod NestedLemmas
+pub mod ScopeLemmas
 pub mod UnitAddressLemmas
-mod FoundLemmas
+pub mod ByUnitLemmas
 mod LawLemmas

@@ -8,9 +8,9 @@ pub mod UnitLines
 pub mod Frames
 pub mod FrameViews
 pub mod Scopes
-pub mod ChainSteps
 pub mod UnitAddresses
 -- the words of inner functions: no contract of a public one has them
 pub mod Inner
 pub mod AddressFrames
-pub mod FoundFrames
+pub mod ByUnit
+pub mod FoundUnits

@@ -29,6 +29,10 @@ unfoldable pub left_after_scope : UnitRangesRecord → ℕ → EntryRecord → �
 left_after_scope unit left entry =
     if is_function entry then left_after_entry unit left (range_attributes entry) else left
 
+-- an entry of a depth with its ranges, of whose list so many entries count at most
+abbrev pub scope_of : UnitRangesRecord → ℕ → ℕ → EntryRecord → ScopeRecord
+scope_of unit left depth entry = record { depth = depth; entry = entry; ranges = scope_ranges unit left entry }
+
 -- entries with their ranges, of whose lists together so many entries count at most, the first ones
 unfoldable pub scopes_from : UnitRangesRecord → ℕ → List PlacedRecord → List ScopeRecord
 scopes_from unit left [] = []

@@ -1,4 +1,4 @@
-//! The frames of an address, of which the entries and the row are known.
+//! Frames, and where they stand.
 
 ghost use Rattle.std.specs.Prelude.{◌≡◌};
 ghost use Rattle.std.specs.Option.{option_map};
@@ -7,12 +7,8 @@ ghost use Rattle.dwarf_numbers.specs.Views.{value_view};
 ghost use Rattle.line_programs.specs.PathViews.{path_view};
 ghost use Rattle.source_frames.specs.FrameViews.{frame_view, lines_view};
 ghost use Rattle.source_frames.specs.Frames.{constant_of, constant_or_zero, frame_of_row, path_in, location_of_call};
-ghost use Rattle.source_frames.specs.Frames.{location_of_row, IsFrame};
-ghost use Rattle.source_frames.specs.SectionsViews.{sections_view};
-ghost use Rattle.source_frames.specs.UnitViews.{unit_entry_view};
+ghost use Rattle.source_frames.specs.Frames.{location_of_row};
 
-use crate::debug_info::DebugInfo;
-use crate::debug_unit::UnitEntry;
 use crate::unit_lines::UnitLines;
 use debug_entries::{Attribute, Entry};
 use dwarf_numbers::Value;
@@ -114,26 +110,6 @@ impl<'a> UnitLines<'a> {
             path: self.path_in(Some(row.registers.file)),
             line: row.registers.line,
             column: row.registers.column,
-        }
-    }
-}
-
-impl<'a> DebugInfo<'a> {
-    /// The frame of an entry at a location.
-    pub fn frame(
-        &self,
-        lines: &UnitLines<'a>,
-        of: &UnitEntry<'a>,
-        location: SourceLocation,
-    ) -> Frame<'a>
-        ensures { IsFrame (sections_view self.now.sections) (lines_view lines.now) (unit_entry_view of.now) location
-            (frame_view result) }
-    {
-        Frame {
-            name: self.name_of(of),
-            path: lines.path_in(location.file),
-            line: location.line,
-            column: location.column,
         }
     }
 }

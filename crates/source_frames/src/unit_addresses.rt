@@ -6,6 +6,7 @@ ghost use Rattle.std.specs.Option.{is_none, option_map, option_or};
 ghost use Rattle.std.specs.Ordering.{nat_cmp};
 ghost use Rattle.std.specs.BTreeMap as tree_map;
 ghost use Rattle.std.specs.BTreeSet as tree_set;
+ghost use Rattle.code_ranges.specs.Aranges.{is_named};
 ghost use Rattle.code_ranges.specs.Assigned.{AssignsRanges};
 ghost use Rattle.source_frames.specs.SectionsViews.{sections_view};
 ghost use Rattle.source_frames.specs.Inner.{AreNamed, ArePlacesByTuples};
@@ -100,10 +101,16 @@ impl<'a> DebugInfo<'a> {
         assign_ranges(pending, places, ranges, offset)
     }
 
-    /// The ranges of a unit that no set names.
+    /// The ranges of a unit, if no set of `__debug_aranges` names it; `named` are the offsets of those that are named.
     #[tactic(auto, unfolding(crate::specs::UnitAddresses::own_ranges))]
-    fn own_ranges(&self, named: &BTreeSet<u64, Heap>, offset: u64, bytes: &'a [u8]) -> Ranges<'a>
-        requires { AreNamed self.now.sections.debug_aranges.now named.now }
+    pub fn own_ranges(
+        &self,
+        named: &BTreeSet<u64, Heap>,
+        offset: u64,
+        bytes: &'a [u8],
+    ) -> Ranges<'a>
+        requires { (unit : ℕ) → tree_set.contains nat_cmp named.now unit
+            ≡ is_named self.now.sections.debug_aranges.now unit }
         ensures { result ≡ own_ranges (sections_view self.now.sections) offset bytes.now }
     {
         if named.contains(&offset) {

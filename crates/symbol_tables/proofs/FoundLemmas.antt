@@ -19,7 +19,7 @@ use Rattle.symbol_tables.specs.declared.found.OwnedFound.{OwnedFound}
 use Rattle.macho_symbols.proofs.Pieces.{before_nul, before_other}
 use Rattle.symbol_tables.proofs.TableLemmas.{length-head, length-padded}
 use Rattle.symbol_tables.specs.Rows.{rows_bytes}
-use Rattle.macho_symbols.proofs.ExtentLemmas.{get-take}
+use Rattle.macho_symbols.proofs.PlaceLemmas.{get-take}
 
 -- ---- a name in 16 bytes
 

@@ -14,10 +14,10 @@ use Rattle.macho_image.specs.SectionViews.{section_view}
 use Rattle.macho_image.specs.declared.section.Section.{Section}
 use Rattle.macho_symbols.specs.Symbols.{strings_of}
 use Rattle.symbol_tables.specs.Rows.{IsRow, rows_bytes}
-use Rattle.symbol_tables.specs.Steps.{AreSteps}
+use Rattle.macho_symbols.specs.Steps.{AreSteps}
 use Rattle.symbol_tables.specs.Table.{FitsTable, IsTableWith, SectionNames, TableParts, base_flag, base_or_zero, head_bytes, names_of, section_bytes, table_bytes}
-use Rattle.symbol_tables.specs.InnerCandidates.{AreSectionsOf}
-use Rattle.symbol_tables.specs.declared.row.Row.{Row}
+use Rattle.macho_symbols.specs.SectionNumbers.{AreSectionsOf}
+use Rattle.macho_symbols.specs.declared.row.Row.{Row}
 use Rattle.symbol_tables.proofs.RowLemmas.{length-rows_bytes}
 use Rattle.symbol_tables.proofs.TableLemmas.{length-head, length-names}
 use Rattle.symbol_tables.proofs.FoundLemmas.{short_first as shorter}

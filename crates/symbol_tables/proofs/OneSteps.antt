@@ -7,8 +7,8 @@ use Rattle.macho_symbols.specs.Nearest.{IsNearest}
 use Rattle.macho_symbols.proofs.Order.{nearest_once}
 use Rattle.pending_addresses.specs.Rising.{AreRising}
 use Rattle.pending_addresses.proofs.RisingLists.{one_rising}
-use Rattle.symbol_tables.specs.declared.row.Row.{Row}
-use Rattle.symbol_tables.specs.Steps.{AreSteps, SaysNearest, Says, IsLeastIndexOf}
+use Rattle.macho_symbols.specs.declared.row.Row.{Row}
+use Rattle.macho_symbols.specs.Steps.{AreSteps, SaysNearest, Says, IsLeastIndexOf}
 use Rattle.symbol_tables.specs.Table.{IsTableWith, table_bytes}
 
 -- ---- rows

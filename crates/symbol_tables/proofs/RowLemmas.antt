@@ -1,17 +1,17 @@
 -- Rows in the bytes of a table.
-use Rattle.std.proofs.Common.{◌≡◌, ℕ, zero, suc, ◌+◌, ◌*◌, ◌-◌, ◌<◌, ◌≤◌, List, [], ◌∷◌, ◌++◌, length, take, drop, get_or, refl, sym, ap, ◌∙◌, subst, arith, length-append, append_assoc, slice_get, Some, inl, inr, true, false, nat_le}
-use Rattle.std.specs.Prelude.{slice_index_or, All, Option, None, MatchOption}
+use Rattle.std.proofs.Common.{◌≡◌, ℕ, zero, suc, ◌+◌, ◌*◌, ◌-◌, ◌<◌, ◌≤◌, List, [], ◌∷◌, ◌++◌, length, take, drop, get_or, refl, sym, ap, ◌∙◌, subst, arith, length-append, append_assoc, slice_get, Some, inl, inr, nat_le}
+use Rattle.std.specs.Prelude.{slice_index_or, All, Decides, Option, None}
 use Rattle.std.specs.Int.{w32, w64, from_be_bytes}
-use Rattle.std.proofs.lemmas.List.{append-nil, take_at, drop_at, drop-drop, drop-take, take-take}
+use Rattle.std.proofs.lemmas.List.{append-nil, get_or_default, take_at, drop_at, drop-drop, drop-take, take-take}
 use Rattle.checked_pages.specs.Standing.{Stands}
 use Rattle.std.proofs.lemmas.Nat.{from_be_bytes-to_be_bytes_4, from_be_bytes-to_be_bytes_8}
-use Rattle.symbol_tables.specs.Rows.{row_bytes, rows_bytes, IsRow, AreRows, IsRowFor, IsLastNotAbove, AreAbove}
-use Rattle.symbol_tables.specs.declared.row.Row.{Row}
+use Rattle.macho_symbols.specs.Rows.{IsRowFor, IsLastNotAbove, AreAbove}
+use Rattle.symbol_tables.specs.Rows.{row_bytes, rows_bytes, IsRow, AreRows}
+use Rattle.macho_symbols.specs.declared.row.Row.{Row}
 use Rattle.std.proofs.lemmas.Option.{slice_get_within, get_or_from_slice_get, slice_get-get_or}
 use Rattle.std.proofs.lemmas.Bool.{cases_lt}
-use Rattle.std.proofs.lemmas.List.Elements.{All-get_or, All-head, All-tail}
-use Rattle.std.specs.List.Sorted.{IsPartitionPoint}
 use Rattle.std.proofs.lemmas.Bool.Decides.{nat_tests}
+use Rattle.std.proofs.lemmas.List.Elements.{All-get_or, All-head, All-tail}
 
 pub length-row_bytes : (r : Row) → length (row_bytes r) ≡ 21
 unfolding row_bytes
@@ -109,25 +109,6 @@ only_rows (r ∷ rows) (s ∷ others) are others_are same =
     let tail = only_rows rows others (All-tail IsRow r rows are) (All-tail IsRow s others others_are) rest in
     λ i. head i ∷ tail i
 
--- ---- the search in a list
-
-reaches : (a s t : ℕ) → s < t → nat_le t a ≡ true → nat_le s a ≡ true
-reaches a s t l h = grind (arith, nat_tests)
-
-is_above : (a s : ℕ) → nat_le s a ≡ false → a < s
-is_above a s h = grind (arith, nat_tests)
-
-is_not_above : (a s : ℕ) → nat_le s a ≡ true → s ≤ a
-is_not_above a s h = grind (arith, nat_tests)
-
-pub last_before : (rows : List Row) (address end : ℕ) → IsPartitionPoint (λ r. nat_le r.start address ≡ true) (λ r. nat_le r.start address ≡ false) rows end → end ≤ length rows → 0 < end → (d : Row) → IsLastNotAbove rows address (slice_index_or rows (end - 1) d)
-last_before rows address end point within some d = record {
-  at = end - 1;
-  stands = slice_get-get_or rows (end - 1) d (omega arith);
-  not_above = is_not_above address (slice_index_or rows (end - 1) d).start (point.0 (end - 1) d (omega arith) (omega arith));
-  others = λ j e k l. is_above address (slice_index_or rows j e).start (point.1 j e (omega arith) l);
-}
-
 -- ---- the search in the bytes
 
 -- behind a row that begins above an address all rows do
@@ -141,6 +122,43 @@ above_from rows address middle row are stands above j d low l =
           let same : middle ≡ j = omega arith in
           subst (λ n. address < (slice_index_or rows n d).start) same (omega (arith, here, above))
     ]
+
+-- from the place on at which rows end to begin at an address or below it, all begin above it
+pub above_edge : (rows : List Row) (address place : ℕ) → AreRows rows → (place < length rows → ((d : Row) → (slice_index_or rows place d).start ≤ address) → ⊥)
+    → (j : ℕ) (d : Row) → place ≤ j → j < length rows → address < (slice_index_or rows j d).start
+above_edge rows address place are at j d low l =
+    let within : place < length rows = omega (arith, low, l) in
+    elim (cases_lt address (slice_index_or rows place d).start) [
+      | inl above ↦ above_from rows address place (slice_index_or rows place d) are (slice_get-get_or rows place d within) above j d low l
+      | inr below ↦ absurd (at within (λ e. subst (λ (r : Row). r.start ≤ address) (get_or_default rows place d e within) below))
+    ]
+
+-- the row before that place is the last one
+pub last_of_edge : (rows : List Row) (address place : ℕ) (row : Row) → AreRows rows → 0 < place → ((d : Row) → (slice_index_or rows (place - 1) d).start ≤ address)
+    → (place < length rows → ((d : Row) → (slice_index_or rows place d).start ≤ address) → ⊥) → slice_get rows (place - 1) ≡ Some row → IsLastNotAbove rows address row
+last_of_edge rows address place row are some before at stands = record {
+  at = place - 1;
+  stands = stands;
+  not_above = subst (λ (r : Row). r.start ≤ address) (get_or_from_slice_get rows (place - 1) row row stands) (before row);
+  others = λ j d l m. above_edge rows address place are at j d (omega (arith, l, some)) m;
+}
+
+no_row : Row
+no_row = record { start = 0; value = 0; n_strx = 0; sect = 0 }
+
+-- the row that was read tells whether its start is not above
+pub start_decides : (rows : List Row) (address place : ℕ) (row : Row) → slice_get rows place ≡ Some row → Decides (nat_le row.start address) ((d : Row) → (slice_index_or rows place d).start ≤ address)
+start_decides rows address place row stands = (
+  λ t d.
+      let within : row.start ≤ address = grind (arith, nat_tests, t) in
+      omega (arith, within, here d),
+  λ h.
+      let within : row.start ≤ address = omega (arith, h no_row, here no_row) in
+      grind (arith, nat_tests),
+)
+  where
+    here : (d : Row) → (slice_index_or rows place d).start ≡ row.start
+    here d = ap (λ (r : Row). r.start) (get_or_from_slice_get rows place row d stands)
 
 -- ---- where the rows stand
 
@@ -164,15 +182,3 @@ row_read all bytes rows first index n row d are stands within long came reads =
     came ∙ ap (λ k. take k (drop (first + 21 * index) all)) long ∙ part_stands all (rows_bytes rows) first (21 * index) 21 stands fits
     ∙ ap (λ b. take 21 (drop (21 * index) b)) (sym (append-nil (rows_bytes rows))) ∙ row_here rows [] index d within in
     slice_get-get_or rows index d within ∙ ap Some (sym (reads here is_row bytes_are))
-
--- the row that is left when the halving ends
-pub row_of_best : (rows : List Row) (address low high : ℕ) (found : Option Row) → low ≤ high → high ≤ low
-    → ((j : ℕ) (d : Row) → high ≤ j → j < length rows → address < (slice_index_or rows j d).start)
-    → MatchOption found (low ≡ 0) (λ r. (at : ℕ) × (at + 1 ≡ low) × (slice_get rows at ≡ Some r) × (r.start ≤ address)) → IsRowFor rows address found
-row_of_best rows address low high None within ends above best = λ j d l. above j d (omega (arith, ends, within, best)) l
-row_of_best rows address low high (Some r) within ends above best = record {
-  at = best.0;
-  stands = best.2;
-  not_above = best.3;
-  others = λ j d l m. above j d (omega (arith, ends, within, best.1, l)) m;
-}

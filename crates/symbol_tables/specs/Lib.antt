@@ -3,4 +3,3 @@ pub mod Steps
 pub mod Table
 pub mod Opened
 pub mod Found
-pub mod InnerCandidates

@@ -6,8 +6,8 @@ use Rattle.std.specs.Int.{w64, to_be_bytes}
 use Rattle.macho_image.specs.Sections.{SectionRecord, sections, text_base_of}
 use Rattle.macho_symbols.specs.Symbols.{strings_of}
 use Rattle.symbol_tables.specs.Rows.{AreRows, rows_bytes}
-use Rattle.symbol_tables.specs.Steps.{AreSteps}
-use Rattle.symbol_tables.specs.declared.row.Row.{Row}
+use Rattle.macho_symbols.specs.Steps.{AreSteps}
+use Rattle.macho_symbols.specs.declared.row.Row.{Row}
 
 -- the names of a section: segname and sectname
 pub record SectionNames : Type 0 where

@@ -18,7 +18,8 @@ use crate::nearest::NearestSymbol;
 use crate::opening::{HEAD_LEN, SECTION_LEN};
 use byte_device::Placed;
 use checked_pages::CheckFault;
-use macho_symbols::{Found, before_nul};
+use macho_image::before_nul;
+use macho_symbols::Found;
 use memory::Heap;
 
 /// A symbol that was found. It holds its names.

@@ -2,10 +2,12 @@
 
 ghost use Rattle.std.specs.Prelude.{◌≡◌, ◌<◌, ◌^◌, ℕ, List, Option, None, MatchOption};
 ghost use Rattle.macho_symbols.specs.Nearest.{IsNearest};
-ghost use Rattle.symbol_tables.specs.Rows.{AreRows, IsRowFor, rows_bytes};
-ghost use Rattle.symbol_tables.specs.Steps.{AreBytes, AreSteps, SaysNearest};
+ghost use Rattle.macho_symbols.specs.Rows.{IsRowFor};
+ghost use Rattle.macho_symbols.specs.Steps.{AreSteps, SaysNearest};
+ghost use Rattle.macho_symbols.specs.declared.row.Row.{Row};
+ghost use Rattle.symbol_tables.specs.Rows.{AreRows, rows_bytes};
+ghost use Rattle.symbol_tables.specs.Steps.{AreBytes};
 ghost use Rattle.symbol_tables.specs.Table.{IsTableWith};
-ghost use Rattle.symbol_tables.specs.declared.row.Row.{Row};
 
 /// An address belongs to one row or to none.
 pub fn one_row()

@@ -7,12 +7,11 @@ ghost use Rattle.checked_pages.specs.Pages.{page_digests, page_of, stored};
 ghost use Rattle.macho_symbols.specs.Fault.{HasSymbols};
 ghost use Rattle.symbol_tables.specs.Table.{IsTableWith};
 
-use crate::scan::Scan;
-use crate::sweep::steps;
 use crate::text::{push_head, push_rows, push_sections};
 use byte_device::{Sink, WriteFault, put};
 use checked_pages::{PAGE_LEN, pages_in};
 use macho_image::Image;
+use macho_symbols::{Symbols, collect_sections, steps, strings_of};
 use memory::{Heap, NoMemory};
 use sha2::{Digest, Sha256};
 use std::marker::Model;
@@ -64,9 +63,9 @@ impl<'a> TableText<'a> {
         requires { HasSymbols image.now }
         ensures { IfOk result (λ text. IsTableWith image.now lines.items text) }
     {
-        let scan = Scan::new(heap.share(), image)?;
-        let rows = steps(heap.share(), &scan)?;
-        let (sections, strings) = (scan.sections(), scan.strings());
+        let sections = collect_sections(heap.share(), image)?;
+        let rows = steps(heap.share(), &Symbols::of_read(image))?;
+        let strings = strings_of(image);
         let mut own = Vec::new(heap);
         push_head(
             &mut own,
@@ -76,7 +75,7 @@ impl<'a> TableText<'a> {
             strings.len(),
             lines.len(),
         )?;
-        push_sections(&mut own, sections)?;
+        push_sections(&mut own, &sections)?;
         push_rows(&mut own, &rows)?;
         if !is_counted(own.len(), strings.len(), lines.len()) {
             return Err(NoMemory);

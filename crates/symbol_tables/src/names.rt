@@ -9,7 +9,7 @@ ghost use Rattle.checked_pages.specs.Standing.{Stands};
 
 use byte_device::Placed;
 use checked_pages::{CheckFault, Pages};
-use macho_symbols::before_nul;
+use macho_image::before_nul;
 use memory::Heap;
 
 /// How many bytes are read at once.

@@ -12,10 +12,11 @@ ghost use Rattle.symbol_tables.specs.Opened.{IsOpened};
 use crate::Table;
 use crate::names::name_from;
 use crate::opening::{HEAD_LEN, SECTION_LEN};
-use crate::row::{ROW_LEN, Row};
+use crate::row::ROW_LEN;
 use crate::search::row_for;
 use byte_device::Placed;
 use checked_pages::CheckFault;
+use macho_symbols::Row;
 use memory::Heap;
 
 /// The nearest symbol of an address.

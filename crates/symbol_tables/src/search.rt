@@ -4,13 +4,15 @@ ghost use Rattle.std.specs.Prelude.{◌≡◌, ◌+◌, ◌*◌, ◌<◌, ◌≤
 ghost use Rattle.checked_pages.specs.Pages.{AreStored};
 ghost use Rattle.checked_pages.specs.Views.{ArePagesOf, KeepsPages, claim_view};
 ghost use Rattle.checked_pages.specs.Reading.{ReadsStored};
-ghost use Rattle.symbol_tables.specs.Rows.{AreRows, IsRowFor, rows_bytes};
+ghost use Rattle.macho_symbols.specs.Rows.{IsRowFor};
+ghost use Rattle.symbol_tables.specs.Rows.{AreRows, rows_bytes};
 ghost use Rattle.checked_pages.specs.Standing.{Stands};
-ghost use Rattle.symbol_tables.specs.declared.row.Row.{Row};
+ghost use Rattle.macho_symbols.specs.declared.row.Row.{Row};
 
-use crate::row::{ROW_LEN, Row, row_of};
+use crate::row::{ROW_LEN, row_of};
 use byte_device::Placed;
-use checked_pages::{CheckFault, Pages};
+use checked_pages::{CheckFault, Pages, Sought, partition_point};
+use macho_symbols::Row;
 
 /// The row with this number, among those that stand from an offset on.
 fn row_at<P: Placed>(
@@ -33,6 +35,40 @@ fn row_at<P: Placed>(
     Ok(row_of(&bytes))
 }
 
+/// The rows that begin at an address or below it, among so many from an offset of the table on.
+#[derive(Drop)]
+struct StartsUpTo {
+    first: u64,
+    count: u64,
+    address: u64,
+    ghost fits: { first + 21 * count < 2 ^ 64 },
+}
+
+impl Sought for StartsUpTo {
+    ghost use Rattle.std.specs.Prelude.{slice_index_or};
+
+    ghost Rows = { List Row };
+
+    ghost stand = { λ s rows all.
+        AreRows rows × (length rows ≡ s.count) × Stands all s.first (rows_bytes rows) };
+
+    ghost is_held = { λ s all. s.first + 21 * s.count ≤ length all };
+
+    ghost is_below = { λ s rows place. (d : Row) → (slice_index_or rows place d).start ≤ s.address };
+
+    ghost count = { λ s. s.count };
+
+    fn is_below<P: Placed>(
+        &self,
+        device: &mut P,
+        table: &mut Pages,
+        place: u64,
+    ) -> Result<bool, CheckFault> {
+        let row = row_at(device, table, self.first, place)?;
+        Ok(row.start <= self.address)
+    }
+}
+
 /// The row that an address belongs to, among so many rows, from an offset of the table on. It reads one row for each
 /// halving.
 pub(crate) fn row_for<P: Placed>(
@@ -51,18 +87,15 @@ pub(crate) fn row_for<P: Placed>(
         (λ text. (all : List ℕ) → AreStored text (claim_view table.old.claim) all → ArePagesOf table.old text all
         → first + 21 * count ≤ length all → ⊥) }
 {
-    let mut low = 0;
-    let mut high = count;
-    let mut found = None;
-    'halving: while low < high {
-        let middle = low + (high - low) / 2;
-        let row = row_at(device, table, first, middle)?;
-        if row.start <= address {
-            found = Some(row);
-            low = middle + 1;
-        } else {
-            high = middle;
-        }
+    let sought = StartsUpTo {
+        first,
+        count,
+        address,
+    };
+    let end = partition_point(device, table, &sought, 0, count)?;
+    if end == 0 {
+        return Ok(None);
     }
-    Ok(found)
+    let row = row_at(device, table, first, end - 1)?;
+    Ok(Some(row))
 }

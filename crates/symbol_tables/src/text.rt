@@ -6,8 +6,8 @@ ghost use Rattle.macho_image.specs.SectionViews.{section_view};
 ghost use Rattle.symbol_tables.specs.Rows.{IsRow, row_bytes, rows_bytes};
 ghost use Rattle.symbol_tables.specs.Table.{base_flag, base_or_zero, names_of, padded, section_bytes};
 
-use crate::row::Row;
 use macho_image::Section;
+use macho_symbols::Row;
 use memory::{Heap, NoMemory};
 
 /// The length of a name of a section in a table.

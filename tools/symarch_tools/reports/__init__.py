@@ -1,24 +1,20 @@
 """The forms of reports that symbolicate-report reads. In reading order:
 
-- streams           the standard streams
+- faults            why the tool ends, and its statuses
 - encodings         the bytes of a file, as UTF-8, and back
-- pasted            what stands before each line of a pasted report, and back
 - images            the images of a report, and the frames that lie in them
 - names             the names of all answers
 - source_lines      files, lines and inlined functions
 - answers           the answers of the program
-- demangling        names as people write them
-- named_lines       lines of crashes with names
-- tree_lines        lines of call trees with names
-- text_report       reports as lines
-- json_walk         JSON of any size, piece by piece
-- json_report       reports as JSON
-- json_edits        what is written into JSON, in its own layout
-- readable          JSON reports as people read them
-- readable_header   what stands above their threads, and below them
+- questions         how the program is asked
+- archives          the archives of a call
+- text              reports as lines
+- json              reports as JSON
 - report            a whole file, and what is said of it
+- missing           the images whose dSYMs are wanted
+- frame_objects     frames as JSON
 - account           the counts of all, as text and as JSON
 - groups            reports by the top frames of the thread that crashed
-- words             the words of a call
+- arguments         the arguments of a call
 - folders           the files below a folder that may be reports
 """

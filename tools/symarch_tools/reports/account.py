@@ -2,14 +2,16 @@
 JSON."""
 from __future__ import annotations
 
+from dataclasses import dataclass, field
 from typing import Any, Dict, Iterable, Sequence
 
-from ..keeping.json_lines import Members, path_members
-from ..keeping.json_lines import encoded as encoded_members
+from ..console.demangler import LEFT
+from ..console.json_lines import Members, encoded as encoded_members, path_members
+from ..console.streams import encoded, note, noted, printing, say
 from .answers import Origin
+from .frame_objects import frame_objects
 from .images import Image
 from .report import Count, Report
-from .streams import encoded, note, noted, printing, say
 
 # What answered for an image, as JSON says it.
 WORDS = {
@@ -28,12 +30,15 @@ TOO_MANY_LINES = "without lines, too many for the index"
 Labels = Dict[str, Dict[str, None]]
 
 
+@dataclass
 class Account:
-    """The counts of all reports that are read, and of each if they are written to files."""
+    """The counts of all reports that are read, and of each if they are written to files; and whether names need the
+    command of Swift, which is not there."""
 
-    def __init__(self, reports: Sequence[Report], is_each: bool) -> None:
-        self.reports, self.is_each = reports, is_each
-        self.every = Count()
+    reports: Sequence[Report]
+    is_each: bool
+    is_lacking_swift: bool = False
+    every: Count = field(default_factory=Count)
 
     def say(self) -> None:
         labels = labels_of([])
@@ -46,10 +51,15 @@ class Account:
                 labels[said].update(some)
             if self.is_each:
                 say(f"{report.label}: {count.text()}{said_of_images(its)}\n")
-        say(f"{self.every.text()}{said_of_images(labels)}\n")
+        left = f"; {LEFT}" if self.is_lacking_swift else ""
+        say(f"{self.every.text()}{said_of_images(labels)}{left}\n")
 
-    def objects(self) -> Iterable[Members]:
+    def objects(self, has_frames: bool) -> Iterable[Members]:
+        """An object for each report, after those of its frames if these are asked for."""
         for report in self.reports:
+            if has_frames:
+                for members in frame_objects(report):
+                    yield {**members, **path_members(report.path)}
             images = [members_of(image) for image in report.images.with_frames()]
             counts = {"frames": vars(report.count()), "images": images, "faults": report.notes}
             yield {"type": "report", **path_members(report.path), **counts}

@@ -3,27 +3,21 @@ from __future__ import annotations
 
 import bisect
 import enum
-import re
-import uuid
+from dataclasses import dataclass
 from array import array
 from typing import Dict, Iterator, Optional, Set, Tuple
 
+from ..formats.answer_lines import OF_FRAME, count_in, symbol_in, two_words
+from ..store.lookup import Key
 from .names import Names
 from .source_lines import NOTHING, Chains, Lines
 
-# A UUID and an architecture.
-Key = Tuple[uuid.UUID, str]
 # The name of a function, and the offset in it.
 Symbol = Tuple[str, int]
 # What a slice answers, by the places of its name and of its frames, and the offset.
 Places = Tuple[int, int, int]
 
-# What a slice answers, `NAME + OFFSET (SEG,SECT)`, up to the section; and the line before the answers of several.
-ANSWER = re.compile(rb"(.*) \+ ([0-9]{1,20}) \(")
-SEVERAL = re.compile(rb"!([0-9]{1,9})")
-NO_SYMBOL, NOT_THERE = b"-", b"0x%016x ?\n"
-# What the lines of frames begin with.
-OF_FRAME = b"    "
+NOT_THERE = b"0x%016x ?\n"
 # The places of names for an offset without a symbol, and for one with the answers of several slices.
 NONE, MANY = -1, -2
 
@@ -39,12 +33,14 @@ class Origin(enum.Enum):
     ABSENT = "not in the archive"
 
 
+@dataclass
 class Said:
     """The lines of the program, of which the next one is read ahead."""
 
-    def __init__(self, lines: Iterator[bytes]) -> None:
-        self.lines = lines
-        self.ahead = next(lines, b"")
+    lines: Iterator[bytes]
+
+    def __post_init__(self) -> None:
+        self.ahead = next(self.lines, b"")
 
     def line(self) -> bytes:
         line, self.ahead = self.ahead, next(self.lines, b"")
@@ -58,13 +54,18 @@ class Said:
         return b"".join(found)
 
 
+@dataclass(eq=False)
 class Answers:
     """What the slices of a key answer for offsets in ascending order."""
 
-    def __init__(self, key: Key, offsets: array[int], names: Names, chains: Chains) -> None:
-        self.key, self.offsets, self.names, self.chains = key, offsets, names, chains
-        # Whether a slice that answers has more lines of the source than its index has room for.
-        self.has_too_many_lines = False
+    key: Key
+    offsets: array[int]
+    names: Names
+    chains: Chains
+    # Whether a slice that answers has more lines of the source than its index has room for.
+    has_too_many_lines: bool = False
+
+    def __post_init__(self) -> None:
         self.begin()
 
     def begin(self) -> None:
@@ -77,7 +78,8 @@ class Answers:
         """The lines for the program. Offsets are addresses of an image that was loaded at 0. One at least is asked for,
         by which the archive says whether it has the image."""
         number, arch = self.key
-        return (f"{number.hex} {arch} 0x0 {offset:#x}\n" for offset in self.offsets)
+        begin = f"{number.hex} {arch} 0x0 "
+        return (f"{begin}{offset:#x}\n" for offset in self.offsets)
 
     def at(self, offset: int) -> Dict[str, Optional[Symbol]]:
         """By the digest of each slice, which is empty if one answers, its name and offset, or None."""
@@ -110,9 +112,9 @@ class Answers:
             if address != b"0x%016x" % offset or (not is_first and self.origin is Origin.ABSENT):
                 raise ValueError
             self.origin = Origin.UNKNOWN
-            several = SEVERAL.fullmatch(said)
-            if several:
-                self.several[offset] = dict(self.of_slice(lines) for _ in range(int(several[1])))
+            several = count_in(said)
+            if several is not None:
+                self.several[offset] = dict(self.of_slice(lines) for _ in range(several))
                 self.add(MANY, 0, 0)
             else:
                 self.add(*self.answer(said, lines))
@@ -128,15 +130,6 @@ class Answers:
 
     def answer(self, said: bytes, lines: Said) -> Places:
         """What a slice answers: its name and offset, and below that its frames."""
-        found = ANSWER.match(said) if said.endswith(b")") else None
-        if not found and said != NO_SYMBOL:
-            raise ValueError
-        symbol = (self.names.place(found[1]), int(found[2])) if found else (NONE, 0)
+        found = symbol_in(said)
+        symbol = (self.names.place(found.name), found.offset) if found else (NONE, 0)
         return (*symbol, self.chains.place(lines.frames()))
-
-
-def two_words(line: bytes) -> Tuple[bytes, bytes]:
-    first, space, rest = line.rstrip(b"\n").partition(b" ")
-    if not space:
-        raise ValueError
-    return first, rest

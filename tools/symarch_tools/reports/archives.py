@@ -2,7 +2,6 @@
 by the SHA-256 that each slice came in with."""
 from __future__ import annotations
 
-import collections
 import functools
 import operator
 import os
@@ -10,28 +9,29 @@ import shutil
 import stat
 import tempfile
 import time
+import uuid
 from array import array
-from typing import Dict, Iterable, List, Optional, Sequence, Set, Tuple
+from dataclasses import dataclass, field
+from typing import Dict, Iterable, List, Mapping, Optional, Sequence, Set, Tuple
 
-from ..escaping import shown
-from ..keeping import file_names
-from ..keeping.contents import EMPTY, KEY, MAGIC, MAGICS, Malformed, records_in
-from .answers import Answers, Key, Origin
+from ..console.escapes import shown
+from ..console.streams import note, noted, say
+from ..store import file_names
+from ..store.lock import MOST_OF_CHANGES, State, looks, state_of
+from ..store.lookup import KeptSlices, Key, changed_keys, is_cut, is_empty_archive, is_of, is_of_version_1, key_of_entry
+from .answers import Answers, Origin
 from .faults import Failure, Status
 from .images import Image, unique
-from .kept import IndexFile, Kept, changed_keys, has_tables, is_of, key_in
 from .names import Names
-from .program import IndexFault, Program, cut_short
+from .questions import FramesProgram, IndexFault, cut_short
 from .source_lines import Chains
-from .streams import note, noted, say
 
 # What `symarch-keep` has beside an archive: what came in lately, the index, and the index of a file that takes the
 # place of the archive just now.
 NAMES = file_names.TODAY, file_names.INDEX, file_names.NEXT_INDEX
 TODAY, INDEX, NEXT_INDEX = map(os.fsdecode, NAMES)
-# How often archives are asked again that a fold changed meanwhile; how often, and after how many seconds, an index is
-# looked for that is about to take the place of one.
-TRIES, PAUSE = 10, 0.05
+# Which files stand at paths.
+Places = List[Tuple[str, Optional[int]]]
 
 
 def beside(path: str, ending: str) -> str:
@@ -39,40 +39,49 @@ def beside(path: str, ending: str) -> str:
     return (os.path.realpath(path) if os.path.islink(path) else path) + ending
 
 
-class ArchiveFile:
+def index_beside(path: str) -> str:
+    """The path of the index of an archive; none if it has none. That of a new file may have no other name yet."""
+    index = beside(path, INDEX)
+    if not os.path.lexists(index) and is_of(beside(path, NEXT_INDEX), path):
+        return beside(path, NEXT_INDEX)
+    return index if os.path.lexists(index) else ""
+
+
+class NamedArchive:
     """An archive, and the index beside it, if there is one. `kept` is the archive that `symarch-keep` has it for."""
 
     def __init__(self, path: str, kept: str) -> None:
-        self.path, self.kept, self.index = path, kept, ""
-        # An index without tables, as an earlier symarch-keep left it: it says what changed, and is not asked by.
-        self.old_index = ""
-        self.tries_left = TRIES
-        index = beside(path, INDEX)
-        if os.path.lexists(index):
-            self.take_index(index)
+        self.indexes = beside(path, NEXT_INDEX), beside(path, INDEX)
+        for one in (*reversed(self.indexes), *([path] if path != kept else [])):
+            if file_names.is_no_file(os.fsencode(one)):
+                raise Failure(f"{shown(one)} is a pipe, a socket or a device: remove it", Status.REFUSED)
+        self.path, self.kept, self.index = path, kept, index_beside(path)
+        # The indexes that were taken in the place of others, and until when more are.
+        self.tried: Set[Tuple[str, Tuple[State, ...]]] = set()
+        self.end = time.monotonic() + MOST_OF_CHANGES
 
-    def take_index(self, index: str) -> None:
-        self.index, self.old_index = (index, "") if has_tables(index) else ("", index)
+    def state(self) -> Tuple[State, ...]:
+        """Which file it is, and which indexes stand beside it."""
+        return tuple(state_of(os.fsencode(path)) for path in (self.path, *self.indexes))
 
     def refuse(self, why: str, more: str = "") -> None:
         raise Failure(f"{why}: run symarch-keep check {shown(self.kept)}{more}", Status.REFUSED)
 
     def take_other_index(self) -> None:
-        """Takes another index, since the archive has not the length that this one says, or it is gone. A word of
+        """Takes another index, since the archive has not the length that this one says, or it is gone. A command of
         symarch-keep that ends just now has put a new archive in place, and then puts the index of that."""
-        while self.tries_left:
-            self.tries_left -= 1
-            for index in (beside(self.path, NEXT_INDEX), beside(self.path, INDEX)):
-                if is_of(index, self.path):
-                    self.take_index(index)
+        for _ in looks(self.state):
+            for one in ((index, self.state()) for index in self.indexes):
+                if one not in self.tried and time.monotonic() < self.end and is_of(one[0], self.path):
+                    self.tried.add(one)
+                    self.index = one[0]
                     return
-            time.sleep(PAUSE)
         if is_cut(self.path):
             raise cut_short(self.path)
         why = f"{shown(self.path)} was written since {shown(beside(self.path, INDEX))} was, which does not vouch for it"
         self.refuse(why, f", and if that ends with 0 symarch-keep fold {shown(self.kept)}, which indexes it anew")
 
-    def make_index(self, program: Program, folder: str) -> None:
+    def make_index(self, program: FramesProgram, folder: str) -> None:
         """Has the program make an index in a folder. What can be read once alone, or is of version 1, is copied."""
         made, named = tempfile.mkdtemp(dir=folder), self.path
         if not stat.S_ISREG(os.stat(self.path).st_mode):
@@ -80,29 +89,23 @@ class ArchiveFile:
             with open(self.path, "rb") as file, open(copy, "wb") as written:
                 shutil.copyfileobj(file, written)
             self.path = copy
-        with open(self.path, "rb") as file:
-            is_of_version_1 = file.read(MAGIC) == MAGICS[1]
-        if is_of_version_1:
+        if is_of_version_1(self.path):
             program.make("migrate", self.path, os.path.join(made, "archive"), named)
             self.path = os.path.join(made, "archive")
         self.index = os.path.join(made, "index")
         program.make("index", self.path, self.index, named)
 
-    def key_of(self, entry: int) -> Key:
-        with IndexFile(self.index) as rows:
-            return key_in(rows.row(entry).entry[1 : 1 + KEY])
 
-
-def with_levels(paths: Iterable[str]) -> List[ArchiveFile]:
+def with_levels(paths: Iterable[str]) -> List[NamedArchive]:
     """The archives, each after what `symarch-keep` has beside it: what came in lately, unless that has no record, and
     the levels, the last one first. A fold removes a file once one that follows here has all of it."""
     found = []
     for path in paths:
         today, levels = beside(path, TODAY), levels_of(path)
         if os.path.lexists(today) and not is_empty_archive(today):
-            found.append(ArchiveFile(today, path))
-        found += [ArchiveFile(level, path) for level in reversed(levels)]
-        found.append(ArchiveFile(path, path[: -len(TODAY)] if path.endswith(TODAY) else path))
+            found.append(NamedArchive(today, path))
+        found += [NamedArchive(level, path) for level in reversed(levels)]
+        found.append(NamedArchive(path, path[: -len(TODAY)] if path.endswith(TODAY) else path))
     return found
 
 
@@ -111,17 +114,6 @@ def levels_of(path: str) -> List[str]:
     numbers = file_names.numbers_beside(os.fsencode(beside(path, "")))
     levels = [beside(path, os.fsdecode(file_names.level_ending(number))) for number in numbers]
     return list(filter(os.path.exists, levels))
-
-
-def is_cut(path: str) -> bool:
-    """Whether a file begins as an archive, and does not end as one."""
-    with open(path, "rb") as file:
-        magic = file.read(MAGIC)
-        try:
-            collections.deque(records_in(file), maxlen=0)
-        except Malformed:
-            return any(one.startswith(magic) for one in MAGICS)
-    return False
 
 
 def refuse_missing(path: str) -> None:
@@ -136,16 +128,6 @@ def refuse_missing(path: str) -> None:
         pass
 
 
-def is_empty_archive(path: str) -> bool:
-    try:
-        if os.stat(path).st_size != len(EMPTY):
-            return False
-        with open(path, "rb") as file:
-            return file.read() in [magic + EMPTY[len(magic) :] for magic in MAGICS]
-    except OSError:
-        return False
-
-
 def place_of(path: str) -> Tuple[str, Optional[int]]:
     """Which file stands under a path."""
     try:
@@ -154,17 +136,37 @@ def place_of(path: str) -> Tuple[str, Optional[int]]:
         return path, None
 
 
+def places_of(paths: Iterable[str]) -> Places:
+    """Which files archives and their levels are. A fold makes others; what comes in lately does not."""
+    return [place_of(path) for one in paths for path in (one, *levels_of(one))]
+
+
+def kept_slices(numbers: Iterable[uuid.UUID], paths: Sequence[str]) -> KeptSlices:
+    """What archives have under some UUIDs, with their levels and what came in lately."""
+    wanted, kept = list(numbers), KeptSlices(set())
+    for _ in looks(lambda: [file.state() for file in with_levels(paths)], quiet=0):
+        kept = KeptSlices.under(wanted)
+        for file in with_levels(paths):
+            kept.take(file.path, file.index)
+    return kept
+
+
+@dataclass(eq=False)
 class Archives:
     """The archives of a call, by their paths. `refused` are the keys of slices that changed, each of which is said
     once."""
 
-    def __init__(self, paths: Sequence[str], has_lines: bool, has_paths: bool) -> None:
-        self.paths, self.names, self.chains = paths, Names(), Chains(has_paths)
-        self.refused: Set[Key] = set()
-        self.files: List[ArchiveFile] = []
-        # Whether each is a file, and no pipe.
-        self.can_be_read_again = True
-        self.program = Program(has_lines)
+    paths: Sequence[str]
+    has_lines: bool
+    has_paths: bool
+    names: Names = field(default_factory=Names)
+    refused: Set[Key] = field(default_factory=set)
+    files: List[NamedArchive] = field(default_factory=list)
+    # Whether each is a file, and no pipe.
+    can_be_read_again: bool = True
+
+    def __post_init__(self) -> None:
+        self.chains, self.program = Chains(self.has_paths), FramesProgram(self.has_lines)
 
     def look_up(self, images: Sequence[Image]) -> None:
         """Asks for all offsets of all images; and of those whose UUID is there under one other architecture alone for
@@ -187,30 +189,37 @@ class Archives:
         for image in images:
             image.put_aside(next((offsets[image.uuid, arch] for arch in image.architectures()), image.asked))
         with tempfile.TemporaryDirectory(prefix="symbolicate-report.") as folder:
-            for tries_left in reversed(range(TRIES)):
-                answers = {key: Answers(key, its, self.names, self.chains) for key, its in offsets.items()}
-                places = self.places()
-                self.files = with_levels(self.paths)
-                if self.ask(list(answers.values()), places if tries_left else None, folder):
-                    break
+            answers = self.answers(offsets, folder)
             for image in images:
                 found = {arch: answers[image.uuid, arch] for arch in image.architectures()}
                 image.take({arch: one for arch, one in found.items() if one.origin is not Origin.ABSENT})
             self.look_into_files(images, [one for one in answers.values() if one.origin is Origin.UNKNOWN])
 
-    def places(self) -> List[Tuple[str, Optional[int]]]:
-        """Which files the archives and their levels are. A fold makes others; what comes in lately does not."""
-        return [place_of(path) for one in self.paths for path in (one, *levels_of(one))]
+    def answers(self, offsets: Mapping[Key, array[int]], folder: str) -> Dict[Key, Answers]:
+        """What the archives answer: again where a fold made others of them, which may have moved what was asked."""
+        end = time.monotonic() + MOST_OF_CHANGES
+        while True:
+            made = {key: Answers(key, its, self.names, self.chains) for key, its in offsets.items()}
+            places = places_of(self.paths) if time.monotonic() < end else None
+            self.files = with_levels(self.paths)
+            states = self.states()
+            try:
+                if self.ask(list(made.values()), places, folder):
+                    return made
+            except FileNotFoundError:
+                if places is None or states == self.states():
+                    raise
 
-    def ask(self, answers: List[Answers], places: Optional[List[Tuple[str, Optional[int]]]], folder: str) -> bool:
+    def states(self) -> List[Tuple[State, ...]]:
+        return [file.state() for file in self.files]
+
+    def ask(self, answers: List[Answers], places: Optional[Places], folder: str) -> bool:
         """Asks the archives, by the index of each if one of them has one, and again without what these do not vouch
-        for. Returns False if others stand in these places meanwhile: what was asked may have missed what a fold
-        moved."""
-        answers = self.without_old_changes(answers)
+        for. Returns False if others stand in these places meanwhile."""
         while True:
             self.make_indexes(folder)
             reply = self.program.reply([(file.path, file.index) for file in self.files], answers)
-            if places is not None and places != self.places():
+            if places not in (None, places_of(self.paths)):
                 return False
             cut = reply.cut_archive()
             if cut is not None and cut < len(self.files):
@@ -232,18 +241,7 @@ class Archives:
                 if not file.index:
                     file.make_index(self.program, folder)
 
-    def without_old_changes(self, answers: List[Answers]) -> List[Answers]:
-        """What is asked of archives by whose indexes they cannot be asked: all but the slices that changed."""
-        changed: Dict[Key, ArchiveFile] = {}
-        for file in self.files:
-            if file.old_index and not is_of(file.old_index, file.path):
-                file.take_other_index()
-            if file.old_index:
-                keys = changed_keys(file.old_index, file.path, [one.key for one in answers])
-                changed.update(dict.fromkeys(keys, file))
-        return self.without(changed, answers) if changed else answers
-
-    def without_changed(self, file: ArchiveFile, fault: IndexFault, answers: List[Answers]) -> List[Answers]:
+    def without_changed(self, file: NamedArchive, fault: IndexFault, answers: List[Answers]) -> List[Answers]:
         """What is asked again after a fault of an index: all, by another index, or without lines of a slice that has
         too many; or all but the slices that changed, or whose tables did."""
         if fault.is_of_another():
@@ -252,15 +250,15 @@ class Archives:
         if fault.entry is None:
             file.refuse(f"{shown(file.index)} is not read: {fault.text}")
         if fault.is_of_lines():
-            return self.without_lines(file, file.key_of(fault.entry or 0), answers)
-        changed = self.changed(answers, fault.is_of_table()) or {file.key_of(fault.entry or 0): file}
+            return self.without_lines(file, key_of_entry(file.index, fault.entry or 0), answers)
+        changed = self.changed(answers, fault.is_of_table()) or {key_of_entry(file.index, fault.entry or 0): file}
         left = self.without(changed, answers)
         if len(left) == len(answers):
             file.refuse(f"{shown(file.path)} is not that of {shown(file.index)}")
         return left
 
     @staticmethod
-    def without_lines(file: ArchiveFile, key: Key, answers: List[Answers]) -> List[Answers]:
+    def without_lines(file: NamedArchive, key: Key, answers: List[Answers]) -> List[Answers]:
         """The same, of which those of a key are asked for without lines."""
         its = [one for one in answers if one.key == key and not one.has_too_many_lines]
         if not its:
@@ -269,7 +267,7 @@ class Archives:
             one.has_too_many_lines = True
         return answers
 
-    def without(self, changed: Dict[Key, ArchiveFile], answers: List[Answers]) -> List[Answers]:
+    def without(self, changed: Dict[Key, NamedArchive], answers: List[Answers]) -> List[Answers]:
         """The answers but for those of slices that changed, which are said."""
         for one in answers:
             if one.key in changed:
@@ -283,7 +281,7 @@ class Archives:
             note(f"{key[0]} {key[1]} changed since it came in: run symarch-keep check {shown(archive)}")
         self.refused.add(key)
 
-    def changed(self, answers: Iterable[Answers], is_of_tables: bool) -> Dict[Key, ArchiveFile]:
+    def changed(self, answers: Iterable[Answers], is_of_tables: bool) -> Dict[Key, NamedArchive]:
         """The keys of which a slice changed since it came in, or a table, and where."""
         keys = [one.key for one in answers]
         return {key: file for file in self.files for key in changed_keys(file.index, file.path, keys, is_of_tables)}
@@ -292,9 +290,13 @@ class Archives:
         """Finds out whether a companion answered for each key that has an answer, and whether the UUIDs of images
         without one are there under other architectures."""
         absent = [image for image in images if image.origin() is Origin.ABSENT]
-        kept = Kept([*(one.key[0] for one in asked), *(image.uuid for image in absent)])
+        numbers = [*(one.key[0] for one in asked), *(image.uuid for image in absent)]
+        kept = KeptSlices.under(numbers)
         for file in self.files:
-            kept.take(file.path, file.index or file.old_index)
+            kept.take(file.path, file.index)
+        if not kept.is_known:
+            # A fold may have moved meanwhile what was asked.
+            kept = kept_slices(numbers, self.paths)
         for one in asked:
             if kept.has_companion(one.key):
                 one.origin = Origin.DSYM

@@ -2,7 +2,7 @@
 from __future__ import annotations
 
 import codecs
-from typing import Iterator, Tuple
+from typing import Iterator, NamedTuple, Tuple
 
 UTF_8, UTF_16_LE, UTF_16_BE = "utf-8", "utf-16-le", "utf-16-be"
 MARKS = ((codecs.BOM_UTF8, UTF_8), (codecs.BOM_UTF16_LE, UTF_16_LE), (codecs.BOM_UTF16_BE, UTF_16_BE))
@@ -12,11 +12,12 @@ FIRST = 16
 PIECE = 1 << 20
 
 
-class Encoding:
+class Encoding(NamedTuple):
     """How the bytes of a report stand in its file: after a mark, in a codec, and before the half of a character."""
 
-    def __init__(self, mark: bytes, codec: str, half: bytes = b"") -> None:
-        self.mark, self.codec, self.half = mark, codec, half
+    mark: bytes
+    codec: str
+    half: bytes = b""
 
     def written(self, data: bytes) -> Iterator[bytes]:
         """The bytes of a file for a piece of UTF-8 that is cut within no character."""

@@ -1,5 +1,6 @@
 """Why the tool ends, and its statuses."""
 import enum
+from dataclasses import dataclass
 
 
 class Status(enum.IntEnum):
@@ -8,22 +9,26 @@ class Status(enum.IntEnum):
     DONE = 0
     NONE_NAMED = 1
     REFUSED = 2
-    BAD_WORDS = 3
+    BAD_ARGUMENTS = 3
     NO_MEMORY = 4
     NO_PROGRAM = 126
 
 
+@dataclass(eq=False)
 class Failure(Exception):
     """What ends the tool, or keeps a report out: the reason, for standard error, and the status. The reason is empty if
     the program has given its own."""
 
-    def __init__(self, reason: str, status: int) -> None:
-        super().__init__(reason)
-        self.reason, self.status = reason, status
+    reason: str
+    status: int
 
 
 class NoReport(Failure):
     """What keeps a file out that does not begin as a report."""
+
+
+class SeveralReports(Failure):
+    """What ends the tool if a zip file has several reports, and one is printed."""
 
 
 class NoStacks(NoReport):

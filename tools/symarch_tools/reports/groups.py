@@ -5,23 +5,25 @@ import bisect
 import re
 from typing import Any, Dict, Iterable, Iterator, List, Match, NamedTuple, Optional, Pattern, Sequence, Tuple
 
-from ..escaping import line_shown
+from ..console.escapes import line_shown
 from .images import HAD_NAME, IS_INLINED, Frames
-from .json_report import JsonReport
-from .named_lines import INLINED, SOURCE
-from .readable import name_of, text_in
+from .json.readable import name_of, text_in
+from .json.report import JsonReport
 from .report import Part, Report
-from .text_report import BACKTRACE, CRASH, NO_NAME, REST_OF_LINE, TextReport, frames_in, plain
+from .text.logged import TIME
+from .text.named_lines import INLINED, SOURCE
+from .text.report import BACKTRACE, CONFLICTING, CRASH, NO_NAME, REST_OF_LINE, TextReport, frames_in, plain
 
 # So many frames make a group, below those that threw the exception: the images that have these.
 TOP = 3
 THROWING = ("CoreFoundation", "libobjc.A.dylib")
 EXCEPTION_IN_JSON = "lastExceptionBacktrace"
 NO_THREAD = "no crashed thread"
-CRASHED = re.compile(rb"(?<![^\r\n])Thread [0-9]+ Crashed:[^\r\n]*(?:\r\n|\r|\n|\Z)")
-EXCEPTION = re.compile(rb"(?<![^\r\n])[ \t]*Last Exception Backtrace[^\r\n]*(?:\r\n|\r|\n|\Z)")
-# The answer of a slice, below a frame that has several.
-CONFLICTING = re.compile(rb"  [0-9a-f]{64} ")
+BEGIN, END = rb"(?<![^\r\n])(?:%b)?" % TIME, rb"[^\r\n]*(?:\r\n|\r|\n|\Z)"
+CRASHED = re.compile(BEGIN + rb"(?:Thread [0-9]+ Crashed:|Crashed: |Fatal Exception: )" + END)
+EXCEPTION = re.compile(BEGIN + rb"[ \t]*(?:Last Exception Backtrace|\*{3} First throw call stack)" + END)
+# What encloses the frames of an exception.
+OPENED = b"("
 
 
 def group_lines(reports: Iterable[Report]) -> Iterator[str]:
@@ -172,8 +174,9 @@ def text_frames(part: TextReport, heading: Pattern[bytes], most: int) -> List[Fr
 
 
 def is_below_frame(line: bytes) -> bool:
-    """Whether a line belongs to the frame before it: the answer of a slice, or the rest of a line that was wrapped."""
-    return bool(CONFLICTING.match(line) or REST_OF_LINE.fullmatch(plain(line)))
+    """Whether a line belongs to the frame before it: the answer of a slice, or the rest of a line that was wrapped; or
+    opens a list of frames."""
+    return bool(line.strip() == OPENED or CONFLICTING.match(line) or REST_OF_LINE.fullmatch(plain(line)))
 
 
 def addressed_frames(part: TextReport, place: int, most: int) -> List[Frame]:

@@ -1,15 +1,18 @@
 """The images of a report, and the frames that lie in them."""
 from __future__ import annotations
 
+import collections
 import enum
 import heapq
 import itertools
 import re
-import uuid
 from array import array
-from typing import Callable, Dict, Hashable, List, Mapping, Optional, Sequence, Set, Tuple, TypeVar
+from dataclasses import dataclass, field
+from typing import Callable, Dict, Hashable, Iterator, List, Mapping, NamedTuple, Optional, Sequence, Set, Tuple
+from typing import TypeVar
+from uuid import UUID
 
-from ..escaping import line_shown
+from ..console.escapes import line_shown
 from .answers import Answers, Origin, Symbol
 from .source_lines import NOTHING, Lines
 
@@ -19,8 +22,8 @@ PROCESSORS = {"X86-64": "x86_64", "ARM-64": "arm64", "ARM64": "arm64"}
 DIGITS = re.compile("[0-9a-f]{32}")
 # So many offsets are sorted at once.
 MOST_SORTED = 200_000
-# The answers of so many frames are kept.
-MOST_KNOWN = 20_000
+# The answers of so many frames are kept, and so many are counted at once.
+MOST_KNOWN, MOST_COUNTED = 20_000, 50_000
 # So many images of a report are known.
 MOST_IMAGES = 20_000
 # The number of no image.
@@ -53,21 +56,28 @@ IS_RETURN, HAD_NAME, CANNOT_BE_ASKED, IS_BELOW, HAS_BELOW = map(int, list(Kind)[
 IS_INLINED, HAS_INLINED, IS_LISTED = map(int, list(Kind)[5:])
 
 
+def no_offsets() -> array[int]:
+    return array("Q")
+
+
+@dataclass(eq=False)
 class Image:
     """An image of a report, and what its frames ask for: offsets from where it was loaded, and the answers to them."""
 
-    def __init__(
-        self, number: uuid.UUID, arch: Optional[str], name: Optional[str], processor: Optional[str]
-    ) -> None:
-        self.uuid, self.arch, self.name, self.processor = number, arch, name, processor
-        self.has_frames = False
-        # Whether the report lacks the name of one of its frames.
-        self.lacks_names = False
-        self.asked: array[int] = array("Q")
-        self.was_asked: array[int] = array("Q")
-        self.answers: Optional[Answers] = None
-        # The architectures under which the archive has its UUID, if it does not answer by that of the report.
-        self.others: List[str] = []
+    uuid: UUID
+    arch: Optional[str]
+    name: Optional[str]
+    processor: Optional[str]
+    # As the report has it, as `2.1 (210)`.
+    version: Optional[str] = None
+    has_frames: bool = False
+    # Whether the report lacks the name of one of its frames.
+    lacks_names: bool = False
+    asked: array[int] = field(default_factory=no_offsets)
+    was_asked: array[int] = field(default_factory=no_offsets)
+    answers: Optional[Answers] = None
+    # The architectures under which the archive has its UUID, if it does not answer by that of the report.
+    others: List[str] = field(default_factory=list)
 
     def origin(self) -> Origin:
         """What answered for it."""
@@ -120,16 +130,28 @@ def unique(offsets: array[int]) -> array[int]:
     return array("Q", (offset for offset, _ in itertools.groupby(heapq.merge(*parts))))
 
 
+class GivenImage(NamedTuple):
+    """An image that the call names, for text that lists none: where it was loaded is not known if a build has it."""
+
+    name: str
+    uuid: str
+    arch: Optional[str] = None
+    load: Optional[int] = None
+
+
+@dataclass
 class Images:
     """The images of a report by their numbers, each of them once, however often the report lists it."""
 
-    def __init__(self) -> None:
-        self.listed: List[Image] = []
-        self.numbers: Dict[Tuple[str, Optional[str]], int] = {}
-        # Whether the report lists more.
-        self.has_more = False
+    given: Sequence[GivenImage] = ()
+    listed: List[Image] = field(default_factory=list)
+    numbers: Dict[Tuple[str, Optional[str]], int] = field(default_factory=dict)
+    # Whether the report lists more.
+    has_more: bool = False
 
-    def number(self, told: object, arch: object, name: object, processor: Optional[str] = None) -> int:
+    def number(
+        self, told: object, arch: object, name: object, processor: Optional[str] = None, version: Optional[str] = None
+    ) -> int:
         """The number of the image of a UUID; NO_IMAGE where there is none. Reports write one of zeros for what lies in
         no image."""
         digits = str(told).replace("-", "").lower()
@@ -142,28 +164,32 @@ class Images:
                 return NO_IMAGE
             self.numbers[key] = len(self.listed)
             name = name if isinstance(name, str) else None
-            self.listed.append(Image(uuid.UUID(digits), key[1], name, processor))
+            self.listed.append(Image(UUID(digits), key[1], name, processor, version))
         return self.numbers[key]
 
     def with_frames(self) -> List[Image]:
         return [image for image in self.listed if image.has_frames]
 
 
+@dataclass(eq=False)
 class Frames:
     """The frames of a part of a report, in its order: where each stands, the number of its image, the offset that is
     asked for, and what it is. Arrays need much less memory than an object a frame."""
 
-    def __init__(self, images: Images) -> None:
-        self.images = images
-        self.places, self.numbers, self.asked, self.kinds = array("Q"), array("i"), array("Q"), bytearray()
-        # Pairs of frames that follow one another in a stack, the inner and the outer one of each; and the frames that
-        # the report names as those of signals.
-        self.inner, self.outer = array("I"), array("I")
-        self.of_signals: Set[int] = set()
-        # How many frames one line of a tree has, if these are several, by the first of them.
-        self.beside: Dict[int, int] = {}
-        self.known: Dict[Tuple[int, int, int], Dict[Optional[Symbol], List[str]]] = {}
-        self.known_lines: Dict[Tuple[int, int, int], Lines] = {}
+    images: Images
+    places: array[int] = field(default_factory=no_offsets)
+    numbers: array[int] = field(default_factory=lambda: array("i"))
+    asked: array[int] = field(default_factory=no_offsets)
+    kinds: bytearray = field(default_factory=bytearray)
+    # Pairs of frames that follow one another in a stack, the inner and the outer one of each; and the frames that the
+    # report names as those of signals.
+    inner: array[int] = field(default_factory=lambda: array("I"))
+    outer: array[int] = field(default_factory=lambda: array("I"))
+    of_signals: Set[int] = field(default_factory=set)
+    # How many frames one line of a tree has, if these are several, by the first of them.
+    beside: Dict[int, int] = field(default_factory=dict)
+    known: Dict[Tuple[int, int, int], Dict[Optional[Symbol], List[str]]] = field(default_factory=dict)
+    known_lines: Dict[Tuple[int, int, int], Lines] = field(default_factory=dict)
 
     def __len__(self) -> int:
         return len(self.kinds)
@@ -255,21 +281,39 @@ class Frames:
 
     def symbols(self, at: int) -> Dict[str, Optional[Symbol]]:
         """What each slice says of a frame, by its digest, with the offset of the frame itself."""
-        image, kind = self.image(at), self.kinds[at]
-        said = image.symbols(self.asked[at]) if image and not kind & (CANNOT_BE_ASKED | IS_INLINED) else {}
+        return self.symbols_of(self.numbers[at], self.asked[at], self.kinds[at])
+
+    def symbols_of(self, number: int, asked: int, kind: int) -> Dict[str, Optional[Symbol]]:
+        """The same of frames that are alike."""
+        image = self.images.listed[number] if number != NO_IMAGE else None
+        said = image.symbols(asked) if image and not kind & (CANNOT_BE_ASKED | IS_INLINED) else {}
         if kind & IS_RETURN:
             return {digest: symbol and (symbol[0], symbol[1] + 1) for digest, symbol in said.items()}
         return said
 
     def answers(self, at: int) -> Dict[Optional[Symbol], List[str]]:
         """The different answers to a frame, each with the digests of its slices. Frames come again and again."""
-        key = self.numbers[at], self.asked[at], self.kinds[at]
+        return self.answers_of(self.key(at))
+
+    def key(self, at: int) -> Tuple[int, int, int]:
+        """What is one for frames that are alike: the number of the image, what is asked, and the kind."""
+        return self.numbers[at], self.asked[at], self.kinds[at]
+
+    def answers_of(self, key: Tuple[int, int, int]) -> Dict[Optional[Symbol], List[str]]:
+        """The same of frames that are alike."""
         found = self.known.get(key)
         if found is None:
-            found = different(self.symbols(at))
+            found = different(self.symbols_of(*key))
             if len(self.known) < MOST_KNOWN:
                 self.known[key] = found
         return found
+
+    def alike(self) -> Iterator[Tuple[Tuple[int, int, int], int]]:
+        """The keys of frames, each with how many are alike of some that follow one another."""
+        for begin in range(0, len(self), MOST_COUNTED):
+            end = begin + MOST_COUNTED
+            rows = zip(self.numbers[begin:end], self.asked[begin:end], self.kinds[begin:end])
+            yield from collections.Counter(rows).items()
 
     def name(self, at: int) -> Optional[Symbol]:
         """The name and the offset, where there is one answer, else None."""
@@ -277,7 +321,7 @@ class Frames:
 
     def lines(self, at: int) -> Lines:
         """Where a frame that has one name is in the source, without the inlined functions that the report has."""
-        key = self.numbers[at], self.asked[at], self.kinds[at]
+        key = self.key(at)
         found = self.known_lines.get(key)
         if found is None:
             found = self.answered_lines(at)

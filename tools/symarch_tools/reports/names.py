@@ -1,15 +1,16 @@
 """The names of all answers."""
 from __future__ import annotations
 
+from dataclasses import dataclass, field
 from typing import Dict, List
 
 
+@dataclass
 class Names:
     """Names, each of them once."""
 
-    def __init__(self) -> None:
-        self.places: Dict[bytes, int] = {}
-        self.shown: List[str] = []
+    places: Dict[bytes, int] = field(default_factory=dict)
+    shown: List[str] = field(default_factory=list)
 
     def has(self, name: str) -> bool:
         return name.encode() in self.places

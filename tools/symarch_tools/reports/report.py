@@ -1,21 +1,25 @@
 """A whole report: JSON documents and text, one after another, and what is said of it."""
 from __future__ import annotations
 
-import pathlib
+import os
 import re
 import shlex
-from typing import Iterator, List, Match, Optional, Sequence, Tuple, Union
+from dataclasses import dataclass
+from typing import TYPE_CHECKING, Iterator, List, Match, Optional, Sequence, Tuple, Union
 
-from ..escaping import line_shown, shown
+from ..console.escapes import line_shown, shown
+from ..console.streams import standard_input
 from .encodings import decoded
 from .faults import Failure, NoReport, NoStacks, Status
-from .images import HAD_NAME, IS_INLINED, MOST_IMAGES, Frames, Images, one_of
-from .json_report import JsonReport
-from .json_walk import Broken, flat_at
-from .pasted import FIRST_WORDS, MOST_OF_BEGINNING, lines_in, unpasted
-from .readable import ReadableReport, parts
-from .streams import standard_input
-from .text_report import TextReport
+from .images import HAD_NAME, IS_INLINED, MOST_IMAGES, NO_IMAGE, Frames, GivenImage, Images, one_of
+from .json.report import JsonReport
+from .json.walk import Broken, flat_at
+from .text.doubled import Doubled, undoubled
+from .text.pasted import FIRST_WORDS, MOST_OF_BEGINNING, lines_in, unpasted
+from .text.report import TextReport
+
+if TYPE_CHECKING:
+    from .json.readable import ReadableReport
 
 DOCUMENT = re.compile(rb"\s*(?=[{\[])")
 # The path that means standard input.
@@ -45,32 +49,36 @@ KINDS = {"211": "an analytics report", "298": "a jetsam report"}
 # Of so many parts a report is made, and so many of its faults are said.
 MOST_PARTS, MOST_NOTES = 10_000, 10
 
-# What a report is made of.
-Part = Union[JsonReport, TextReport, ReadableReport]
+# What a report is made of. What makes JSON readable is imported where it is asked for.
+Part = Union[JsonReport, TextReport, "ReadableReport"]
 
 
+@dataclass
 class Count:
     """How many frames have a name from the archive, had one before and keep it, have several answers, or have no name;
     and how many are of no image that the report lists."""
 
-    def __init__(self) -> None:
-        self.named = self.named_before = self.several = self.not_named = self.not_listed = 0
+    named: int = 0
+    named_before: int = 0
+    several: int = 0
+    not_named: int = 0
+    not_listed: int = 0
 
     def add(self, frames: Frames) -> None:
-        for at in range(len(frames)):
-            kind = frames.kinds[at]
+        for key, count in frames.alike():
+            number, _, kind = key
             if kind & IS_INLINED:
                 continue
-            answers = frames.answers(at)
+            answers = frames.answers_of(key)
             if one_of(answers):
-                self.named += 1
+                self.named += count
             elif len(answers) > 1:
-                self.several += 1
+                self.several += count
             elif kind & HAD_NAME:
-                self.named_before += 1
+                self.named_before += count
             else:
-                self.not_named += 1
-            self.not_listed += frames.image(at) is None
+                self.not_named += count
+            self.not_listed += count * (number == NO_IMAGE)
 
     def add_count(self, other: Count) -> None:
         for name, number in vars(other).items():
@@ -85,18 +93,29 @@ class Count:
 
 class Report:
     """A whole report. With `is_text` its JSON is printed as people read it. With `is_kept` it is known which lists of
-    frames its JSON has."""
+    frames its JSON has. The given images are those of text that lists none. The content is that of a member of a zip
+    file, whose path has the name of this before it."""
 
-    def __init__(self, path: str, is_text: bool = False, is_kept: bool = False) -> None:
+    def __init__(
+        self,
+        path: str,
+        is_text: bool = False,
+        is_kept: bool = False,
+        given: Sequence[GivenImage] = (),
+        content: Optional[bytes] = None,
+    ) -> None:
         self.path, self.is_kept = path, is_text or is_kept
-        self.label = "standard input" if path == STANDARD_INPUT else shown(path)
-        raw = bytes_of(path)
+        # Where --out writes it in its folder.
+        self.target = os.path.basename(path)
+        self.label = "standard input" if path == STANDARD_INPUT and content is None else shown(path)
+        raw = bytes_of(path) if content is None else content
         packed = next((what for begins, what in PACKED if raw.startswith(begins)), None)
         if packed:
             raise NoReport(f"{self.label}: {packed}: unpack it first", Status.REFUSED)
         data, self.encoding = decoded(raw)
-        self.data, self.pasted = unpasted(data)
-        self.images = Images()
+        data, self.pasted = unpasted(data)
+        self.data, self.doubled = (data, Doubled(b"")) if DOCUMENT.match(data) else undoubled(data)
+        self.images = Images(given)
         self.notes: List[str] = []
         self.faults = 0
         # The next heading of a full report, once it was looked for: a report may have many parts.
@@ -106,12 +125,19 @@ class Report:
         if not any(len(part.frames) for part in found):
             raise self.without_frames(found)
         if not self.images.listed:
-            raise self.refusal("frames, but no binary images with UUIDs")
+            what = "none of an image that is named" if given else "no binary images with UUIDs"
+            raise self.refusal(f"frames, but {what}")
         if self.images.has_more:
             self.note(f"it lists more than {MOST_IMAGES} images, and the others are left out")
         if self.faults > len(self.notes):
             self.notes.append(f"it has {self.faults - len(self.notes)} faults more")
-        self.parts: List[Part] = [*parts(found, self.notes)] if is_text else [*found]
+        self.parts: List[Part] = self.readable(found) if is_text else [*found]
+
+    def readable(self, found: Sequence[Union[JsonReport, TextReport]]) -> List[Part]:
+        """Its parts, as people read them."""
+        from .json.readable import parts
+
+        return [*parts(found, self.notes)]
 
     def without_frames(self, found: Sequence[Union[JsonReport, TextReport]]) -> Failure:
         """Why a file is refused that has no frames in its parts."""
@@ -206,18 +232,21 @@ class Report:
             self.note(f"it ends at {self.last()}, within a line")
 
     def place(self, place: int) -> str:
-        line = self.data.count(b"\n", 0, place) + 1
-        return f"line {line}, byte {self.encoding.byte_of(*self.pasted.before(self.data, place)) + 1}"
+        data, place = self.doubled.before(self.data, place)
+        line = data.count(b"\n", 0, place) + 1
+        return f"line {line}, byte {self.encoding.byte_of(*self.pasted.before(data, place)) + 1}"
 
     def last(self) -> str:
-        line = self.data.count(b"\n", 0, len(self.data) - 1) + 1
-        end = self.encoding.byte_of(*self.pasted.before(self.data, len(self.data)))
+        data, place = self.doubled.before(self.data, len(self.data))
+        line = data.count(b"\n", 0, place - 1) + 1
+        end = self.encoding.byte_of(*self.pasted.before(data, place))
         return f"line {line}, byte {end + len(self.encoding.half)}"
 
     def pieces(self) -> Iterator[bytes]:
         """The bytes of the report with names in it, as they stand in its file."""
         yield self.encoding.mark
-        for piece in self.pasted.restored(piece for part in self.parts for piece in part.pieces()):
+        pieces = self.doubled.restored(piece for part in self.parts for piece in part.pieces())
+        for piece in self.pasted.restored(pieces):
             yield from self.encoding.written(piece)
         yield self.encoding.half
 
@@ -231,7 +260,7 @@ class Report:
         """The frames of each part, and those of its backtraces."""
         for part in self.parts:
             yield part.frames
-            if isinstance(part, ReadableReport) and part.backtraces:
+            if not isinstance(part, (JsonReport, TextReport)) and part.backtraces:
                 yield part.backtraces.frames
 
     def find_interrupted(self) -> bool:
@@ -279,4 +308,7 @@ def kind_of(data: bytes, found: Sequence[Union[JsonReport, TextReport]]) -> Opti
 
 
 def bytes_of(path: str) -> bytes:
-    return standard_input() if path == STANDARD_INPUT else pathlib.Path(path).read_bytes()
+    if path == STANDARD_INPUT:
+        return standard_input()
+    with open(path, "rb") as file:
+        return file.read()

@@ -2,18 +2,14 @@
 that were inlined there."""
 from __future__ import annotations
 
-import re
-from typing import Dict, List, Match, NamedTuple, Optional, Tuple
+from dataclasses import dataclass, field
+from typing import Dict, List, NamedTuple, Optional, Tuple
 
+from ..formats.answer_lines import UNKNOWN, frame_in, unescaped
 from .names import Names
 
-# What is not known of a frame.
-UNKNOWN = b"?"
-# How many digits a line or a column has at most.
-MOST_DIGITS = 20
-BEFORE = b"    "
-# Bytes that the program does not print as they are.
-ESCAPED = re.compile(r"(?:\\x[0-9a-f]{2})+")
+# So many lines of frames are kept.
+MOST_KNOWN = 20_000
 
 
 class Source(NamedTuple):
@@ -42,61 +38,44 @@ class Lines(NamedTuple):
 
 
 NOTHING = Lines()
+# The place of a name, and where the frame is in the source.
+Frame = Tuple[int, Optional[Source]]
 
 
+@dataclass
 class Chains:
     """The frames of all addresses, each chain of them once. Files have the paths that compilers wrote, or their last
     names."""
 
-    def __init__(self, has_paths: bool) -> None:
-        self.has_paths = has_paths
-        self.names = Names()
-        self.places: Dict[bytes, int] = {}
-        self.found: List[List[Tuple[int, Optional[Source]]]] = []
+    has_paths: bool
+    names: Names = field(default_factory=Names)
+    places: Dict[bytes, int] = field(default_factory=dict)
+    found: List[List[Frame]] = field(default_factory=list)
+    # What functions that are inlined at several places say there.
+    known: Dict[bytes, Frame] = field(default_factory=dict)
 
     def place(self, said: bytes) -> int:
         """The place of the frames that lines of the program have. ValueError if one is no frame."""
         place = self.places.get(said)
         if place is None:
             place = self.places[said] = len(self.found)
-            self.found.append([self.frame(line) for line in said.splitlines(keepends=True)])
+            self.found.append([self.known.get(line) or self.frame(line) for line in said.splitlines(keepends=True)])
         return place
 
-    def frame(self, line: bytes) -> Tuple[int, Optional[Source]]:
-        name, path, number = frame_in(line)
+    def frame(self, line: bytes) -> Frame:
+        if not line.endswith(b"\n"):
+            raise ValueError
+        name, path, number, _ = frame_in(line)
         source = None
         if path != UNKNOWN:
             text = unescaped(path.decode())
             source = Source(text if self.has_paths else text.rpartition("/")[2] or text, number)
-        return -1 if name == UNKNOWN else self.names.place(unescaped(name.decode()).encode()), source
+        found = -1 if name == UNKNOWN else self.names.place(unescaped(name.decode()).encode()), source
+        if len(self.known) < MOST_KNOWN:
+            self.known[line] = found
+        return found
 
     def lines(self, place: int) -> Lines:
         *inlined, own = self.found[place] or [(-1, None)]
         shown = self.names.shown
         return Lines(own[1], tuple(Inlined(shown[name] if name >= 0 else None, source) for name, source in inlined))
-
-
-def frame_in(line: bytes) -> Tuple[bytes, bytes, int]:
-    """The name, the path and the line of a frame of an address, `NAME at PATH:LINE:COLUMN`, after four spaces. The name
-    ends at the first ` at `. ValueError if a line is no frame."""
-    before, _, column = line.rpartition(b":")
-    before, _, number = before.rpartition(b":")
-    name, at, path = before[len(BEFORE) :].partition(b" at ")
-    digits = number, column[:-1]
-    are_numbers = all(one.isdigit() and len(one) <= MOST_DIGITS for one in digits)
-    if not (line.startswith(BEFORE) and line.endswith(b"\n") and at and are_numbers):
-        raise ValueError
-    return name, path, int(number)
-
-
-def unescaped(text: str) -> str:
-    """A text of the program with the characters that it stands for, but for those that would not be one line."""
-    return ESCAPED.sub(characters, text)
-
-
-def characters(found: Match[str]) -> str:
-    try:
-        made = bytes.fromhex(found[0].replace("\\x", "")).decode()
-    except ValueError:
-        return found[0]
-    return made if made.isprintable() else found[0]

@@ -2,7 +2,7 @@ use Rattle.std.proofs.Common.{◌∙◌, ◌++◌, ◌∷◌, [], ap, string_byt
 use Rattle.archive_files.specs.FileCalls.{Creates}
 use Rattle.archive_files.specs.OutFiles.{IsWayTo}
 use Rattle.archive_files.proofs.Publishings.{begun_drafted, begun_through}
-use Rattle.archive_files.specs.Publishing.{IsBeside, IsTargetOf}
+use Rattle.archive_files.specs.Publishing.{IsBeside, IsTargetOf, draft_mode}
 use Rattle.archive_files.proofs.out_file.begun.Goals as goal
 
 pub returns-in-Ok-clause-calls : goal.returns-in-Ok-clause-calls
@@ -10,7 +10,7 @@ returns-in-Ok-clause-calls g c = λ none.
     let path = c.args.path.now in
     let probes = c.way_to.new.calls.entries in
     let writable = subst (λ way. IsWayTo c.args.replaces path way probes) c.in-Through.is (c.in_ok-way_to.ensures.way none) in
-    (begun_through c.args.replaces path probes c.opens.new.self.entries writable c.opens.ensures).0
+    (begun_through c.args.replaces path probes _ writable c.in-Ok.ensures).0
 
 pub returns-in_ok-draft-in-Beside-clause-calls : goal.returns-in_ok-draft-in-Beside-clause-calls
 returns-in_ok-draft-in-Beside-clause-calls g c = λ none.
@@ -18,9 +18,8 @@ returns-in_ok-draft-in-Beside-clause-calls g c = λ none.
     let probes = c.way_to.new.calls.entries in
     let draft = c.in_ok-draft-in-Beside.draft in
     let made = c.in_ok-draft-in-Beside.ensures in
-    let led = subst (λ way. IsWayTo c.args.replaces path way probes) c.in-Beside.is (c.in_ok-way_to.ensures.way none) in
-    (begun_drafted c.args.replaces path (string_bytes draft.path) (string_bytes draft.target) probes
-    c.creates.new.self.entries
-    (subst (λ target. IsTargetOf c.args.replaces path (string_bytes target) probes) (sym made.target) led)
-    (subst (λ target. IsBeside (string_bytes draft.path) (string_bytes target)) (sym made.target) made.beside)
-    (c.creates.ensures ∙ ap (λ at. probes ++ Creates at ∷ []) c.deref.ensures)).0
+    let way = subst (λ way. IsWayTo c.args.replaces path way probes) c.in-Beside.is (c.in_ok-way_to.ensures.way none) in
+    (begun_drafted c.args.replaces path (string_bytes draft.own.path) (string_bytes draft.target) probes _
+    (subst (λ target. IsTargetOf c.args.replaces path (string_bytes target) probes) (sym made.target) way.0)
+    (subst (λ target. IsBeside (string_bytes draft.own.path) (string_bytes target)) (sym made.target) made.beside)
+    (made.created ∙ ap (λ there. probes ++ Creates (string_bytes draft.own.path) (draft_mode there) ∷ []) way.1)).0

@@ -1,9 +1,12 @@
 use Rattle.std.proofs.Common.{◌≡◌, ◌++◌}
+use Rattle.std.specs.Option.{option_map}
+use Rattle.function_links.specs.Asked.{asked_ranges}
 use Rattle.function_links.proofs.functions.push_ranges.Given as goal
 
 abbrev pub invariant-loop-range : goal.invariant-loop-range
 invariant-loop-range l = record {
   can : (goal.iterator-loop-range).can_next l.range-iterator;
   ends : (goal.iterator-loop-range).is_finite l.range-iterator;
-  so_far : l.all.items ++ l.range-iterator ≡ l.fn.all.items ++ l.fn.ranges;
+  so_far : l.all.items ++ asked_ranges (option_map (λ a. a.now) l.asked) l.range-iterator
+      ≡ l.fn.all.items ++ asked_ranges (option_map (λ a. a.now) l.asked) l.fn.ranges;
 }

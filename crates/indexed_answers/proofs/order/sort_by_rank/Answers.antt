@@ -6,7 +6,7 @@ use Rattle.std.proofs.lemmas.List.MinMax.{ranks_by}
 use Rattle.std.proofs.lemmas.List.Sorted.{IsPermutation-map}
 use Rattle.indexed_answers.specs.InnerAnswering.{entry_at, rank_in}
 use Rattle.indexed_answers.specs.declared.numbered.Numbered.{Numbered}
-use Rattle.indexed_answers.proofs.Lists.{sorted_map}
+use Rattle.archive_index.proofs.Sorted.{sorted_map}
 use Rattle.indexed_answers.proofs.order.sort_by_rank.Goals as goal
 
 pub returns-clause-moved : goal.returns-clause-moved

@@ -4,13 +4,13 @@ use Rattle.byte_device.proofs.Known.{Appends-none}
 use Rattle.report_text.specs.Finds.{find_lines}
 use Rattle.command_core.specs.Found.{found_status}
 use Rattle.command_core.proofs.Endings.{reported}
-use Rattle.indexed_queries.proofs.Refused.{query_refused}
+use Rattle.command_core.proofs.Parts.{together_refused}
 use Rattle.indexed_queries.proofs.find.run_find_together.Goals as goal
 
 pub returns-in_err-kept : goal.returns-in_err-kept
 returns-in_err-kept g c =
     let p = err_from_is_err_and c.from_residual.result c.from_residual.ensures.1 in
-    rw (p.1, p.2) (query_refused _ _ _ _ c.in_err-kept.field-0.0 c.in_err-kept.ensures (Appends-none _, refl))
+    rw (p.1, p.2) (together_refused _ _ _ _ c.in_err-kept.field-0.0 c.in_err-kept.ensures (Appends-none _, refl))
 
 pub returns-in_err-rows : goal.returns-in_err-rows
 returns-in_err-rows g c =

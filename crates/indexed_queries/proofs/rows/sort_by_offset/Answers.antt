@@ -6,7 +6,7 @@ use Rattle.std.proofs.lemmas.List.Sorted.{IsPermutation-map, ranks_by}
 use Rattle.archive_index.specs.declared.entry.IndexEntry.{IndexEntry}
 use Rattle.archive_index.specs.Entry.{offset_in, placed_bytes}
 use Rattle.indexed_queries.specs.Rows.{stands_before}
-use Rattle.indexed_queries.proofs.Entries.{sorted_made}
+use Rattle.archive_index.proofs.Sorted.{sorted_map}
 use Rattle.indexed_queries.proofs.rows.sort_by_offset.Goals as goal
 
 pub returns-clause-moved : goal.returns-clause-moved
@@ -14,5 +14,5 @@ returns-clause-moved c = IsPermutation-map placed_bytes _ _ c.sort_unstable_by.e
 
 pub returns-clause-sorted : goal.returns-clause-sorted
 returns-clause-sorted c =
-    sorted_made placed_bytes stands_before c.sort_unstable_by.new.self.items
+    sorted_map placed_bytes stands_before c.sort_unstable_by.new.self.items
     (c.sort_unstable_by.ensures.sorted (λ x y. is_lt (nat_cmp (offset_in (placed_bytes x)) (offset_in (placed_bytes y)))) (ranks_by nat_cmp_total (λ (x : IndexEntry). offset_in (placed_bytes x))) (always_returns_same _ _ _ (λ a r f called. (search rules, search rules))))

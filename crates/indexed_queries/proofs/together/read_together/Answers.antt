@@ -1,10 +1,9 @@
-use Rattle.std.proofs.Common.{◌∙◌, map, length, ap, sym, subst}
+use Rattle.std.proofs.Common.{◌∙◌, map, length, ap, subst}
 use Rattle.std.proofs.lemmas.Result.{err_from_is_err_and}
 use Rattle.command_core.specs.Inputs.{EachUnfailed, ReadsInputs, readers}
-use Rattle.command_core.proofs.Readers.{readers_long}
 use Rattle.indexed_queries.specs.Prefixes.{prefix_bytes}
-use Rattle.indexed_queries.specs.Together.{HoldNamed, IsFirstRefusedAtPlaces, IsReadWith}
-use Rattle.indexed_queries.proofs.Groups.{first_refused, reads_later, three_long}
+use Rattle.indexed_queries.specs.Together.{HoldNamed, IsFirstRefusedAtPlaces}
+use Rattle.indexed_queries.proofs.Groups.{as_many, first_refused, reads_later}
 use Rattle.indexed_queries.proofs.together.read_together.Goals as goal
 
 pub returns-in_err-read : goal.returns-in_err-read
@@ -21,8 +20,8 @@ read_prefixes-requires g c =
     let old = c.args.archives.now in
     let mid = c.read_indexes.new.archives in
     let indexes = readers g.I.Placed.whole g.I.Placed.failures c.args.indexes.now c.read_indexes.new.indexes in
-    ap length c.deref.ensures.value ∙ three_long IsReadWith indexes (readers whole failures old mid) c.in_ok-read.read.items c.in_ok-read.ensures.read.is
-    ∙ readers_long whole failures old mid c.read_indexes.auto.archives ∙ sym c.read_indexes.auto.archives
+    ap length c.deref.ensures.value
+    ∙ as_many indexes whole failures old mid c.in_ok-read.read.items c.in_ok-read.ensures.read.is c.read_indexes.auto.archives
 
 pub returns : goal.returns
 returns g c =

@@ -5,8 +5,9 @@ use Rattle.command_core.specs.Inputs.{readers}
 use Rattle.command_core.proofs.Endings.{reported}
 use Rattle.command_core.proofs.Readers.{none_failed, none_touched}
 use Rattle.command_core.proofs.Parts.{refusal_of, together_refused}
+use Rattle.indexed_queries.proofs.Groups.{as_many}
 use Rattle.indexed_symbols.specs.Frames.{keys_of}
-use Rattle.indexed_symbols.proofs.Ended.{as_many, frames_refused, frames_told}
+use Rattle.indexed_symbols.proofs.Ended.{frames_refused, frames_told}
 use Rattle.indexed_symbols.proofs.frames.run_frames_at.Goals as goal
 
 pub returns-in_err-frames : goal.returns-in_err-frames

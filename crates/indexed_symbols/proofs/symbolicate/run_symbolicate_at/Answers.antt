@@ -4,7 +4,8 @@ use Rattle.byte_device.proofs.Known.{Appends-none}
 use Rattle.command_core.specs.Inputs.{readers}
 use Rattle.command_core.proofs.Endings.{reported}
 use Rattle.command_core.proofs.Parts.{together_refused}
-use Rattle.indexed_symbols.proofs.Ended.{as_many, key_refused, key_told}
+use Rattle.indexed_queries.proofs.Groups.{as_many}
+use Rattle.indexed_symbols.proofs.Ended.{key_refused, key_told}
 use Rattle.indexed_symbols.proofs.symbolicate.run_symbolicate_at.Goals as goal
 
 pub tell_addresses-requires-clause-many : goal.tell_addresses-requires-clause-many

@@ -11,7 +11,7 @@ use Rattle.plan_commands.proofs.files.execute.Goals as goal
 
 pub returns-in_err-heap : goal.returns-in_err-heap
 returns-in_err-heap g c = unbegun (λ notes. notes.items) _ _ _ c.from_residual.result c.from_residual.ensures.1
-    (none_asked _ _) (none_called _ _ c.requires.files.7 c.requires.files.6) refl refl
+    (none_asked _ _) (none_called _ _ c.requires.files.6 c.requires.files.5) refl refl
 
 pub returns-in_err-begin : goal.returns-in_err-begin
 returns-in_err-begin g c = unbegun (λ notes. notes.items) _ _ _ c.from_residual-in_err-begin.result
@@ -67,7 +67,7 @@ returns g c =
       begun = before;
       done = done;
       ended = c.execute_on-ended.result;
-      path_is = rw (c.inputs_for.ensures.others.0, c.inputs_for.ensures.others.1, same) c.in_ok-begin.ensures.path;
+      path_is = rw (c.inputs_for.ensures.compared, same) c.in_ok-begin.ensures.path;
       replaces_is = λ some.
           ap (λ out. out.draft.replaces) same ∙ c.in_ok-begin.ensures.rule some ∙ c.replaces.ensures;
       begun_is = begun;

@@ -1,12 +1,9 @@
 use Rattle.std.proofs.Common.{◌≡◌, arith, length, refl, suc}
 use Rattle.command_core.specs.Outputs.{out_of, outs, writer}
 use Rattle.slice_extraction.specs.Extract.{Extracts}
-use Rattle.plan_commands.specs.QueryDispatch.{extract_of}
+use Rattle.plan_commands.specs.Queries.{extract_of}
 use Rattle.plan_commands.proofs.{Asked.answered, Dispatched.at_parts}
 use Rattle.plan_commands.proofs.plans.execute.Goals as goal
-
-pub returns-in-Retire-clause-ends : goal.returns-in-Retire-clause-ends
-returns-in-Retire-clause-ends g c = rw c.in-Retire.is c.retire.ensures.ends
 
 pub returns-in-Find-clause-ends : goal.returns-in-Find-clause-ends
 returns-in-Find-clause-ends g c = answered c.args.plan.now _ _ _ _ _ c.answer.ensures.ends refl

@@ -1,6 +1,6 @@
 use Rattle.std.proofs.Common.{◌≡◌, arith, length, suc}
 use Rattle.command_core.specs.{Ends.EndsReport, Inputs.reader, Outputs.writer}
-use Rattle.plan_commands.specs.QueryDispatch.{find_of, frames_of, symbolicate_of}
+use Rattle.plan_commands.specs.Queries.{find_of, frames_of, symbolicate_of}
 use Rattle.plan_commands.proofs.Dispatched.{at_parts}
 use Rattle.plan_commands.proofs.queries.answer.Goals as goal
 

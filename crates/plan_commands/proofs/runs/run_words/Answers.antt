@@ -11,7 +11,7 @@ returns-in-Ok g c = inl (ran (λ notes. notes.items) _ (line_view c.in-Ok.line) 
 pub returns-in-Err : goal.returns-in-Err
 returns-in-Err g c =
     let words = map string_bytes c.args.words.now in inr (
-      record { asked = refl; uncalled = none_called _ _ c.requires.7 c.requires.6 },
+      record { asked = refl; uncalled = none_called _ _ c.requires.6 c.requires.5 },
       no_plan words c.in-Err.fault _ _ _ c.end_without_line.ensures
           (λ faultless ordered. c.in-Err.ensures.err (accepted_if_faultless words faultless) ordered)
           c.in-Err.ensures.help c.in-Err.ensures.version c.in-Err.ensures.refusal c.in-Err.ensures.told,

@@ -3,7 +3,8 @@ use Rattle.std.proofs.lemmas.Result.{err_from_is_err_and}
 use Rattle.byte_device.proofs.Known.{Appends-none}
 use Rattle.command_core.specs.Inputs.{readers}
 use Rattle.command_core.proofs.Readers.{none_failed}
-use Rattle.slice_extraction.proofs.ByEntry.{archive_there, as_many, refused_first, rows_so, sent_so, tied_so, wanting}
+use Rattle.indexed_queries.proofs.Groups.{as_many}
+use Rattle.slice_extraction.proofs.ByEntry.{archive_there, refused_first, rows_so, sent_so, tied_so, wanting}
 use Rattle.slice_extraction.proofs.indexed.run_extract_at.Goals as goal
 
 pub returns-in_err-read : goal.returns-in_err-read

@@ -1,4 +1,4 @@
-use Rattle.symbol_tables.proofs.StepLemmas.{by_step}
+use Rattle.macho_symbols.proofs.StepLemmas.{by_step}
 use Rattle.symbol_tables.proofs.laws.nearest_by_step.Goals as goal
 
 pub returns : goal.returns

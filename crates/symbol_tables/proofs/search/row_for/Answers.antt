@@ -1,30 +1,44 @@
-use Rattle.std.proofs.Common.{ℕ, ◌+◌, ◌-◌, ◌/◌, ◌<◌, length, ◌∙◌, arith}
-use Rattle.symbol_tables.proofs.RowLemmas.{above_from, row_of_best}
+use Rattle.std.proofs.Common.{arith, subst, sym}
+use Rattle.checked_pages.specs.Pages.{AreStored}
+use Rattle.checked_pages.specs.Views.{claim_view}
+use Rattle.checked_pages.proofs.ReadLemmas.{after_ok, passed_on}
+use Rattle.symbol_tables.proofs.RowLemmas.{above_edge, last_of_edge}
 use Rattle.symbol_tables.proofs.search.row_for.Goals as goal
 
-pub halving-preserved : goal.halving-preserved
-halving-preserved g c =
-    let middle : ℕ = c.halving.low + (c.halving.high - c.halving.low) / 2 in
-    let inside : middle < c.halving.high = omega (arith, c.halving-test.true) in
-    record {
-      within = omega arith;
-      most = omega (arith, inside, c.halving.invariant.most);
-      claim = c.in_ok-row.ensures.claim ∙ c.halving.invariant.claim;
-      whole = c.in_ok-row.ensures.read.keeps ∙ c.halving.invariant.whole;
-      unfailed = c.in_ok-row.ensures.read.counts ∙ c.halving.invariant.unfailed;
-      keeps = λ text all is pages. c.in_ok-row.ensures.keeps text all (c.halving.invariant.whole ∙ is) (c.halving.invariant.keeps text all is pages);
-      above = λ text all rows is pages are long stands j d low l.
-          let within : middle < length rows = omega (arith, inside, c.halving.invariant.most, long) in
-          let row = c.in_ok-row.ensures.read.says text (c.halving.invariant.whole ∙ is) all rows (c.halving.invariant.keeps text all is pages) are stands within in
-          above_from rows c.args.address middle c.in_ok-row.row are row c.if-row-address.false j d low l;
-      best = c.halving.invariant.best;
-    }
+pub returns-in_err-end-clause-read : goal.returns-in_err-end-clause-read
+returns-in_err-end-clause-read g c =
+    passed_on _ _ _ _ _ _ _ _ _ _ _ c.in_err-end.was c.from_residual.ensures.1
+    (λ text known absent all stored pages held. absent all stored pages held)
+    c.partition_point.ensures.read
+
+pub returns-then-end-eq0-clause-read : goal.returns-then-end-eq0-clause-read
+returns-then-end-eq0-clause-read g c = record {
+  says = λ text known all rows pages are long stands.
+      let edge = c.in_ok-end.ensures.read.says text known all rows pages (are, long, stands) in
+      λ j d l. above_edge rows c.args.address c.in_ok-end.end are (λ m. edge.at (omega (arith, m, long))) j d (omega (arith, c.if-end-eq0.true)) l;
+  keeps = c.in_ok-end.ensures.read.keeps;
+  counts = c.in_ok-end.ensures.read.counts;
+}
+
+pub returns-in_err-row-clause-read : goal.returns-in_err-row-clause-read
+returns-in_err-row-clause-read g c =
+    let end = c.in_ok-end.ensures.read in
+    passed_on _ _ _ _ _ _ _ _ _ _ _ c.in_err-row.was c.from_residual-in_err-row.ensures.1
+    (λ text known absent all stored pages held.
+    absent all (subst (λ claim. AreStored text (claim_view claim) all) (sym c.in_ok-end.ensures.claim) stored)
+    (c.in_ok-end.ensures.keeps text all known pages) (omega (arith, held, c.in_ok-end.ensures.within.1, c.if-end-eq0.false)))
+    (after_ok _ _ _ _ _ _ _ _ end.keeps end.counts c.row_at.ensures.read)
 
 pub returns-clause-read : goal.returns-clause-read
-returns-clause-read g c = record {
-  says = λ text is all rows pages are long stands.
-      row_of_best rows c.args.address c.halving.low c.halving.high c.halving.found c.halving.invariant.within c.halving-test.false
-      (c.halving.invariant.above text all rows is pages are long stands) (c.halving.invariant.best text all rows is pages are long stands);
-  keeps = c.halving.invariant.whole;
-  counts = c.halving.invariant.unfailed;
-}
+returns-clause-read g c =
+    let end = c.in_ok-end.ensures.read in
+    let row = after_ok _ _ _ _ _ _ _ _ end.keeps end.counts c.in_ok-row.ensures.read in
+    record {
+      says = λ text known all rows pages are long stands.
+          let edge = end.says text known all rows pages (are, long, stands) in
+          let there = c.in_ok-end.ensures.within.1 in
+          last_of_edge rows c.args.address c.in_ok-end.end c.in_ok-row.row are (omega (arith, c.if-end-eq0.false)) (edge.before (omega (arith, c.if-end-eq0.false))) (λ m. edge.at (omega (arith, m, long)))
+          (row.says text known all rows (c.in_ok-end.ensures.keeps text all known pages) are stands (omega (arith, c.if-end-eq0.false, there, long)));
+      keeps = row.keeps;
+      counts = row.counts;
+    }

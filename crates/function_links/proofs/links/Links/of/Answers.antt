@@ -1,24 +1,23 @@
-use Rattle.std.proofs.Common.{◌≡◌, arith, ℕ, ◌∙◌, ◌<◌, List, ap, get_or, length, replicate, rules, slice_index, sym, subst}
-use Rattle.std.specs.Prelude.{◌↔◌}
-use Rattle.std.specs.List.{Contains}
+use Rattle.std.proofs.Common.{◌≡◌, arith, ℕ, ◌∙◌, ◌<◌, List, ap, get_or, length, replicate, rules, slice_index, subst}
 use Rattle.std.proofs.lemmas.List.{get_or-replicate}
 use Rattle.code_ranges.specs.declared.range.CodeRange.{CodeRange}
-use Rattle.function_links.specs.Links.{ends_of_ranges}
+use Rattle.function_links.specs.Links.{AreLinksAmong}
+use Rattle.function_links.specs.LinkViews.{links_view}
 use Rattle.function_links.specs.Making.{AreMade}
-use Rattle.function_links.specs.UnitFunctions.{functions_of}
+use Rattle.function_links.specs.UnitFunctions.{functions_from}
 use Rattle.function_links.specs.declared.functions.Function.{Function}
 use Rattle.function_links.proofs.NameLemmas.{names_numbered}
-use Rattle.function_links.proofs.StepLemmas.{are_of, link_steps}
+use Rattle.function_links.proofs.StepLemmas.{are_of, links_among}
 use Rattle.function_links.proofs.TakingLemmas.{up_to_first}
 use Rattle.function_links.proofs.links.Links.of.Goals as goal
 
-pub returns-clause-steps : goal.returns-clause-steps
-returns-clause-steps c = λ sections unit are.
-    let of = functions_of sections unit in
+pub returns-clause-among : goal.returns-clause-among
+returns-clause-among c = λ sections unit scopes are.
+    let of = functions_from 0 scopes in
     let functions : List Function = c.args.all.now.functions.items in
     let ranges : List CodeRange = c.args.all.now.ranges.items in
     let now = c.take_all.new.self in
-    let starts : List ℕ = c.in_ok-starts.starts.items in
+    let starts : List ℕ = c.args.starts.items in
     let taking = c.in_ok-take_all.ensures.taking in
     let same_starts : now.starts.items ≡ starts = λ j. (c.take_all.ensures.same.starts j).items in
     let same_functions : now.making.all.now.functions.items ≡ functions = λ j. (c.take_all.ensures.same.all j).now.functions.items in
@@ -26,13 +25,12 @@ returns-clause-steps c = λ sections unit are.
     let zero : (i : ℕ) → i < length starts → get_or c.in_ok-vec.field-0.items i 0 ≡ 0 =
     λ i h. ap (λ (ns : List ℕ). get_or ns i 0) zeros ∙ get_or-replicate c.len-count.result i 0 0 (search rules) in
     let waits : (i : ℕ) → i < length starts → slice_index c.in_ok-waiting.waiting.next.items i ≡ i = λ i h. c.in_ok-waiting.ensures.all i (search rules) in
-    let up_to = c.in_ok-take_all.ensures.takes of (are_of sections unit functions ranges are)
+    let up_to = c.in_ok-take_all.ensures.takes of (are_of sections unit scopes functions ranges are)
     (λ i h. up_to_first of c.new-2.result.items (slice_index c.in_ok-waiting.waiting.next.items i ≡ i) (slice_index starts i) (get_or c.in_ok-vec.field-0.items i 0) (zero i h) (waits i h)) in
-    link_steps sections unit functions ranges now.making.links.items now.making.last now.starts.items now.numbers.items now.waiting.next.items are
-    (subst (λ (fs : List Function). AreMade fs now.making.links.items now.making.last) same_functions taking.made) taking.rising
-    (λ a. subst (λ (s : List ℕ). Contains s a ↔ Contains (ends_of_ranges ranges) a) (sym same_starts)
-    (subst (λ (rs : List CodeRange). Contains starts a ↔ Contains (ends_of_ranges rs) a) c.deref.ensures.value (c.in_ok-starts.ensures.same a)))
-    taking.count (λ i h. up_to i (subst (λ (s : List ℕ). i < length s) same_starts h))
+    subst (λ (s : List ℕ). AreLinksAmong sections unit scopes (links_view now.making.links.items) s now.numbers.items) same_starts
+    (links_among sections unit scopes functions ranges now.making.links.items now.making.last now.starts.items now.numbers.items now.waiting.next.items are
+    (subst (λ (fs : List Function). AreMade fs now.making.links.items now.making.last) same_functions taking.made)
+    taking.count (λ i h. up_to i (subst (λ (s : List ℕ). i < length s) same_starts h)))
 
 pub returns-clause-names : goal.returns-clause-names
 returns-clause-names c =

@@ -1,32 +1,44 @@
-use Rattle.std.proofs.lemmas.Result.{IfOk-weaker}
-use Rattle.source_frames.specs.DebugSections.{DebugSectionsRecord}
-use Rattle.source_frames.specs.DebugUnits.{UnitRecord}
+use Rattle.std.proofs.Common.{List, None, subst, sym}
+use Rattle.std.specs.Prelude.{ℕ, ◌↔◌}
+use Rattle.std.specs.List.{Contains}
+use Rattle.code_ranges.specs.declared.range.CodeRange.{CodeRange}
+use Rattle.source_frames.specs.Scopes.{ScopeRecord, scopes_of}
 use Rattle.source_frames.specs.SectionsViews.{sections_view}
 use Rattle.source_frames.specs.UnitViews.{unit_view}
-use Rattle.function_links.specs.UnitFunctions.{AreFunctions, functions_of}
+use Rattle.function_links.specs.Asked.{asked_scopes}
+use Rattle.function_links.specs.UnitFunctions.{AreFunctions, functions_from}
 use Rattle.function_links.specs.LinkViews.{links_view}
-use Rattle.function_links.specs.Links.{AreLinkSteps}
+use Rattle.function_links.specs.Links.{AreLinkSteps, ends_of_ranges}
+use Rattle.function_links.specs.declared.functions.Function.{Function}
 use Rattle.function_links.specs.declared.links.Links.{Links}
+use Rattle.function_links.proofs.AskedLemmas.{all_asked}
 use Rattle.function_links.proofs.PartLemmas.{are_parts}
-use Rattle.function_links.proofs.StepLemmas.{are_of}
+use Rattle.function_links.proofs.StepLemmas.{are_of, link_steps}
 use Rattle.function_links.proofs.links.Links.read.Goals as goal
 
 pub of-requires : goal.of-requires
 of-requires c =
     let sections = sections_view c.args.info.now.sections in
     let unit = unit_view c.args.unit.now in
+    let scopes = asked_scopes None (scopes_of sections unit) in
     let functions = c.in_ok-functions.functions.functions.items in
     let ranges = c.in_ok-functions.functions.ranges.items in record {
-      parts = are_parts (functions_of sections unit) functions ranges (are_of sections unit functions ranges c.in_ok-functions.ensures.are);
+      parts = are_parts (functions_from 0 scopes) functions ranges (are_of sections unit scopes functions ranges c.in_ok-functions.ensures.are);
       numbered = c.in_ok-functions.ensures.numbered;
+      rising = c.in_ok-starts.ensures.rising;
     }
 
 pub returns-clause-steps : goal.returns-clause-steps
 returns-clause-steps c =
     let sections = sections_view c.args.info.now.sections in
     let unit = unit_view c.args.unit.now in
-    let all = c.in_ok-functions.functions in
-    IfOk-weaker c.of.result
-    (λ (links : Links). (s : DebugSectionsRecord) (u : UnitRecord) → AreFunctions s u all.functions.items all.ranges.items → AreLinkSteps s u (links_view links.links.items) links.starts.items links.numbers.items)
-    (λ (links : Links). AreLinkSteps sections unit (links_view links.links.items) links.starts.items links.numbers.items)
-    (λ links steps. steps sections unit c.in_ok-functions.ensures.are) c.of.ensures.steps
+    let scopes = scopes_of sections unit in
+    let functions : List Function = c.in_ok-functions.functions.functions.items in
+    let ranges : List CodeRange = c.in_ok-functions.functions.ranges.items in
+    let starts : List ℕ = c.in_ok-starts.starts.items in
+    let links : Links = c.in_ok-links.links in
+    let are = subst (λ (some : List ScopeRecord). AreFunctions sections unit some functions ranges) (all_asked scopes) c.in_ok-functions.ensures.are in
+    subst (λ (s : List ℕ). AreLinkSteps sections unit (links_view links.links.items) s links.numbers.items) (sym c.in_ok-links.ensures.starts)
+    (link_steps sections unit functions ranges (links_view links.links.items) starts links.numbers.items are c.in_ok-starts.ensures.rising
+    (subst (λ (rs : List CodeRange). (a : ℕ) → Contains starts a ↔ Contains (ends_of_ranges rs) a) c.deref.ensures.value c.in_ok-starts.ensures.same)
+    (c.in_ok-links.ensures.among sections unit scopes are))

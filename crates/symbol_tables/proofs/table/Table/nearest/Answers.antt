@@ -4,10 +4,10 @@ use Rattle.checked_pages.specs.Pages.{AreStored}
 use Rattle.checked_pages.specs.Views.{claim_view}
 use Rattle.checked_pages.proofs.ReadLemmas.{after_ok, passed_on}
 use Rattle.macho_symbols.specs.Symbols.{strings_of}
-use Rattle.symbol_tables.specs.Rows.{IsRowFor}
+use Rattle.macho_symbols.specs.Rows.{IsRowFor}
 use Rattle.symbol_tables.specs.Table.{table_bytes}
-use Rattle.symbol_tables.proofs.StepLemmas.{by_step}
-use Rattle.symbol_tables.proofs.Asked.{none_said, some_said}
+use Rattle.macho_symbols.proofs.StepLemmas.{by_step}
+use Rattle.macho_symbols.proofs.Said.{none_said, some_said}
 use Rattle.symbol_tables.proofs.TableLemmas.{length-table, rows_stand, strings_stand}
 use Rattle.symbol_tables.proofs.table.Table.nearest.Goals as goal
 

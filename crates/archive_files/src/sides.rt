@@ -1,0 +1,54 @@
+//! An archive of two that are compared, which is read from its beginning.
+
+ghost use Rattle.std.specs.Prelude.{◌≡◌, ◌≤◌, IfOk, length};
+
+use crate::system_calls::Opened;
+use byte_device::{Failed, PIECE_LEN, Reading, Source};
+use std::alloc::Global;
+use std::io::{self, BufReader, Read};
+
+/// The archive in the file that was opened at a path.
+#[derive(Drop)]
+pub struct ArchiveSide<'p, R> {
+    reading: Reading<BufReader<R>>,
+    path: &'p str,
+}
+
+/// The archive in this file, from where it is read next.
+pub fn side_of<'p, R: Read + Drop>(
+    alloc: Global,
+    opened: Opened<'p, R>,
+) -> io::Result<ArchiveSide<'p, R>>
+    ensures path { IfOk result (λ side. side.path.now ≡ opened.entry.path.now) }
+{
+    let path = opened.path();
+    let reader = BufReader::with_capacity(alloc, PIECE_LEN, opened.into_reader())?;
+    Ok(ArchiveSide {
+        reading: Reading::new(reader),
+        path,
+    })
+}
+
+impl<'p, R: Read + Drop> ArchiveSide<'p, R> {
+    /// The path of its file.
+    pub fn path(&self) -> &'p str
+        ensures { result.now ≡ self.now.path.now }
+    {
+        self.path
+    }
+
+    /// Why it could not be read, if it could not.
+    pub fn reason(&self) -> Option<io::Error> {
+        self.reading.reason()
+    }
+}
+
+impl<'p, R: Read + Drop> Source for ArchiveSide<'p, R> {
+    ghost left = { λ side. ⟦<Reading<BufReader<R>> as Source>⟧.left side.reading };
+
+    ghost failures = { λ side. ⟦<Reading<BufReader<R>> as Source>⟧.failures side.reading };
+
+    fn pull(&mut self, buf: &mut [u8]) -> Result<usize, Failed> {
+        self.reading.pull(buf)
+    }
+}

@@ -1,0 +1,90 @@
+//! The names of candidates as they are compared: piece by piece, or by their order among the strings.
+
+ghost use Rattle.std.specs.Prelude.{◌≡◌, ◌<◌, ◌^◌, IfOk, length};
+ghost use Rattle.std.specs.Ordering.{nat_cmp};
+ghost use Rattle.std.specs.Cmp.Lexicographic.{slice_cmp};
+ghost use Rattle.macho_symbols.specs.Symbols.{name_of};
+
+use crate::candidate::Candidate;
+use crate::name::Name;
+use crate::name_order::NameOrder;
+use memory::{Heap, NoMemory};
+use std::cmp::Ordering;
+use std::marker::Model;
+
+/// A string table, with the order of its names where they are compared by this. A contract sees the table.
+#[derive(Drop)]
+pub(crate) struct ComparedNames<'a> {
+    strings: &'a [u8],
+    order: Option<NameOrder<'a>>,
+}
+
+impl<'a> Model for ComparedNames<'a> {
+    ghost use Rattle.std.specs.Prelude.{ℕ, List, ◌≡◌, IfSome};
+
+    ghost Value = { List ℕ };
+
+    ghost view = { λ n. n.strings.now };
+
+    ghost invariant = { λ n. IfSome n.order (λ o. o ≡ n.strings.now) };
+}
+
+/// Whether the names of candidates that have the value of the one before them, and a name at another place, have more
+/// bytes than the strings, as only names that overlap can. It reads no more than twice the bytes of the strings. No
+/// contract says which it is: names compare alike by their order and piece by piece, and the one or the other is quicker.
+fn is_long(strings: &[u8], candidates: &[Candidate]) -> bool {
+    let mut left = strings.len();
+    'candidates: for index in 1..candidates.len() {
+        let (candidate, before) = (candidates[index], candidates[index - 1]);
+        if candidate.value == before.value && candidate.n_strx != before.n_strx {
+            let name = Name::at(strings, candidate.n_strx);
+            let size = name.bytes().len();
+            if left < size {
+                return true;
+            }
+            left -= size;
+        }
+    }
+    false
+}
+
+impl<'a> ComparedNames<'a> {
+    /// Those of a string table, compared piece by piece.
+    pub(crate) fn by_pieces(strings: &'a [u8]) -> ComparedNames<'a>
+        ensures { result ≡ strings.now }
+    {
+        ComparedNames {
+            strings,
+            order: None,
+        }
+    }
+
+    /// Those of candidates by value.
+    pub(crate) fn new(
+        heap: Heap,
+        strings: &'a [u8],
+        candidates: &[Candidate],
+    ) -> Result<ComparedNames<'a>, NoMemory>
+        requires { length strings.now < 2 ^ 32 }
+        ensures { IfOk result (λ names. names ≡ strings.now) }
+    {
+        if !is_long(strings, candidates) {
+            return Ok(ComparedNames::by_pieces(strings));
+        }
+        let order = Some(NameOrder::new(heap, strings)?);
+        Ok(ComparedNames { strings, order })
+    }
+
+    /// Compares the names from two places of the string table in byte order.
+    pub(crate) fn compare(&self, n_strx: u32, other: u32) -> Ordering
+        ensures { result ≡ slice_cmp nat_cmp (name_of self.now n_strx) (name_of self.now other) }
+    {
+        match &self.order {
+            Some(order) if n_strx != 0 && other != 0 => order.compare(
+                n_strx as usize,
+                other as usize,
+            ),
+            _ => Name::at(self.strings, n_strx).compare(&Name::at(self.strings, other)),
+        }
+    }
+}

@@ -1,0 +1,244 @@
+-- No command tells of an input that it could not be opened: that is told of the device's fault that it comes as.
+use Rattle.std.proofs.Common.{◌⊎◌, ℕ, suc, Bool, true, false, List, [], ◌∷◌, length, take, drop, if◌then◌else◌, Option, Ok, Err, inl, inr}
+use Rattle.std.specs.Prelude.{nat_lt}
+use Rattle.archive_core.specs.declared.keys.{Digest.Digest, SliceKey.SliceKey}
+use Rattle.archive_records.specs.declared.fault.MergeCause.{MergeCause}
+use Rattle.archive_records.specs.declared.fault.MergeCause.TheVariants.{Left, Right, Write}
+use Rattle.archive_records.specs.declared.kind.TextKind.{TextKind}
+use Rattle.archive_queries.specs.Frames.{RefusesFrames}
+use Rattle.archive_writing.specs.MergeStreams.{IsSide}
+use Rattle.command_core.specs.Archives.{AreRefused, further_name}
+use Rattle.command_core.specs.Ends.{Query}
+use Rattle.command_core.specs.Inputs.{IsAccepted, IsArchive, IsArchiveRefused, IsFileRefused, IsFirstRefused, IsRefusedInTurn, IsRefusedOps, IsRefusedSummary, IsTextRefused, Reader}
+use Rattle.command_core.specs.Outputs.{Outs, Writer, out_of}
+use Rattle.command_core.specs.declared.faults.{InputName.InputName, Why.Why}
+use Rattle.command_core.specs.declared.faults.CommandFault.TheVariants.{Input}
+use Rattle.command_core.specs.declared.faults.InputName.TheVariants.{File}
+use Rattle.command_core.specs.declared.faults.Why.TheVariants.{CannotOpen}
+use Rattle.command_line.specs.declared.plan.Plan.{Plan}
+use Rattle.command_line.specs.declared.plan.Plan.TheVariants as plan
+use Rattle.archive_index.specs.declared.fault.IndexingFault.{IndexingFault}
+use Rattle.archive_index.specs.declared.fault.IndexingFault.TheVariants.{Archive as OfArchive, OldArchive, TooLong}
+use Rattle.index_writing.specs.Index.{TellsRefusal, TellsStop}
+use Rattle.index_writing.specs.declared.fault.MakingFault.{MakingFault}
+use Rattle.index_writing.specs.declared.fault.MakingFault.TheVariants.{Archive as Refused, Write as Wrote}
+use Rattle.indexed_queries.specs.{Indexes.IsOfOtherLength, Indexes.IsRefusedByIndex, Several.AreRefusedLater, Several.AreRefusedTogether}
+use Rattle.indexed_queries.specs.Together.{IsFirstRefusedByIndex, IsRefusedAtPlaces}
+use Rattle.indexed_symbols.specs.Asking.{AreRefusedAsking, IsChanged, IsLineless, IsUnreadTable}
+use Rattle.indexed_symbols.specs.{Frames.RefusesFramesAt, Frames.frames_at, Symbolicate.symbolicate_at}
+use Rattle.indexed_queries.specs.Find.{find_together}
+use Rattle.slice_extraction.specs.{Entries.IsRefusedSlice, Extract.Extraction, Extract.Extracts, Indexed.AreRefusedBefore, Indexed.extract_at}
+use Rattle.plan_commands.specs.Plans.{Executes}
+use Rattle.plan_commands.specs.Queries.{extract_of, extraction_if_paired, find_of, frames_of, if_paired, list_of, no_archive, no_index, paired, symbolicate_of}
+
+-- it is no reason that refuses an input
+abbrev pub Spares : (InputName → Why → Type 0) → Type 0
+Spares Refuses = (at : InputName) → Refuses at CannotOpen → ⊥
+
+text : {S : Type 0} (kind : TextKind) (input : Reader S) → IsTextRefused kind input CannotOpen → ⊥
+text kind input r = cc r.1
+
+file : {S : Type 0} (input : Reader S) → IsFileRefused input CannotOpen → ⊥
+file input (inl r) = cc r.0
+file input (inr r) = cc r.1
+
+operations : {S : Type 0} (input : Reader S) → Spares (IsRefusedOps input)
+operations input at r = text _ input r.1
+
+entries : {S : Type 0} (input : Reader S) → Spares (IsRefusedSummary input)
+entries input at r = text _ input r.1
+
+in_turn : {S : Type 0} (input : Reader S) (Behind : InputName → Why → Type 0) → Spares Behind
+    → Spares (IsRefusedInTurn input Behind)
+in_turn input Behind spares at (inl r) = text _ input r.1
+in_turn input Behind spares at (inr r) = spares at r.2
+
+first_file : {S : Type 0} (inputs : List (Reader S)) → Spares (IsFirstRefused File IsAccepted IsFileRefused inputs)
+first_file inputs at r = file r.input r.refused
+
+first_archive : {S : Type 0} (inputs : List (Reader S))
+    → Spares (IsFirstRefused further_name IsArchive IsArchiveRefused inputs)
+first_archive inputs at r = text _ r.input r.refused
+
+together : {R S : Type 0} (archive : Reader R) (others : List (Reader S)) → Spares (AreRefused archive others)
+together archive others at (inl r) = text _ archive r.0.1
+together archive others at (inr r) = text _ r.2.input r.2.refused
+
+framed : {Q R S : Type 0} (crash : Reader Q) (archive : Reader R) (others : List (Reader S))
+    → Spares (RefusesFrames crash archive others)
+framed crash archive others at (inl r) = r.0.1
+framed crash archive others at (inr r) = together archive others at r.2
+
+side : (cause : MergeCause) (at : InputName) → IsSide cause at CannotOpen → ⊥
+side (Left fault) at r = cc r.1
+side (Right fault) at r = cc r.1
+side Write at r = r
+
+indexing : (fault : IndexingFault) (at : InputName) → TellsRefusal fault (Input at CannotOpen) → ⊥
+indexing (OfArchive fault) at r = cc r.1
+indexing OldArchive at r = cc r.1
+indexing TooLong at r = cc r.1
+
+making : (fault : MakingFault) (at : InputName) → TellsStop fault (Input at CannotOpen) → ⊥
+making (Refused fault) at r = indexing fault at r
+making (Wrote fault) at r = cc
+
+by_index : {R S : Type 0} (number : ℕ) (index : Reader R) (archive : Reader S)
+    → Spares (IsRefusedByIndex number index archive)
+by_index number index archive at (inl r) = cc r.1.1
+by_index number index archive at (inr r) = of_length r.3
+  where
+    of_length : IsOfOtherLength number archive r.0 at CannotOpen → ⊥
+    of_length (inl unread) = unread.1
+    of_length (inr stale) = cc stale.2
+
+by_indexes : {I P : Type 0} (indexes : List (Reader I)) (archives : List (Reader P))
+    → Spares (IsFirstRefusedByIndex indexes archives)
+by_indexes indexes archives at r = by_index r.number r.index r.archive at r.refused
+
+later : {I P : Type 0} (prefixes : List (List ℕ)) (indexes : List (Reader I)) (archives : List (Reader P))
+    → Spares (AreRefusedLater prefixes indexes archives)
+later prefixes indexes archives at r = go r.refused.refused
+  where
+    go : IsRefusedAtPlaces prefixes r.refused.number r.refused.archive r.refused.entries at CannotOpen → ⊥
+    go (inl unread) = unread.1
+    go (inr stale) = cc stale.2.1
+
+of_several : {I P : Type 0} (prefixes : List (List ℕ)) (indexes : List (Reader I)) (archives : List (Reader P))
+    → Spares (AreRefusedTogether prefixes indexes archives)
+of_several prefixes indexes archives at (inl r) = by_indexes indexes archives at r
+of_several prefixes indexes archives at (inr r) = later prefixes indexes archives at r
+
+asking : {I P : Type 0} (lines : Bool) (keys : List (List ℕ)) (indexes : List (Reader I)) (archives : List (Reader P))
+    → Spares (AreRefusedAsking lines keys indexes archives)
+asking lines keys indexes archives at (inl r) = by_indexes indexes archives at r
+asking lines keys indexes archives at (inr (inl r)) = later keys indexes archives at r.0
+asking lines keys indexes archives at (inr (inr r)) = go r.untold.untold
+  where
+    go : IsChanged indexes r.untold.answering at CannotOpen
+        ⊎ (IsLineless lines indexes r.untold.answering at CannotOpen
+        ⊎ IsUnreadTable indexes r.untold.answering at CannotOpen) → ⊥
+    go (inl changed) = cc changed.why_is
+    go (inr (inl lineless)) = cc lineless.why_is
+    go (inr (inr unread)) = cc unread.why_is
+
+framed_at : {Q I P : Type 0} (lines : Bool) (crash : Reader Q) (indexes : List (Reader I)) (archives : List (Reader P))
+    → Spares (RefusesFramesAt lines crash indexes archives)
+framed_at lines crash indexes archives at (inl r) = r.0.1
+framed_at lines crash indexes archives at (inr r) = asking lines r.3.0 indexes archives at r.3.2
+
+-- a command that writes a slice, where that of its writing is
+extracted : {D T : Type 0} (command : Extraction) (out : Outs D T) (report : Writer) (at : InputName)
+    → (command.writes.Stops (Input at CannotOpen) → ⊥) → Extracts command out report (Err (Input at CannotOpen)) → ⊥
+extracted command out report at spares (inl stopped) = spares stopped.stops
+extracted command out report at spares (inr lacks) = lacks.reported
+
+-- ---- over archives and indexes that are handed on
+
+when_paired : (archives indexes : ℕ) (query : Query) → Spares query.Refuses
+    → Spares (if_paired (paired archives indexes) query).Refuses
+when_paired archives indexes query spares = go (nat_lt archives indexes) (nat_lt indexes archives)
+  where
+    go : (b c : Bool) → Spares (if_paired (if b then Err (no_archive archives)
+        else if c then Err (no_index indexes) else Ok tt) query).Refuses
+    go true c at r = cc r
+    go false true at r = cc r
+    go false false at r = spares at r
+
+find : {S : Type 0} (archives places indexes : List (Reader S)) (uuid : List ℕ)
+    → Spares (find_of archives places indexes uuid).Refuses
+find (archive ∷ others) places [] uuid at r = together archive others at r
+find (archive ∷ []) (place ∷ []) (index ∷ []) uuid at r = by_index 0 index place at r
+find archives places indexes uuid at r =
+    when_paired (length archives) (length indexes) (find_together indexes places uuid)
+    (of_several _ indexes places) at r
+
+list : {S : Type 0} (archive place : Reader S) (indexes : List (Reader S))
+    → Spares (list_of archive place indexes).Refuses
+list archive place [] at r = text _ archive r.1
+list archive place (index ∷ _) at r = by_index 0 index place at r
+
+symbolicate : {S : Type 0} (archives places indexes : List (Reader S)) (key : SliceKey) (load : Option ℕ)
+    (lines : Bool) (addresses : List ℕ)
+    → Spares (symbolicate_of archives places indexes key load lines addresses).Refuses
+symbolicate (archive ∷ others) places [] key load lines addresses at r = together archive others at r
+symbolicate archives places indexes key load lines addresses at r =
+    when_paired (length archives) (length indexes) (symbolicate_at indexes places key load lines addresses)
+    (asking lines _ indexes places) at r
+
+frames : {S : Type 0} (lines : Bool) (crash : Reader S) (archives places indexes : List (Reader S))
+    → Spares (frames_of lines crash archives places indexes).Refuses
+frames lines crash (archive ∷ others) places [] at r = framed crash archive others at r
+frames lines crash archives places indexes at r =
+    when_paired (length archives) (length indexes) (frames_at lines crash indexes places)
+    (framed_at lines crash indexes places) at r
+
+stops_at : {S : Type 0} (indexes places : List (Reader S)) (key : SliceKey) (digest : Option Digest) (draft : Writer)
+    (at : InputName) → (extract_at indexes places key digest draft).writes.Stops (Input at CannotOpen) → ⊥
+stops_at indexes places key digest draft at (inl r) = before r.0
+  where
+    before : AreRefusedBefore indexes places key at CannotOpen → ⊥
+    before (inl by) = by_indexes indexes places at by
+    before (inr tied) = later _ indexes places at tied.0
+stops_at indexes places key digest draft at (inr r) = sent r.stops.hinders.0
+  where
+    sent : IsRefusedSlice r.archive r.x at CannotOpen → ⊥
+    sent (inl unread) = unread.1
+    sent (inr stale) = cc stale.1
+
+extract : {S : Type 0} (archives places indexes : List (Reader S)) (key : SliceKey) (digest : Option Digest)
+    (draft : Writer) (at : InputName)
+    → (extract_of archives places indexes key digest draft).writes.Stops (Input at CannotOpen) → ⊥
+extract (archive ∷ others) places [] key digest draft at r = together archive others at r.0
+extract archives places indexes key digest draft at r =
+    go (nat_lt archives_long indexes_long) (nat_lt indexes_long archives_long) r
+  where
+    archives_long : ℕ
+    archives_long = length archives
+
+    indexes_long : ℕ
+    indexes_long = length indexes
+
+    go : (b c : Bool) → (extraction_if_paired (if b then Err (no_archive archives_long)
+        else if c then Err (no_index indexes_long) else Ok tt) draft
+        (extract_at indexes places key digest draft)).writes.Stops (Input at CannotOpen) → ⊥
+    go true c r = cc r.0
+    go false true r = cc r.0
+    go false false r = stops_at indexes places key digest draft at r
+
+-- ---- every plan
+
+pub spared : {S D T : Type 0} (asked : Plan) (inputs places : List (Reader S)) (out : Outs D T) (report : Writer)
+    (at : InputName) → Executes asked inputs places out report (Err (Input at CannotOpen)) → ⊥
+spared plan.Admit (input ∷ files) places out report at e =
+    in_turn input (IsFirstRefused File IsAccepted IsFileRefused files) (first_file files) at e.stops.0.0
+spared (plan.Retire key digest) (input ∷ _) places out report at e = text _ input e.stops.0.0.1
+spared {S = S} plan.Merge (input ∷ []) places out report at e =
+    in_turn input (IsFirstRefused {S = S} further_name IsArchive IsArchiveRefused []) (first_archive []) at e.stops.0.0
+spared plan.Merge (input ∷ other ∷ []) places out report at e = side e.stops.stopped.cause at e.stops.told
+spared plan.Merge (input ∷ other ∷ next ∷ more) places out report at e =
+    in_turn input (IsFirstRefused further_name IsArchive IsArchiveRefused (other ∷ next ∷ more))
+    (first_archive (other ∷ next ∷ more)) at e.stops.0.0
+spared plan.Migrate (input ∷ _) places out report at e = text _ input e.stops.0.0.1
+spared plan.Apply (input ∷ ops ∷ _) places out report at e =
+    in_turn input (IsRefusedOps ops) (operations ops) at e.stops.0.0
+spared (plan.Find uuid others) inputs places out report at e =
+    find (take (suc others) inputs) (take (suc others) places) (drop (suc others) places) uuid at e.0.0
+spared plan.List (archive ∷ _) (place ∷ indexes) out report at e = list archive place indexes at e.0.0
+spared (plan.Extract key digest others) inputs places out report at e =
+    extracted (extract_of (take (suc others) inputs) (take (suc others) places) (drop (suc others) places) key digest
+    (out_of out).draft) out report at (extract (take (suc others) inputs) (take (suc others) places)
+    (drop (suc others) places) key digest (out_of out).draft at) e
+spared (plan.Name sought) (archive ∷ others) places out report at e = together archive others at e.0.0
+spared (plan.Symbolicate key load lines others addresses) inputs places out report at e =
+    symbolicate (take (suc others) inputs) (take (suc others) places) (drop (suc others) places) key load lines
+    addresses.now at e.0.0
+spared (plan.Frames lines indexes) (crash ∷ inputs) (_ ∷ places) out report at e =
+    frames lines crash (drop indexes inputs) (drop indexes places) (take indexes places) at e.0.0
+spared plan.Summary (archive ∷ []) places out report at e = text _ archive e.0.1
+spared plan.Summary (_ ∷ _ ∷ _) (place ∷ named ∷ _) out report at e = by_index 0 named place at e.0
+spared plan.Index (archive ∷ _) places out report at e = making e.stops.stopped at e.stops.tells
+spared plan.Delta (archive ∷ named ∷ _) places out report at e =
+    in_turn archive (IsRefusedSummary named) (entries named) at e.stops.0.0
+spared plan.Rehearse (script ∷ _) places out report at e = e.0.0.1
+spared asked inputs places out report at e = e

@@ -1,0 +1,32 @@
+-- Inputs that were not opened, and what is told of them.
+use Rattle.std.specs.Prelude.{◌≡◌, ◌≢◌, ◌⊎◌, ℕ, List, [], ◌∷◌, Option, Some, option_and_then, slice_get}
+use Rattle.std.specs.IoError.{error_kind}
+use Rattle.std.specs.declared.io.ErrorKind.TheVariants.{OutOfMemory as WantsMemory}
+use Rattle.archive_files.specs.InputStates.{Told, Unopened}
+use Rattle.archive_files.specs.declared.input_state.Unopened.TheVariants.{Refused}
+use Rattle.byte_device.specs.Disks.{At, FileAt, Holding, Missing, Path}
+use Rattle.byte_device.specs.declared.disks.CannotOpen.{CannotOpen}
+use Rattle.command_core.specs.declared.faults.InputName.{InputName}
+use Rattle.command_line.specs.Lines.{Line}
+use Rattle.error_lines.specs.Numbers.{number_at}
+
+-- the input of this name among those of a line
+abbrev pub input_at : {S : Type 0} → Line → List S → InputName → Option S
+input_at line inputs name = option_and_then (slice_get inputs) (number_at line name)
+
+-- The turn of the input came, and its disk refused it: its own path was opened, once; memory was not wanting, as far as
+-- the disk says; and no file is known to be there.
+pub record IsRefusedByDisk {S : Type 0} (told : Told S) (input : S) : Type 0 where
+  pub refused : CannotOpen
+  pub stage_is : told.stage input ≡ Unopened (Refused refused)
+  pub opened : (paths : List Path) → told.opened input ≡ Some paths → paths ≡ told.path input ∷ []
+  pub wanting : (paths : List Path) → told.wanting input ≡ Some paths → paths ≡ []
+  pub reason : (path : Path) → told.file input ≡ At path → error_kind refused.reason ≢ WantsMemory
+  pub absent : (bytes : List ℕ) → told.file input ≡ Holding bytes → ⊥
+
+-- The disks of both inputs have the same file for them, or both none.
+pub record HaveOneFile {R S : Type 0} (told : Told R) (also : Told S) (input : R) (other : S) : Type 0 where
+  pub file : FileAt
+  pub known : (file ≡ Missing) ⊎ ((bytes : List ℕ) × (file ≡ Holding bytes))
+  pub here : told.file input ≡ file
+  pub there : also.file other ≡ file

@@ -1,0 +1,201 @@
+"""`add`: puts the images and dSYMs of files and folders into an archive."""
+import argparse
+import collections
+import contextlib
+import functools
+import os
+import shutil
+import sys
+import tempfile
+from typing import Dict, Iterator, List, Sequence, Set, Tuple, Union
+
+from ..console.escapes import shown
+from ..console.faults import SliceRefused
+from ..console.screen import Screen, screen_of
+from ..formats.builds import Builds, Sight, days_of
+from ..formats.contents import Content
+from ..formats.packed_files import DESCRIPTORS
+from ..store.archive import Archive
+from ..store.archive_file import NO_UUID
+from ..store.draft import Draft, News
+from ..store.program import Program, Run
+from ..store.slices import Finder, Slice, compared, promised
+
+DESCRIPTION = """\
+Puts the Mach-O images and dSYMs of files and folders into ARCHIVE, and makes ARCHIVE if something is to go in.
+
+  symarch-keep add builds.sym dSYMs
+  symarch-keep add --dsyms-only builds.sym dSYMs.zip
+  symarch-keep add builds.sym - < spool.app.dSYM/Contents/Resources/DWARF/spool
+
+What goes in is found by its first bytes: each 64-bit slice with a UUID, at any depth of a PATH. A zip file or a gzipped
+tar file is read as a folder if it is a PATH, or is called so, to three levels; - is standard input. What is passed over
+is counted, and named by --verbose. A file that cannot be read, or that symarch refuses, is reported, and the others go
+in.
+
+Each slice gets a line, in the order in which they were found:
+
+  added UUID ARCH DIGEST PATH
+  known UUID ARCH DIGEST PATH      it was there, or was found before
+  retired UUID ARCH DIGEST PATH    it is withdrawn, so it stays out
+
+DIGEST is the SHA-256 of the slice. In PATH the backslash, and each byte that is no UTF-8 or does not print, is \\x and
+two hex digits. ARCHIVE.builds keeps the name of the file, the day, and what Info.plist states."""
+USAGE = "symarch-keep add [--quiet] [--wait SECONDS] [--json] [--verbose] [--dry-run] [--dsyms-only] ARCHIVE PATH..."
+ABOUT = "put images and dSYMs into it"
+STANDARD_INPUT = b"-"
+WORDS = ("added", "known", "retired")
+KEYS = (*WORDS, "refused", "passed_over", "made", "dry_run")
+
+
+def define(parser: argparse.ArgumentParser) -> None:
+    parser.add_argument("--verbose", action="store_true", help="name what is passed over")
+    parser.add_argument("--dry-run", action="store_true", help="print what would come of it, and write nothing")
+    only = "of folders, zip and tar files take only what lies below NAME.dSYM/Contents/Resources/DWARF"
+    parser.add_argument("--dsyms-only", action="store_true", help=only)
+    parser.add_argument("archive", metavar="ARCHIVE")
+    parser.add_argument("paths", metavar="PATH", nargs="+", help="one that begins with - comes after --")
+
+
+def read_all(slices: Sequence[Slice], screen: Screen) -> List[Slice]:
+    """The slices that can be read, whose digests are known then."""
+    files = len({one.path for one in slices})
+    screen.begin(f"reading: {{}} of {files} files", sum(one.length for one in slices))
+    done, kept = 0, []
+    paths: Set[bytes] = set()
+    for one in slices:
+        paths.add(one.path)
+        try:
+            for chunk in one.chunks():
+                done += len(chunk)
+                screen.progress(len(paths), done)
+            kept.append(one)
+        except SliceRefused as refused:
+            screen.refuse(one.name, refused)
+    return kept
+
+
+def mark(slices: Sequence[Slice], content: Content) -> None:
+    """Says of each slice whether it is retired, known or added."""
+    held = set(content.held)
+    for one in slices:
+        one.was_held = one.entry() in content.held
+        one.word = "retired" if one.entry() in content.retired else "known" if one.entry() in held else "added"
+        held.add(one.entry())
+
+
+def put(
+    archive: Archive, program: Program, slices: Sequence[Slice], screen: Screen, is_dry_run: bool
+) -> Sequence[Slice]:
+    """Puts slices into the archive, and returns those that are in it or retired there."""
+    content = archive.content(program, screen)
+    while True:
+        mark(slices, content)
+        refused = put_new(archive, program, slices, screen, is_dry_run)
+        if not refused:
+            return slices
+        # What is wrong with the bytes of a slice is wrong with the same bytes in other files.
+        reasons: Dict[Union[bytes, Slice], SliceRefused] = {
+            each.one.entry() if each.is_of_bytes else each.one: each for each in refused
+        }
+        kept = []
+        for one in slices:
+            reason = reasons.get(one) or reasons.get(one.entry())
+            if reason:
+                told = f"Slice({one.part or 0}, {reason}){promised(one)}" if reason.is_of_bytes else reason
+                screen.refuse(one.name, told)
+            else:
+                kept.append(one)
+        slices = kept
+
+
+def sights_of(slices: Sequence[Slice], builds: Builds) -> Iterator[Tuple[bytes, Sight, bool]]:
+    """What is known of each slice, and whether it was there before, and nothing says in which apps."""
+    outer = builds.outer_of_slices()
+    for one in slices:
+        if one.word != "retired":
+            yield one.entry(), one.sight, one.was_held and one.entry() not in outer
+
+
+def put_new(
+    archive: Archive, program: Program, slices: Sequence[Slice], screen: Screen, is_dry_run: bool
+) -> List[SliceRefused]:
+    """Puts those that are new into the archive, or returns why some of them are refused."""
+    new: List[Slice] = []
+    try:
+        new = sorted((one for one in slices if one.word == "added"), key=functools.cmp_to_key(compared))
+        if is_dry_run:
+            return refusals(program, new)
+        lines = [one.line() for one in slices]
+        archive.folder.builds.news = days_of(sights_of(slices, archive.folder.builds))
+        if not new:
+            if archive.files.main.exists():
+                archive.folder.log.note(lines, screen)
+                archive.folder.keep_builds(screen)
+            return []
+        news = Content(held={one.entry(): one.length for one in new})
+        with archive.folder.room() as room:
+            Draft(archive, room, program, screen, lines).put(News(news, new))
+        return []
+    except SliceRefused as first:
+        return [first, *refusals(program, [one for one in new if one is not first.one])]
+
+
+def refusals(program: Program, slices: Sequence[Slice]) -> List[SliceRefused]:
+    """Why the program refuses some of the slices, which are in the order of their records. It reads each once."""
+    found: List[SliceRefused] = []
+    while slices:
+        try:
+            program.run(Run(["find", "/dev/stdin", NO_UUID], slices))
+            break
+        except SliceRefused as refused:
+            found.append(refused)
+            slices = slices[slices.index(refused.one) + 1 :]
+    return found
+
+
+def standard_input(ends: contextlib.ExitStack) -> bytes:
+    """A path of what standard input has, since each slice is read more than once."""
+    copy = ends.enter_context(tempfile.TemporaryFile())
+    with contextlib.suppress(AttributeError):
+        shutil.copyfileobj(sys.stdin.buffer, copy)
+    copy.flush()
+    return os.fsencode(f"{DESCRIPTORS}/{copy.fileno()}")
+
+
+def carry_out(arguments: argparse.Namespace) -> int:
+    screen = screen_of(arguments)
+    program = Program()
+    archive = Archive(os.fsencode(arguments.archive), is_made=True, writes=False)
+    os.stat(archive.folder.parent)
+    finder, paths = Finder(screen, arguments.dsyms_only), [os.fsencode(path) for path in arguments.paths]
+    with contextlib.ExitStack() as ends:
+        if STANDARD_INPUT in paths:
+            finder.places[STANDARD_INPUT] = standard_input(ends)
+        finder.find(paths)
+        readable = read_all(finder.slices, screen)
+        finder.name_builds()
+        # Where nothing was found nothing is made beside an archive that is not there.
+        is_writing = not arguments.dry_run and (archive.files.main.exists() or bool(readable))
+        archive = Archive(os.fsencode(arguments.archive), is_made=True, writes=is_writing)
+        archive.take_lock(screen, arguments.wait)
+        is_there = archive.files.main.exists()
+        slices = put(archive, program, readable, screen, arguments.dry_run)
+    screen.show([one.line() for one in slices])
+    is_made = archive.files.main.exists() and not is_there
+    if is_made:
+        screen.line(f"made {shown(archive.path)}")
+    count = collections.Counter(one.word for one in slices)
+    counts = {**{word: count[word] for word in WORDS}, "refused": screen.refused}
+    say_counts(counts, screen, arguments.dry_run)
+    flags = {"passed_over": dict(sorted(screen.passed_over.items())), "made": is_made, "dry_run": arguments.dry_run}
+    status = screen.end(0 if slices else 1, {**counts, **flags})
+    screen.insist([one.line() for one in slices if one.word == "retired"])
+    return status
+
+
+def say_counts(counts: Dict[str, int], screen: Screen, is_dry_run: bool) -> None:
+    kinds = ", ".join(f"{kind} {number}" for kind, number in sorted(screen.passed_over.items()))
+    told = ", ".join(f"{number} {word}" for word, number in counts.items())
+    told += f", passed over {sum(screen.passed_over.values())}{f' ({kinds})' if kinds else ''}"
+    screen.line(f"{told}; nothing was written" if is_dry_run else told)

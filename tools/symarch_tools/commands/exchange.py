@@ -1,0 +1,122 @@
+"""`exchange`: exchanges with other sites over a folder."""
+import argparse
+import os
+from typing import Dict, Optional, Sequence, Tuple
+
+from ..console.escapes import shown
+from ..console.faults import Failed
+from ..console.json_lines import Members, line_of
+from ..console.screen import screen_of
+from ..exchange.exchange import Exchange
+from ..exchange.identity import Identity, refuse_name
+from ..exchange.shared_folder import NAME_OF_SITE, SharedFolder
+from ..exchange.signatures import SIGNERS, Keys, Senders
+from ..store.archive import Archive
+from ..store.losses import lost_lines
+from ..store.program import Program
+from .arguments import size_in
+
+DESCRIPTION = """\
+Exchanges with the other sites over FOLDER, a disk that all mount or a folder that is copied. NAME is that of this
+site, which no other one has: a-z, 0-9, - and _.
+
+  symarch-keep exchange builds.sym shared east
+  symarch-keep exchange builds.sym shared east --key east.key --signers signers
+
+One call joins what others answered, asks anew if something changed, answers what others ask, and removes what is done
+with. ARCHIVE is made if it does not exist; FOLDER is not.
+
+With --key and --signers each file has a signature by `ssh-keygen -Y sign`, and one counts only if a key of its site
+made it. A site that signed once needs keys from then on. Files that do not count are named, and the call ends with 2;
+so it does as long as something is lost.
+
+The lines, which ARCHIVE.log keeps with the date:
+
+  added UUID ARCH DIGEST SITE      the slice came from SITE
+  retired UUID ARCH DIGEST SITE    the retirement came from SITE
+  took FILE                        the mark FILE was put into FOLDER by --take-name
+  asked FILE                       a question was put into FOLDER
+  answered SITE FILE               an answer was put into FOLDER
+  named N SITE                     N names of builds came from SITE
+  told FILE                        ARCHIVE.builds was put into FOLDER, as FILE"""
+CALL = "symarch-keep exchange [--quiet] [--wait SECONDS] [--json] [--take-name] [--most BYTES] ARCHIVE FOLDER NAME"
+USAGE = f"""{CALL}
+    {CALL} --key FILE --signers FILE"""
+ABOUT = "exchange with other sites over a folder"
+KEYS = ("added", "retired", "answered", "not_whole", "refused", "lost")
+
+
+def define(parser: argparse.ArgumentParser) -> None:
+    parser.add_argument("--take-name", action="store_true", help="take NAME, which another site has or had")
+    parser.add_argument("--key", metavar="FILE", help="sign by this key, whose private half may be in an agent")
+    parser.add_argument("--signers", metavar="FILE", help="take only what a key of these sites signed")
+    parser.add_argument("--most", metavar="BYTES", help="take no file of FOLDER that is longer, and send no more")
+    parser.add_argument("archive", metavar="ARCHIVE")
+    parser.add_argument("folder", metavar="FOLDER")
+    parser.add_argument("name", metavar="NAME")
+
+
+def met(
+    archive: Archive, arguments: argparse.Namespace, keys: Optional[Keys], most: Optional[int]
+) -> Tuple[SharedFolder, Identity]:
+    """The folder, and who this site is there. Fails if it is another one, or signed before and does not now."""
+    kept = archive.folder.beside(SIGNERS)
+    if not keys and os.path.lexists(kept):
+        raise Failed(f"{shown(kept)} says that this site signs, and requires signatures: name --key and --signers")
+    senders = Senders(archive.folder, keys) if keys else None
+    folder, identity = SharedFolder(os.fsencode(arguments.folder), arguments.name, senders, most), Identity.of(archive)
+    if not arguments.take_name:
+        refuse_name(folder, identity)
+    return folder, identity
+
+
+def keys_of(arguments: argparse.Namespace) -> Optional[Keys]:
+    if (arguments.key is None) != (arguments.signers is None):
+        raise Failed("--key and --signers are named together, or neither", 3)
+    return None if arguments.key is None else Keys(os.fsencode(arguments.key), os.fsencode(arguments.signers))
+
+
+def carry_out(arguments: argparse.Namespace) -> int:
+    if not NAME_OF_SITE.fullmatch(arguments.name):
+        raise Failed(f"NAME is {shown(os.fsencode(arguments.name))}, and has other letters than a-z, 0-9, - and _", 3)
+    most = None if arguments.most is None else size_in(arguments.most)
+    screen, keys = screen_of(arguments), keys_of(arguments)
+    program = Program()
+    archive = Archive(os.fsencode(arguments.archive), is_made=True)
+    # Where the folder or the name is wrong nothing is made. Another call may have changed both since.
+    met(archive, arguments, keys, most)
+    archive.take_lock(screen, arguments.wait)
+    folder, identity = met(archive, arguments, keys, most)
+    with archive.folder.room() as room:
+        if folder.senders:
+            folder.senders.begin(room, arguments.name)
+        exchange = Exchange(archive, folder, program, screen, room)
+        exchange.carry_out(identity, arguments.take_name)
+    logged = [line for line in exchange.lines if line.startswith(("took ", "asked ", "answered ", "named ", "told "))]
+    archive.folder.log.note(logged, screen)
+    screen.show(map(with_object, exchange.lines))
+    exchange.say_what_is_lost()
+    refused, counts = screen.refused + folder.named_before, counts_of(exchange.lines)
+    told = ", ".join(f"{number} {kind}" for kind, number in counts.items())
+    screen.line(f"{told}; {folder.not_whole} not whole, {refused} refused")
+    others = {"not_whole": folder.not_whole, "refused": refused, "lost": len(lost_lines(archive.lost.content))}
+    return screen.end(0, {**counts, **others})
+
+
+def counts_of(lines: Sequence[str]) -> Dict[str, int]:
+    """How many slices and retirements came, and how many answers went."""
+    return {kind: sum(line.startswith(f"{kind} ") for line in lines) for kind in KEYS[:3]}
+
+
+def with_object(line: str) -> str:
+    """A line with its object: a record with the site that it came from, names of builds, or files of the folder."""
+    kind, *words = line.split(" ")
+    record = {"added": "slice", "retired": "retirement"}.get(kind)
+    members: Members = {"file": words[-1]}
+    if record:
+        members = {"record": record, **dict(zip(("uuid", "arch", "digest", "site"), words))}
+    elif kind == "answered":
+        members = {"site": words[0], **members}
+    elif kind == "named":
+        members = {"site": words[1], "names": int(words[0])}
+    return line_of(line, kind, **members)

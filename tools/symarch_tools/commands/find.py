@@ -1,0 +1,47 @@
+"""`find`: prints what an archive has of a UUID."""
+import argparse
+import os
+
+from ..console.json_lines import line_of
+from ..console.screen import screen_of
+from ..store.asking import AskedCommand, opened_archive
+from .arguments import define_archive, uuid_of
+
+DESCRIPTION = """\
+Prints what ARCHIVE has of UUID:
+
+  ARCH image DIGEST      a slice that is no companion
+  ARCH dsym DIGEST       a slice of a dSYM
+  ARCH retired DIGEST    a retirement
+  ARCH conflict N        so many slices answer for this UUID and ARCH
+
+For example:
+
+  symarch-keep find builds.sym 4c4c4419-5555-3144-a1d2-4341c97782f0
+
+A slice that is read, and changed since it came in, is printed alone, and the status is 2."""
+USAGE = "symarch-keep find [--json] ARCHIVE UUID"
+ABOUT = "print what it has of a UUID"
+KEYS = ("found",)
+
+
+def define(parser: argparse.ArgumentParser) -> None:
+    define_archive(parser, "UUID")
+
+
+def carry_out(arguments: argparse.Namespace) -> int:
+    uuid, screen = str(uuid_of(arguments.uuid)), screen_of(arguments)
+    with opened_archive(os.fsencode(arguments.archive)) as asked:
+        lines, status = asked.answer(AskedCommand("find", [uuid]))
+    if status == 1:
+        screen.line(f"nothing is held of {uuid}")
+    screen.show([found_line(uuid, line) for line in lines])
+    return screen.end(status, {"found": len(lines)})
+
+
+def found_line(uuid: str, text: str) -> str:
+    """A line of the program, with its object."""
+    arch, kind, said = text.split(" ")
+    is_conflict = kind == "conflict"
+    digest, answering = (None, int(said)) if is_conflict else (said, None)
+    return line_of(text, "found", kind=kind, uuid=uuid, arch=arch, digest=digest, answering=answering)

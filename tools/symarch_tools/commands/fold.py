@@ -1,0 +1,44 @@
+"""`fold`: joins what came in lately with the files of an archive."""
+import argparse
+import os
+
+from ..console.escapes import shown
+from ..console.screen import screen_of
+from ..store.archive import Archive
+from ..store.draft import Draft
+from ..store.program import Program
+
+DESCRIPTION = """\
+Joins ARCHIVE.today with the files of ARCHIVE that are alike in size. What all have together stays the same.
+
+  symarch-keep fold --quiet builds.sym
+  symarch-keep fold --all builds.sym
+
+The last file is joined as long as it is less than twice as large as what is joined so far; so ARCHIVE is written anew
+only once what came since is half as large. Files of less than 64 MiB are always joined. The bytes of a retired slice go
+with the next join of its file, or by the first fold after 30 days. The disk needs room for the join.
+
+If it is never called, the first command that finds more than a tenth of all in ARCHIVE.today does the same."""
+USAGE = "symarch-keep fold [--quiet] [--wait SECONDS] [--all] [--purge] ARCHIVE"
+ABOUT = "join what came in lately into it"
+
+
+def define(parser: argparse.ArgumentParser) -> None:
+    parser.add_argument("--all", action="store_true", help="join all levels into ARCHIVE")
+    parser.add_argument("--purge", action="store_true", help="take out the bytes of all retired slices")
+    parser.add_argument("archive", metavar="ARCHIVE")
+
+
+def carry_out(arguments: argparse.Namespace) -> int:
+    screen = screen_of(arguments)
+    program = Program()
+    archive = Archive(os.fsencode(arguments.archive))
+    archive.take_lock(screen, arguments.wait)
+    archive.content(program, screen)
+    came, waited = archive.files.today.content, archive.files.bytes_waiting()
+    with archive.folder.room() as room:
+        Draft(archive, room, program, screen).fold(arguments.all, arguments.purge)
+    told = f"{len(came.held)} slices, {len(came.retired)} retirements came in"
+    gone = f"; {waited - archive.files.bytes_waiting()} retired bytes were taken out" if arguments.purge else ""
+    screen.line(f"{shown(archive.path)}: {told}{gone}")
+    return screen.status()

@@ -1,0 +1,11 @@
+"""How sites exchange over a shared folder. In reading order:
+
+- times             the times of files in the folder
+- signatures        who may send, by signatures
+- shared_folder     the questions and answers of sites, by their names
+- memory            what a site remembers of its exchanges: ARCHIVE.asked
+- join              how answers go into an archive
+- build_names       how sites send one another the names of builds
+- identity          what a site is called there, and what tells it from another of its name
+- exchange          one call: what is joined, asked, answered and removed
+"""

@@ -1,0 +1,87 @@
+"""Files: their sizes and times, and how bytes are written so that they are on the disk."""
+import contextlib
+import os
+from typing import Iterable
+
+from ..console.faults import about
+from ..console.streams import write
+
+
+def stamp(path: bytes, of: bytes) -> None:
+    """Gives a file the time of another one. It is synced."""
+    time = time_of(of)
+    descriptor = os.open(path, os.O_RDONLY)
+    try:
+        os.utime(descriptor, ns=(time, time))
+        os.fsync(descriptor)
+    finally:
+        os.close(descriptor)
+
+
+def tell_apart(new: bytes, old: bytes) -> None:
+    """Gives a new file another time than the one has that it replaces, if they have one time."""
+    if os.path.exists(old) and time_of(new) == time_of(old):
+        # Some file systems have even seconds alone.
+        later = time_of(new) + 2 * 10**9
+        os.utime(new, ns=(later, later))
+
+
+def write_synced(path: bytes, chunks: Iterable[bytes]) -> None:
+    with about(path), open(path, "wb", buffering=0) as file:
+        write_to_disk(file.fileno(), chunks)
+
+
+def write_to_disk(descriptor: int, chunks: Iterable[bytes]) -> None:
+    for chunk in chunks:
+        write(descriptor, chunk)
+    os.fsync(descriptor)
+
+
+def append_synced(path: bytes, text: bytes) -> None:
+    """Adds all of a text to a file, or nothing."""
+    with about(path), open(path, "ab", buffering=0) as file:
+        size = os.fstat(file.fileno()).st_size
+        try:
+            write(file.fileno(), text)
+            os.fsync(file.fileno())
+        except OSError:
+            os.ftruncate(file.fileno(), size)
+            raise
+
+
+def sync_folder(path: bytes) -> None:
+    # Not every file system can sync a folder.
+    with contextlib.suppress(OSError):
+        descriptor = os.open(path, os.O_RDONLY)
+        try:
+            os.fsync(descriptor)
+        finally:
+            os.close(descriptor)
+
+
+def remove(path: bytes) -> None:
+    """Removes a file, if it is there."""
+    with contextlib.suppress(FileNotFoundError):
+        os.unlink(path)
+
+
+def linked(path: bytes, new: bytes) -> bool:
+    """Gives a file a second name that nothing has, if the file system has such."""
+    try:
+        os.link(path, new)
+    except FileExistsError:
+        raise
+    except OSError:
+        return False
+    return True
+
+
+def size_of(path: bytes) -> int:
+    try:
+        return os.stat(path).st_size
+    except FileNotFoundError:
+        return 0
+
+
+def time_of(path: bytes) -> int:
+    return os.stat(path).st_mtime_ns

@@ -1,0 +1,261 @@
+"""Indexes of archives: of each record its entry in the summary, whether it is a companion's, where it stands, and where
+the table of its slice is stored in the index. An index is read from its end: its tables are not read for that, and are
+copied from one index into another. docs/FILES.md has the bytes."""
+import hashlib
+import io
+import os
+import struct
+from dataclasses import dataclass
+from typing import BinaryIO, Dict, Iterable, Iterator, List, NamedTuple, Optional, Tuple
+
+from .contents import ADMISSION, DIGEST, END, ENTRY, KEY, LENGTH, MAGIC, RETIREMENT, Content, Malformed, digest_in
+from .contents import head_of, record_size, words_of
+
+INDEX = b"MSYMIDX1"
+ROW = struct.Struct(f">{len(ADMISSION) + ENTRY}sBQQQQ{DIGEST}s")
+# How long the end record of an archive is, and that of an index, which has the SHA-256 of the entries.
+TAIL = len(END) + LENGTH
+INDEX_TAIL = TAIL + DIGEST
+# The numbers in the head of a table of sections, rows, and bytes of strings and of lines; and how long a section and a
+# row are.
+TABLE_HEAD, SECTION, TABLE_ROW = struct.Struct(">16x4Q"), 32, 21
+# How many bytes an entry has in an index without tables.
+PLACED = len(ADMISSION) + ENTRY + 1 + 2 * LENGTH
+# How many bytes of an admission stand before its slice.
+HEAD = len(ADMISSION) + KEY + LENGTH
+# mach-o/loader.h: the file type of a companion, and where it stands.
+MH_DSYM, FILETYPE = b"\x0a\0\0\0", 12
+# How many bytes a page of a table has.
+PAGE = 1 << 14
+# The SHA-256 of no page digests, which a slice without a table has; and what a retirement has in its place.
+NO_TABLE, NO_ROOT = hashlib.sha256().digest(), bytes(DIGEST)
+OTHER_KIND = "is an index of another kind"
+
+
+class OtherKind(Malformed):
+    """An index without tables, or with tables that have no lines. No release wrote one."""
+
+
+class IndexRow(NamedTuple):
+    """What an index has of a record: its entry in the summary, whether it is a companion's, its place and length; and
+    of a slice where its table is stored in the index, how many bytes that has, and the SHA-256 of its page digests."""
+
+    entry: bytes
+    is_companion: int
+    at: int
+    length: int
+    table: int = 0
+    size: int = 0
+    root: bytes = NO_ROOT
+
+    def is_slice(self) -> bool:
+        return self.entry[:1] == ADMISSION
+
+    def key(self) -> bytes:
+        return self.entry[1 : 1 + KEY]
+
+    def head(self) -> bytes:
+        return head_of(self.entry[1 : 1 + KEY], self.length - HEAD) if self.is_slice() else self.entry
+
+    def words(self) -> str:
+        return f"{'' if self.is_slice() else 'retired '}{words_of(self.entry[1:])}"
+
+    def stored(self) -> int:
+        """How many bytes its table takes in an index."""
+        return stored_size(self.size)
+
+
+def pages_in(size: int) -> int:
+    return -(-size // PAGE)
+
+
+def stored_size(size: int) -> int:
+    """How many bytes a table of so many takes in an index."""
+    return pages_in(size) * DIGEST + size
+
+
+@dataclass(eq=False)
+class Index:
+    """The index of an archive, by its entries. Its tables are in the file of a path, if there are any."""
+
+    entries: bytes
+    path: bytes = b""
+    # The SHA-256 of the entries, once it is known.
+    known_digest: bytes = b""
+
+    def count(self) -> int:
+        return len(self.entries) // ROW.size
+
+    def row(self, number: int) -> IndexRow:
+        return IndexRow._make(ROW.unpack_from(self.entries, number * ROW.size))
+
+    def rows(self) -> Iterator[IndexRow]:
+        return map(IndexRow._make, ROW.iter_unpack(self.entries))
+
+    def in_places(self) -> List[IndexRow]:
+        """The rows, as their records stand in the archive."""
+        return sorted(self.rows(), key=lambda row: row.at)
+
+    def content(self) -> Content:
+        content = Content()
+        for entry, _, _, length, *_ in ROW.iter_unpack(self.entries):
+            if entry[:1] == ADMISSION:
+                content.held[entry[1:]] = length - HEAD
+            else:
+                content.retired.add(entry[1:])
+        return content
+
+    def heads(self) -> List[bytes]:
+        return [row.head() for row in self.in_places()]
+
+    def size(self) -> int:
+        """How long its archive is."""
+        lengths: Iterable[int] = (length for _, _, _, length, *_ in ROW.iter_unpack(self.entries))
+        return MAGIC + sum(lengths) + TAIL
+
+    def without_table(self) -> List[IndexRow]:
+        """The rows of slices that have no table."""
+        return [row for row in self.rows() if row.is_slice() and not row.size]
+
+    def digest(self) -> bytes:
+        """The SHA-256 of its entries."""
+        self.known_digest = self.known_digest or hashlib.sha256(self.entries).digest()
+        return self.known_digest
+
+    def end(self) -> bytes:
+        """Its end record."""
+        return END + self.count().to_bytes(LENGTH, "big") + self.digest()
+
+    def is_in(self, file: BinaryIO) -> bool:
+        """Whether a file that is no index, or another one, has its end record or its entries all the same, but for what
+        these say of tables."""
+        size, end = file.seek(0, os.SEEK_END), self.end()
+        if last_of(file, size, len(end)) == end:
+            return True
+        entries = last_of(file, max(size - len(end), 0), len(self.entries))
+        return len(entries) == len(self.entries) and all(
+            one[:4] == other[:4] for one, other in zip(ROW.iter_unpack(entries), ROW.iter_unpack(self.entries))
+        )
+
+
+def last_of(file: BinaryIO, end: int, size: int) -> bytes:
+    """So many bytes of a file that stand before a place, or what there is of them."""
+    file.seek(max(end - size, 0))
+    return file.read(min(size, end))
+
+
+def index_of(rows: Iterable[IndexRow]) -> Index:
+    """The index of rows, in no file."""
+    return Index(b"".join(ROW.pack(*row) for row in sorted(rows)))
+
+
+def index_in(file: BinaryIO, path: bytes = b"") -> Index:
+    """The index that a file is, by its first bytes and from its end: its entries are those of which the end record has
+    the SHA-256, and its tables fill what stands before them."""
+    file.seek(0)
+    begins, size = file.read(MAGIC), file.seek(0, os.SEEK_END)
+    if begins == INDEX and is_without_tables(file, size):
+        raise OtherKind(OTHER_KIND)
+    end = last_of(file, size, INDEX_TAIL)
+    count = int.from_bytes(end[len(END) : TAIL], "big")
+    if begins != INDEX or end[: len(END)] != END or MAGIC + count * ROW.size + INDEX_TAIL > size:
+        raise Malformed("is no index")
+    index = Index(last_of(file, size - INDEX_TAIL, count * ROW.size), path)
+    tables = sum(stored_size(table) for *_, table, _ in ROW.iter_unpack(index.entries))
+    if index.end() != end or size != MAGIC + tables + len(index.entries) + len(end):
+        raise Malformed("is no index")
+    if index.count() and not has_lines(file, index.row(index.count() - 1)):
+        raise OtherKind(OTHER_KIND)
+    return index
+
+
+def is_without_tables(file: BinaryIO, size: int) -> bool:
+    """Whether an index ends as one without tables, which has no SHA-256 of its entries."""
+    count = max(size - MAGIC - TAIL, 0) // PLACED
+    return last_of(file, size, TAIL) == END + count.to_bytes(LENGTH, "big")
+
+
+def has_lines(file: BinaryIO, row: IndexRow) -> bool:
+    """Whether a table is as long as its head says, with lines; or its first page has other bytes than were written."""
+    file.seek(row.table)
+    digest = file.read(DIGEST)
+    file.seek(row.table + pages_in(row.size) * DIGEST)
+    page = file.read(min(PAGE, row.size))
+    if row.size == 0 or hashlib.sha256(page).digest() != digest:
+        return True
+    if len(page) < TABLE_HEAD.size:
+        return False
+    sections, rows, strings, lines = TABLE_HEAD.unpack_from(page)
+    return bool(row.size == TABLE_HEAD.size + SECTION * sections + TABLE_ROW * rows + strings + lines)
+
+
+def index_at(path: bytes) -> Index:
+    """The index that the file of a path is."""
+    with open(path, "rb") as file:
+        return index_in(file, path)
+
+
+def is_companion(file: BinaryIO, at: int) -> int:
+    """Whether a record that stands there is a companion's."""
+    file.seek(at + HEAD + FILETYPE)
+    return int(file.read(len(MH_DSYM)) == MH_DSYM)
+
+
+def placed(file: BinaryIO, head: bytes, entries: List[bytes], places: List[int]) -> List[IndexRow]:
+    """The rows of the slices of one head. Each stands where its bytes are, and one that changed at a place that is
+    left."""
+    size, left = record_size(head), {entry[-DIGEST:]: entry for entry in entries}
+    found: Dict[int, Optional[bytes]] = dict.fromkeys(places)
+    if len(places) > 1:
+        found = {at: left.pop(digest_in(file, at + HEAD, size - HEAD), None) for at in places}
+    others = iter(left.values())
+    return [
+        IndexRow(ADMISSION + (entry or next(others)), is_companion(file, at), at, size) for at, entry in found.items()
+    ]
+
+
+def index_by(content: Content, path: bytes) -> Index:
+    """The index of the archive of a content, which a file has but for bytes that changed. It has no tables."""
+    rows: List[IndexRow] = []
+    entries: Dict[bytes, List[bytes]] = {}
+    places: Dict[bytes, List[int]] = {}
+    at = MAGIC
+    for entry, length in sorted(content.held.items()):
+        entries.setdefault(head_of(entry[:KEY], length), []).append(entry)
+    for head in content.heads():
+        if head[:1] == RETIREMENT:
+            rows.append(IndexRow(head, 0, at, len(head)))
+        else:
+            places.setdefault(head, []).append(at)
+        at += record_size(head)
+    opened: BinaryIO = open(path, "rb") if os.path.exists(path) else io.BytesIO()
+    with opened as file:
+        for head, its_places in places.items():
+            rows += placed(file, head, entries[head], its_places)
+    return index_of(rows)
+
+
+def changes(known: Content, came: Content) -> Tuple[Dict[bytes, bytes], Content]:
+    """What changed in an archive of which something is known: the entries that came in the place of known ones, with
+    these; and what is lost."""
+    lost, new = known.beyond(came), came.beyond(known)
+    changed: Dict[bytes, bytes] = {}
+    others: Dict[Tuple[bytes, int], List[bytes]] = {}
+    for entry, length in new.held.items():
+        others.setdefault((entry[:KEY], length), []).append(entry)
+    for entry, length in sorted(lost.held.items()):
+        if others.get((entry[:KEY], length)):
+            changed[others[entry[:KEY], length].pop()] = entry
+            del lost.held[entry]
+    return changed, lost
+
+
+def held_against(known: Content, index: Index) -> Tuple[Index, List[IndexRow], Content]:
+    """The index of what an archive is taken to have of which something is known: slices that changed in their places
+    keep their entries, and such an index is in no file. Also the rows of these, and what is lost."""
+    changed, lost = changes(known, index.content())
+    if not changed:
+        return index, [], lost
+    others = {ADMISSION + entry: ADMISSION + before for entry, before in changed.items()}
+    rows = [row._replace(entry=others.get(row.entry, row.entry)) for row in index.rows()]
+    return index_of(rows), sorted(row for row in rows if row.entry in others.values()), lost

@@ -1,0 +1,222 @@
+"""The program symarch, which reads and writes archives."""
+import contextlib
+import os
+import re
+import subprocess
+from dataclasses import dataclass, field
+from typing import Dict, List, Mapping, Optional, Sequence, Tuple, Union
+
+from ..console.escapes import shown
+from ..console.faults import CutShort, Failed, SliceRefused
+from ..console.program_path import candidates, named
+from ..console.signals import signals
+from ..console.streams import write
+from ..formats.contents import END, LENGTH, MAGIC, MAGICS, Moved, unmoved
+from ..formats.packed_files import DESCRIPTORS
+from .slices import Slice
+
+Argument = Union[str, bytes]
+# A fault of a record, that of a slice, which has its own in parentheses, and that of an archive that ends early.
+AT_RECORD = re.compile("symarch: archive ([01]): (.*) at ([0-9]{1,20})")
+BAD_SLICE = "BadSlice("
+CUT_SHORT = re.compile("symarch: archive [0-9]{1,9}: Truncated at [0-9]{1,20}")
+
+
+@dataclass(frozen=True)
+class Run:
+    """A call of the program: its arguments, the slices whose archive is on its standard input, the folder in which it
+    runs, the open files that it gets, and what is called as it moves on. A fault names a path of `names` by what that
+    has for it."""
+
+    arguments: Sequence[Argument]
+    slices: Sequence[Slice] = ()
+    folder: Optional[bytes] = None
+    open_files: Sequence[int] = ()
+    moved: Moved = unmoved
+    names: Mapping[str, str] = field(default_factory=dict)
+
+    def all_names(self) -> Dict[str, str]:
+        """How paths are shown, also the arguments of a command if they name files of the folder."""
+        arguments = self.arguments[1:] if self.folder is not None else ()
+        of_folder = {os.fsdecode(it): shown(os.path.join(self.folder or b"", os.fsencode(it))) for it in arguments}
+        return {**of_folder, **self.names}
+
+
+@dataclass(frozen=True)
+class Merge:
+    """Archives of which the program writes the join as a new file, the largest one first; slices that it has too; and
+    open files that the program holds."""
+
+    paths: Sequence[bytes]
+    new: bytes
+    moved: Moved
+    slices: Sequence[Slice] = ()
+    held: Sequence[int] = ()
+
+
+class Program:
+    """The program symarch."""
+
+    def __init__(self) -> None:
+        self.path = answering_program()
+        if not os.path.exists(os.path.join(DESCRIPTORS, "0")):
+            raise Failed(f"there is no {DESCRIPTORS}, by which the program gets its files: /proc is not mounted")
+
+    def run(self, run: Run) -> bytes:
+        """Carries out a call, and returns what is printed."""
+        return self.answer(run)[0]
+
+    def answer(self, run: Run) -> Tuple[bytes, int, bytes]:
+        """Carries out a call, and returns what is printed, the status, 0 or 1, and what is noted."""
+        with contextlib.ExitStack() as ends:
+            # A signal waits until what ends the program is on the stack: one that goes on writes into a folder that is
+            # being removed.
+            with signals.later():
+                process = subprocess.Popen(
+                    [self.path, *run.arguments],
+                    bufsize=0,
+                    cwd=run.folder,
+                    pass_fds=tuple(run.open_files),
+                    stdin=subprocess.PIPE,
+                    stdout=subprocess.PIPE,
+                    stderr=subprocess.PIPE,
+                )
+                ends.enter_context(process)
+                ends.push(lambda failed, *_: process.kill() if failed else None)
+            assert process.stdin
+            with contextlib.suppress(BrokenPipeError):
+                give(process.stdin.fileno(), run.slices, run.moved)
+            printed, said = None, b""
+            while printed is None:
+                # What is raised within would leave its lock.
+                with contextlib.suppress(subprocess.TimeoutExpired), signals.later():
+                    printed, said = process.communicate(timeout=0.2)
+                run.moved(len(run.slices))
+        if process.returncode not in (0, 1):
+            raise fault(run, said, process.returncode)
+        return printed or b"", process.returncode, said
+
+    def merge(self, asked: Merge) -> None:
+        """Writes the join of archives and of slices. Those after the first come joined by a pipe, so that nothing is
+        written twice or has to fit in memory. What is no UTF-8 is refused, so no argument has the path of an
+        archive."""
+        folder, name = os.path.split(asked.new)
+        with contextlib.ExitStack() as ends:
+            opened = [ends.enter_context(open(path, "rb")).fileno() for path in asked.paths]
+            names = {f"{DESCRIPTORS}/{number}": shown(path) for number, path in zip(opened, asked.paths)}
+            pipes = Pipes(self.path, ends)
+            read = [opened[0], *pipes.joined(opened[1:])]
+            names.update({f"{DESCRIPTORS}/{number}": " and ".join(map(shown, asked.paths[1:])) for number in read[1:]})
+            first, *others = [f"{DESCRIPTORS}/{number}" for number in read]
+            arguments = ["merge", first, os.fsdecode(name), *(others or ["/dev/stdin"])]
+            names[arguments[2]] = shown(asked.new)
+            try:
+                self.run(Run(arguments, asked.slices, folder, [*read, *asked.held], asked.moved, names))
+            except Failed as failed:
+                raise pipes.fault(names) or failed from None
+            finally:
+                pipes.close()
+
+    def run_over(
+        self, path: bytes, command: str, *more: str, folder: Optional[bytes] = None, moved: Moved = unmoved
+    ) -> bytes:
+        """Runs a command over the archive of a path, which it gets by another name: what is no UTF-8 is refused."""
+        with open(path, "rb") as file:
+            arguments = [command, f"{DESCRIPTORS}/{file.fileno()}", *more]
+            names = {arguments[1]: shown(path)}
+            return self.run(Run(arguments, (), folder, [file.fileno()], moved, names))
+
+
+@dataclass(eq=False)
+class Pipes:
+    """Programs that join archives into pipes: each an archive and the pipe of the one before it."""
+
+    program: str
+    ends: contextlib.ExitStack
+    processes: List["subprocess.Popen[bytes]"] = field(default_factory=list)
+    # The end of the last pipe, which is read.
+    end: Optional[int] = None
+
+    def joined(self, opened: Sequence[int]) -> List[int]:
+        """What the join of open archives is read from, if there are any."""
+        read = opened[-1:]
+        for one in reversed(opened[:-1]):
+            read = [self.begin(one, read[0])]
+        return list(read)
+
+    def begin(self, opened: int, rest: int) -> int:
+        end, written = os.pipe()
+        arguments = [self.program, "merge", *(f"{DESCRIPTORS}/{it}" for it in (opened, written, rest))]
+        nothing = subprocess.DEVNULL
+        with signals.later():
+            process = subprocess.Popen(
+                arguments, stdin=nothing, stdout=nothing, stderr=subprocess.PIPE, pass_fds=(opened, written, rest)
+            )
+            self.processes.append(self.ends.enter_context(process))
+            self.ends.push(lambda failed, *_: process.kill() if failed else None)
+        os.close(written)
+        self.close()
+        self.end = end
+        return end
+
+    def close(self) -> None:
+        """Ends those that write: nobody reads on."""
+        if self.end is not None:
+            os.close(self.end)
+        self.end = None
+
+    def fault(self, names: Dict[str, str]) -> Optional[Exception]:
+        """Why the first one failed that was refused an archive. Those after it read half a pipe."""
+        self.close()
+        for process in self.processes:
+            with signals.later():
+                said = process.communicate()[1]
+            if process.returncode > 0 and said.startswith(b"symarch: archive "):
+                return fault(Run(["merge"], names=names), said, process.returncode)
+        return None
+
+
+def answering_program() -> str:
+    """The first program that answers as symarch does."""
+    for path in candidates():
+        with contextlib.suppress(OSError), signals.later():
+            arguments, nothing = [path, "--version"], subprocess.DEVNULL
+            if subprocess.run(arguments, stdin=nothing, capture_output=True, check=False).stdout[:8] == b"symarch ":
+                return path
+    wanted = named()
+    which = f"SYMARCH is {shown(wanted)}, which is no" if wanted else "there is no"
+    raise Failed(f"{which} program symarch; `./symarch --version` in its sources builds one", 126)
+
+
+def give(descriptor: int, slices: Sequence[Slice], moved: Moved) -> None:
+    """Writes the archive of slices, which are in the order of their records."""
+    write(descriptor, MAGICS[0])
+    for done, one in enumerate(slices):
+        write(descriptor, one.head)
+        for chunk in one.chunks():
+            write(descriptor, chunk)
+            moved(done)
+    write(descriptor, END + len(slices).to_bytes(LENGTH, "big"))
+
+
+def fault(run: Run, said: bytes, status: int) -> Exception:
+    """What the program says of a slice that it was given, or else of the whole: its line, and the one for people."""
+    line, _, more = said.decode(errors="replace").strip().partition("\n")
+    found = AT_RECORD.fullmatch(line)
+    if found and found[1] == ("1" if run.arguments[0] == "merge" else "0"):
+        at = MAGIC
+        for one in run.slices:
+            if at == int(found[3]):
+                reason = found[2]
+                is_bad = reason.startswith(BAD_SLICE) and reason.endswith(")")
+                return SliceRefused(reason[len(BAD_SLICE) : -1] if is_bad else reason, one, True)
+            at += len(one.head) + one.length
+    where, _, path = more.partition(" is ")
+    names = run.all_names()
+    for name in names:
+        if path.startswith(name) and path[len(name) :][:1] in ("", ":", ","):
+            if CUT_SHORT.fullmatch(line):
+                return CutShort.at(names[name])
+            more = f"{where} is {names[name]}{path[len(name):]}"
+            break
+    return Failed(line, 4, more) if status > 0 else Failed(f"symarch ended by signal {-status}")
