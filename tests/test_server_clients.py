@@ -340,7 +340,8 @@ class Behind(ServerCase):
         name = f"{self.NAME}:{self.port}"
         how = ["--silent", "--show-error", "--fail", "--insecure", "--resolve", f"{name}:127.0.0.1"]
         came = call([installed("curl", "curl"), *how, *words, f"{self.scheme}://{name}{path}"], cwd=self.folder)
-        same(f"{path}: {came.errors.decode()}", came.status, 0)
+        log = (self.folder / "before.log").read_text(errors="replace")[-1000:]
+        same(f"{path}: {came.errors.decode()}{log}", came.status, 0)
         return came.out
 
     scheme = "https"
@@ -373,7 +374,10 @@ class Behind(ServerCase):
         lines = lines.replace("http://127.0.0.1:8080", self.serve(*self.words).url)
         paths = "".join(f"{it}_temp_path {self.folder}/{it};" for it in ("proxy", "fastcgi", "uwsgi", "scgi"))
         around = f"access_log off; client_body_temp_path {self.folder}/body; {paths}"
-        self.file("conf", f"daemon off; pid {self.folder}/pid; events {{}} http {{ {around}\n{lines} }}\n".encode())
+        # Its workers write what a client does not read yet into the folder of the case, which root alone may enter.
+        user = "user root; " if os.getuid() == 0 else ""
+        lines = f"{user}daemon off; pid {self.folder}/pid; events {{}} http {{ {around}\n{lines} }}\n"
+        self.file("conf", lines.encode())
         self.begin(nginx, "-p", self.folder, "-e", "stderr", "-c", self.folder / "conf")
         self.is_as_alone()
         self.is_for_others_too()
