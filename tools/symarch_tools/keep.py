@@ -37,7 +37,7 @@ no lock, and ask by the indexes beside the files. An archive of version 1, or wi
 the next command that writes makes version 2 of it, and its index.
 
 With --quiet a command that ends with 0 prints nothing, but for what `add` finds retired. With --json it prints an
-object of JSON a line; docs/OPERATING.md has the keys.
+object of JSON a line; docs/FILES.md has the keys.
 
 The program is the one that SYMARCH names; else the one that ./symarch built, or that was installed with this tool; else
 `symarch` in PATH. None is built here.
@@ -61,7 +61,7 @@ ASKING = ("find", "symbolicate", "name", "list", "has", "get")
 WITHOUT_JSON = ("fold", "repair")
 QUIET = "print nothing if nothing is wrong, as cron mails what is printed"
 WAIT = "wait at most so long for another command that writes"
-JSON = "print an object of JSON for each line, as docs/OPERATING.md describes them"
+JSON = "print an object of JSON for each line, as docs/FILES.md describes them"
 
 
 class CommandParser(argparse.ArgumentParser):
