@@ -204,7 +204,7 @@ class Commands(unittest.TestCase):
             for file in files.split("`, `"):
                 counts[where] = counts.get(where, 0) + 1
                 self.assertTrue((folder / file).is_file(), f"{where}, {file}")
-        total, some, *crates = found(r"These are (\d+) files, of which the (\d+) of `(\w+)` and `(\w+)`", text).groups()
+        total, some, *crates = found(r"These are (\d+) files; the (\d+) of `(\w+)` and `(\w+)` lead", text).groups()
         self.assertEqual([int(total), int(some)], [sum(counts.values()), sum(counts.get(it, 0) for it in crates)])
         self.assertIn(found(r"^As `(\w+)` does", text, re.M)[1], self.commands)
 
