@@ -17,24 +17,24 @@ from symarch_tools.console.version import PrintVersion
 NAME = "symarch-server"
 DESCRIPTION = """\
 Serves an archive that symarch-keep keeps over HTTP: to browsers, curl, lldb, clients of debuginfod, Symbolicator and
-profilers. OPERATING.md has the requests.
+profilers. OPERATING.md describes the requests.
 
 Examples:
 
   symarch-server builds.sym                                  serves it to this machine, at http://127.0.0.1:8080/
   curl --data-binary @report.ips 127.0.0.1:8080/reports      prints the report with names
   symarch-server --listen 10.0.0.5:8080 --host builds --readers readers builds.sym
-                                                             serves it to whoever has a token of the file readers
+                                                             serves it to clients with a token in the file readers
 
 Each answer is that of ARCHIVE, its levels, indexes and names of builds as they are at that moment. The server writes
-nothing but ARCHIVE.missing, unless --uploads says who may add. SIGTERM ends it after the answers that are under way.
-The log is standard error.
+only ARCHIVE.missing, unless --uploads lets clients add. SIGTERM ends it after the answers that it has begun. The log is
+standard error.
 
-The program symarch is found as by symarch-keep. Flask and waitress are needed.
+The server finds the program symarch as symarch-keep does. It needs Flask and waitress.
 
 Status:
   0    a signal ended it
-  2    the archive or a file of tokens cannot be read, or the address not be had
+  2    the archive or a file of tokens cannot be read, or the address is not free
   3    the command line is wrong
   126  Flask or waitress is missing, or there is no program"""
 LISTEN = re.compile(r"(\[[0-9a-fA-F:.]+\]|[^:\[\]/@\s]+):([0-9]{1,5})")
@@ -44,16 +44,16 @@ MOST_WORKERS, MOST_SECONDS = 256, 86_400
 # The bytes of an upload, and of memory, if nothing else is said.
 OTHERWISE = 4 << 30
 
-LISTEN_HELP = "where it listens; without it 127.0.0.1:8080. Port 0 is any that is free, which is printed"
-HOST_HELP = "a name by which it is asked; without one the address of --listen. It may stand again and again"
-ORIGIN_HELP = "a web page, as https://profiler.firefox.com, that may ask /symbolicate/v5. It may stand again and again"
-READERS_HELP = "who may read: a line NAME SHA256-OF-TOKEN for each; without it everybody who reaches it"
-UPLOADS_HELP = "who may upload, in the same form; without it nobody"
-MOST_HELP = "the largest upload; without it 4 GiB. It may end in k, M, G or T"
+LISTEN_HELP = "the address, by default 127.0.0.1:8080. Port 0 is any free one, which is printed"
+HOST_HELP = "a name by which clients reach it, by default the address of --listen. It may be repeated"
+ORIGIN_HELP = "a web page that may call /symbolicate/v5, as https://profiler.firefox.com. It may be repeated"
+READERS_HELP = "the clients that may read: a line NAME SHA256-OF-TOKEN for each. By default all may"
+UPLOADS_HELP = "the clients that may upload, in the same form. By default none may"
+MOST_HELP = "the largest upload, by default 4 GiB. It may end in k, M, G or T"
 MISSING_HELP = "keep no ARCHIVE.missing"
-WORKERS_HELP = "how many answers are worked on at once; without it one for each processor, and 2 at least"
-SECONDS_HELP = "how long an answer may take; without it 60. Uploads, bundles and searches by name have ten times that"
-MEMORY_HELP = "how much memory the process of an answer may have; without it 4 GiB"
+WORKERS_HELP = "how many answers are computed at once; by default one for each processor, and at least 2"
+SECONDS_HELP = "how long an answer may take, by default 60. Uploads, bundles and searches by name have ten times that"
+MEMORY_HELP = "how much memory the process of an answer may have, by default 4 GiB"
 
 
 @dataclass(frozen=True)

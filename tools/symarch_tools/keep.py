@@ -17,38 +17,38 @@ from .console.version import PrintVersion
 from .store.file_names import is_archive
 
 DESCRIPTION = """\
-Keeps an archive of symarch: puts images and dSYMs into it, exchanges with other sites, checks and repairs it.
+Keeps an archive of symarch: adds images and dSYMs, exchanges with other sites, checks and repairs.
 
 Examples:
 
-  symarch-keep add builds.sym dSYMs             puts the images and dSYMs of a folder into it
+  symarch-keep add builds.sym dSYMs             adds the images and dSYMs of a folder
   symarch-keep get builds.sym UUID --to debug   makes the dSYM bundle of a UUID
-  symarch-keep fold builds.sym                  joins what came in lately with what is no larger, as at night
+  symarch-keep fold builds.sym                  joins recent additions with files of similar size, as at night
 
 `symarch-keep COMMAND --help` describes a command, and docs/OPERATING.md how to run a site.
 
-What comes in goes into ARCHIVE.today, a small archive beside ARCHIVE. `fold` joins it with ARCHIVE or with archives
-between the two, its levels ARCHIVE.1, ARCHIVE.2 and so on. All commands, and `symbolicate-report`, take them together.
-Keep all files that begin with the name of ARCHIVE with it.
+Additions are written to ARCHIVE.today, a small archive next to ARCHIVE. `fold` joins it with ARCHIVE or with archives
+between the two, its levels ARCHIVE.1, ARCHIVE.2 and so on. All commands, and `symbolicate-report`, search them
+together. Keep all files that begin with the name of ARCHIVE with it.
 
 A command that writes makes a new file, syncs and renames it: killed at any moment, it leaves the old one or the new
-one, and the next command removes the rest. One of them works at a time, by a lock on ARCHIVE.lock. Those that ask take
-no lock, and ask by the indexes beside the files. An archive of version 1, or without an index, is read whole, until
-the next command that writes makes version 2 of it, and its index.
+one, and the next command removes the rest. A lock on ARCHIVE.lock lets one of them work at a time. Lookups take no
+lock, and use the indexes next to the files. An archive of version 1, or without an index, is read whole, until the
+next command that writes makes version 2 of it, and its index.
 
-With --quiet a command that ends with 0 prints nothing, but for what `add` finds retired. With --json it prints an
-object of JSON a line; docs/FILES.md has the keys.
+With --quiet a command that exits with 0 prints nothing, except slices that `add` finds retired. With --json it prints
+an object of JSON a line; docs/FILES.md has the keys.
 
-The program is the one that SYMARCH names; else the one that ./symarch built, or that was installed with this tool; else
-`symarch` in PATH. None is built here.
+The program is the one that SYMARCH names; otherwise the one that ./symarch built, or that was installed with this tool;
+otherwise `symarch` in PATH. The tool builds none.
 
 Status:
   0    all was done, and nothing is wrong
-  1    nothing was found, or there was nothing to do it to
-  2    a part was not done, or something changed, is lost or damaged; the rest was done
+  1    nothing was found, or there was nothing to act on
+  2    something was not done, or has changed, is lost or damaged; the rest was done
   3    the command line is wrong
-  4    it could not be done, and ARCHIVE is as it was; commands that ask end with 2 in its place
-  126  there is no program, or no ssh-keygen to sign by"""
+  4    the command failed, and ARCHIVE is as it was; lookups exit with 2 instead
+  126  there is no program, or no ssh-keygen to sign with"""
 # Each is a module of `commands`, which is imported if it is called or explained.
 COMMANDS = (
     "add", "find", "symbolicate", "name", "list", "has", "get", "fold", "retire", "exchange", "status", "check",
@@ -59,8 +59,8 @@ VERSION = "--version"
 ASKING = ("find", "symbolicate", "name", "list", "has", "get")
 # Commands that print no JSON. Each other one has the keys of its last object, whose values are null if it fails.
 WITHOUT_JSON = ("fold", "repair")
-QUIET = "print nothing if nothing is wrong, as cron mails what is printed"
-WAIT = "wait at most so long for another command that writes"
+QUIET = "print nothing if nothing is wrong, since cron mails the output"
+WAIT = "wait at most this long for another command that writes"
 JSON = "print an object of JSON for each line, as docs/FILES.md describes them"
 
 
@@ -101,7 +101,7 @@ class CommandParser(argparse.ArgumentParser):
         """Refuses an argument that is no option, though it begins as one."""
         for one in arguments[: arguments.index("--") if "--" in arguments else len(arguments)]:
             if one.startswith("-") and one != "-" and one.partition("=")[0] not in self.options:
-                what = "what begins with - and is none comes after --"
+                what = "put -- before an argument that begins with -"
                 self.error(f"`{shown(one)}` is no option of `{self.prog}`; {what}")
 
     def error(self, message: str) -> NoReturn:

@@ -22,39 +22,39 @@ from ..store.program import Program, Run
 from ..store.slices import Finder, Slice, compared, promised
 
 DESCRIPTION = """\
-Puts the Mach-O images and dSYMs of files and folders into ARCHIVE, and makes ARCHIVE if something is to go in.
+Adds the Mach-O images and dSYMs of files and folders to ARCHIVE, and makes ARCHIVE if there is something to add.
 
   symarch-keep add builds.sym dSYMs
   symarch-keep add --dsyms-only builds.sym dSYMs.zip
   symarch-keep add builds.sym - < spool.app.dSYM/Contents/Resources/DWARF/spool
 
-What goes in is found by its first bytes: each 64-bit slice with a UUID, at any depth of a PATH. A zip file or a gzipped
-tar file is read as a folder if it is a PATH, or is called so, to three levels; - is standard input. What is passed over
-is counted, and named by --verbose. A file that cannot be read, or that symarch refuses, is reported, and the others go
-in.
+It finds each 64-bit slice with a UUID by its first bytes, at any depth of a PATH. A zip file or a gzipped tar file is
+read as a folder if it is a PATH, or is called so, to three levels; - is standard input. Files that are passed over are
+counted, and named with --verbose. A file that cannot be read, or that symarch refuses, is reported, and the others are
+added.
 
 Each slice gets a line, in the order in which they were found:
 
   added UUID ARCH DIGEST PATH
   known UUID ARCH DIGEST PATH      it was there, or was found before
-  retired UUID ARCH DIGEST PATH    it is withdrawn, so it stays out
+  retired UUID ARCH DIGEST PATH    it is withdrawn, so it is not added
 
 DIGEST is the SHA-256 of the slice. In PATH the backslash, and each byte that is no UTF-8 or does not print, is \\x and
-two hex digits. ARCHIVE.builds keeps the name of the file, the day, and what Info.plist states."""
+two hex digits. ARCHIVE.builds keeps the name of the file, the day, and the app, version and build in Info.plist."""
 USAGE = "symarch-keep add [--quiet] [--wait SECONDS] [--json] [--verbose] [--dry-run] [--dsyms-only] ARCHIVE PATH..."
-ABOUT = "put images and dSYMs into it"
+ABOUT = "add images and dSYMs to it"
 STANDARD_INPUT = b"-"
 WORDS = ("added", "known", "retired")
 KEYS = (*WORDS, "refused", "passed_over", "made", "dry_run")
 
 
 def define(parser: argparse.ArgumentParser) -> None:
-    parser.add_argument("--verbose", action="store_true", help="name what is passed over")
-    parser.add_argument("--dry-run", action="store_true", help="print what would come of it, and write nothing")
-    only = "of folders, zip and tar files take only what lies below NAME.dSYM/Contents/Resources/DWARF"
+    parser.add_argument("--verbose", action="store_true", help="name the files that are passed over")
+    parser.add_argument("--dry-run", action="store_true", help="print the result, but write nothing")
+    only = "of folders, zip and tar files add only the files below NAME.dSYM/Contents/Resources/DWARF"
     parser.add_argument("--dsyms-only", action="store_true", help=only)
     parser.add_argument("archive", metavar="ARCHIVE")
-    parser.add_argument("paths", metavar="PATH", nargs="+", help="one that begins with - comes after --")
+    parser.add_argument("paths", metavar="PATH", nargs="+", help="put -- before one that begins with -")
 
 
 def read_all(slices: Sequence[Slice], screen: Screen) -> List[Slice]:

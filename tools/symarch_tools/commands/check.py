@@ -29,10 +29,10 @@ archive, and works on a disk that is read-only.
   lost UUID ARCH DIGEST                           the slice was there, and neither it nor its retirement is
   lost retired UUID ARCH DIGEST                   the retirement was there, and is not
   damaged FILE                                    a file beside ARCHIVE is not as symarch-keep wrote it
-  unknown FILE                                    nothing says whether the file is as it was
+  unknown FILE                                    it is not known whether the file is as it was
 
-OFFSET is where in FILE the record or the table begins. `repair` mends what changed, and `exchange` brings back what is
-lost. The status is 2 if there is such a line."""
+OFFSET is where in FILE the record or the table begins. `repair` restores changed bytes, and `exchange` brings back lost
+records. The status is 2 if there is such a line."""
 USAGE = "symarch-keep check [--quiet] [--wait SECONDS] [--json] ARCHIVE"
 ABOUT = "find each byte that changed"
 KEYS = ("slices", "retirements", "wrong")

@@ -23,14 +23,14 @@ site, which no other one has: a-z, 0-9, - and _.
   symarch-keep exchange builds.sym shared east
   symarch-keep exchange builds.sym shared east --key east.key --signers signers
 
-One call joins what others answered, asks anew if something changed, answers what others ask, and removes what is done
-with. ARCHIVE is made if it does not exist; FOLDER is not.
+One call joins the answers of the others, asks anew if something changed, answers the others' questions, and removes
+old files. ARCHIVE is made if it does not exist; FOLDER is not.
 
 With --key and --signers each file has a signature by `ssh-keygen -Y sign`, and one counts only if a key of its site
 made it. A site that signed once needs keys from then on. Files that do not count are named, and the call ends with 2;
 so it does as long as something is lost.
 
-The lines, which ARCHIVE.log keeps with the date:
+The lines, which ARCHIVE.log keeps with their dates:
 
   added UUID ARCH DIGEST SITE      the slice came from SITE
   retired UUID ARCH DIGEST SITE    the retirement came from SITE
@@ -48,9 +48,9 @@ KEYS = ("added", "retired", "answered", "not_whole", "refused", "lost")
 
 def define(parser: argparse.ArgumentParser) -> None:
     parser.add_argument("--take-name", action="store_true", help="take NAME, which another site has or had")
-    parser.add_argument("--key", metavar="FILE", help="sign by this key, whose private half may be in an agent")
-    parser.add_argument("--signers", metavar="FILE", help="take only what a key of these sites signed")
-    parser.add_argument("--most", metavar="BYTES", help="take no file of FOLDER that is longer, and send no more")
+    parser.add_argument("--key", metavar="FILE", help="sign with this key, whose private half may be in an agent")
+    parser.add_argument("--signers", metavar="FILE", help="accept only files that a key of these sites signed")
+    parser.add_argument("--most", metavar="BYTES", help="accept no longer file of FOLDER, and send no more")
     parser.add_argument("archive", metavar="ARCHIVE")
     parser.add_argument("folder", metavar="FOLDER")
     parser.add_argument("name", metavar="NAME")

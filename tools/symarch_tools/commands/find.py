@@ -8,20 +8,20 @@ from ..store.asking import AskedCommand, opened_archive
 from .arguments import define_archive, uuid_of
 
 DESCRIPTION = """\
-Prints what ARCHIVE has of UUID:
+Prints the slices and retirements of UUID:
 
   ARCH image DIGEST      a slice that is no companion
   ARCH dsym DIGEST       a slice of a dSYM
   ARCH retired DIGEST    a retirement
-  ARCH conflict N        so many slices answer for this UUID and ARCH
+  ARCH conflict N        N slices answer for this UUID and ARCH
 
 For example:
 
   symarch-keep find builds.sym 4c4c4419-5555-3144-a1d2-4341c97782f0
 
-A slice that is read, and changed since it came in, is printed alone, and the status is 2."""
+If a slice that is read has changed since it was added, only that is printed, and the status is 2."""
 USAGE = "symarch-keep find [--json] ARCHIVE UUID"
-ABOUT = "print what it has of a UUID"
+ABOUT = "print the slices of a UUID"
 KEYS = ("found",)
 
 

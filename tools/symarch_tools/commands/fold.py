@@ -9,23 +9,23 @@ from ..store.draft import Draft
 from ..store.program import Program
 
 DESCRIPTION = """\
-Joins ARCHIVE.today with the files of ARCHIVE that are alike in size. What all have together stays the same.
+Joins ARCHIVE.today with the files of ARCHIVE of similar size. Their content together stays the same.
 
   symarch-keep fold --quiet builds.sym
   symarch-keep fold --all builds.sym
 
-The last file is joined as long as it is less than twice as large as what is joined so far; so ARCHIVE is written anew
-only once what came since is half as large. Files of less than 64 MiB are always joined. The bytes of a retired slice go
-with the next join of its file, or by the first fold after 30 days. The disk needs room for the join.
+The last file is joined as long as it is less than twice as large as the join so far; so ARCHIVE is written anew only
+once the additions are half as large. Files of less than 64 MiB are always joined. The bytes of a retired slice are
+removed with the next join of its file, or by the first fold after 30 days. The disk needs room for the join.
 
-If it is never called, the first command that finds more than a tenth of all in ARCHIVE.today does the same."""
+If it is never called, a command that writes does the same once ARCHIVE.today has a tenth of the whole."""
 USAGE = "symarch-keep fold [--quiet] [--wait SECONDS] [--all] [--purge] ARCHIVE"
-ABOUT = "join what came in lately into it"
+ABOUT = "join recent additions into it"
 
 
 def define(parser: argparse.ArgumentParser) -> None:
     parser.add_argument("--all", action="store_true", help="join all levels into ARCHIVE")
-    parser.add_argument("--purge", action="store_true", help="take out the bytes of all retired slices")
+    parser.add_argument("--purge", action="store_true", help="remove the bytes of all retired slices")
     parser.add_argument("archive", metavar="ARCHIVE")
 
 

@@ -20,27 +20,27 @@ from ..store.losses import record_members
 from .arguments import define_archive, digest_of, uuid_of
 
 DESCRIPTION = """\
-Makes dSYM bundles of UUIDs in FOLDER, with the very bytes that came in: NAME.dSYM, and NAME beside it of the slices
+Makes dSYM bundles of UUIDs in FOLDER, with the bytes that were added: NAME.dSYM, and next to it NAME, of the slices
 that are no companions. NAME is the first name that `list` prints, or else the UUID.
 
   symarch-keep get builds.sym 4c4c4419-5555-3144-a1d2-4341c97782f0 --to debug
   (lldb) target symbols add debug/spool.dSYM
 
-The slices of a build for several architectures go into one universal file. Each slice gets a line:
+The slices of a build for several architectures become one universal file. Each slice gets a line:
 
   got UUID ARCH DIGEST PATH
-  known UUID ARCH DIGEST PATH    it is there with these very bytes
-  conflict UUID ARCH DIGEST      others of this UUID and ARCH answer too, so none is written: --digest says which
+  known UUID ARCH DIGEST PATH    it is there with these bytes
+  conflict UUID ARCH DIGEST      others of this UUID and ARCH answer too, so none is written: choose by --digest
 
-What is at PATH with other bytes stays, and is reported."""
+A file at PATH with other bytes stays, and is reported."""
 USAGE = "symarch-keep get [--json] [--digest DIGEST]... ARCHIVE UUID... --to FOLDER"
-ABOUT = "make dSYM bundles of it, for a debugger"
+ABOUT = "make dSYM bundles for a debugger"
 KEYS = ("got", "known", "conflict", "absent")
 
 
 def define(parser: argparse.ArgumentParser) -> None:
-    parser.add_argument("--to", metavar="FOLDER", required=True, help="where they are made")
-    parser.add_argument("--digest", metavar="DIGEST", action="append", default=[], help="which one of several slices")
+    parser.add_argument("--to", metavar="FOLDER", required=True, help="the folder in which they are made")
+    parser.add_argument("--digest", metavar="DIGEST", action="append", default=[], help="the one of several slices")
     define_archive(parser)
     parser.add_argument("uuids", metavar="UUID", nargs="+")
 

@@ -16,7 +16,7 @@ DESCRIPTION = """\
 Prints a line for each UUID:
 
   dsym UUID        its dSYM is there, and has DWARF, the source lines
-  no-dwarf UUID    its dSYM is there, but without DWARF: it has names alone
+  no-dwarf UUID    its dSYM is there, but without DWARF: it has only names
   image UUID       an image is there, and no dSYM
   absent UUID      nothing is there
 
@@ -24,10 +24,10 @@ For example, before a release is shipped:
 
   symarch-keep has builds.sym $(dwarfdump --uuid Spool.app.dSYM | cut -d ' ' -f 2)
 
-Of a UUID with several slices that answer the least counts. The status is 0 if each UUID has its dSYM with DWARF, and
-else 1."""
+If several slices of a UUID answer, the least counts. The status is 0 if each UUID has its dSYM with DWARF, and
+otherwise 1."""
 USAGE = "symarch-keep has [--json] ARCHIVE UUID..."
-ABOUT = "say whether dSYMs are there"
+ABOUT = "print whether dSYMs are there"
 # From the best to the least.
 DSYM, NO_DWARF, IMAGE, ABSENT = WORDS = ("dsym", "no-dwarf", "image", "absent")
 KEYS = tuple(word.replace("-", "_") for word in WORDS)

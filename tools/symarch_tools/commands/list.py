@@ -24,12 +24,11 @@ For example:
 
   symarch-keep list --app com.example.spool --since 2026-11-01 builds.sym
 
-DAY is the one on which an Xcode archive says that it was made, or else the first one on which it came in at a site, in
-UTC; BYTES counts its slices together. APP, VERSION and BUILD are of Info.plist, and NAME is that of the file; ? stands
-for what nothing says. `!N` after `dsym` or `image` says that N slices answer, a conflict. A space in APP, VERSION or
-BUILD is \\x20."""
+DAY is that on which the Xcode archive was made, or else the first one on which a site added it, in UTC; BYTES counts
+its slices together. APP, VERSION and BUILD are those of Info.plist, and NAME is that of the file; ? means unknown. `!N`
+after `dsym` or `image` means that N slices answer, a conflict. A space in APP, VERSION or BUILD is \\x20."""
 USAGE = "symarch-keep list [--json] [--app ID] [--version VERSION] [--build BUILD] [--since DATE] ARCHIVE"
-ABOUT = "print its builds by their names"
+ABOUT = "print its builds by name"
 KEYS = ("builds",)
 # What stands in the place of a day that nobody knows. It is before all others.
 NO_DAY = ""
@@ -66,10 +65,10 @@ class Listed(NamedTuple):
 
 
 def define(parser: argparse.ArgumentParser) -> None:
-    parser.add_argument("--app", metavar="ID", help="those of this bundle identifier alone")
-    parser.add_argument("--version", metavar="VERSION", help="those of this version alone, as Info.plist has it")
-    parser.add_argument("--build", metavar="BUILD", help="those of this build alone, as Info.plist has it")
-    parser.add_argument("--since", metavar="DATE", help="those of this day or later, as YYYY-MM-DD")
+    parser.add_argument("--app", metavar="ID", help="only those of this bundle identifier")
+    parser.add_argument("--version", metavar="VERSION", help="only those of this version in Info.plist")
+    parser.add_argument("--build", metavar="BUILD", help="only those of this build in Info.plist")
+    parser.add_argument("--since", metavar="DATE", help="only those of this day or later, as YYYY-MM-DD")
     parser.add_argument("archive", metavar="ARCHIVE")
 
 

@@ -20,8 +20,8 @@ the name for each symbol that has NAME in it.
   symarch-keep name builds.sym -- '-[Spool copyBody:]'
   symarch-keep name --part builds.sym copy
 
-If none has it, but one with a `_` before it, standard error says so. All slices are read; one that changed since it
-came in is named, and gets no line."""
+If none has it, but one with a `_` before it, standard error names that. All slices are read; one that changed since it
+was added is named, and gets no line."""
 USAGE = "symarch-keep name [--json] [--part] ARCHIVE NAME"
 ABOUT = "find a symbol by its name"
 KEYS = ("symbols",)
@@ -32,7 +32,7 @@ Found = Tuple[bytes, NamedSymbol, Section]
 def define(parser: argparse.ArgumentParser) -> None:
     parser.add_argument("--part", action="store_true", help="NAME is a part of the name, as the symbol table has it")
     define_archive(parser)
-    parser.add_argument("name", metavar="NAME", help="one that begins with - comes after --")
+    parser.add_argument("name", metavar="NAME", help="put -- before one that begins with -")
 
 
 def carry_out(arguments: argparse.Namespace) -> int:

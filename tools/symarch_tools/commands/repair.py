@@ -24,16 +24,16 @@ from ..store.program import Program, Run
 from ..store.slices import Slice, compared
 
 DESCRIPTION = """\
-Mends what changed in ARCHIVE, as `check` finds it: takes the good bytes of each changed slice out of FROM, an archive
-of another site, with its levels and FROM.today, or one that you made of the dSYM by `add`.
+Restores the changed bytes of ARCHIVE, as `check` finds them: copies the good bytes of each changed slice from FROM, an
+archive of another site, with its levels and FROM.today, or one to which you added the dSYM.
 
   symarch-keep repair builds.sym west.sym
 
-Each file is then what it was, byte for byte. A table that changed is made anew of its slice. The lines are those of
-`check` with `repaired` in the place of `changed`; what could not be mended is printed with `changed`, and the status
+Each file is then as it was, byte for byte. A changed table is made anew from its slice. The lines are those of `check`
+with `repaired` in place of `changed`; a record that could not be repaired is printed with `changed`, and the status
 is 2."""
 USAGE = "symarch-keep repair [--quiet] [--wait SECONDS] ARCHIVE FROM"
-ABOUT = "mend what changed, out of another archive"
+ABOUT = "restore changed bytes from another archive"
 # So many bytes the system copies at once.
 MOST_COPIED = 1 << 24
 

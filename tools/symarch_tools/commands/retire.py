@@ -19,13 +19,13 @@ from ..store.program import Program
 from .arguments import app_of, arch_of, day_of, digest_of, other_form, uuid_of
 
 DESCRIPTION = """\
-Withdraws a slice for good, by what `find` prints; or all slices of an app from before a day, or of a version or build.
+Withdraws a slice for good, as `find` prints it; or all slices of an app from before a day, or of a version or build.
 
   symarch-keep retire builds.sym 4c4c4419-5555-3144-a1d2-4341c97782f0 arm64 DIGEST
   symarch-keep retire --dry-run --app com.example.spool --before 2026-01-01 builds.sym
 
-Nothing that is asked finds the slice then. The retirement reaches each site by `exchange`, and a `fold` takes the bytes
-out. A slice that is not there is refused, unless --before-it-comes is given.
+No lookup finds the slice any more. The retirement reaches each site by `exchange`, and a `fold` removes the bytes. A
+slice that is not there is refused, unless --before-it-comes is given.
 
 The line is `retired UUID ARCH DIGEST`, or `known UUID ARCH DIGEST` if it was retired before. With --app each slice gets
 one before anything is written:
@@ -33,8 +33,8 @@ one before anything is written:
   retiring UUID ARCH DIGEST DAY APP VERSION BUILD NAME
   staying UUID ARCH DIGEST DAY APP VERSION BUILD NAME     another app or build has it too
 
-With --with-inner frameworks and extensions go too that came in with archives of these builds and with no other app. Of
-what came in before 2.4.0 that is not known, and it stays."""
+--with-inner also retires frameworks and extensions that were added with archives of these builds and with no other app.
+This is not known of slices that were added before 2.4.0, and they stay."""
 CALL = "symarch-keep retire [--quiet] [--wait SECONDS] [--json] [--dry-run]"
 USAGE = f"""{CALL} [--before-it-comes] ARCHIVE UUID ARCH DIGEST
     {CALL} --app ID [--with-inner]
@@ -46,12 +46,12 @@ ABOUT = "withdraw a slice, or builds of an app, for good"
 
 def define(parser: argparse.ArgumentParser) -> None:
     parser.add_argument("--before-it-comes", action="store_true", help="retire a slice that is not there")
-    parser.add_argument("--dry-run", action="store_true", help="print what would come of it, and write nothing")
+    parser.add_argument("--dry-run", action="store_true", help="print the result, but write nothing")
     parser.add_argument("--app", metavar="ID", help="the bundle identifier of an app, as `list` prints it")
     parser.add_argument("--before", metavar="DATE", help="its builds from before this day of UTC, as YYYY-MM-DD")
     parser.add_argument("--version", metavar="VERSION", help="those of this version, as `list` prints it")
     parser.add_argument("--build", metavar="BUILD", help="those of this build, as `list` prints it")
-    parser.add_argument("--with-inner", action="store_true", help="also what is in that app alone, as its frameworks")
+    parser.add_argument("--with-inner", action="store_true", help="also slices in that app alone, as its frameworks")
     parser.add_argument("archive", metavar="ARCHIVE")
     parser.add_argument("more", metavar=" ".join(OF_SLICE), nargs="*")
     parser.set_defaults(refuse=parser.error)

@@ -23,8 +23,8 @@ from ..store.losses import counted, lost_lines
 from ..store.program import Program
 
 DESCRIPTION = """\
-Prints what ARCHIVE has, in numbers, and what is known of the sites with which it exchanges. It reads the indexes;
-`check` reads all.
+Prints the content of ARCHIVE in numbers, and the sites with which it exchanges. It reads the indexes; `check` reads
+the whole archive.
 
   images N            slices that are no companions
   companions N        slices of dSYMs
@@ -33,23 +33,23 @@ Prints what ARCHIVE has, in numbers, and what is known of the sites with which i
   bytes N             of ARCHIVE
   today N             bytes of ARCHIVE.today
   levels N            bytes of ARCHIVE.1, ARCHIVE.2 and so on together
-  waiting N           bytes of retired slices that are in a file yet
+  waiting N           bytes of retired slices that are still in a file
   site NAME ...       when that site last asked, was last answered, and its answer last joined
   conflict ...        UUID and ARCH of each conflict, and how many slices answer
   lost ...            UUID, ARCH and DIGEST of a slice that was there and is not, or the same after `retired`
-  left PATH           what a kill left, which the next command that writes removes
+  left PATH           a file that a kill left, which the next command that writes removes
 
-`exchange` brings back what is lost, if another site has it; --accept takes as lost what no site has any more. The
-status is 2 if something is lost or damaged."""
+`exchange` brings back a lost record if another site has it; --accept gives up the others. The status is 2 if something
+is lost or damaged."""
 USAGE = "symarch-keep status [--quiet] [--wait SECONDS] [--json] [--accept] ARCHIVE"
-ABOUT = "print what it has, in numbers"
+ABOUT = "print its content in numbers"
 NUMBERS = ("images", "companions", "retirements", "conflicts", "bytes", "today", "levels", "waiting")
 KEYS = (*NUMBERS, "sites", "conflicting", "lost", "left")
 DATES = ("asked", "answered", "joined")
 
 
 def define(parser: argparse.ArgumentParser) -> None:
-    parser.add_argument("--accept", action="store_true", help="take what is lost as lost")
+    parser.add_argument("--accept", action="store_true", help="give up the lost records")
     parser.add_argument("archive", metavar="ARCHIVE")
 
 

@@ -20,16 +20,16 @@ DESCRIPTION = """\
 Prints the symbol nearest to each ADDRESS of the image of UUID and ARCH: the address, and
 
   NAME + OFFSET (SEG,SECT)    the symbol nearest to it
-  -     it has none: it lies in no section, or below the section's first symbol
+  -     it has none: it is in no section, or below the section's first symbol
   ?     no slice answers; standard error names other architectures of UUID
-  !N    N slices answer, of which each gets a line below
+  !N    N slices answer, each with a line below
 
 For example, of an image that was loaded at 0x104d38000, and by an offset of a report:
 
   symarch-keep symbolicate --load 0x104d38000 builds.sym 4c4c4419-5555-3144-a1d2-4341c97782f0 arm64 0x104d38410
   symarch-keep symbolicate --offset --demangle builds.sym 4c4c4419-5555-3144-a1d2-4341c97782f0 arm64 1040
 
-Numbers are hexadecimal unless an option says otherwise. - in the place of ADDRESS stands for those of standard input.
+Numbers are hexadecimal, unless an option changes that. - means the addresses on standard input.
 The status is 1 unless each address has one symbol."""
 OPTIONS = "[--json] [--load HEX | --offset] [--decimal] [--lines] [--demangle]"
 USAGE = f"symarch-keep symbolicate {OPTIONS} ARCHIVE UUID ARCH ADDRESS..."
@@ -47,7 +47,7 @@ def define(parser: argparse.ArgumentParser) -> None:
     readable = "print names as reports have them, without the underscore of C and demangled"
     parser.add_argument("--demangle", action="store_true", help=readable)
     define_archive(parser, "UUID", "ARCH")
-    parser.add_argument("addresses", metavar="ADDRESS", nargs="+", help="- stands for those of standard input")
+    parser.add_argument("addresses", metavar="ADDRESS", nargs="+", help="- means those on standard input")
 
 
 # ---- what the program prints

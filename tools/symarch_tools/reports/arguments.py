@@ -39,15 +39,15 @@ Examples:
   symbolicate-report --group crashes builds.sym       how many reports in a folder crashed alike
 
 A REPORT is an .ips, a text (.crash), a call tree of `sample`, of `spindump` or of a hang, a payload of MetricKit, or a
-folder or zip file of these. Frames that have one answer get its name and offset, its file and line, and the functions
-inlined there; all else is printed as it stands. The last line on standard error counts the frames, and says what
-answered for each image. docs/OPERATING.md has the rest.
+folder or zip file of these. Frames with one answer get its name and offset, its file and line, and the functions
+inlined there; the rest is printed as it is. The last line on standard error counts the frames, and prints for each
+image whether its dSYM, the image or nothing answered. docs/OPERATING.md describes the details.
 
-An ARCHIVE is asked with what `symarch-keep` has beside it, and several archives are asked as their join. A name that is
-printed by an index is one that the index vouches for.
+An ARCHIVE is searched with the files that `symarch-keep` has next to it, and several archives as their join. An index
+vouches for each name that it finds.
 
-The program is the one that SYMARCH names; else the one that ./symarch built, or that was installed with this tool; else
-`symarch` in PATH. None is built here.
+The program is the one that SYMARCH names; otherwise the one that ./symarch built, or that was installed with this tool;
+otherwise `symarch` in PATH. The tool builds none.
 
 Status:
   0    a frame has one name, or --missing was asked for
@@ -117,28 +117,27 @@ def parser_of_options() -> ReportParser:
 REPORTS = """the reports, of which `-` is standard input, or folders of reports, and after them archives"""
 MISSING = """print the UUID and the name of each image with frames that the report does not name, of which the archive
 has no dSYM, whether it has the image or not: a line each, once for all reports, and nothing else"""
-COUNTS = """with --missing, print those of most reports first: how many they are, the UUID, the architecture, the
-version and the name, between tabs, where `?` is what no report says"""
-GROUP = """print in place of the reports a line for each group of them, those of most reports first: how many they are,
-the top three frames of the crashed thread, and the path of the first report, between tabs"""
-JSON = """print in place of the report what standard error says of it and of its images, as an object a line; with
---out the reports are written too"""
+COUNTS = """with --missing, print those of most reports first: the number of reports, the UUID, the architecture, the
+version and the name, between tabs, where `?` means unknown"""
+GROUP = """print in place of the reports a line for each group of them, those of most reports first: their number, the
+top three frames of the crashed thread, and the path of the first report, between tabs"""
+JSON = """print in place of the report its counts and its images, as on standard error, in an object a line; with --out
+the reports are written too"""
 FRAMES = """with --json, print an object for each frame too, before that of its report"""
-TEXT = """print a JSON report as people read a crash: its header, what the system said of its end, the threads and other
-backtraces with names and offsets, the registers, the images. It leaves out a `Full Report` that repeats the text before
-it"""
-NO_LINES = """print names alone, without files, lines and inlined functions, as for an archive without dSYMs"""
-PATHS = """print the paths of source files as the compilers wrote them, and not their last names"""
+TEXT = """print a JSON report as people read a crash: its header, the reason of its end, the threads and other
+backtraces with names and offsets, the registers, the images. It omits a `Full Report` that repeats the text above it"""
+NO_LINES = """print only names, without files, lines and inlined functions, as for an archive without dSYMs"""
+PATHS = """print the whole paths of source files, as the compilers wrote them"""
 NO_DEMANGLE = """leave names of C++, Rust and Swift as they are. Otherwise `swift demangle` makes them readable, and the
 first of `llvm-cxxfilt`, `llvm-cxxfilt-N` of the greatest N and `c++filt`: those that are installed, once each for all
 names, if one needs it"""
-DEMANGLE = """say so if none of these is installed"""
+DEMANGLE = """report it if none of these is installed"""
 RAW = """keep the underscore that a symbol table puts before each name, and leave names as they are"""
 OUT = """write each report to FOLDER under the name of its own file, in the folders that a REPORT folder has, whole or
-not at all, and make FOLDER if it is not there. It replaces a file that is there, but never one that this call reads.
-Several reports need it, and so does a folder; two that would be one file are refused"""
+not at all, and make FOLDER if it does not exist. It replaces a file there, but never one that this call reads. Several
+reports need it, and so does a folder; two that would be one file are refused"""
 IMAGE = """an image of text that lists none, and where it was loaded, as for `atos -o -l`; without @LOAD the lines have
-to say it, as `0x104d38000 + 1040` or `NAME + 1040`"""
+to state it, as `0x104d38000 + 1040` or `NAME + 1040`"""
 BUILD = """the same of all images of a build, as `symarch-keep list` prints it"""
 # Each option without a value: the field of `Options` that it sets, and its help.
 FLAGS = {
