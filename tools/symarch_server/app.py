@@ -119,7 +119,7 @@ def refuse_host() -> None:
 
 
 def refuse_origin() -> None:
-    """Refuses a page of elsewhere, but for those that may ask for names."""
+    """Refuses a page of elsewhere, except for those that may ask for names."""
     origin = request.headers.get("Origin", "").lower()
     is_within = request.headers.get("Sec-Fetch-Mode", "navigate") != "navigate"
     is_foreign = request.headers.get("Sec-Fetch-Site") == "cross-site" and is_within

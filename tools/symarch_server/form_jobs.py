@@ -8,7 +8,7 @@ from typing import List
 
 from .control import Members
 
-# What stands in a form beside files is held in memory.
+# What stands in a form besides files is held in memory.
 MOST_IN_MEMORY, MOST_PARTS = 16_000_000, 20
 
 

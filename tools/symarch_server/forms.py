@@ -28,7 +28,7 @@ def refuse_others(known: Iterable[str]) -> None:
 
 
 def flags_of(names: Iterable[str], others: Iterable[str] = ()) -> List[str]:
-    """The parameters that are given without a value, as options of a tool. Others may stand beside them."""
+    """The parameters that are given without a value, as options of a tool. Others may stand besides them."""
     refuse_others([*names, *others])
     given = [name for name in names if name in request.args]
     valued = [name for name in given if not {"", "1"}.issuperset(request.args.getlist(name))]

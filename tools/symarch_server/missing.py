@@ -45,7 +45,7 @@ def text_of(name: str) -> str:
 
 @dataclass(eq=False)
 class Missing:
-    """The file beside an archive. Whoever may not write it remembers nothing, and answers all the same."""
+    """The file next to an archive. Whoever may not write it remembers nothing, and answers all the same."""
 
     archive: str
     is_kept: bool

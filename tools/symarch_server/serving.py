@@ -30,13 +30,13 @@ from .tokens import token_in
 
 # What stands around a file in a form.
 AROUND = 100_000
-# How many bytes of reports are held at once, of all requests that are being received or answered, beside the first
+# How many bytes of reports are held at once, of all requests that are being received or answered, besides the first
 # ones of each.
 MOST_HELD = 1 << 30
 # How many connections are open at once; how long one may be without a sign of life, in seconds, and how often it is
 # looked for.
 MOST_CONNECTIONS, MOST_SILENCE, BETWEEN_LOOKS = 2_000, 60, 5
-# So many files are open beside connections, and so many of each: itself, what came in, and what is sent.
+# So many files are open besides connections, and so many of each: itself, what came in, and what is sent.
 OF_ITSELF, OF_EACH = 300, 3
 # How long a client may take for a request's head, for its body, and for an upload.
 OF_HEAD, OF_BODY, OF_UPLOAD = 60, 900, 86_400
@@ -119,7 +119,7 @@ class RequestParser(HTTPRequestParser):
         return consumed
 
     def count(self) -> None:
-        """Counts what the body has beside its first bytes, for which there is always room."""
+        """Counts what the body has besides its first bytes, for which there is always room."""
         more = max(self.body_bytes_received - SMALL, 0) - self.counted[0]
         self.counted[0] += more
         if more and self.held.add(more) > MOST_HELD and not self.error:

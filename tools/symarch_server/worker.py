@@ -70,7 +70,7 @@ def has_sent(control: socket.socket, members: Members, descriptors: List[int]) -
 
 
 def put_standard(*descriptors: int) -> None:
-    """Puts open files in the place of the standard streams."""
+    """Puts open files in place of the standard streams."""
     for place, descriptor in enumerate(descriptors):
         os.dup2(descriptor, place)
 
@@ -117,7 +117,7 @@ def answered(job: Members, log: int) -> Tuple[Members, List[int]]:
 
 
 def refuse_pipe(archive: str) -> None:
-    """Refuses a pipe in the place of the archive, for which reports would wait, since they may come from one."""
+    """Refuses a pipe in place of the archive, for which reports would wait, since they may come from one."""
     if is_no_file(os.fsencode(archive)):
         raise Failed(f"{shown(archive)} is {NO_FILE}, and no archive", 2)
 

@@ -1,4 +1,4 @@
-"""What a user runs beside the program symarch, and what it is made of. In reading order:
+"""What a user runs besides the program symarch, and what it is made of. In reading order:
 
 - formats           the bytes of archives, indexes, summaries and files of images: read and written, no policy
 - store             an archive: its levels, lock, log and index, and how a new file takes the place of one

@@ -159,7 +159,7 @@ def parse(arguments: Sequence[str]) -> argparse.Namespace:
 
 
 def open_standard_streams() -> None:
-    """Keeps a file that is opened from standing in the place of a standard stream that is closed."""
+    """Keeps a file that is opened from standing in place of a standard stream that is closed."""
     for descriptor in range(3):
         try:
             os.fstat(descriptor)

@@ -175,7 +175,7 @@ def carry_out(arguments: argparse.Namespace) -> int:
         finder.find(paths)
         readable = read_all(finder.slices, screen)
         finder.name_builds()
-        # Where nothing was found nothing is made beside an archive that is not there.
+        # Where nothing was found nothing is made next to an archive that is not there.
         is_writing = not arguments.dry_run and (archive.files.main.exists() or bool(readable))
         archive = Archive(os.fsencode(arguments.archive), is_made=True, writes=is_writing)
         archive.take_lock(screen, arguments.wait)

@@ -55,7 +55,7 @@ def held(archive: Archive, file: ArchiveFile, program: Program, screen: Screen) 
 
 
 def damaged_lines(archive: Archive) -> List[str]:
-    """The lines of what is kept beside an archive and is damaged."""
+    """The lines of what is kept next to an archive and is damaged."""
     paths = [file.beside(INDEX) for file in archive.files if file.doubt]
     builds = archive.folder.builds
     paths += [archive.lost.path] * bool(archive.lost.fault) + [builds.path] * bool(builds.fault())

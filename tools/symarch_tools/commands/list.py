@@ -30,7 +30,7 @@ after `dsym` or `image` means that N slices answer, a conflict. A space in APP, 
 USAGE = "symarch-keep list [--json] [--app ID] [--version VERSION] [--build BUILD] [--since DATE] ARCHIVE"
 ABOUT = "print its builds by name"
 KEYS = ("builds",)
-# What stands in the place of a day that nobody knows. It is before all others.
+# What stands in place of a day that nobody knows. It is before all others.
 NO_DAY = ""
 
 

@@ -9,7 +9,7 @@ from ..formats.packed_files import ZIP
 from ..store.file_names import beginning, is_archive
 from ..store.slices import THIN, UNIVERSAL, is_dsym
 
-# In a call standard input; and in the place of ARCHIVE, if no argument may be that.
+# In a call standard input; and in place of ARCHIVE, if no argument may be that.
 STANDARD_INPUT, ARCHIVE = "-", "ARCHIVE"
 
 
@@ -31,7 +31,7 @@ def archive_in(command: str, names: Sequence[str]) -> Optional[str]:
 
 
 def refuse_order(command: str, options: Sequence[str], names: Sequence[str]) -> None:
-    """Fails if the first of the names of a call, which are its arguments but for the options, is not ARCHIVE, and
+    """Fails if the first of the names of a call, which are its arguments except for the options, is not ARCHIVE, and
     another one is."""
     first = names[0]
     if command == "exchange" and not os.path.isdir(names[1]) and os.path.isdir(names[2]) and is_archive(first):

@@ -52,7 +52,7 @@ class SliceSource(NamedTuple):
 
 
 def files_of(other: bytes) -> List[bytes]:
-    """An archive, and what symarch-keep has beside it."""
+    """An archive, and what symarch-keep has next to it."""
     beside = [other + level_ending(number) for number in numbers_beside(other)]
     return [other, *filter(os.path.exists, [*beside, other + TODAY])]
 
@@ -171,12 +171,12 @@ class Mending:
         self.archive.folder.replace(self.room, self.file, self.new_index(new, lacking, screen), lines, screen)
 
     def mend_tables(self, lacking: Sequence[IndexRow], lines: Sequence[str], screen: Screen) -> None:
-        """Puts an index in its place whose tables are good, but for those of slices that changed."""
+        """Puts an index in its place whose tables are good, except for those of slices that changed."""
         index = self.new_index(self.file.path, lacking, screen)
         self.archive.folder.replace_index(self.room, self.file, index, lines, screen)
 
     def new_index(self, path: bytes, lacking: Sequence[IndexRow], screen: Screen) -> Index:
-        """The index of a file that was mended, but for slices that are lacking."""
+        """The index of a file that was mended, except for slices that are lacking."""
         index = index_by(self.file.content, path)
         if not self.findings.index.path:
             # An earlier symarch-keep made no tables.

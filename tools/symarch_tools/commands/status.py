@@ -143,7 +143,7 @@ class Seen(NamedTuple):
 
 
 def see(file: ArchiveFile, screen: Screen) -> Seen:
-    """The records of an archive file: those of its index, if that is of it. Says what is damaged beside it."""
+    """The records of an archive file: those of its index, if that is of it. Says what is damaged next to it."""
     is_same = any(file.recall() for _ in looks(file.state, quiet=0))
     index = file.index
     if file.doubt:
@@ -173,7 +173,7 @@ def found_in(records: Sequence[Record], had: Content) -> Content:
 
 
 def lost_of(archive: Archive, asked: Exchanged, seen: Sequence[Seen]) -> Content:
-    """What the archive had and lacks, but for what is taken as lost."""
+    """What the archive had and lacks, except for what is taken as lost."""
     if all(one.is_same for one in seen):
         content = archive.files.joined()
         had = archive.lost.content.joined(asked.lacking_in(content))

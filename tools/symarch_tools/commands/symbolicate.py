@@ -166,7 +166,7 @@ def readable_names(answers: Iterable[AddressAnswer], is_demangled: bool, screen:
 
 
 def addresses_of(arguments: argparse.Namespace) -> List[str]:
-    """The addresses that are named, and those of standard input in the place of the argument -."""
+    """The addresses that are named, and those of standard input in place of the argument -."""
     found: List[str] = []
     for one in arguments.addresses:
         found += os.fsdecode(sys.stdin.buffer.read()).split() if one == "-" and sys.stdin else [one]

@@ -1,4 +1,4 @@
-"""What --json prints: an object a line. A path is text, in which U+FFFD stands in the place of each byte that is no
+"""What --json prints: an object a line. A path is text, in which U+FFFD stands in place of each byte that is no
 UTF-8; then `path_hex` has its bytes."""
 import json
 import os

@@ -6,7 +6,7 @@ import shutil
 from typing import List, Optional
 
 BUILT = os.path.join("crates", "symarch", "out", "symarch")
-# What stands beside the script ./symarch, which would begin a build.
+# What stands next to the script ./symarch, which would begin a build.
 BUILDER = os.path.join("packaging", "build-program")
 # What a program begins with that runs by itself.
 ELF = b"\x7fELF"
@@ -20,7 +20,7 @@ def named() -> Optional[str]:
 def candidates() -> List[str]:
     """Where the program may be, by paths: the one that SYMARCH names; else the one that ./symarch built in this
     repository, the one that was installed with this tool, and `symarch` in PATH. The program that ./symarch built
-    stands in the place of this script."""
+    stands in place of this script."""
     path = named()
     if path:
         return [not_the_script(shutil.which(path) or path)]

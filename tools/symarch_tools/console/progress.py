@@ -32,7 +32,7 @@ class Progress:
     next: float = 0.0
 
     def begin(self, stage: str, size: int = 0) -> None:
-        """Begins a stage; its text may have {} in the place of how many files or slices are done."""
+        """Begins a stage; its text may have {} in place of how many files or slices are done."""
         self.stage, self.size, self.done, self.began = stage, size, 0, self.clock()
         if self.first < 0:
             self.first, self.next = self.began, self.began + LEAST

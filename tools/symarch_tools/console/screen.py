@@ -15,7 +15,7 @@ from .streams import write
 @dataclass(eq=False)
 class Screen:
     """The standard streams: lines, and how far a stage is. It counts what stays out. A quiet one holds all back until
-    something is wrong; one of JSON prints objects in the place of lines on standard output."""
+    something is wrong; one of JSON prints objects in place of lines on standard output."""
 
     is_verbose: bool = False
     is_quiet: bool = False
@@ -135,7 +135,7 @@ class Screen:
     # ---- how far a stage is
 
     def begin(self, stage: str, size: int = 0) -> None:
-        """Begins a stage of so many bytes; its text may have {} in the place of how many files or slices are done."""
+        """Begins a stage of so many bytes; its text may have {} in place of how many files or slices are done."""
         progress.begin(stage, size)
 
     def moved(self, size: int) -> None:

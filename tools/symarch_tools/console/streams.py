@@ -13,7 +13,7 @@ from .faults import about
 
 # What was said that is wrong, as --json prints it.
 noted: List[str] = []
-# What JSON may escape and UTF-8 does not have, but for what stands for bytes that were no UTF-8.
+# What JSON may escape and UTF-8 does not have, except for what stands for bytes that were no UTF-8.
 LONE_SURROGATE = re.compile("[\ud800-\udc7f\udd00-\udfff]")
 
 

@@ -1,4 +1,4 @@
-"""What no part of a tool foresaw: one line in the place of a traceback, for both tools, and that too by --debug."""
+"""What no part of a tool foresaw: one line in place of a traceback, for both tools, and that too by --debug."""
 from __future__ import annotations
 
 import os

@@ -11,7 +11,7 @@ from typing import TYPE_CHECKING, NamedTuple, Optional
 if TYPE_CHECKING:
     import pathlib
 
-# What a package has in the place of a repository, in the folder of `symarch_tools`.
+# What a package has in place of a repository, in the folder of `symarch_tools`.
 PACKED = "VERSION"
 RELEASE = re.compile(r"^### ([0-9]+\.[0-9]+\.[0-9]+), ([0-9]{4}-[0-9]{2}-[0-9]{2})$", re.MULTILINE)
 NEXT = re.compile(r"^### ([0-9]+\.[0-9]+\.[0-9]+), not released$", re.MULTILINE)
@@ -90,7 +90,7 @@ def version() -> str:
 
 
 class PrintVersion(argparse.Action):
-    """Prints the name of a tool and the version, in the place of all else."""
+    """Prints the name of a tool and the version, in place of all else."""
 
     def __call__(self, parser: argparse.ArgumentParser, *_: object) -> None:
         try:

@@ -23,7 +23,7 @@ from .times import fault_of_time, time_after
 MOST_ASKED = 1000
 
 
-# In the place of HAS, if nothing is lacking.
+# In place of HAS, if nothing is lacking.
 NOTHING = "-"
 
 

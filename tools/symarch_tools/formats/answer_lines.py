@@ -73,7 +73,7 @@ def is_number(digits: bytes) -> bool:
 
 
 def unescaped(text: str) -> str:
-    """A text of the program with the characters that it stands for, but for those that would not be one line."""
+    """A text of the program with the characters that it stands for, except for those that would not be one line."""
     return ESCAPED.sub(characters, text) if "\\x" in text else text
 
 

@@ -178,7 +178,7 @@ def earliest(days: Days, more: Mapping[bytes, bytes]) -> Days:
 
 @dataclasses.dataclass(eq=False)
 class Builds:
-    """What the file beside an archive has, as it was when it was first looked at, and what comes in."""
+    """What the file next to an archive has, as it was when it was first looked at, and what comes in."""
 
     archive: bytes
     news: Days = dataclasses.field(default_factory=dict)

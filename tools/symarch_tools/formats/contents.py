@@ -21,7 +21,7 @@ CHUNK = 1 << 20
 NAMES = {(0x01000007, 3): "x86_64", (0x01000007, 8): "x86_64h", (0x0100000C, 0): "arm64", (0x0100000C, 2): "arm64e"}
 NUMBERS = {name: numbers for numbers, name in NAMES.items()}
 NUMBERED = re.compile("cpu:([0-9a-fA-F]{8})/([0-9a-fA-F]{8})")
-# The first line of a file that is kept beside an archive, and how the last one begins.
+# The first line of a file that is kept next to an archive, and how the last one begins.
 FIRST, LAST = "symarch-keep 1\n", "sha256 "
 
 
@@ -30,7 +30,7 @@ Moved = Callable[[int], None]
 
 
 class Malformed(Exception):
-    """Why bytes are no archive, no summary, or no file that is kept beside an archive."""
+    """Why bytes are no archive, no summary, or no file that is kept next to an archive."""
 
 
 class EndsEarly(Malformed):
@@ -167,7 +167,7 @@ def records_in(file: BinaryIO) -> Iterator[Tuple[bytes, int]]:
 
 
 def heads_in(file: BinaryIO) -> Optional[List[bytes]]:
-    """The heads of an archive's records; None where it is none, or where retirements beside their slices have to be
+    """The heads of an archive's records; None where it is none, or where retirements next to their slices have to be
     read together, as in version 1."""
     try:
         heads = [head for head, _ in records_in(file)]
@@ -242,7 +242,7 @@ def entry_in(name: str, arch: str, digest: str) -> bytes:
     return bytes.fromhex(name.replace("-", "")) + numbers_of(arch) + bytes.fromhex(digest)
 
 
-# ---- files that are kept beside an archive
+# ---- files that are kept next to an archive
 
 
 def kept_text(content: Content, notes: Iterable[str] = ()) -> bytes:
@@ -255,7 +255,7 @@ def kept_text(content: Content, notes: Iterable[str] = ()) -> bytes:
 
 
 class KeptFile:
-    """What a file has that is kept beside an archive: the lines of a content, and notes, which are its other lines."""
+    """What a file has that is kept next to an archive: the lines of a content, and notes, which are its other lines."""
 
     def __init__(self, data: bytes) -> None:
         text, last, digest = data.decode(errors="replace").rpartition(LAST)

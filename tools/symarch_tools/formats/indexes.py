@@ -127,8 +127,8 @@ class Index:
         return END + self.count().to_bytes(LENGTH, "big") + self.digest()
 
     def is_in(self, file: BinaryIO) -> bool:
-        """Whether a file that is no index, or another one, has its end record or its entries all the same, but for what
-        these say of tables."""
+        """Whether a file that is no index, or another one, still has its end record, or its entries except for their
+        tables."""
         size, end = file.seek(0, os.SEEK_END), self.end()
         if last_of(file, size, len(end)) == end:
             return True
@@ -215,7 +215,7 @@ def placed(file: BinaryIO, head: bytes, entries: List[bytes], places: List[int])
 
 
 def index_by(content: Content, path: bytes) -> Index:
-    """The index of the archive of a content, which a file has but for bytes that changed. It has no tables."""
+    """The index of the archive of a content, which a file has except for bytes that changed. It has no tables."""
     rows: List[IndexRow] = []
     entries: Dict[bytes, List[bytes]] = {}
     places: Dict[bytes, List[int]] = {}
@@ -236,7 +236,7 @@ def index_by(content: Content, path: bytes) -> Index:
 
 
 def changes(known: Content, came: Content) -> Tuple[Dict[bytes, bytes], Content]:
-    """What changed in an archive of which something is known: the entries that came in the place of known ones, with
+    """What changed in an archive of which something is known: the entries that came in place of known ones, with
     these; and what is lost."""
     lost, new = known.beyond(came), came.beyond(known)
     changed: Dict[bytes, bytes] = {}

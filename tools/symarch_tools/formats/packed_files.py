@@ -67,7 +67,7 @@ def faults() -> Tuple[Type[Exception], ...]:
 
 @contextlib.contextmanager
 def faults_of(kind: str) -> Iterator[None]:
-    """What the modules of Python raise of such a file is a fault of it, but for what the system said."""
+    """What the modules of Python raise of such a file is a fault of it, except for what the system said."""
     try:
         yield
     except faults():

@@ -15,7 +15,7 @@ MOST_NARROW = 0xFFFFFFFF
 FAT_HEADER = struct.Struct(">4sI")
 # Slices stand at multiples of the pages of their machines, by powers of two, as `lipo` places them.
 ALIGNMENT, ALIGNMENT_OF_ARM = 12, 14
-# mach/machine.h: the cputype of each ARM, but for the bits of its pointers.
+# mach/machine.h: the cputype of each ARM, except for the bits of its pointers.
 ARM, POINTERS = 12, 0xFF000000
 # Where cputype and cpusubtype stand in an image, whose numbers are little-endian, as in mach-o/loader.h.
 CPU, CPU_AT = struct.Struct("<II"), 4

@@ -26,7 +26,7 @@ from .names import Names
 from .questions import FramesProgram, IndexFault, cut_short
 from .source_lines import Chains
 
-# What `symarch-keep` has beside an archive: what came in lately, the index, and the index of a file that takes the
+# What `symarch-keep` has next to an archive: what came in lately, the index, and the index of a file that takes the
 # place of the archive just now.
 NAMES = file_names.TODAY, file_names.INDEX, file_names.NEXT_INDEX
 TODAY, INDEX, NEXT_INDEX = map(os.fsdecode, NAMES)
@@ -35,7 +35,7 @@ Places = List[Tuple[str, Optional[int]]]
 
 
 def beside(path: str, ending: str) -> str:
-    """The path of what stands beside an archive. A link stands elsewhere."""
+    """The path of what stands next to an archive. A link stands elsewhere."""
     return (os.path.realpath(path) if os.path.islink(path) else path) + ending
 
 
@@ -48,7 +48,7 @@ def index_beside(path: str) -> str:
 
 
 class NamedArchive:
-    """An archive, and the index beside it, if there is one. `kept` is the archive that `symarch-keep` has it for."""
+    """An archive, and the index next to it, if there is one. `kept` is the archive that `symarch-keep` has it for."""
 
     def __init__(self, path: str, kept: str) -> None:
         self.indexes = beside(path, NEXT_INDEX), beside(path, INDEX)
@@ -56,12 +56,12 @@ class NamedArchive:
             if file_names.is_no_file(os.fsencode(one)):
                 raise Failure(f"{shown(one)} is a pipe, a socket or a device: remove it", Status.REFUSED)
         self.path, self.kept, self.index = path, kept, index_beside(path)
-        # The indexes that were taken in the place of others, and until when more are.
+        # The indexes that were taken in place of others, and until when more are.
         self.tried: Set[Tuple[str, Tuple[State, ...]]] = set()
         self.end = time.monotonic() + MOST_OF_CHANGES
 
     def state(self) -> Tuple[State, ...]:
-        """Which file it is, and which indexes stand beside it."""
+        """Which file it is, and which indexes stand next to it."""
         return tuple(state_of(os.fsencode(path)) for path in (self.path, *self.indexes))
 
     def refuse(self, why: str, more: str = "") -> None:
@@ -97,7 +97,7 @@ class NamedArchive:
 
 
 def with_levels(paths: Iterable[str]) -> List[NamedArchive]:
-    """The archives, each after what `symarch-keep` has beside it: what came in lately, unless that has no record, and
+    """The archives, each after what `symarch-keep` has next to it: what came in lately, unless that has no record, and
     the levels, the last one first. A fold removes a file once one that follows here has all of it."""
     found = []
     for path in paths:
@@ -117,7 +117,7 @@ def levels_of(path: str) -> List[str]:
 
 
 def refuse_missing(path: str) -> None:
-    """Refuses an archive that is not there, and beside which nothing is."""
+    """Refuses an archive that is not there, and next to which nothing is."""
     try:
         os.stat(path)
     except FileNotFoundError:
@@ -268,7 +268,7 @@ class Archives:
         return answers
 
     def without(self, changed: Dict[Key, NamedArchive], answers: List[Answers]) -> List[Answers]:
-        """The answers but for those of slices that changed, which are said."""
+        """The answers except for those of slices that changed, which are said."""
         for one in answers:
             if one.key in changed:
                 self.note_changed(one.key, changed[one.key].kept)

@@ -1,4 +1,4 @@
-"""The files below a folder that is named in the place of a report."""
+"""The files below a folder that is named in place of a report."""
 from __future__ import annotations
 
 import os
@@ -39,7 +39,7 @@ def files_below(folder: str) -> Tuple[List[str], List[OSError]]:
 
 
 def once(paths: List[str]) -> List[str]:
-    """The files but for the copies that Xcode's Organizer has: in the folder of a crash point a report stands below
+    """The files except for the copies that Xcode's Organizer has: in the folder of a crash point a report stands below
     each filter that has it, and again with names where Xcode looked these up."""
     found: Dict[Tuple[str, str], str] = {}
     for path in paths:

@@ -47,7 +47,7 @@ class Kind(enum.IntFlag):
     # Its function was inlined; and the report has those that were inlined in this one, before it.
     IS_INLINED = enum.auto()
     HAS_INLINED = enum.auto()
-    # It stands in a list beside a call tree.
+    # It stands in a list next to a call tree.
     IS_LISTED = enum.auto()
 
 
@@ -250,7 +250,7 @@ class Frames:
         return bool(more)
 
     def listed_at(self, places: Set[Tuple[int, int]]) -> List[int]:
-        """The frames of lists beside a tree, which have its addresses without their stacks, at some of its places."""
+        """The frames of lists next to a tree, which have its addresses without their stacks, at some of its places."""
         if not places:
             return []
         stacked = {outer for outer in self.outer if self.kinds[outer] & IS_LISTED}

@@ -3,7 +3,7 @@
 - slices            what files and folders have
 - program           the program symarch, as it is run
 - file_names        the names of the files of an archive
-- upgrades          what 2.2 kept beside an archive file
+- upgrades          what 2.2 kept next to an archive file
 - lock              the lock of an archive, and how those look at files who take none
 - archive_file      an archive file, and what is known of it
 - log               the lines of the commands with their dates

@@ -138,7 +138,7 @@ class Archive:
         return lines, lost.beyond(self.files.joined())
 
     def made_elsewhere(self, file: ArchiveFile, program: Program, screen: Screen) -> Index:
-        """The index of a file beside which nothing may be written."""
+        """The index of a file next to which nothing may be written."""
         import tempfile
 
         with tempfile.TemporaryDirectory(prefix="symarch-keep.") as room:

@@ -1,4 +1,4 @@
-"""An archive file, and what is known of it: FILE.idx beside it is the index that the last command left, and
+"""An archive file, and what is known of it: FILE.idx next to it is the index that the last command left, and
 FILE.idx.next that of a new file which takes its place, by the steps of `Archive.replace`. Each has the time of the file
 of which it was made, so that another file is told from that one."""
 import contextlib
@@ -48,7 +48,7 @@ class ArchiveFile:
         return size_of(self.path)
 
     def state(self) -> Tuple[State, ...]:
-        """Which file it is, and which indexes stand beside it."""
+        """Which file it is, and which indexes stand next to it."""
         return tuple(map(state_of, (self.path, self.beside(INDEX), self.beside(NEXT_INDEX))))
 
     def magic(self) -> Optional[bytes]:
@@ -87,11 +87,11 @@ class ArchiveFile:
     # ---- what is known of it
 
     def kept(self, ending: bytes) -> Optional[KeptFile]:
-        """What a file beside it has; None where it is not there, or is damaged."""
+        """What a file next to it has; None where it is not there, or is damaged."""
         return upgrades.kept_at(self.beside(ending))
 
     def kept_index(self, ending: bytes = INDEX) -> Optional[Index]:
-        """The index that a file beside it is; None where it is not there, or is none."""
+        """The index that a file next to it is; None where it is not there, or is none."""
         with contextlib.suppress(FileNotFoundError, Malformed):
             return index_at(self.beside(ending))
         return None
@@ -146,7 +146,7 @@ class ArchiveFile:
         return kept.content() if kept else None
 
     def drop_sums(self) -> None:
-        """Removes the sums beside an index that needs none."""
+        """Removes the sums next to an index that needs none."""
         if os.path.exists(self.beside(upgrades.SUM)) and self.kept_index() is not None:
             self.drop(upgrades.SUM)
 
@@ -223,8 +223,8 @@ class ArchiveFile:
 
 
 def is_same_but_for_retirements(heads: List[bytes], others: List[bytes]) -> bool:
-    """Whether two archives have the same heads of records in the same places, but for a few bytes of retirements: these
-    changed then. A retirement of another slice has another digest, of which nearly all bytes differ."""
+    """Whether two archives have the same heads of records at the same offsets, except for a few bytes of retirements,
+    which changed then. In a retirement of another slice nearly all bytes of the digest differ."""
     if heads == others or len(heads) != len(others):
         return False
     pairs = [(one, other) for one, other in zip(heads, others) if one != other]

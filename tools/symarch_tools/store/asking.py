@@ -74,7 +74,7 @@ class Asked:
             except FileNotFoundError:
                 if not file.exists():
                     raise
-                # Something beside it took another name.
+                # Something next to it took another name.
                 continue
             if found:
                 return found

@@ -132,7 +132,7 @@ def index_read(file: ArchiveFile, program: Program, screen: Screen) -> Index:
     except Malformed as fault:
         file.look_through(program)
         raise Failed(f"{shown(file.path)}: {fault}") from None
-    # Version 1 has slices beside their retirements.
+    # Version 1 has slices next to their retirements.
     retired = {row.entry[1:] for row in rows if not row.is_slice()}
     return index_of(row for row in rows if not row.is_slice() or row.entry[1:] not in retired)
 

@@ -101,7 +101,7 @@ class Draft:
         self.archive.empty_today(self.room, self.screen)
 
     def join(self, files: Sequence[ArchiveFile], news: News) -> None:
-        """Puts the join of files, the largest one last, and of news, which an archive has, in the place of the largest
+        """Puts the join of files, the largest one last, and of news, which an archive has, in place of the largest
         file, or makes a level of it if there is none; and removes the others. What a further file retires goes."""
         content = join_of([news.content, *(file.content for file in files)])
         retired = self.archive.files.retired().intersection(content.held)
@@ -121,9 +121,9 @@ class Draft:
         self.archive.remove(others, self.room, self.screen)
 
     def new_index(self, file: ArchiveFile, content: Content, indexes: Sequence[Optional[Index]]) -> Index:
-        """The index of the new file of the room, which has a content but for slices that changed in the files of which
-        it was made: these keep their entries, so that `check` finds them. No other slice is read for it, and tables are
-        copied out of the indexes of these files."""
+        """The index of the new file of the room, which has a content except for slices that changed in the files from
+        which it was made: these keep their entries, so that `check` finds them. No other slice is read for it, and
+        tables are copied from the indexes of these files."""
         new = os.path.join(self.room, b"new")
         with open(new, "rb") as written:
             if heads_in(written) != content.heads():

@@ -1,4 +1,4 @@
-"""The names of the files of an archive. A level is a file ARCHIVE.N beside which an index is stored. Another file of
+"""The names of the files of an archive. A level is a file ARCHIVE.N next to which an index is stored. Another file of
 such a name, as a copy that somebody made, is left alone, and so is one with a lock: an archive of its own."""
 import os
 import shlex
@@ -23,15 +23,15 @@ def level_ending(number: int) -> bytes:
 
 
 NUMBERS = {level_ending(number): number for number in range(1, MOST_LEVELS + 1)}
-# What makes a file a level if it stands beside it.
+# What makes a file a level if it stands next to it.
 MARKS = INDEX, NEXT_INDEX
-# What is read beside each file of an archive, and beside the archive alone.
+# What is read next to each file of an archive, and next to the archive alone.
 OF_EACH = *MARKS, b".sum", b".sum.next"
 OF_ARCHIVE = b".builds", b".builds.next", b".log", b".log.next", b".asked", b".site", b".signers", b".lost", b".changed"
 
 
 def no_files_beside(path: bytes, levels: List[bytes]) -> Iterator[bytes]:
-    """The paths beside the files of an archive at which what is read is neither a file nor a folder, as a pipe, which
+    """The paths next to the files of an archive at which what is read is neither a file nor a folder, as a pipe, which
     who opens it waits for."""
     beside_each = (file + ending for file in (path, path + TODAY, *levels) for ending in OF_EACH)
     return filter(is_no_file, [*beside_each, *(path + ending for ending in OF_ARCHIVE)])
@@ -47,7 +47,7 @@ def is_no_file(path: bytes) -> bool:
 
 
 def numbers_beside(path: bytes) -> List[int]:
-    """The numbers of the levels beside an archive, in their order."""
+    """The numbers of the levels next to an archive, in their order."""
     found = endings_beside(path)
     may_be = [ending for ending in NUMBERS if ending + LOCK not in found and not found.isdisjoint(with_marks(ending))]
     return [NUMBERS[ending] for ending in may_be if has_mark(path, ending, found)]
@@ -58,7 +58,7 @@ def with_marks(ending: bytes) -> List[bytes]:
 
 
 def has_mark(path: bytes, ending: bytes, found: Set[bytes]) -> bool:
-    """Whether a mark of a level stands beside it. One that takes its last name while names are listed may be under
+    """Whether a mark of a level stands next to it. One that takes its last name while names are listed may be under
     neither: so the other one is looked for first."""
     marks = [ending + mark for mark in reversed(MARKS)]
     return any(mark in found for mark in marks) or any(os.path.lexists(path + mark) for mark in marks)
@@ -86,7 +86,7 @@ def strangers_beside(path: bytes) -> List[bytes]:
 
 
 def endings_beside(path: bytes) -> Set[bytes]:
-    """What stands after the path of an archive in those of the files beside it, if these may belong to levels."""
+    """What stands after the path of an archive in those of the files next to it, if these may belong to levels."""
     folder, name = os.path.split(path)
     try:
         return {entry[len(name) :] for entry in os.listdir(folder or b".") if entry.startswith(name)}
@@ -121,7 +121,7 @@ def is_archive(path: str) -> bool:
 
 
 def refuse_part(path: bytes, place: bytes) -> None:
-    """Fails if a path, which leads to a place, names a file that an archive has beside it. A lock beside that would
+    """Fails if a path, which leads to a place, names a file that an archive has next to it. A lock next to that would
     make it an archive of its own, and what it has would be lost with the next fold of the other one."""
     level_of, today_of = archive_of_level(place), archive_of_today(place) or archive_of_link(path)
     if level_of is not None:

@@ -1,4 +1,4 @@
-"""The folder of an archive: the rooms in which a command works there, the files that are kept beside the archive, and
+"""The folder of an archive: the rooms in which a command works there, the files that are kept next to the archive, and
 how a new file takes the place of one.
 
 That goes by five steps: ARCHIVE.log.next, FILE.idx.next and, if names came in, ARCHIVE.builds.next are written, the
@@ -50,7 +50,7 @@ class ArchiveFolder:
 
     @contextlib.contextmanager
     def room(self) -> Iterator[bytes]:
-        """A folder beside the archive. Only who has the lock makes one. The outermost one removes all of them."""
+        """A folder next to the archive. Only who has the lock makes one. The outermost one removes all of them."""
         import tempfile
 
         self.rooms_made += 1
@@ -138,14 +138,14 @@ class ArchiveFolder:
             screen.fail(system_text(error, self.builds.path))
 
     def lay(self, room: bytes, path: bytes, data: bytes) -> None:
-        """Makes a file beside the archive, whole and synced."""
+        """Makes a file next to the archive, whole and synced."""
         kept = os.path.join(room, b"kept")
         write_synced(kept, [data])
         self.give_rights(kept)
         os.replace(kept, path)
 
     def lay_index(self, file: ArchiveFile, ending: bytes, index: Index, path: bytes) -> None:
-        """Puts an index of a room beside a file, with the time of the file of which it was made."""
+        """Puts an index of a room next to a file, with the time of the file of which it was made."""
         stamp(index.path, path)
         self.give_rights(index.path)
         os.replace(index.path, file.beside(ending))
@@ -162,6 +162,6 @@ def watched(screen: Screen, room: bytes) -> Callable[[int], None]:
 
 
 def written_in(room: bytes) -> int:
-    """How many bytes the program has written of a new file. Until that is whole they are in a draft beside it."""
+    """How many bytes the program has written of a new file. Until that is whole they are in a draft next to it."""
     names = (name for name in os.listdir(room) if name in (b"new", b"grown") or name.startswith(b".symarch-"))
     return sum(size_of(os.path.join(room, name)) for name in names)

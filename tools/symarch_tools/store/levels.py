@@ -94,7 +94,7 @@ class ArchiveFiles:
         return found
 
     def forget(self, file: ArchiveFile) -> None:
-        """Removes a level, of which the other files have all, and what stands beside it."""
+        """Removes a level, of which the other files have all, and what stands next to it."""
         remove(file.path)
         file.drop(INDEX, NEXT_INDEX)
         self.levels.remove(file)

@@ -21,7 +21,7 @@ MOST_WAITING = 30 * 24 * 60 * 60
 
 @dataclass(eq=False)
 class Log:
-    """The log of a path, the lines that are still to be added to it, and what makes a folder beside it."""
+    """The log of a path, the lines that are still to be added to it, and what makes a folder next to it."""
 
     path: bytes
     next: bytes

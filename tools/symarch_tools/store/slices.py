@@ -26,7 +26,7 @@ from .losses import record_members
 UNIVERSAL = {bytes.fromhex("cafebabe"): struct.Struct(">8xII4x"), bytes.fromhex("cafebabf"): struct.Struct(">8xQQ8x")}
 FAT_HEADER, MOST_PARTS = 8, 32
 WIDEST = max(layout.size for layout in UNIVERSAL.values())
-# A Java class file begins as a universal file, and has its version in the place of the number of parts.
+# A Java class file begins as a universal file, and has its version in place of the number of parts.
 JAVA, LEAST_OF_JAVA = bytes.fromhex("cafebabe"), 45
 THIN = bytes.fromhex("cffaedfe")
 HEADER, COMMAND, SYMTAB = struct.Struct("<4x5I8x"), struct.Struct("<II"), struct.Struct("<8x4I")
@@ -130,7 +130,7 @@ class Finder:
     bundles: Bundles = field(default_factory=Bundles)
     unpacker: Unpacker = field(default_factory=Unpacker)
     inner: Inner = field(default_factory=Inner)
-    # What stands where in the place of its name.
+    # What stands where in place of its name.
     places: Dict[bytes, bytes] = field(default_factory=dict)
 
     def find(self, paths: Iterable[bytes]) -> None:

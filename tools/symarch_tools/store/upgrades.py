@@ -1,4 +1,4 @@
-"""What symarch-keep 2.2 left beside an archive file: FILE.sum, with the SHA-256 of each slice as it came in, and
+"""What symarch-keep 2.2 left next to an archive file: FILE.sum, with the SHA-256 of each slice as it came in, and
 FILE.sum.next, that of a new file which takes its place. The next command that writes makes the index by it, and removes
 it. It is recognised until the next major release."""
 import contextlib
@@ -13,7 +13,7 @@ SUM, NEXT_SUM = b".sum", b".sum.next"
 
 
 def kept_at(path: bytes, screen: Optional[Screen] = None) -> Optional[KeptFile]:
-    """What a file that is kept beside an archive has; None if it is not there, or is damaged."""
+    """What a file that is kept next to an archive has; None if it is not there, or is damaged."""
     try:
         with open(path, "rb") as opened:
             return KeptFile(opened.read())

@@ -75,7 +75,7 @@ class Members:
         return [MemberPlace(self.names[self.name_numbers[it]], *self.places[3 * it : 3 * it + 3]) for it in kept]
 
     def values(self, number: int) -> Dict[str, Any]:
-        """The values among the members of an object, but for objects and arrays."""
+        """The values among the members of an object, except for objects and arrays."""
         found: Dict[str, Any] = {}
         for place in self.of(number):
             value = self.data[place.begin : min(place.end, place.begin + MOST_OF_VALUE)]

@@ -10,7 +10,7 @@ from .edits import Change, Members, changes
 from .walk import FLAT, Broken, Node, Walker, loaded
 
 # What an object or an array is for: a list of images, an image of it, a list that may have frames, such a frame; the
-# lists of stacks of MetricKit with all that is in them, but for lists of calls and calls, which are its frames.
+# lists of stacks of MetricKit with all that is in them, except for lists of calls and calls, which are its frames.
 IMAGES, IMAGE, STACK, FRAME, STACKS, CALLS, CALL = range(1, 8)
 IMAGE_LISTS = ("usedImages", "binaryImages")
 KEPT_LISTS = (*IMAGE_LISTS, "callStacks")
@@ -282,7 +282,7 @@ class JsonReport:
         return loaded(found[0])
 
     def changes(self) -> Iterator[Change]:
-        """What stands in the place of what, for each frame whose answers say it."""
+        """What stands in place of what, for each frame whose answers say it."""
         for at in range(len(self.frames)):
             answers = self.frames.answers(at)
             if answers.keys() - {None}:

@@ -27,7 +27,7 @@ PROCESS = re.compile(rb"^(?:%b)?Process:[ \t]+(?P<name>\S.*) \[" % TIME, re.MULT
 VERSION = re.compile(rb"^(?:%b)?Version:[ \t]+(?P<version>\S.*)" % TIME, re.MULTILINE)
 MOST_OF_HEADER = 4_000
 
-# As `0   spool   0x0000000104d38410 0x104d38000 + 1040`, and with a name in the place of the last words; a source file
+# As `0   spool   0x0000000104d38410 0x104d38000 + 1040`, and with a name in place of the last words; a source file
 # and line stay after it. In some copies the address is decimal; then so is that before the offset, if no name is there.
 # A page may have put a dot after the number, and spaces before it.
 NUMBERED = rb"\s*(?P<number>[0-9]{1,9})(?P<dot>\.?)\s+"
@@ -37,7 +37,7 @@ CRASH = re.compile(
 )
 NAMED_DECIMAL = re.compile(OF_CRASH % rb"[0-9]{9,20}(?= +[^\s0-9])")
 OFFSET = re.compile(rb" \+ [0-9]")
-# What stands in the place of a name that is not known, but for the name of the image itself and an offset. A mail may
+# What stands in place of a name that is not known, except for the name of the image itself and an offset. A mail may
 # have wrapped the line before the offset or its sign, which then begins the next one.
 NO_NAME = re.compile(
     rb"\s*(?:\?\?\?.*|\(Missing\b.*|(?:0x[0-9a-fA-F]+|[0-9]{5,20})(?: \+(?: [0-9].*|\s*)|\s*)|)"
@@ -45,7 +45,7 @@ NO_NAME = re.compile(
 # The answer of a slice, below a frame that has several.
 CONFLICTING = re.compile(rb"  [0-9a-f]{64} ")
 REST_OF_LINE = re.compile(rb"[ \t]*(?P<sign>\+ )?[0-9]+[ \t]*")
-# What some editors and pages put in the place of spaces, which is read as such.
+# What some editors and pages put in place of spaces, which is read as such.
 NO_BREAK = (b"\xc2\xa0", b"\xe2\x80\xaf")
 
 # The name of what calls a handler of a signal, before an offset or the end.
@@ -345,7 +345,7 @@ def listed_version(name: str) -> Optional[str]:
 
 
 def plain(line: bytes) -> bytes:
-    """A line with spaces in the place of those that are not to be broken."""
+    """A line with spaces in place of those that are not to be broken."""
     if line.isascii():
         return line
     for space in NO_BREAK:
@@ -367,7 +367,7 @@ def rest_after(said: bytes, image: bytes, following: bytes) -> bool:
 
 
 def tree_in(line: bytes) -> Optional[TreeLine]:
-    """What a line of a tree says, or of a list beside one; None if it is none."""
+    """What a line of a tree says, or of a list next to one; None if it is none."""
     line = plain(line)
     if b"[" not in line or len(line) > MOST_OF_LINE or not IN_BRACKETS.search(line):
         return None

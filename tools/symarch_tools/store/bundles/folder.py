@@ -96,7 +96,7 @@ class Target:
 
 
 def put(made: bytes, path: bytes) -> None:
-    """Gives a file or a folder a name that nothing has. What came there meanwhile stays, but for an empty folder."""
+    """Gives a file or a folder a name that nothing has. What came there meanwhile stays, except for an empty folder."""
     if os.path.lexists(path):
         raise FileExistsError(errno.EEXIST, os.strerror(errno.EEXIST), path)
     if os.path.isdir(made) or not linked(made, path):

@@ -17,7 +17,7 @@ COMPANION, IMAGE = 1, 0
 
 
 class PlannedFile(NamedTuple):
-    """A file that is made: a dSYM bundle, or an image beside it; its slices, one for each architecture; its name; and
+    """A file that is made: a dSYM bundle, or an image next to it; its slices, one for each architecture; its name; and
     the build of which it is."""
 
     is_bundle: bool
@@ -90,7 +90,7 @@ class Wishes:
     # ---- which slices
 
     def files(self) -> List[PlannedFile]:
-        """The files, in the order of the UUIDs, each bundle before the image beside it."""
+        """The files, in the order of the UUIDs, each bundle before the image next to it."""
         groups = dict.fromkeys(tuple(self.keys_of(one)) for one in self.uuids)
         found = (self.file(keys, kind) for keys in groups for kind in (COMPANION, IMAGE))
         return [one for one in found if one]
@@ -150,7 +150,7 @@ def is_name(name: bytes) -> bool:
 
 
 def is_beside_archive(folder: bytes, name: bytes) -> bool:
-    """Whether a file of this name may be taken for one that symarch-keep keeps beside an archive in a folder."""
+    """Whether a file of this name may be taken for one that symarch-keep keeps next to an archive in a folder."""
     parts = name.split(b".")
     names = (b".".join(parts[:count]) for count in range(1, len(parts)))
     return any(is_archive(os.fsdecode(os.path.join(folder, one))) for one in names)
