@@ -1,5 +1,5 @@
-"""Runs build-program and ./symarch in a repository of four small crates, with a command rt in PATH that proves
-nothing: it prints what `rt ci` prints, and keeps what it was given by its digest."""
+"""build-program and ./symarch in a repository of four small crates, with a command `rt` that proves nothing: it prints
+the output of `rt ci`, and keeps each call by its digest."""
 import json
 import os
 import select

@@ -1,5 +1,5 @@
-"""The commands on a small program in two builds, examples/crash: what they print and write, and how they end. The names
-and offsets were written from `llvm-nm`."""
+"""The commands on a small program in two builds, examples/crash: output, conflicts, statuses. The names and offsets
+were written from `llvm-nm`."""
 import os
 import resource
 import signal

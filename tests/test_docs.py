@@ -1,4 +1,5 @@
-"""The documents: their links, what they say of crates, definitions and commands, and that each thing is said once."""
+"""The documents: links, definitions, the program's table, README's commands, the bytes in FILES, and that nothing is
+said twice."""
 import re
 import unittest
 from pathlib import Path

@@ -1,5 +1,5 @@
-"""The draft that becomes OUT, over files of the system: what stops a run leaves the whole text at OUT, or what was
-there, and no draft unless the program was killed; and what is called of the system."""
+"""The draft that becomes OUT: several runs at once, signals, limits, full disks, SIGKILL at fifty moments; and the
+order of calls, by `strace`."""
 import contextlib
 import errno
 import functools

@@ -1,5 +1,5 @@
-"""The edits: that each stands in the sources, what the tables say of them, and that a test has to catch each wrong body
-which the prover lets through. What comes of edits is tried by `bench/edits` and `bench/allowed`."""
+"""The edits: that each fits the sources, that the tables have them, and that a test has to catch each wrong body that
+the prover accepts. `bench/edits` and `bench/allowed` try them."""
 import ast
 import re
 import sys

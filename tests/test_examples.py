@@ -1,4 +1,4 @@
-"""The scripts of examples/: what they print."""
+"""The output of the scripts of examples."""
 import textwrap
 
 from .support import crash

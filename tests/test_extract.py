@@ -1,5 +1,5 @@
-"""What `extract` brings out: the bytes that came in, with an index and without one, in the memory of a piece; and what
-it does if the archive changes while it is read."""
+"""That `extract` writes each slice as it was added, with and without an index, in the memory of a piece; and archives
+that change meanwhile."""
 import os
 import pathlib
 import select

@@ -1,4 +1,5 @@
-"""What becomes of each command where memory, room or a device is wanting, or an input is hostile."""
+"""Each command with little memory, a full disk or a failing device, and inputs that are pipes, cut or with the greatest
+numbers."""
 import errno
 import glob
 import os

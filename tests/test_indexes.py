@@ -1,5 +1,4 @@
-"""What each command that takes an index does with one that is a pipe, cannot be read, was cut, or of which a byte
-changed."""
+"""Each command with an index that is a pipe, cannot be read, was cut, or has a changed byte."""
 import contextlib
 import errno
 import os

@@ -1,6 +1,5 @@
-"""What the commands that write do with their inputs: archives that are larger than the memory they get, inputs that are
-faulty together, slices that come several times, and several ways to one archive. What has to be written and printed is
-made from mach-o/loader.h, docs/FILES.md and docs/COMMANDS.md."""
+"""The inputs of commands that write: archives larger than memory, several faulty inputs, repeated slices, several paths
+of one archive. Expected files and output are made from mach-o/loader.h, docs/FILES.md and docs/COMMANDS.md."""
 import functools
 import os
 import random

@@ -1,5 +1,6 @@
-"""`symarch-keep add` on trees that the tests make. What has to be in the archive and what has to be printed is made by
-tests.support, from mach-o/loader.h, mach-o/fat.h and docs/FILES.md."""
+"""`symarch-keep add` on trees of each kind of file: names, links, rights, full disks, kills at each step. What has to
+be in the archive and what has to be printed is made by tests.support, from mach-o/loader.h, mach-o/fat.h and
+docs/FILES.md."""
 import fcntl
 import functools
 import os

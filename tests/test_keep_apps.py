@@ -1,4 +1,4 @@
-"""The names of builds: what `list` prints of ARCHIVE.builds, and what `retire --app` takes."""
+"""The names of builds in `list`, and `retire --app`."""
 import hashlib
 import os
 import pathlib

@@ -1,5 +1,5 @@
-"""`find`, `symbolicate` and `name` of symarch-keep: they ask ARCHIVE and ARCHIVE.today, each by its index. What they
-print is what the program prints of the archive of both."""
+"""`find`, `symbolicate` and `name` of symarch-keep, also during a fold: their output is that of the program for the
+joined archive."""
 import os
 import pathlib
 import re

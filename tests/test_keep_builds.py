@@ -1,5 +1,5 @@
-"""The names of builds: what `add` keeps in ARCHIVE.builds, and how it is exchanged. What has to be in a file is made by
-`support/builds.py`, from docs/FILES.md."""
+"""The names of builds in ARCHIVE.builds, and their exchange: hostile Info.plist files and lines, damage, kills.
+Expected files are made by `support/builds.py`, from docs/FILES.md."""
 import hashlib
 import io
 import os

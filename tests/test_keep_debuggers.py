@@ -1,5 +1,5 @@
-"""What `get` of symarch-keep makes is what a debugger takes: lldb says the lines of examples/crash by it. The script of
-docs/OPERATING.md, by which a Mac gets a dSYM over ssh, says where that is."""
+"""lldb with the files of `symarch-keep get`: the lines of examples/crash; and the script of docs/OPERATING.md, by which
+a Mac gets a dSYM over ssh."""
 import os
 import pathlib
 import plistlib

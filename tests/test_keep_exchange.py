@@ -1,5 +1,5 @@
-"""Sites that exchange by symarch-keep over folders: in any order, with kills, halves of files and restores from
-backups, until all have the same bytes. What has to be in an archive is made by tests.support, from docs/FILES.md."""
+"""Sites that exchange over folders in any order, with kills, half-copied files, restored backups and foreign files,
+until all have the same bytes. Expected archives are made by tests.support, from docs/FILES.md."""
 import hashlib
 import os
 import pathlib

@@ -1,5 +1,6 @@
-"""`get` of symarch-keep: the files that it makes have the very bytes that came in, under the names that were kept; what
-is there stays. What has to be in a file is made here and by tests.support, from mach-o/fat.h and docs/FILES.md."""
+"""The files of `symarch-keep get`: the bytes that were added, under their names, universal files, conflicts, kills at
+each step. Existing files stay. Expected files are made here and by tests.support, from mach-o/fat.h and
+docs/FILES.md."""
 import hashlib
 import itertools
 import os

@@ -1,6 +1,5 @@
-"""What symarch-keep knows by the index that it keeps beside each archive: `check` and `repair`, archives that were cut
-or replaced by hand, and sites that kept sums before. What has to be in an archive and in its index is made by
-tests.support, from docs/FILES.md."""
+"""`check` and `repair` by kept indexes, archives that were cut or replaced by hand, and the upgrade from sums. Expected
+archives and indexes are made by tests.support, from docs/FILES.md."""
 import hashlib
 import os
 import pathlib

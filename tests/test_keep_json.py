@@ -1,5 +1,4 @@
-"""What symarch-keep prints by --json: an object a line that says what the line says, and an end by which all is
-there."""
+"""`symarch-keep --json`: an object for each line, compared with it, and an `end`."""
 import json
 import os
 import pathlib

@@ -1,5 +1,5 @@
-"""Sites with keys: what a file of their folder may be and how long, what they remember, how they meet, and how a key is
-changed. What has to be in an archive is made by tests.support, from docs/FILES.md."""
+"""Sites with keys: the files that may be in their folder, their memory, how they meet, and how a key is changed.
+Expected archives are made by tests.support, from docs/FILES.md."""
 import contextlib
 import hashlib
 import os

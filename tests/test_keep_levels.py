@@ -1,6 +1,5 @@
-"""What symarch-keep does with levels, into which a fold puts what came in until it is as large as an archive before it.
-The tool of these cases has levels of any size. What has to be in an archive is made by tests.support, from
-docs/FILES.md."""
+"""Levels, which the tool of these cases makes of any size: commands, kills, retirements, changed bytes, sites. Expected
+archives are made by tests.support, from docs/FILES.md."""
 import os
 import pathlib
 import random

@@ -1,6 +1,6 @@
-"""What symarch-keep does where an archive, its index or a site is not what it was: no index with other digests takes
-the place of one, `check` changes nothing and says what is wrong, what is lost is looked for until it is back, and a
-name is one site's. What has to be in an archive is made by tests.support, from docs/FILES.md."""
+"""Damaged and lost archives and indexes: no index with other digests replaces one, `check` reports and changes nothing,
+losses are reported until they are back, and a name belongs to one site. Expected archives are made by tests.support,
+from docs/FILES.md."""
 import os
 import pathlib
 import re

@@ -1,5 +1,5 @@
-"""What commands answer that take no lock, where another one replaces, renames or removes what they look at, at the very
-moments at which that counts. The tools of these cases do it themselves, between two steps of their own."""
+"""Lookups while another command replaces, renames or removes their files: the tools of these cases do so themselves,
+between two steps."""
 import os
 import pathlib
 import shutil

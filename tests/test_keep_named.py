@@ -1,5 +1,5 @@
-"""What `symarch-keep add` says of the files that were named: what one looks like of which nothing goes in, what a cut
-one promises, and what to type if ARCHIVE stands last. What nothing is put into is not made."""
+"""`symarch-keep add` of named files: the kind of one that has nothing to add, the slices that a cut one lacks, the
+advice if ARCHIVE is last. No archive is made for nothing."""
 import gzip
 import os
 import pathlib

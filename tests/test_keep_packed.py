@@ -1,5 +1,5 @@
-"""What `symarch-keep add` takes of zip and tar files: each member as a file of a folder, by bytes that are counted, and
-never by the path that its name would be."""
+"""`symarch-keep add` of zip and tar files: members as files of a folder; bombs, cut, damaged and encrypted ones;
+`--dsyms-only`. No member is written under its own path."""
 import fcntl
 import gzip
 import os

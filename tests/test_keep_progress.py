@@ -1,5 +1,4 @@
-"""How far a work is, on a terminal: a line by a clock that the cases set, which is gone once anything else is
-printed."""
+"""Progress on a terminal: a line by a clock that the cases set, which is erased before other output."""
 import os
 import re
 import signal

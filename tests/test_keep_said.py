@@ -1,5 +1,5 @@
-"""What symarch-keep says: nothing by `--quiet` where nothing is wrong, as cron calls it; which word is wrong of its
-words; and nothing of a pipe that nobody reads."""
+"""The messages of symarch-keep: none with `--quiet` if nothing is wrong; which argument of a command line is wrong;
+none about unread pipes."""
 import os
 import re
 from typing import Any, List, Tuple

@@ -1,5 +1,4 @@
-"""Who may send: sites that exchange by symarch-keep with keys, beside one who writes to their folder and has none. What
-is signed, and what has to be in an archive, is made by tests.support, from docs/FILES.md."""
+"""Signed exchanges with an attacker, who writes to the folder and has no key."""
 import contextlib
 import hashlib
 import os

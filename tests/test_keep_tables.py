@@ -1,5 +1,5 @@
-"""The tables in the indexes that symarch-keep keeps: how they come in, are copied, checked and mended; and sites whose
-indexes had none, or tables without lines. What has to be in an index is made by tests.model, from docs/FILES.md."""
+"""The tables in kept indexes: added, copied, checked and repaired; and sites whose indexes had none, or tables without
+lines. Expected indexes are made by tests.model, from docs/FILES.md."""
 import hashlib
 import pathlib
 import random

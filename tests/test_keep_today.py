@@ -1,5 +1,5 @@
-"""What symarch-keep does with ARCHIVE.today, into which goes what comes in, and `fold`, which joins it into ARCHIVE.
-What has to be in an archive is made by tests.support, from docs/FILES.md."""
+"""ARCHIVE.today and `fold`: commands at once, and each state that a kill may leave. Expected archives are made by
+tests.support, from docs/FILES.md."""
 import os
 import pathlib
 import random

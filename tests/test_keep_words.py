@@ -1,5 +1,5 @@
-"""`retire`, `status` and dry runs of symarch-keep; each word that writes on a full disk, and where files may have no
-more bytes; and the command lines of docs/OPERATING.md. What has to be in an archive is made by tests.support, from
+"""`retire`, `status` and dry runs of symarch-keep; each command that writes on a full disk, and with a limit on the
+size of files; and the command lines of docs/OPERATING.md. Expected archives are made by tests.support, from
 docs/FILES.md."""
 import hashlib
 import os

@@ -1,7 +1,7 @@
-"""Source lines and inlined frames beside those of LLVM's tools, by the model and by the program, with an index and
-without: of the companions that tests/fixtures/lines keeps, and of others that clang, lld and dsymutil build; these are
-left out without clang, lld and llvm. What the program prints of companions with changed bytes, and the indexes that it
-makes of them, beside the model."""
+"""Source lines and inlined frames of DWARF 2 to 5, compared with LLVM's tools, by the model and by the program, with
+and without an index: of the companions in tests/fixtures/lines, and of others that clang, lld and dsymutil build; these
+are skipped without clang, lld and llvm. Companions with changed bytes, and the indexes of all, compared with the
+model."""
 import pathlib
 import random
 import re

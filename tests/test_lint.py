@@ -1,4 +1,4 @@
-"""Python that mypy and pyflakes find nothing in, by pyproject.toml, and lines of 120 columns at most."""
+"""mypy and pyflakes find nothing in the Python, by pyproject.toml, and no line has more than 120 columns."""
 import pathlib
 import re
 import shutil

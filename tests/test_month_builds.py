@@ -1,4 +1,4 @@
-"""A month of builds: the days on which Xcode archives were made, versions, and what is in an app alone."""
+"""A month of builds: the days of Xcode archives, versions, slices of one app."""
 import datetime
 import plistlib
 import re

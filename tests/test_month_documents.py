@@ -1,5 +1,4 @@
-"""What COMMANDS says for who meets a fault: a row for each, which of several is reported, which copy of a slice is
-read."""
+"""COMMANDS for readers with a fault: a row for each, which of several is reported, which copy of a slice is read."""
 import re
 import unittest
 from typing import List

@@ -1,5 +1,5 @@
-"""A month of sites that exchange over one folder, into which anyone may write: step after step, each by the name of
-what it shows. Clocks are wrong in it, times of files too, and there is more in the folder than anyone wants."""
+"""A month of sites that exchange over one folder, into which anyone may write, step after step: wrong clocks and times,
+faulty and many answers, runs, limits."""
 import hashlib
 import os
 import pathlib

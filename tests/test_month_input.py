@@ -1,5 +1,5 @@
-"""A month of bad input: what reports and files had in them that no tool wrote so. Each step is named by what it
-shows."""
+"""A month of bad input: time and memory of hostile reports, names that would control a terminal, packed reports,
+reports without stacks."""
 import io
 import json
 import pathlib

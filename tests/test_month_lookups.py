@@ -1,6 +1,5 @@
-"""A month of lookups and scripts: what `symarch-keep` prints by --json, which dSYMs are there, addresses as MetricKit
-has them, names by a part. Addresses and names are those that `llvm-nm` prints of examples/crash, and what the program
-prints of whole names."""
+"""A month of lookups and scripts: `--json` of each command, `has`, offsets and decimal addresses, parts of names.
+Addresses and names are those that `llvm-nm` prints of examples/crash, and what the program prints of whole names."""
 import json
 import plistlib
 import shutil

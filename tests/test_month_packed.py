@@ -1,5 +1,5 @@
-"""A month of packed things, as build servers and TestFlight hand them out: apps for devices, zip files within others,
-and the feedback of testers with a crash in each."""
+"""A month of packed files, as build servers and TestFlight send them: apps for devices, zip files within others, and
+the feedback of testers with a crash in each."""
 import io
 import zipfile
 from typing import Any, Dict, List

@@ -1,5 +1,5 @@
-"""A month of reports that people paste into tickets: frames without images, and what pages, logs and other services
-make of a crash. Names are those of `tests/expected/reports`."""
+"""A month of reports that people paste into tickets: frames without images, and crashes as pages, logs and other
+services print them. Names are those of `tests/expected/reports`."""
 import plistlib
 import re
 import subprocess

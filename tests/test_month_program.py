@@ -1,4 +1,4 @@
-"""A month with the program: lines whose words stand in the wrong order, or are given once more."""
+"""A month with the program: command lines with arguments in a wrong order, or repeated."""
 from .support.cases import same
 from .support.made_images import archive, index, summary
 from .support.outs import CANNOT_REPLACE, SLICES, OutCase, state_of

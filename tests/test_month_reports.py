@@ -1,6 +1,6 @@
-"""A month of reports, as a team has them: signals, copies with names, exceptions, faults of the processor, other
-architectures, and words that name something else. Names are those of `llvm-nm`, lines those of `llvm-symbolizer`, and
-registers stand as in the crash reports of macOS 12 and later."""
+"""A month of reports of a team: signals, copies with names, exceptions, faults of the processor, other architectures,
+wrong command lines. Names are those of `llvm-nm`, lines those of `llvm-symbolizer`, and registers those of the crash
+reports of macOS 12 and later."""
 import json
 import re
 import uuid

@@ -1,5 +1,5 @@
-"""A month of one site, step after step over one folder: each step has the name of what it shows. Most of them are of
-calls that a person gets wrong, of locks that somebody else has, and of what a month leaves in an archive."""
+"""A month of one site, step after step: wrong arguments, locks, a long log, conflicts, cut archives, a lost disk,
+unforeseen faults."""
 import fcntl
 import os
 import pathlib

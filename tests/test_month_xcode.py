@@ -1,5 +1,5 @@
-"""A month beside Xcode: what its Organizer keeps of crashes, what it copies of a device, reports that go in again once
-they have names, and which dSYMs are wanted most. Names are those of `tests/expected/reports`."""
+"""A month with Xcode: crash points of its Organizer, the libraries of a device, reports that are read again with names,
+and the most wanted dSYMs. Names are those of `tests/expected/reports`."""
 import json
 import re
 import shutil

@@ -1,5 +1,5 @@
-"""What each command that writes leaves at OUT, over files of the system: the whole text, or what was there, and no
-draft. What has to be at OUT is made from mach-o/loader.h and docs/FILES.md."""
+"""Which files at OUT are replaced, and which are left: links, modes, owners, mounts, devices. OUT is complete or as it
+was, and no draft is left. Expected files are made from mach-o/loader.h and docs/FILES.md."""
 import contextlib
 import errno
 import os

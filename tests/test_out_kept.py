@@ -1,6 +1,6 @@
-"""What no contract says of OUT: set-id bits, access lists and attributes, each path of a descriptor, what cannot be
-synced, `extract` at links, descriptors and kills, inputs by other spellings, indexes that are open to the end, and the
-memory in which archives are compared."""
+"""Properties of OUT that no contract states: set-id bits, access lists and attributes, paths of descriptors, failing
+syncs, other spellings of inputs, `extract` at links, descriptors and kills, indexes that stay open, and the memory of a
+comparison."""
 import errno
 import os
 import stat

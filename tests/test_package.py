@@ -1,5 +1,5 @@
 """packaging/package: sums, owners and times, versions, manual pages, completion, and links; and the packages in a root
-of Debian's essential packages and Python, in which the command lines of README run as they stand there."""
+of Debian's essential packages and Python, in which the command lines of README run."""
 import hashlib
 import os
 import pty

@@ -1,5 +1,5 @@
-"""The regular expressions of the tools: each takes time in proportion to the length of what it is given, whatever that
-is. Other forms are parsed plainly."""
+"""The regular expressions of the tools: each takes time in proportion to the length of any input. Other forms are
+parsed plainly."""
 import ast
 import collections
 import importlib

@@ -1,5 +1,4 @@
-"""What the program refuses at each place of an input and of OUT, and what the second line of each fault says: the path,
-and what is known of it."""
+"""Each fault, for each input of each command and for OUT, and its second line: the path, and the reason."""
 import errno
 import os
 

@@ -1,4 +1,4 @@
-"""The scripts of rehearsals in fixtures/rehearsals, whose comments say what each shows."""
+"""The scripts of fixtures/rehearsals, whose comments describe them."""
 from typing import List
 
 from .support.cases import ProgramCase, Text, text_lines

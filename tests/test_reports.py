@@ -1,4 +1,4 @@
-"""symbolicate-report: each form of report, what it says of images, what it refuses, and how it calls the program."""
+"""symbolicate-report: each form of report, its last line, refusals, signals, and its calls of the program."""
 import json
 import os
 import re

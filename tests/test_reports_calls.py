@@ -1,4 +1,4 @@
-"""Much that is asked of the program: by several calls side by side, whose answers are those of one."""
+"""Several calls of the program side by side, whose answers are those of one."""
 import os
 import signal
 import subprocess

@@ -1,4 +1,4 @@
-"""symbolicate-report with folders in place of reports, and the groups of reports by --group."""
+"""symbolicate-report with folders of reports, and `--group`."""
 import json
 import os
 import re

@@ -1,5 +1,4 @@
-"""What symbolicate-report prints by --json: an object for each report, with what answered for its images, and an
-end."""
+"""symbolicate-report --json: an object for each report, with the source of the names of its images, and an `end`."""
 import json
 import os
 import re

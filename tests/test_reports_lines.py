@@ -1,5 +1,5 @@
-"""symbolicate-report with files, lines and inlined functions. The frames are those of tests/fixtures/lines, so what has
-to be printed is what llvm-symbolizer says of them; and it stands as in reports that the system symbolicated."""
+"""symbolicate-report with files, lines and inlined functions, as `llvm-symbolizer` prints them for
+tests/fixtures/lines, in the forms of reports that the system symbolicated."""
 import json
 import re
 import uuid

@@ -1,5 +1,5 @@
-"""symbolicate-report with reports that are made here: in other encodings, cut, large, several at once, with a full
-report, with frames of each kind, and hostile ones. What has to be printed is made from the fixtures, from
+"""symbolicate-report with reports that are made here: in other encodings, pasted, cut, large, several at once, with a
+full report, with frames of each kind, and hostile ones. Expected output is made from the fixtures, from
 expected/reports, whose names were written from `llvm-nm`, and by arithmetic."""
 import json
 import os

@@ -1,4 +1,4 @@
-"""symbolicate-report with names of C++, Swift and Rust, and the demanglers that make them readable."""
+"""symbolicate-report with names of C++, Swift and Rust, and their demanglers."""
 import os
 import re
 import shutil

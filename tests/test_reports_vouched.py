@@ -1,4 +1,4 @@
-"""symbolicate-report by the indexes beside archives: no name is printed that they do not vouch for."""
+"""symbolicate-report with indexes: it prints no name for which they do not vouch."""
 import os
 import re
 import shutil

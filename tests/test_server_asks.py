@@ -1,4 +1,4 @@
-"""What symarch-server answers: reports, builds, symbols and numbers are those of the tools of the command line."""
+"""Answers of symarch-server: reports, builds, symbols and numbers are those of the command line."""
 import contextlib
 import json
 import plistlib

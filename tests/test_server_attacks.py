@@ -1,5 +1,5 @@
-"""What a reader of the sources of symarch-server would try, so that others are kept out: heads that are none, clients
-that take nothing, large bodies and bundles that are held, caches between, tokens, pipes in the place of files."""
+"""Attempts to keep others from symarch-server: bad heads, clients that read nothing, large bodies and bundles, caches
+between, tokens, pipes in place of files."""
 import base64
 import contextlib
 import os

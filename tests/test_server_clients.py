@@ -1,6 +1,6 @@
-"""symarch-server and those who ask it: curl, the clients of debuginfod, lldb by the script of docs/OPERATING.md,
-Chromium, Prometheus's parser, and wrk; behind nginx, Caddy, gunicorn and mod_wsgi; and the requests of those that are
-not here."""
+"""symarch-server and its clients: curl, debuginfod's, llvm-symbolizer, lldb by the script of docs/OPERATING.md,
+Chromium, Prometheus's parser, and wrk; nginx, Caddy, gunicorn and mod_wsgi in front of it; and the requests of
+Symbolicator, Firefox Profiler and fastlane."""
 import contextlib
 import json
 import os

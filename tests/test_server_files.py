@@ -1,5 +1,5 @@
-"""What can be taken from symarch-server: slices by their UUIDs, bundles as `symarch-keep get` makes them, and the names
-of frames for profilers."""
+"""Files from symarch-server: slices by their UUIDs, ranges, bundles as `symarch-keep get` makes them, and the frames of
+profilers."""
 import io
 import json
 import os

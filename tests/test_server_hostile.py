@@ -1,4 +1,4 @@
-"""symarch-server asked by those who want to read elsewhere, to write, or to stop it."""
+"""symarch-server with requests that try to read other files, to write, or to stop it; full disks, few open files."""
 import hashlib
 import json
 import os

@@ -1,5 +1,4 @@
-"""The package of symarch-server: what it has and needs, its manual page and unit, and the server that runs out of
-it."""
+"""The package of symarch-server: its content and needs, its manual page and unit, and the server that it has."""
 import os
 import re
 import shutil

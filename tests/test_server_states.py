@@ -1,4 +1,4 @@
-"""symarch-server while its archive changes, under many and slow clients, at its limits, and at its end."""
+"""symarch-server while its archive changes, with many and slow clients, at its limits, and at its end."""
 import contextlib
 import os
 import random

@@ -1,4 +1,4 @@
-"""What comes in by symarch-server: who may add, what is refused, and what a cut or a kill leaves."""
+"""Uploads to symarch-server: tokens, names of the machine, refusals, cuts, kills, full disks."""
 import base64
 import contextlib
 import http.client

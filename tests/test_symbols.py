@@ -1,6 +1,6 @@
-"""The symbols that `symarch symbolicate` names beside those that the list of llvm-nm gives: at the addresses of each
-slice of examples/crash, and at sampled ones of images of 20,000 functions that clang and ld64.lld build, also with half
-of their symbols disturbed. Takes some minutes; left out without clang, lld and llvm."""
+"""The symbols that `symarch symbolicate` names, compared with the list of llvm-nm: at the addresses of each slice of
+examples/crash, and at sampled ones of images of 20,000 functions that clang and ld64.lld build, also with half of their
+symbols disturbed. Takes some minutes; skipped without clang, lld and llvm."""
 import bisect
 import pathlib
 import random

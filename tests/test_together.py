@@ -1,5 +1,5 @@
-"""Random archives that are asked together: what is printed, and the status, is what `merge` of them answers alone.
-Slices, companions, equal slices, retirements and conflicts come in any of the archives, which are of both versions."""
+"""Random archives of both versions, searched together: output and status are those of their `merge`. Slices,
+companions, equal slices, retirements and conflicts come in any of the archives, which are of both versions."""
 import itertools
 import random
 import struct

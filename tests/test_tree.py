@@ -1,5 +1,5 @@
-"""The tree of the tools: which package imports which, how many modules a folder has, and that no class name comes
-twice."""
+"""The tree of the tools: which package imports which, how many modules a folder has, and that each class name is there
+once."""
 import ast
 import collections
 import pathlib

@@ -1,6 +1,5 @@
-"""What only `main`, the words that it is given and the standard streams do, which no contract says: help and the
-version are printed, a fault is its own line on standard error with one for people after it and nothing else, each
-status comes, each word is handed on, and if a standard stream is closed no file takes its place."""
+"""The part of `main`: help, statuses, refused arguments, and closed, full and unread streams. A fault is one line on
+standard error, with one for people after it, and if a standard stream is closed no file takes its place."""
 import errno
 import os
 import re
