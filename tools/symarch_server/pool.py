@@ -73,7 +73,7 @@ class Worker:
         return self.process.poll() is not None
 
     def end(self) -> None:
-        """Ends it, and what it called. Who waits for its answer is told."""
+        """Ends it, and the processes that it began. A request that waits for its answer gets an error."""
         with contextlib.suppress(ProcessLookupError, PermissionError):
             os.killpg(self.process.pid, signal.SIGKILL)
         self.process.wait()

@@ -17,7 +17,7 @@ from .control import OUT, Members
 # A UUID, and after it an age, which is 0 for Mach-O.
 DEBUG_ID = re.compile("[0-9A-Fa-f]{32}[0-9A-Fa-f]{0,8}")
 MOST_FRAMES = 100_000
-# What lies in no module.
+# The module of an address that is in none.
 NO_MODULE = '"<unknown>"'
 
 
@@ -72,7 +72,7 @@ class Stacks:
         self.modules, self.stacks = modules, stacks
 
     def found_modules(self, images: Images) -> Dict[str, Optional[bool]]:
-        """Whether the archive has each module that a frame lies in."""
+        """Whether the archive has each module that has a frame."""
         found: Dict[str, Optional[bool]] = {f"{name}/{debug_id}": None for name, debug_id, _ in self.modules}
         for index in {index for stack in self.stacks for index, _ in stack if index >= 0}:
             name, debug_id, number = self.modules[index]

@@ -48,7 +48,7 @@ class Tokens:
     known: List[Tuple[str, bytes]] = field(default_factory=list)
 
     def lines(self) -> List[Tuple[str, bytes]]:
-        """The names, each with its digest. OSError or BadTokens if nobody can be told."""
+        """The names, each with its digest. OSError or BadTokens if they cannot be read."""
         with self.lock:
             found = os.stat(self.path)
             state = found.st_dev, found.st_ino, found.st_size, found.st_mtime_ns, found.st_ctime_ns

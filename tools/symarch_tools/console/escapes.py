@@ -10,7 +10,7 @@ OF_TERMINAL = re.compile("[\x7f-\x9f\u061c\u200e\u200f\u2028-\u202e\u2066-\u2069
 
 
 def shown(path: Union[bytes, str]) -> str:
-    """The text of a path in a line, from which its bytes can be told."""
+    """The text of a path in a line, which keeps its bytes."""
     return "".join(map(shown_character, os.fsencode(path).decode(errors="surrogateescape")))
 
 

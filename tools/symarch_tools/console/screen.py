@@ -82,7 +82,7 @@ class Screen:
             if not self.is_unread:
                 write(1, text.encode())
         except BrokenPipeError:
-            # Nobody reads on, as after `head`, and nobody has to be told.
+            # Nobody reads on, as after `head`, which is no fault.
             self.has_failed = self.is_unread = True
         except OSError as error:
             self.is_unread = True

@@ -23,7 +23,7 @@ def encoded(text: str) -> bytes:
 
 
 def say(text: str) -> None:
-    """Writes on standard error, if it is open. If it takes nothing, nobody is told."""
+    """Writes on standard error, if it is open. If it accepts nothing, that is not reported."""
     if sys.stderr is None:
         return
     try:

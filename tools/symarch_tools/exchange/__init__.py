@@ -6,6 +6,6 @@
 - memory            what a site remembers of its exchanges: ARCHIVE.asked
 - join              how answers go into an archive
 - build_names       how sites send one another the names of builds
-- identity          what a site is called there, and what tells it from another of its name
+- identity          the name of a site there, and how another of its name differs
 - exchange          one call: what is joined, asked, answered and removed
 """

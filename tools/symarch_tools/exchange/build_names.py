@@ -1,4 +1,4 @@
-"""How sites tell each other the names of builds: each puts its ARCHIVE.builds into the shared folder, and joins those
+"""How sites exchange the names of builds: each puts its ARCHIVE.builds into the shared folder, and joins those
 of the others. A file is read only if it has other bytes than ARCHIVE.builds, and than those that were joined before."""
 from dataclasses import dataclass, field
 from typing import List
@@ -32,7 +32,7 @@ class Telling:
         self.kept = set(self.own)
 
     def join(self) -> None:
-        """Joins what each site told last: also this one, which may have lost its file since."""
+        """Joins the last names of each site: also of this one, which may have lost its file since."""
         builds, digest = self.archive.folder.builds, digest_of(self.archive.folder.builds.text)
         self.asked.has_builds(digest)
         came: Days = {}

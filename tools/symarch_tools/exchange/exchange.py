@@ -59,8 +59,8 @@ class Exchange:
         self.archive.lose(self.lacking(), self.screen)
 
     def carry_out(self, identity: Identity, takes_name: bool) -> None:
-        """Joins what came, and then does the rest: the archive has all by then, so what fails is told, and the others
-        go on."""
+        """Joins the answers, and then does the rest: the archive has all by then, so a failure is reported, and the
+        other steps follow."""
         self.join()
         for step in (
             self.telling.join,

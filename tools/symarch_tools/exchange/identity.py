@@ -1,4 +1,4 @@
-"""What a site is called in the shared folder: its mark, and ARCHIVE.site, which tells it from another of its name."""
+"""The name of a site in the shared folder: its mark, and ARCHIVE.site, by which another of its name differs."""
 import uuid
 from dataclasses import dataclass
 from typing import List, Optional, Sequence, Tuple

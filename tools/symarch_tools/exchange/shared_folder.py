@@ -5,7 +5,7 @@
     SITE.is.TIME.DIGEST.site                      the mark of SITE: what ARCHIVE.site of the one has that has this name
     SITE.builds.TIME.DIGEST.txt                   the names of builds: what ARCHIVE.builds of SITE has
 
-DIGEST is the SHA-256 of the file's bytes, so a file that is not whole is told by its name. QUESTION begins the digest
+DIGEST is the SHA-256 of the file's bytes, so its name shows whether a file is whole. QUESTION begins the digest
 of the question, and HAS that of the answer's summary. No file is rewritten, and a new one is renamed into place. Of the
 marks of a name the last one counts, and of names of builds the last file of a site that is whole. A file whose TIME is
 no date, or more than a day ahead of the clock, does not count.

@@ -75,7 +75,7 @@ def bytes_of(text: str) -> bytes:
 
 
 def field_shown(text: str) -> str:
-    """What is printed of a field, from which its bytes can be told."""
+    """A field as it is printed, which keeps its bytes."""
     return shown(bytes_of(text))
 
 

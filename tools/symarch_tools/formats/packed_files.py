@@ -397,7 +397,7 @@ def is_named_as_packed(path: bytes) -> bool:
 
 
 def is_of_dsym(path: bytes) -> bool:
-    """Whether a path lies in the folder in which a dSYM bundle has its companions."""
+    """Whether a path is in the folder in which a dSYM bundle has its companions."""
     *folders, _ = path.split(b"/")
     found = [folders[at + 1 : at + 4] for at, name in enumerate(folders) if name.endswith(b".dSYM")]
     return [b"Contents", b"Resources", b"DWARF"] in found

@@ -204,7 +204,7 @@ class Frames:
         self.kinds.append(kind)
 
     def put(self, at: int, number: int, offset: int) -> None:
-        """Puts a frame into an image, at an offset. A return address lies after the call."""
+        """Puts a frame into an image, at an offset. A return address is after the call."""
         self.numbers[at] = number
         asked = offset - (self.kinds[at] & IS_RETURN)
         if not 0 <= asked < 2**64:

@@ -1,6 +1,6 @@
 """An archive file, and what is known of it: FILE.idx next to it is the index that the last command left, and
 FILE.idx.next that of a new file which takes its place, by the steps of `Archive.replace`. Each has the time of the file
-of which it was made, so that another file is told from that one."""
+of which it was made, so that another file differs from that one."""
 import contextlib
 import operator
 import os
