@@ -723,7 +723,6 @@ class InRoot(PackageCase):
         shutil.copy(CRASHES / "spool-1", home / "spool")
         shutil.copy(CRASHES / "arm64.ips", home / "report.ips")
         shutil.copy(CRASHES / "arm64.crash", home / "report.crash")
-        (home / "shared").mkdir()
         empty = TOP / "examples/first/empty.sym"
         said(symarch, "admit", empty, home / "west.sym", CRASHES / "spool-2", CRASHES / "spool-2.dSYM")
         shutil.copy(TOP / "tests/fixtures/version-1/retired.sym", home / "site.sym")
@@ -742,15 +741,19 @@ class InRoot(PackageCase):
         words = [it.split()[0] for it in command_lines()[:3]]
         self.assertEqual(words, ["dpkg", "symarch-keep", "symbolicate-report"])
         self.assertEqual(self.first.returncode, 0, self.first.stderr)
-        self.assertIn('"symbol" : "copy_body"', self.first.stdout)
-        self.assertIn('"symbolLocation" : 12', self.first.stdout)
+        self.assertRegex(self.first.stdout, r"(?m)^0 .* copy_body \+ 12 \(spool\.c:9\)$")
         self.assertRegex(self.first.stderr, r"(?m)^[1-9][0-9]* of [0-9]+ frames named")
+        (shown,) = found_in_readme(r"`(added [^`]*)`")
+        beginning, end = shown.split("... ")
+        self.assertRegex(self.first.stdout, f"(?m)^{re.escape(beginning)}[0-9a-f]{{56}} {re.escape(end)}$")
 
     def test_lines_of_a_report(self) -> None:
         """What README shows of a report is what is printed of it."""
         shown = re.search(r"^```\n(.*?)^```", readme(), re.M | re.S)
         self.assertIsNotNone(shown)
         self.assertIn(shown[1] if shown else "", self.said("symbolicate-report report.crash builds.sym"))
+        (last,) = found_in_readme(r"`([0-9]+ of [0-9]+ frames named[^`]*)`")
+        self.assertEqual(self.said("symbolicate-report report.crash builds.sym 2>&1 >/dev/null"), f"{last}\n")
 
     def test_other_lines(self) -> None:
         """README's other command lines, as they stand, one after another."""
@@ -762,11 +765,11 @@ class InRoot(PackageCase):
 
     def test_decimal_and_hexadecimal(self) -> None:
         """What README says of numbers: by its own words of a report's address."""
-        offset, digits = found_in_readme(r'"imageOffset" : ([0-9]+)` is `(0x[0-9a-f]+)`')
-        self.assertEqual(int(digits, 16), int(offset))
+        (offset,) = found_in_readme(r'"imageOffset" : ([0-9]+)` with `--offset`')
         self.assertIn(f'"imageOffset" : {offset}', (CRASHES / "arm64.ips").read_text())
-        (by_hand,) = found_in_readme(r"`(printf '[^`]*)`")
-        self.assertEqual(self.said(by_hand), f"{digits}\n")
+        (by_hand,) = found_in_readme(rf"`(symarch-keep symbolicate --offset [^`]* {offset})`")
+        printed = self.said(by_hand.replace("UUID", "4c4c4419-5555-3144-a1d2-4341c97782f0"))
+        self.assertEqual(printed, f"{int(offset):#018x} _copy_body + 12 (__TEXT,__text)\n")
 
     def test_a_name_without_its_dsym(self) -> None:
         """What README says of an address by the image alone, and by its dSYM."""
