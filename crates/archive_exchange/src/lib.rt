@@ -34,6 +34,7 @@ mod site;
 mod world;
 
 pub use fault::{DeliverFault, ReplyFault};
+pub use message::Message;
 pub use outcome::{EventFault, Outcome};
 pub use rehearse::run_rehearse;
 pub use running::run;

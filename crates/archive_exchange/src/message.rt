@@ -5,7 +5,7 @@ use std::marker::Model;
 
 /// A message that a site sent, as its text.
 #[derive(Drop)]
-pub(crate) struct Message {
+pub struct Message {
     text: Vec<u8, Heap>,
 }
 
@@ -26,7 +26,8 @@ impl Message {
         Message { text }
     }
 
-    pub(crate) fn text(&self) -> &[u8]
+    /// Its bytes.
+    pub fn text(&self) -> &[u8]
         ensures { result.now ≡ self.now }
     {
         &self.text

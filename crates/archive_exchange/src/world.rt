@@ -51,6 +51,13 @@ impl<A: Archive> World<A> {
         &self.sites[number as usize]
     }
 
+    /// All messages, in the order in which they were sent.
+    pub fn messages(&self) -> &[Message]
+        ensures { result.now ≡ self.now.messages }
+    {
+        &self.messages
+    }
+
     pub fn message(&self, number: u64) -> &[u8]
         requires { number < length self.now.messages }
         ensures { slice_get self.now.messages number ≡ Some result.now }
