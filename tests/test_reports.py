@@ -21,7 +21,7 @@ NO_DYLD, NO_DYLD_ARM64E = f"not in the archive: dyld {DYLD}", f"not in the archi
 NO_LIBDYLD = "libdyld.dylib b3f1a5d2-7c44-3e0b-9a61-5d2c8e7f4a90"
 OLD_LIBDYLD = "not in the archive: libdyld.dylib 9fd01a5a-d3e5-3b0f-8b7c-6d5e4f3a2b10 arm64e"
 ABSENT_HELPER = f"Spool Helper (Renderer) 5e0c7b1a-26d4-3f98-8c3b-a9f1e2d4c507, dyld {DYLD}"
-NAMES = "[--no-demangle | --raw]"
+NAMES = "[--demangle | --no-demangle | --raw]"
 IMAGES = "[--image NAME=UUID@LOAD | --build ID/VERSION/BUILD]..."
 PRINTED = f"[--json [--frames]] [--text] [--no-lines | --paths] {NAMES} [--out FOLDER]"
 OPTIONS = f"{IMAGES} [--missing [--counts | --json] | {PRINTED} | --group {NAMES}]"

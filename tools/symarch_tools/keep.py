@@ -23,7 +23,7 @@ Examples:
 
   symarch-keep add builds.sym dSYMs             adds the images and dSYMs of a folder
   symarch-keep get builds.sym UUID --to debug   makes the dSYM bundle of a UUID
-  symarch-keep fold builds.sym                  joins recent additions with files of similar size, as at night
+  symarch-keep fold builds.sym                  joins recent additions into the archive, or its levels
 
 `symarch-keep COMMAND --help` describes a command, and docs/OPERATING.md how to run a site.
 
@@ -31,10 +31,10 @@ Additions are written to ARCHIVE.today, a small archive next to ARCHIVE. `fold` 
 between the two, its levels ARCHIVE.1, ARCHIVE.2 and so on. All commands, and `symbolicate-report`, search them
 together. Keep all files that begin with the name of ARCHIVE with it.
 
-A command that writes makes a new file, syncs and renames it: killed at any moment, it leaves the old one or the new
-one, and the next command removes the rest. A lock on ARCHIVE.lock lets one of them work at a time. Lookups take no
-lock, and use the indexes next to the files. An archive of version 1, or without an index, is read whole, until the
-next command that writes makes version 2 of it, and its index.
+A command that writes makes a new file, and renames it once all of it is on the disk. If the command is killed, the old
+file or the new one is there, and the next command removes the rest. A lock on ARCHIVE.lock lets one of them work at a
+time. Lookups take no lock, and use the indexes next to the files. An archive of version 1, or without an index, is read
+whole, until the next command that writes makes version 2 of it, and its index.
 
 With --quiet a command that exits with 0 prints nothing, except slices that `add` finds retired. With --json it prints
 an object of JSON a line; docs/FILES.md has the keys.
@@ -60,7 +60,7 @@ ASKING = ("find", "symbolicate", "name", "list", "has", "get")
 # Commands that print no JSON. Each other one has the keys of its last object, whose values are null if it fails.
 WITHOUT_JSON = ("fold", "repair")
 QUIET = "print nothing if nothing is wrong, since cron mails the output"
-WAIT = "wait at most this long for another command that writes"
+WAIT = "wait at most this long for another command that writes, by default without end"
 JSON = "print an object of JSON for each line, as docs/FILES.md describes them"
 
 

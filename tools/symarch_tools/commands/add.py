@@ -29,9 +29,9 @@ Adds the Mach-O images and dSYMs of files and folders to ARCHIVE, and makes ARCH
   symarch-keep add builds.sym - < spool.app.dSYM/Contents/Resources/DWARF/spool
 
 It finds each 64-bit slice with a UUID by its first bytes, at any depth of a PATH. A zip file or a gzipped tar file is
-read as a folder if it is a PATH, or is called so, to three levels; - is standard input. Files that are passed over are
-counted, and named with --verbose. A file that cannot be read, or that symarch refuses, is reported, and the others are
-added.
+read as a folder if it is a PATH, or if its name ends in .zip, .ipa, .tar.gz or .tgz, to three levels; - is standard
+input. Files that are passed over are counted, and named with --verbose. A file that cannot be read, or that symarch
+refuses, is reported, and the others are added.
 
 Each slice gets a line, in the order in which they were found:
 
@@ -42,7 +42,7 @@ Each slice gets a line, in the order in which they were found:
 DIGEST is the SHA-256 of the slice. In PATH the backslash, and each byte that is no UTF-8 or does not print, is \\x and
 two hex digits. ARCHIVE.builds keeps the name of the file, the day, and the app, version and build in Info.plist."""
 USAGE = "symarch-keep add [--quiet] [--wait SECONDS] [--json] [--verbose] [--dry-run] [--dsyms-only] ARCHIVE PATH..."
-ABOUT = "add images and dSYMs to it"
+ABOUT = "add images and dSYMs to an archive"
 STANDARD_INPUT = b"-"
 WORDS = ("added", "known", "retired")
 KEYS = (*WORDS, "refused", "passed_over", "made", "dry_run")

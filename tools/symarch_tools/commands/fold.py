@@ -20,7 +20,7 @@ removed with the next join of its file, or by the first fold after 30 days. The 
 
 If it is never called, a command that writes does the same once ARCHIVE.today has a tenth of the whole."""
 USAGE = "symarch-keep fold [--quiet] [--wait SECONDS] [--all] [--purge] ARCHIVE"
-ABOUT = "join recent additions into it"
+ABOUT = "join recent additions into an archive"
 
 
 def define(parser: argparse.ArgumentParser) -> None:

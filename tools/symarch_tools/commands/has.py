@@ -20,9 +20,9 @@ Prints a line for each UUID:
   image UUID       an image is there, and no dSYM
   absent UUID      nothing is there
 
-For example, before a release is shipped:
+For example, before a release is shipped, by llvm-dwarfdump, which prints UUIDs as dwarfdump does on a Mac:
 
-  symarch-keep has builds.sym $(dwarfdump --uuid Spool.app.dSYM | cut -d ' ' -f 2)
+  symarch-keep has builds.sym $(llvm-dwarfdump --uuid Spool.app.dSYM | cut -d ' ' -f 2)
 
 If several slices of a UUID answer, the least counts. The status is 0 if each UUID has its dSYM with DWARF, and
 otherwise 1."""

@@ -28,7 +28,7 @@ DAY is that on which the Xcode archive was made, or else the first one on which 
 its slices together. APP, VERSION and BUILD are those of Info.plist, and NAME is that of the file; ? means unknown. `!N`
 after `dsym` or `image` means that N slices answer, a conflict. A space in APP, VERSION or BUILD is \\x20."""
 USAGE = "symarch-keep list [--json] [--app ID] [--version VERSION] [--build BUILD] [--since DATE] ARCHIVE"
-ABOUT = "print its builds by name"
+ABOUT = "print the builds of an archive by name"
 KEYS = ("builds",)
 # What stands in place of a day that nobody knows. It is before all others.
 NO_DAY = ""

@@ -42,7 +42,7 @@ the whole archive.
 `exchange` brings back a lost record if another site has it; --accept gives up the others. The status is 2 if something
 is lost or damaged."""
 USAGE = "symarch-keep status [--quiet] [--wait SECONDS] [--json] [--accept] ARCHIVE"
-ABOUT = "print its content in numbers"
+ABOUT = "print the content of an archive in numbers"
 NUMBERS = ("images", "companions", "retirements", "conflicts", "bytes", "today", "levels", "waiting")
 KEYS = (*NUMBERS, "sites", "conflicting", "lost", "left")
 DATES = ("asked", "answered", "joined")

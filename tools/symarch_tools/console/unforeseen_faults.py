@@ -10,7 +10,7 @@ from .faults import Failed
 from .screen import Screen
 
 DEBUG = "--debug"
-HELP = "print where in this tool, if it meets what it did not foresee"
+HELP = "after an unexpected error, print the traceback"
 # More characters of an exception are not printed.
 MOST_OF_TEXT = 300
 

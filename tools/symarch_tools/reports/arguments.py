@@ -21,7 +21,7 @@ from .report import BEGINNING, DOCUMENT, STANDARD_INPUT
 from .text.pasted import MOST_OF_BEGINNING
 
 NAME = "symbolicate-report"
-NAMES = "[--no-demangle | --raw]"
+NAMES = "[--demangle | --no-demangle | --raw]"
 IMAGES = "[--image NAME=UUID@LOAD | --build ID/VERSION/BUILD]..."
 MISSING_FORM, JSON_FORM = "--missing [--counts | --json]", "[--json [--frames]]"
 PRINTED = f"{JSON_FORM} [--text] [--no-lines | --paths] {NAMES} [--out FOLDER]"
@@ -50,10 +50,10 @@ The program is the one that SYMARCH names; otherwise the one that ./symarch buil
 otherwise `symarch` in PATH. The tool builds none.
 
 Status:
-  0    a frame has one name, or --missing was asked for
-  1    no frame has one name
-  2    a REPORT cannot be read or is none, a folder has none, a slice changed, an archive is not there or is cut short,
-       or a file cannot be written
+  0    at least one frame got exactly one name, or --missing was asked for
+  1    no frame got exactly one name
+  2    a REPORT cannot be read or is no report, a folder has no report, a slice changed, an archive is not there or is
+       cut short, or a file cannot be written
   3    the command line is wrong
   126  there is no program, or it does not answer as `symarch`
 If `symarch` refuses the archive, the status is that of `symarch`, and its line is on standard error."""
@@ -131,7 +131,7 @@ PATHS = """print the whole paths of source files, as the compilers wrote them"""
 NO_DEMANGLE = """leave names of C++, Rust and Swift as they are. Otherwise `swift demangle` makes them readable, and the
 first of `llvm-cxxfilt`, `llvm-cxxfilt-N` of the greatest N and `c++filt`: those that are installed, once each for all
 names, if one needs it"""
-DEMANGLE = """report it if none of these is installed"""
+DEMANGLE = """report if no demangler is installed"""
 RAW = """keep the underscore that a symbol table puts before each name, and leave names as they are"""
 OUT = """write each report to FOLDER under the name of its own file, in the folders that a REPORT folder has, whole or
 not at all, and make FOLDER if it does not exist. It replaces a file there, but never one that this call reads. Several
