@@ -15,14 +15,14 @@ pub fn run_line<A: Archive + Drop>(desk: Desk<'_>, line: &Line) -> Result<Left, 
         target: Shelf::new(Heap::new(desk.alloc)?, desk.limits.places),
     };
     let mut report = StrictSink::new(Heap::new(desk.alloc)?, desk.limits.report);
-    let mut inputs = Vec::new(desk.alloc);
-    make_inputs(desk, &line.inputs(desk.alloc)?, &mut inputs)?;
+    let mut waiting = Vec::new(desk.alloc);
+    make_inputs(desk, &line.inputs(desk.alloc)?, &mut waiting)?;
+    let mut inputs = line.by_kind(desk.alloc, waiting)?;
     let heap = desk.heap()?;
     let mut notes = Vec::new(heap.share());
     let ended = execute_on::<A, A, _, _, _>(
         heap,
         &mut inputs,
-        line,
         &Plan::of(line),
         &mut notes,
         &mut out,

@@ -9,3 +9,4 @@ pub mod Listed
 pub mod Passed
 pub mod Flags
 pub mod Counted
+pub mod Picking

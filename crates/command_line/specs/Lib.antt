@@ -4,6 +4,7 @@ pub mod WellFormed
 pub mod TableView
 pub mod Commands
 pub mod Lines
+pub mod Inputs
 pub mod ValuesView
 pub mod LineView
 pub mod InnerWords

@@ -17,7 +17,7 @@ use archive_core::{ArchKey, Digest, SliceKey};
 use uuid::Uuid;
 
 /// What a line asks for: its command, with the values that it is carried out with. The paths of its inputs stay in the
-/// line; `more` is how many archives stand behind the first one, and `indexes` the indexes of the first archives.
+/// line.
 #[derive(Clone, Copy, Debug)]
 pub enum Plan<'l> {
     /// To write the empty archive.
@@ -38,7 +38,6 @@ pub enum Plan<'l> {
     /// To list what the archives have of a build.
     Find {
         uuid: Uuid,
-        more: usize,
     },
     /// To list all that the archive has.
     List,
@@ -46,7 +45,6 @@ pub enum Plan<'l> {
     Extract {
         key: SliceKey,
         digest: Option<Digest>,
-        more: usize,
     },
     /// To find where symbols of a name stand. The name is the word itself.
     Name {
@@ -58,13 +56,11 @@ pub enum Plan<'l> {
         key: SliceKey,
         load: Option<u64>,
         lines: bool,
-        more: usize,
         addresses: &'l [u64],
     },
     /// To answer each frame of a crash, in the order of the lines of FRAMES; `lines` as of `Symbolicate`.
     Frames {
         lines: bool,
-        indexes: usize,
     },
     /// To write the summary of an archive.
     Summary,
@@ -145,12 +141,9 @@ fn find<'l>(values: &'l [Values]) -> Option<Plan<'l>>
         [
             Texts(One(_)),
             Uuids(One(uuid)),
-            Texts(Several(others)),
             Texts(Several(_)),
-        ] => Some(Plan::Find {
-            uuid: *uuid,
-            more: others.len(),
-        }),
+            Texts(Several(_)),
+        ] => Some(Plan::Find { uuid: *uuid }),
         _ => None,
     }
 }
@@ -166,10 +159,9 @@ fn extract<'l>(values: &'l [Values]) -> Option<Plan<'l>>
         return None;
     };
     match rest {
-        [Texts(Several(others)), Texts(Several(_))] => Some(Plan::Extract {
+        [Texts(Several(_)), Texts(Several(_))] => Some(Plan::Extract {
             key: key(uuid, arch),
             digest: *digest,
-            more: others.len(),
         }),
         _ => None,
     }
@@ -197,14 +189,13 @@ fn symbolicate<'l>(values: &'l [Values]) -> Option<Plan<'l>>
     };
     match rest {
         [
-            Texts(Several(others)),
+            Texts(Several(_)),
             Texts(Several(_)),
             Numbers(Several(addresses)),
         ] => Some(Plan::Symbolicate {
             key: key(uuid, arch),
             load: *load,
             lines: *lines,
-            more: others.len(),
             addresses,
         }),
         _ => None,
@@ -219,10 +210,7 @@ fn frames<'l>(values: &'l [Values]) -> Option<Plan<'l>>
         return None;
     };
     match rest {
-        [Texts(Several(indexes)), Texts(Several(_))] => Some(Plan::Frames {
-            lines: *lines,
-            indexes: indexes.len(),
-        }),
+        [Texts(Several(_)), Texts(Several(_))] => Some(Plan::Frames { lines: *lines }),
         _ => None,
     }
 }

@@ -1,6 +1,5 @@
 pub mod Helping
-pub mod Numbers
-pub mod Numbered
+pub mod Named
 pub mod Saying
 pub mod Reasons
 pub mod OneLine

@@ -1,33 +1,22 @@
 -- Which file a failure is of, and which of its lines.
-use Rattle.std.specs.Prelude.{ℕ, List, [], ◌++◌, codes, Option, Some, None, option_map, slice_get, Result, Ok, Err, ⊤}
+use Rattle.std.specs.Prelude.{ℕ, List, [], ◌++◌, codes, Option, Some, None, option_map, Result, Ok, Err, ⊤}
 use Rattle.std.specs.Fmt.{decimal}
 use Rattle.clap.specs.Words.{Text}
 use Rattle.command_core.specs.{declared.failures.Failure.Failure, FaultTexts.name_text}
 use Rattle.command_core.specs.declared.failures.Failure.TheVariants.{Command, CannotCreate, CannotReplace}
 use Rattle.command_core.specs.declared.faults.CommandFault.TheVariants.{Input, Output, Report, OutOfMemory}
-use Rattle.command_core.specs.declared.faults.{CommandFault.CommandFault, InputName.InputName, Status.Status, Why.Why}
-use Rattle.command_core.specs.declared.faults.InputName.TheVariants.{Archive, File, Ops, Summary, Script, Frames, Index}
+use Rattle.command_core.specs.declared.faults.{CommandFault.CommandFault, Status.Status, Why.Why}
 use Rattle.command_core.specs.declared.faults.Why.TheVariants.{CannotOpen, Device, Record, Take}
 use Rattle.command_core.specs.declared.faults.Why.TheVariants.{Script as ScriptFaulty, BadFrame, OldArchive, TooLong}
 use Rattle.command_core.specs.declared.faults.Why.TheVariants.{Index as IndexFaulty, Damaged, NoArchive, NoIndex, NoLines, Stale}
-use Rattle.command_line.specs.Lines.{Line, inputs_of_kind, out_of}
-use Rattle.command_line.specs.declared.commands.Kind.TheVariants as kinds
+use Rattle.command_line.specs.Lines.{Line, out_of}
+use Rattle.error_lines.specs.Names.{path_at}
 use Rattle.error_lines.specs.declared.{flaws.FaultyLine.FaultyLine, hints.Hint.Hint, hints.Subject.Subject}
 use Rattle.error_lines.specs.declared.flaws.Flaw.TheVariants as flaw
 use Rattle.error_lines.specs.declared.hints.Hint.TheVariants as hint
 use Rattle.error_lines.specs.declared.hints.Subject.TheVariants as subject
 use Rattle.line_inputs.specs.declared.numbers.NumberFlaw.{NumberFlaw}
 use Rattle.line_inputs.specs.declared.numbers.NumberFlaw.TheVariants.{NotDecimal, LeadingZeros, TooLarge}
-
--- the path of the input that is of this name: the one of that number among those of its kind
-abbrev pub path_at : Line → InputName → Option Text
-path_at line (Archive number) = slice_get (inputs_of_kind kinds.Archive line) number
-path_at line (File number) = slice_get (inputs_of_kind kinds.File line) number
-path_at line Ops = slice_get (inputs_of_kind kinds.Ops line) 0
-path_at line Summary = slice_get (inputs_of_kind kinds.Summary line) 0
-path_at line Script = slice_get (inputs_of_kind kinds.Script line) 0
-path_at line Frames = slice_get (inputs_of_kind kinds.Frames line) 0
-path_at line (Index number) = slice_get (inputs_of_kind kinds.Index line) number
 
 -- the path of the file that a failure is of
 abbrev pub file_of : Line → Failure → Option Text

@@ -1,4 +1,4 @@
-pub mod Numbers
+pub mod Names
 pub mod Hints
 pub mod StandardError
 pub mod Ending

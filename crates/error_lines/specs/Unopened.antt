@@ -1,13 +1,13 @@
 -- What is told of an input that was not opened at its turn.
-use Rattle.std.specs.Prelude.{◌≡◌, List, Option, Some, None, option_and_then, slice_get, Result, Ok, Err}
+use Rattle.std.specs.Prelude.{◌≡◌, Option, Some, None, Result, Ok, Err}
 use Rattle.archive_files.specs.InputStates.{Told, unopened_in}
 use Rattle.archive_files.specs.declared.input_state.Unopened.{Unopened}
 use Rattle.archive_files.specs.declared.input_state.Unopened.TheVariants as unopened
-use Rattle.command_line.specs.Lines.{Line}
+use Rattle.command_line.specs.Inputs.{Inputs}
 use Rattle.command_core.specs.declared.faults.{CommandFault.CommandFault, InputName.InputName, Status.Status}
 use Rattle.command_core.specs.declared.faults.CommandFault.TheVariants.{Input, Output, Report, OutOfMemory}
 use Rattle.command_core.specs.declared.faults.Why.{Why, TheVariants.CannotOpen as NotOpened}
-use Rattle.error_lines.specs.Numbers.{number_at}
+use Rattle.error_lines.specs.Names.{input_at}
 
 -- why an input was not opened at its turn, if it was not
 abbrev pub unopened_of : {S : Type 0} → Told S → Option S → Option Unopened
@@ -20,13 +20,12 @@ fault_at None name why = Input name why
 fault_at (Some (unopened.Refused refused)) name why = Input name NotOpened
 fault_at (Some unopened.OutOfMemory) name why = OutOfMemory
 
--- This is told of a command of the line that ended so, behind which its inputs are these: where it is refused for an
--- input that was not opened, why that was not, and else how it ended.
-abbrev pub Tells : {S : Type 0} → Told S → Line → List S → Result Status CommandFault
-    → Result Status CommandFault → Type 0
-Tells told line inputs (Ok status) result = result ≡ Ok status
-Tells told line inputs (Err (Input name why)) result =
-    result ≡ Err (fault_at (unopened_of told (option_and_then (slice_get inputs) (number_at line name))) name why)
-Tells told line inputs (Err (Output n)) result = result ≡ Err (Output n)
-Tells told line inputs (Err (Report n)) result = result ≡ Err (Report n)
-Tells told line inputs (Err OutOfMemory) result = result ≡ Err OutOfMemory
+-- This is told of a command that ended so, behind which its inputs are these: where it is refused for an input that was
+-- not opened, why that was not, and else how it ended.
+abbrev pub Tells : {S : Type 0} → Told S → Inputs S → Result Status CommandFault → Result Status CommandFault → Type 0
+Tells told inputs (Ok status) result = result ≡ Ok status
+Tells told inputs (Err (Input name why)) result =
+    result ≡ Err (fault_at (unopened_of told (input_at inputs name)) name why)
+Tells told inputs (Err (Output n)) result = result ≡ Err (Output n)
+Tells told inputs (Err (Report n)) result = result ≡ Err (Report n)
+Tells told inputs (Err OutOfMemory) result = result ≡ Err OutOfMemory

@@ -14,10 +14,10 @@ ghost use Rattle.error_lines.specs.Hints.{stale_hint, subject_of, subject_text};
 
 use crate::file_kinds::FileKind;
 use crate::flaws::FaultyLine;
-use crate::input_names::input_at;
+use crate::input_names::{input_at, path_at};
 use archive_files::{Obstacle, OutFile, SystemInput, Unopened};
 use command_core::{CommandFault, Failure, InputName, Status, Why};
-use command_line::Line;
+use command_line::{Inputs, Line};
 use std::fmt::{self, Display, Write};
 use std::io::{self, ErrorKind};
 use std::rt::Files;
@@ -66,11 +66,10 @@ impl Seen {
         }
     }
 
-    /// What was seen of the file that the command of this line failed at.
+    /// What was seen of the file that a command with these inputs failed at.
     pub fn by<F: Files>(
         ended: &Result<Status, CommandFault>,
-        line: &Line,
-        inputs: &[SystemInput<'_, '_, F>],
+        inputs: &Inputs<SystemInput<'_, '_, F>>,
         out: &OutFile<'_, F>,
     ) -> Seen
         ensures nothing { IsOfNoFile ended.now
@@ -79,11 +78,8 @@ impl Seen {
         ensures input { IsOfInput ended.now → result.obstacle ≡ None }
     {
         match ended {
-            Err(CommandFault::Input(name, _)) => match input_at(line, *name) {
-                Some((number, _)) => match inputs.get(number) {
-                    Some(input) => Seen::of_input(input),
-                    None => Seen::NOTHING,
-                },
+            Err(CommandFault::Input(name, _)) => match input_at(inputs, *name) {
+                Some(input) => Seen::of_input(input),
                 None => Seen::NOTHING,
             },
             Err(CommandFault::Output(_)) => Seen {
@@ -236,7 +232,7 @@ pub fn help_with<'p>(line: &'p Line, failure: &Failure, seen: Seen) -> Option<He
         Failure::Command(CommandFault::Input(name, why)) => {
             Some(Help {
                 subject: Subject::Input(*name),
-                path: input_at(line, *name)?.1,
+                path: path_at(line, *name)?,
                 hint: hint_of(*why),
                 faulty: FaultyLine::of(*why),
                 seen: Seen {

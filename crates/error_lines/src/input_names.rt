@@ -1,53 +1,61 @@
 //! Which input of a line a name means.
 
-ghost use Rattle.std.specs.Prelude.{◌≡◌, ◌<◌, ◌^◌, length, option_map, slice_get};
+ghost use Rattle.std.specs.Prelude.{◌≡◌, option_map, slice_get};
+ghost use Rattle.command_line.specs.Inputs.{inputs_view};
 ghost use Rattle.command_line.specs.LineView.{line_view};
-ghost use Rattle.command_line.specs.Lines.{inputs_of, inputs_of_kind};
-ghost use Rattle.error_lines.specs.Hints.{path_at};
-ghost use Rattle.error_lines.specs.Numbers.{number_at, numbers_of_kind};
+ghost use Rattle.command_line.specs.Lines.{inputs_of_kind};
+ghost use Rattle.error_lines.specs.Names.{input_at, kind_of, number_of, path_at};
 
 use command_core::InputName;
-use command_line::{Kind, Line, is_input, is_input_of};
+use command_line::{Inputs, Kind, Line, is_input_of};
 
-/// The input of this number among those of a kind: its number among all, and its path.
-fn input_of(line: &Line, kind: Kind, number: u64) -> Option<(usize, &str)>
-    ensures path { option_map (λ at. at.1.now) result
+/// The kind of an input of this name, and its number among those.
+fn role_of(name: InputName) -> (Kind, usize)
+    ensures kind { result.0 ≡ kind_of name }
+    ensures number { result.1 ≡ number_of name }
+{
+    match name {
+        InputName::Archive(number) => (Kind::Archive, number as usize),
+        InputName::File(number) => (Kind::File, number as usize),
+        InputName::Ops => (Kind::Ops, 0),
+        InputName::Summary => (Kind::Summary, 0),
+        InputName::Script => (Kind::Script, 0),
+        InputName::Frames => (Kind::Frames, 0),
+        InputName::Index(number) => (Kind::Index, number as usize),
+    }
+}
+
+/// The path of this number among those of a kind.
+fn path_of(line: &Line, kind: Kind, number: usize) -> Option<&str>
+    ensures { option_map (λ p. p.now) result
         ≡ slice_get (inputs_of_kind kind (line_view line.now)) number }
-    ensures number { length (inputs_of (line_view line.now)) < 2 ^ 64
-        → option_map (λ at. at.0) result ≡ slice_get (numbers_of_kind kind (line_view line.now)) number }
 {
     let arguments = line.arguments();
-    let mut passed = 0_usize;
-    let mut left = number as usize;
+    let mut left = number;
     'arguments: for (argument, values) in arguments.iter().zip(&line.values) {
-        let paths = values.texts();
         if is_input_of(argument.role, kind) {
+            let paths = values.texts();
             if let Some(path) = paths.get(left) {
-                return Some((passed.saturating_add(left), path));
+                return Some(path);
             }
             left -= paths.len();
-        }
-        if is_input(argument.role) {
-            passed = passed.saturating_add(paths.len());
         }
     }
     None
 }
 
-/// The input that is reported of this name: its number among all, where they are so few that each has one, and its
-/// path.
-pub fn input_at(line: &Line, name: InputName) -> Option<(usize, &str)>
-    ensures path { option_map (λ at. at.1.now) result ≡ path_at (line_view line.now) name }
-    ensures number { length (inputs_of (line_view line.now)) < 2 ^ 64
-        → option_map (λ at. at.0) result ≡ number_at (line_view line.now) name }
+/// The path of the input that is reported of this name.
+pub fn path_at(line: &Line, name: InputName) -> Option<&str>
+    ensures { option_map (λ p. p.now) result ≡ path_at (line_view line.now) name }
 {
-    match name {
-        InputName::Archive(number) => input_of(line, Kind::Archive, number),
-        InputName::File(number) => input_of(line, Kind::File, number),
-        InputName::Ops => input_of(line, Kind::Ops, 0),
-        InputName::Summary => input_of(line, Kind::Summary, 0),
-        InputName::Script => input_of(line, Kind::Script, 0),
-        InputName::Frames => input_of(line, Kind::Frames, 0),
-        InputName::Index(number) => input_of(line, Kind::Index, number),
-    }
+    let (kind, number) = role_of(name);
+    path_of(line, kind, number)
+}
+
+/// The input that is reported of this name.
+pub fn input_at<S>(inputs: &Inputs<S>, name: InputName) -> Option<&S>
+    ensures { option_map (λ input. input.now) result ≡ input_at (inputs_view inputs.now) name }
+{
+    let (kind, number) = role_of(name);
+    inputs.of_kind(kind).get(number)
 }

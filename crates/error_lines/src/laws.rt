@@ -1,14 +1,18 @@
-//! What the definitions say of the number of an input.
+//! What the definitions say of the input of a name.
 
-ghost use Rattle.std.specs.Prelude.{◌≡◌, ℕ, Some, slice_get};
+ghost use Rattle.std.specs.Prelude.{◌≡◌, Some};
+ghost use Rattle.archive_files.specs.InputStates.{Told};
 ghost use Rattle.command_core.specs.declared.faults.InputName.{InputName};
-ghost use Rattle.command_line.specs.Lines.{Line, inputs_of};
-ghost use Rattle.error_lines.specs.Hints.{path_at};
-ghost use Rattle.error_lines.specs.Numbers.{number_at};
+ghost use Rattle.command_line.specs.Inputs.{Inputs};
+ghost use Rattle.command_line.specs.Lines.{Line};
+ghost use Rattle.error_lines.specs.Names.{AreOfLine, input_at, path_at};
 
-/// The input that is looked at by its number, where a command is refused for one, is at the path that the help names.
-pub fn each_number_leads_to_its_path()
-    ensures { (line : Line) (name : InputName) (number : ℕ)
-        → number_at line name ≡ Some number
-        → slice_get (inputs_of line) number ≡ path_at line name }
+use byte_device::Source;
+
+/// The input that is looked at, where a command is refused for one, is at the path that the help names.
+pub fn each_name_leads_to_its_path<S: Source>()
+    ensures { (told : Told S) (line : Line) (inputs : Inputs S) (name : InputName) (input : S)
+        → AreOfLine told line inputs
+        → input_at inputs name ≡ Some input
+        → path_at line name ≡ Some (told.path input) }
 {}

@@ -9,7 +9,7 @@
 //! - `help_lines`: the line in which that is said;
 //! - `standard_error`: what is said on standard error;
 //! - `ending`: what is said at the end, and the exit status;
-//! - `laws`: what is said of the number of an input.
+//! - `laws`: what is said of the input of a name.
 #![tactic(auto)]
 
 mod ending;

@@ -1,43 +1,24 @@
 -- Archives and indexes that are handed on, and the query that they make.
-use Rattle.std.proofs.Common.{◌≡◌, ℕ, ◌<◌, List, [], ◌∷◌, ◌++◌, length, take, drop, Option, Result, Bool, false, Ok, Err, refl, ap, sym, subst, arith, inl, inr}
-use Rattle.std.proofs.{KnownBytes.Appends-nil, Math.Seq.drop-append_seam, Math.Seq.take-append_seam}
+use Rattle.std.proofs.Common.{◌≡◌, ℕ, ◌<◌, List, [], ◌∷◌, length, Option, Result, Bool, false, Ok, Err, refl, sym, subst, arith, inl, inr}
+use Rattle.std.proofs.KnownBytes.{Appends-nil}
 use Rattle.std.proofs.lemmas.Bool.{le-ltb, lt-ltb, Decides.nat_tests}
 use Rattle.std.specs.Prelude.{◌==◌}
 use Rattle.command_core.specs.{Ends.EndsReport, Ends.Query, Outputs.Writer, Outputs.writer}
 use Rattle.command_core.specs.declared.faults.{CommandFault.CommandFault, CommandFault.TheVariants.Input, Status.Status}
 use Rattle.command_core.specs.declared.faults.InputName.{InputName, TheVariants.Archive, TheVariants.Index}
 use Rattle.command_core.specs.declared.faults.Why.{Why, TheVariants.NoArchive, TheVariants.NoIndex}
-use Rattle.command_core.specs.Inputs.{Reader, reader, readers}
+use Rattle.command_core.specs.Inputs.{Reader, readers}
 use Rattle.archive_core.specs.declared.keys.SliceKey.{SliceKey}
 use Rattle.command_core.proofs.Readers.{readers_long}
 use Rattle.indexed_queries.specs.Find.{find_together}
 use Rattle.indexed_symbols.specs.{Frames.frames_at, Symbolicate.symbolicate_at}
 use Rattle.plan_commands.specs.Queries.{IsAlone, find_of, frames_of, if_paired, paired, symbolicate_of}
 
--- ---- inputs in two parts
-
 module _ {S : Type 0} (left : S → Option (List ℕ)) (failures : S → ℕ) where
   -- there is one where there is an input
   pub some_read : (a c : List S) → length c ≡ length a → 0 < length a
       → 0 < length (readers left failures a c)
   some_read a c same some = omega (arith, readers_long left failures a c same)
-
-  joined : (a b c d : List S) → length c ≡ length a
-      → readers left failures (a ++ b) (c ++ d) ≡ readers left failures a c ++ readers left failures b d
-  joined [] b [] d is = refl
-  joined (x ∷ a) b (y ∷ c) d is = ap (λ rest. reader left failures x y ∷ rest) (joined a b c d (omega arith))
-  joined a b c d is = absurd (omega arith)
-
-  -- the parts, between their states
-  parts : (n : ℕ) (a b c d : List S) → length a ≡ n → length c ≡ length a
-      → (take n (readers left failures (a ++ b) (c ++ d)) ≡ readers left failures a c)
-      × (drop n (readers left failures (a ++ b) (c ++ d)) ≡ readers left failures b d)
-  parts n a b c d is same =
-      let first = readers left failures a c in
-      let second = readers left failures b d in (
-        rw (← is, ← readers_long left failures a c same, joined a b c d same) (take-append_seam first second),
-        rw (← is, ← readers_long left failures a c same, joined a b c d same) (drop-append_seam first second),
-      )
 
 -- ---- queries by indexes
 
@@ -128,15 +109,3 @@ module _ {S : Type 0} (left whole : S → Option (List ℕ)) (failures place_fai
       → EndsReport made report result → EndsReport query report result
   paired_kept a c ix iy query made report result as_many same indexes by ends =
       rw (by, readers_paired a c ix iy as_many same indexes) ends
-
-  -- what holds of archives and indexes that are handed on holds of the parts of the inputs that they were made of
-  pub at_parts : (Holds : List (Reader S) → List (Reader S) → List (Reader S) → List (Reader S) → Type 0) (n : ℕ)
-      (inputs a b c d : List S) → inputs ≡ a ++ b → length a ≡ n → length c ≡ length a
-      → Holds (readers left failures a c) (readers left failures b d) (readers whole place_failures a c)
-      (readers whole place_failures b d)
-      → Holds (take n (readers left failures inputs (c ++ d))) (drop n (readers left failures inputs (c ++ d)))
-      (take n (readers whole place_failures inputs (c ++ d))) (drop n (readers whole place_failures inputs (c ++ d)))
-  at_parts Holds n inputs a b c d is long same holds =
-      let read = parts left failures n a b c d long same in
-      let placed = parts whole place_failures n a b c d long same in
-      rw (is, read.0, read.1, placed.0, placed.1) holds

@@ -1,3 +1,4 @@
+pub mod Waiting
 pub mod Turned
 pub mod OutPublished
 pub mod Pathless
@@ -9,3 +10,4 @@ pub mod Openings
 pub mod Extracted
 mod Dispatched
 mod Asked
+mod First

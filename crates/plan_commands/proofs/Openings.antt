@@ -1,7 +1,7 @@
 -- What is told of inputs that were not opened.
 use Rattle.std.proofs.Common.{◌≡◌, ◌∙◌, ◌⊎◌, ℕ, zero, suc, List, [], ◌∷◌, Option, Some, None, Result, Ok, Err, refl, ap, sym, subst, inl, inr}
 use Rattle.std.proofs.lemmas.Grind.{not_there}
-use Rattle.std.specs.Prelude.{option_and_then, slice_get}
+use Rattle.std.specs.Prelude.{slice_get}
 use Rattle.archive_files.specs.InputStates.{AreAtTurn, IsAtTurn, IsStateOf, Told, Stage, Open, Unopened, Waiting, opened_in, unopened_in, wanting_in}
 use Rattle.archive_files.specs.declared.input_state.Unopened.{Unopened as Reason}
 use Rattle.archive_files.specs.declared.input_state.Unopened.TheVariants as reasons
@@ -10,9 +10,10 @@ use Rattle.byte_device.specs.declared.disks.CannotOpen.{CannotOpen as CannotOpen
 use Rattle.command_core.specs.declared.faults.{CommandFault.CommandFault, InputName.InputName, Status.Status, Why.Why}
 use Rattle.command_core.specs.declared.faults.CommandFault.TheVariants.{Input, Output, Report, OutOfMemory}
 use Rattle.command_core.specs.declared.faults.Why.TheVariants.{CannotOpen}
-use Rattle.command_line.specs.Lines.{Line}
-use Rattle.error_lines.specs.{Numbers.number_at, Unopened.Tells, Unopened.fault_at, Unopened.unopened_of}
-use Rattle.plan_commands.specs.Openings.{HaveOneFile, IsRefusedByDisk, input_at}
+use Rattle.command_line.specs.{Inputs.Inputs, Inputs.of_kind, declared.commands.Kind.Kind}
+use Rattle.error_lines.specs.Names.{input_at, kind_of, number_of}
+use Rattle.error_lines.specs.Unopened.{Tells, fault_at, unopened_of}
+use Rattle.plan_commands.specs.Openings.{HaveOneFile, IsRefusedByDisk}
 
 -- one of inputs that keep their rules does
 each : {S : Type 0} (told : Told S) (inputs : List S) (k : ℕ) (input : S) → AreAtTurn told inputs
@@ -21,13 +22,14 @@ each told [] k input all is = cc
 each told (x ∷ xs) zero input all is = let same : x ≡ input = cc in subst (IsAtTurn told) same all.0
 each told (x ∷ xs) (suc k) input all is = each told xs k input all.1 is
 
-pub at_turn : {S : Type 0} (told : Told S) (line : Line) (inputs : List S) (name : InputName) (input : S)
-    → AreAtTurn told inputs → input_at line inputs name ≡ Some input → IsAtTurn told input
-at_turn told line inputs name input all is = go (number_at line name) is
-  where
-    go : (o : Option ℕ) → option_and_then (slice_get inputs) o ≡ Some input → IsAtTurn told input
-    go None found = cc
-    go (Some k) found = each told inputs k input all found
+-- so it is with the inputs of each kind
+abbrev pub AllAtTurn : {S : Type 0} → Told S → Inputs S → Type 0
+AllAtTurn told inputs = (kind : Kind) → AreAtTurn told (of_kind kind inputs)
+
+pub at_turn : {S : Type 0} (told : Told S) (inputs : Inputs S) (name : InputName) (input : S)
+    → AllAtTurn told inputs → input_at inputs name ≡ Some input → IsAtTurn told input
+at_turn told inputs name input all is =
+    each told (of_kind (kind_of name) inputs) (number_of name) input (all (kind_of name)) is
 
 -- what is known of one that the disk refused
 by_disk : {S : Type 0} (told : Told S) (input : S) (refused : CannotOpenOfDisk)
@@ -43,42 +45,42 @@ by_disk told input refused staged turn = record {
       subst (λ s. IsStateOf (Holding bytes) s) staged (subst (λ f. IsStateOf f (told.stage input)) is fits));
 }
 
-module _ {S : Type 0} (told : Told S) (line : Line) (inputs : List S) (all : AreAtTurn told inputs) where
+module _ {S : Type 0} (told : Told S) (inputs : Inputs S) (all : AllAtTurn told inputs) where
   -- the input of the name at which a command was refused so
-  by_stage : (at name : InputName) (why : Why) (input : S) (stage : Stage) → input_at line inputs at ≡ Some input
+  by_stage : (at name : InputName) (why : Why) (input : S) (stage : Stage) → input_at inputs at ≡ Some input
       → told.stage input ≡ stage → (why ≡ CannotOpen → ⊥)
       → fault_at (unopened_in stage) at why ≡ Input name CannotOpen
-      → (there : S) × (input_at line inputs name ≡ Some there) × IsRefusedByDisk told there
+      → (there : S) × (input_at inputs name ≡ Some there) × IsRefusedByDisk told there
   by_stage at name why input (Unopened (reasons.Refused refused)) is staged spares same =
       let here : at ≡ name = cc in (
         input,
-        subst (λ n. input_at line inputs n ≡ Some input) here is,
-        by_disk told input refused staged (at_turn told line inputs at input all is),
+        subst (λ n. input_at inputs n ≡ Some input) here is,
+        by_disk told input refused staged (at_turn told inputs at input all is),
       )
   by_stage at name why input (Unopened reasons.OutOfMemory) is staged spares same = cc
   by_stage at name why input stage is staged spares same = let reason : why ≡ CannotOpen = cc in absurd (spares reason)
 
-  by_option : (at name : InputName) (why : Why) (o : Option S) → input_at line inputs at ≡ o → (why ≡ CannotOpen → ⊥)
+  by_option : (at name : InputName) (why : Why) (o : Option S) → input_at inputs at ≡ o → (why ≡ CannotOpen → ⊥)
       → fault_at (unopened_of told o) at why ≡ Input name CannotOpen
-      → (there : S) × (input_at line inputs name ≡ Some there) × IsRefusedByDisk told there
+      → (there : S) × (input_at inputs name ≡ Some there) × IsRefusedByDisk told there
   by_option at name why None is spares same = let reason : why ≡ CannotOpen = cc in absurd (spares reason)
   by_option at name why (Some input) is spares same = by_stage at name why input (told.stage input) is refl spares same
 
-  pub refused_so : (name : InputName) (ended result : Result Status CommandFault) → Tells told line inputs ended result
+  pub refused_so : (name : InputName) (ended result : Result Status CommandFault) → Tells told inputs ended result
       → result ≡ Err (Input name CannotOpen) → ((at : InputName) → ended ≡ Err (Input at CannotOpen) → ⊥)
-      → (there : S) × (input_at line inputs name ≡ Some there) × IsRefusedByDisk told there
+      → (there : S) × (input_at inputs name ≡ Some there) × IsRefusedByDisk told there
   refused_so name (Err (Input at why)) result tells same spares =
-      let one : fault_at (unopened_of told (input_at line inputs at)) at why ≡ Input name CannotOpen = cc in
-      by_option at name why (input_at line inputs at) refl (λ is. spares at (ap (λ w. Err (Input at w)) is)) one
+      let one : fault_at (unopened_of told (input_at inputs at)) at why ≡ Input name CannotOpen = cc in
+      by_option at name why (input_at inputs at) refl (λ is. spares at (ap (λ w. Err (Input at w)) is)) one
   refused_so name (Ok status) result tells same spares = cc
   refused_so name (Err (Output n)) result tells same spares = cc
   refused_so name (Err (Report n)) result tells same spares = cc
   refused_so name (Err OutOfMemory) result tells same spares = cc
 
 -- what is told where the input at fault was not opened
-module _ {S : Type 0} (told : Told S) (line : Line) (inputs : List S) (name : InputName) (why : Why) where
+module _ {S : Type 0} (told : Told S) (inputs : Inputs S) (name : InputName) (why : Why) where
   abbrev seen : InputName → Option Reason
-  seen at = unopened_of told (input_at line inputs at)
+  seen at = unopened_of told (input_at inputs at)
 
   abbrev pub IsToldAs : Type 0
   IsToldAs = ((refused : CannotOpenOfDisk) → seen name ≡ Some (reasons.Refused refused) → why ≡ CannotOpen)
@@ -95,7 +97,7 @@ module _ {S : Type 0} (told : Told S) (line : Line) (inputs : List S) (name : In
       let seen_so : seen name ≡ Some (reasons.Refused refused) = ap seen (sym here) ∙ is in (λ _ _. so, λ some. cc)
   by_seen at reason (Some reasons.OutOfMemory) is same = cc
 
-  pub told_as : (ended result : Result Status CommandFault) → Tells told line inputs ended result
+  pub told_as : (ended result : Result Status CommandFault) → Tells told inputs ended result
       → result ≡ Err (Input name why) → IsToldAs
   told_as (Err (Input at reason)) result tells same =
       let one : fault_at (seen at) at reason ≡ Input name why = cc in by_seen at reason (seen at) refl one
@@ -105,11 +107,11 @@ module _ {S : Type 0} (told : Told S) (line : Line) (inputs : List S) (name : In
   told_as (Err OutOfMemory) result tells same = cc
 
 -- what is told of an input whose file is not there, as that of one that the disk refused
-pub also_told : {R S : Type 0} (told : Told R) (also : Told S) (line : Line) (inputs : List S) (name : InputName)
-    (input : R) (other : S) (why : Why) → IsRefusedByDisk told input → IsAtTurn also other
-    → HaveOneFile told also input other → input_at line inputs name ≡ Some other → IsToldAs also line inputs name why
+pub also_told : {R S : Type 0} (told : Told R) (also : Told S) (inputs : Inputs S) (name : InputName) (input : R)
+    (other : S) (why : Why) → IsRefusedByDisk told input → IsAtTurn also other
+    → HaveOneFile told also input other → input_at inputs name ≡ Some other → IsToldAs also inputs name why
     → (also.stage other ≡ Waiting) ⊎ (why ≡ CannotOpen)
-also_told told also line inputs name input other why refused turn one named so = go (also.stage other) refl
+also_told told also inputs name input other why refused turn one named so = go (also.stage other) refl
   where
     by_file : (one.file ≡ Missing) ⊎ ((bytes : List ℕ) × (one.file ≡ Holding bytes)) → one.file ≡ Missing
     by_file (inl is) = is

@@ -2,25 +2,24 @@
 use Rattle.std.proofs.Common.{◌≡◌, ℕ, List, [], length, take, Option, Some, None, Result, Ok, Err, refl, ap, sym, subst, inl, inr, arith, length-take-le}
 use Rattle.std.proofs.KnownBytes.{Appends-nil}
 use Rattle.std.specs.FinSet as set
-use Rattle.std.specs.{Io.KnownBytes.Appends, Prelude.option_and_then, Prelude.slice_get}
-use Rattle.command_line.specs.Lines.{Line}
+use Rattle.std.specs.Io.KnownBytes.{Appends}
+use Rattle.command_line.specs.{Inputs.Inputs, Lines.Line}
 use Rattle.archive_records.specs.Text.{written}
 use Rattle.command_core.specs.declared.faults.{CommandFault.CommandFault, InputName.InputName, Status.Status, Why.Why}
 use Rattle.command_core.specs.declared.faults.CommandFault.TheVariants.{Input, Output, Report, OutOfMemory}
 use Rattle.byte_device.specs.declared.targets.Output.{Output as Out}
 use Rattle.command_core.specs.declared.faults.Why.TheVariants.{CannotOpen as NotOpened}
-use Rattle.command_core.specs.{Inputs.readers, Ends.Command, Ends.Ends, Ends.EndsStreamed, Ends.Query, Ends.Streamed}
+use Rattle.command_core.specs.{Ends.Command, Ends.Ends, Ends.EndsStreamed, Ends.Query, Ends.Streamed}
 use Rattle.command_core.specs.Outputs.{FailsAt, IsKept, Outs, Publishes, Writer, out_of, report_of}
 use Rattle.archive_files.specs.{InputStates.Told, declared.input_state.Unopened.Unopened}
 use Rattle.archive_writing.specs.declared.notes.Note.{Note}
 use Rattle.archive_files.specs.declared.input_state.Unopened.TheVariants as unopened
 use Rattle.plan_commands.specs.Disks.{Carried}
-use Rattle.error_lines.specs.Unopened.{Tells, fault_at, unopened_of}
-use Rattle.plan_commands.specs.Plans.{Deed, EndsDeed, EndsQuery, answers, changes, deed_of, empties, extracts, none, streams}
+use Rattle.error_lines.specs.{Names.input_at, Unopened.Tells, Unopened.fault_at, Unopened.unopened_of}
+use Rattle.plan_commands.specs.Plans.{Deed, EndsDeed, EndsQuery, answers, changes, deed_of, empties, extracts, none, readers_by, streams}
 use Rattle.plan_commands.specs.Files.{IsNotPut, IsOutcome}
 use Rattle.command_line.specs.declared.plan.Plan.{Plan}
 use Rattle.slice_extraction.specs.Extract.{Extraction, Extracts, LacksSlice}
-use Rattle.error_lines.specs.Numbers.{number_at}
 
 -- if OUT failed, this is told of it
 abbrev pub Counts : Result Status CommandFault → ℕ → Type 0
@@ -126,7 +125,7 @@ done (answers query) out report r e = queried query out report r e
 done none out report r e = absurd e
 
 -- and what is told of it
-module _ {S D T : Type 0} (told : Told S) (line : Line) (behind : List S) (out : Outs D T) where
+module _ {S D T : Type 0} (told : Told S) (behind : Inputs S) (out : Outs D T) where
   by_fault : (u : Option Unopened) (name : InputName) (why : Why) → IsNotPut out (Err (Input name why))
       → IsOutcome out (Err (fault_at u name why))
   by_fault None name why o = o
@@ -135,18 +134,18 @@ module _ {S D T : Type 0} (told : Told S) (line : Line) (behind : List S) (out :
   by_fault (Some unopened.OutOfMemory) name why o =
       not_put out (Err OutOfMemory) o.bytes o.took o.kept (λ n h. cc)
 
-  told_outcome : (ended result : Result Status CommandFault) → Tells told line behind ended result → IsOutcome out ended
+  told_outcome : (ended result : Result Status CommandFault) → Tells told behind ended result → IsOutcome out ended
       → IsOutcome out result
   told_outcome (Err (Input name why)) result tells o =
       subst (IsOutcome out) (sym tells)
-      (by_fault (unopened_of told (option_and_then (slice_get behind) (number_at line name))) name why o)
+      (by_fault (unopened_of told (input_at behind name)) name why o)
   told_outcome ended result tells o = subst (IsOutcome out) (sym tells) o
 
-pub carried_outcome : {S D T : Type 0} (told : Told S) (line : Line) (plan : Plan) (before behind : List S)
+pub carried_outcome : {S D T : Type 0} (told : Told S) (line : Line) (plan : Plan) (before behind : Inputs S)
     (out : Outs D T) (report : Writer) (r : Result Status CommandFault) (notes noted : List Note)
     → Carried told line plan before behind out report r notes noted
     → IsOutcome out r
 carried_outcome told line plan before behind out report r notes noted c =
-    told_outcome told line behind out c.ended r c.tells
-    (done (deed_of plan (readers told.left told.failures before behind)
-    (readers told.whole told.failures before behind) out) out report c.ended c.executes)
+    told_outcome told behind out c.ended r c.tells
+    (done (deed_of plan (readers_by told.left told.failures before behind)
+    (readers_by told.whole told.failures before behind) out) out report c.ended c.executes)

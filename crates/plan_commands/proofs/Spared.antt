@@ -1,25 +1,29 @@
 -- No command tells of an input that it could not be opened: that is told of the device's fault that it comes as.
-use Rattle.std.proofs.Common.{◌⊎◌, ℕ, suc, Bool, true, false, List, [], ◌∷◌, length, take, drop, if◌then◌else◌, Option, Ok, Err, inl, inr}
+use Rattle.std.proofs.Common.{◌⊎◌, ℕ, Bool, true, false, List, [], ◌∷◌, length, if◌then◌else◌, Option, Ok, Err, inl, inr}
 use Rattle.std.specs.Prelude.{nat_lt}
 use Rattle.archive_core.specs.declared.keys.{Digest.Digest, SliceKey.SliceKey}
 use Rattle.archive_records.specs.declared.fault.MergeCause.{MergeCause}
 use Rattle.archive_records.specs.declared.fault.MergeCause.TheVariants.{Left, Right, Write}
 use Rattle.archive_records.specs.declared.kind.TextKind.{TextKind}
 use Rattle.archive_queries.specs.Frames.{RefusesFrames}
-use Rattle.archive_writing.specs.MergeStreams.{IsSide}
+use Rattle.archive_exchange.specs.Rehearse.{rehearse}
+use Rattle.archive_queries.specs.Name.{name}
+use Rattle.archive_writing.specs.{Admit.admit_as_it_comes, Apply.apply_as_it_comes, Delta.delta_as_it_comes}
+use Rattle.archive_writing.specs.{MergeStreams.IsSide, MergeStreams.merge_as_it_comes, Migrate.migrate_as_it_comes}
+use Rattle.archive_writing.specs.Retire.{retire_as_it_comes}
 use Rattle.command_core.specs.Archives.{AreRefused, further_name}
-use Rattle.command_core.specs.Ends.{Query}
+use Rattle.command_core.specs.Ends.{EndsStreamed, Query}
 use Rattle.command_core.specs.Inputs.{IsAccepted, IsArchive, IsArchiveRefused, IsFileRefused, IsFirstRefused, IsRefusedInTurn, IsRefusedOps, IsRefusedSummary, IsTextRefused, Reader}
-use Rattle.command_core.specs.Outputs.{Outs, Writer, out_of}
+use Rattle.command_core.specs.Outputs.{Outs, Writer, draft_of, out_of}
 use Rattle.command_core.specs.declared.faults.{InputName.InputName, Why.Why}
 use Rattle.command_core.specs.declared.faults.CommandFault.TheVariants.{Input}
 use Rattle.command_core.specs.declared.faults.InputName.TheVariants.{File}
 use Rattle.command_core.specs.declared.faults.Why.TheVariants.{CannotOpen}
-use Rattle.command_line.specs.declared.plan.Plan.{Plan}
+use Rattle.command_line.specs.{Inputs.Inputs, declared.plan.Plan.Plan}
 use Rattle.command_line.specs.declared.plan.Plan.TheVariants as plan
 use Rattle.archive_index.specs.declared.fault.IndexingFault.{IndexingFault}
 use Rattle.archive_index.specs.declared.fault.IndexingFault.TheVariants.{Archive as OfArchive, OldArchive, TooLong}
-use Rattle.index_writing.specs.Index.{TellsRefusal, TellsStop}
+use Rattle.index_writing.specs.Index.{TellsRefusal, TellsStop, index as index_of}
 use Rattle.index_writing.specs.declared.fault.MakingFault.{MakingFault}
 use Rattle.index_writing.specs.declared.fault.MakingFault.TheVariants.{Archive as Refused, Write as Wrote}
 use Rattle.indexed_queries.specs.{Indexes.IsOfOtherLength, Indexes.IsRefusedByIndex, Several.AreRefusedLater, Several.AreRefusedTogether}
@@ -28,7 +32,7 @@ use Rattle.indexed_symbols.specs.Asking.{AreRefusedAsking, IsChanged, IsLineless
 use Rattle.indexed_symbols.specs.{Frames.RefusesFramesAt, Frames.frames_at, Symbolicate.symbolicate_at}
 use Rattle.indexed_queries.specs.Find.{find_together}
 use Rattle.slice_extraction.specs.{Entries.IsRefusedSlice, Extract.Extraction, Extract.Extracts, Indexed.AreRefusedBefore, Indexed.extract_at}
-use Rattle.plan_commands.specs.Plans.{Executes}
+use Rattle.plan_commands.specs.Plans.{Deed, EndsDeed, Executes, answers, none, of_first, streams, summary_of}
 use Rattle.plan_commands.specs.Queries.{extract_of, extraction_if_paired, find_of, frames_of, if_paired, list_of, no_archive, no_index, paired, symbolicate_of}
 
 -- it is no reason that refuses an input
@@ -208,37 +212,86 @@ extract archives places indexes key digest draft at r =
 
 -- ---- every plan
 
-pub spared : {S D T : Type 0} (asked : Plan) (inputs places : List (Reader S)) (out : Outs D T) (report : Writer)
-    (at : InputName) → Executes asked inputs places out report (Err (Input at CannotOpen)) → ⊥
-spared plan.Admit (input ∷ files) places out report at e =
-    in_turn input (IsFirstRefused File IsAccepted IsFileRefused files) (first_file files) at e.stops.0.0
-spared (plan.Retire key digest) (input ∷ _) places out report at e = text _ input e.stops.0.0.1
-spared {S = S} plan.Merge (input ∷ []) places out report at e =
+-- what is said of the first input
+at_first : {S D T : Type 0} (inputs : List (Reader S)) (deed : Reader S → List (Reader S) → Deed) (out : Outs D T)
+    (report : Writer) (at : InputName)
+    → ((x : Reader S) (xs : List (Reader S)) → EndsDeed (deed x xs) out report (Err (Input at CannotOpen)) → ⊥)
+    → EndsDeed (of_first none deed inputs) out report (Err (Input at CannotOpen)) → ⊥
+at_first [] deed out report at spares e = e
+at_first (x ∷ xs) deed out report at spares e = spares x xs e
+
+merging : {S D T : Type 0} (input : Reader S) (others : List (Reader S)) (out : Outs D T) (report : Writer)
+    (at : InputName) → EndsStreamed (merge_as_it_comes input others out) (out_of out) report (Err (Input at CannotOpen))
+    → ⊥
+merging {S = S} input [] out report at e =
     in_turn input (IsFirstRefused {S = S} further_name IsArchive IsArchiveRefused []) (first_archive []) at e.stops.0.0
-spared plan.Merge (input ∷ other ∷ []) places out report at e = side e.stops.stopped.cause at e.stops.told
-spared plan.Merge (input ∷ other ∷ next ∷ more) places out report at e =
+merging input (other ∷ []) out report at e = side e.stops.stopped.cause at e.stops.told
+merging input (other ∷ next ∷ more) out report at e =
     in_turn input (IsFirstRefused further_name IsArchive IsArchiveRefused (other ∷ next ∷ more))
     (first_archive (other ∷ next ∷ more)) at e.stops.0.0
-spared plan.Migrate (input ∷ _) places out report at e = text _ input e.stops.0.0.1
-spared plan.Apply (input ∷ ops ∷ _) places out report at e =
-    in_turn input (IsRefusedOps ops) (operations ops) at e.stops.0.0
-spared (plan.Find uuid others) inputs places out report at e =
-    find (take (suc others) inputs) (take (suc others) places) (drop (suc others) places) uuid at e.0.0
-spared plan.List (archive ∷ _) (place ∷ indexes) out report at e = list archive place indexes at e.0.0
-spared (plan.Extract key digest others) inputs places out report at e =
-    extracted (extract_of (take (suc others) inputs) (take (suc others) places) (drop (suc others) places) key digest
-    (out_of out).draft) out report at (extract (take (suc others) inputs) (take (suc others) places)
-    (drop (suc others) places) key digest (out_of out).draft at) e
-spared (plan.Name sought) (archive ∷ others) places out report at e = together archive others at e.0.0
-spared (plan.Symbolicate key load lines others addresses) inputs places out report at e =
-    symbolicate (take (suc others) inputs) (take (suc others) places) (drop (suc others) places) key load lines
-    addresses.now at e.0.0
-spared (plan.Frames lines indexes) (crash ∷ inputs) (_ ∷ places) out report at e =
-    frames lines crash (drop indexes inputs) (drop indexes places) (take indexes places) at e.0.0
-spared plan.Summary (archive ∷ []) places out report at e = text _ archive e.0.1
-spared plan.Summary (_ ∷ _ ∷ _) (place ∷ named ∷ _) out report at e = by_index 0 named place at e.0
-spared plan.Index (archive ∷ _) places out report at e = making e.stops.stopped at e.stops.tells
-spared plan.Delta (archive ∷ named ∷ _) places out report at e =
-    in_turn archive (IsRefusedSummary named) (entries named) at e.stops.0.0
-spared plan.Rehearse (script ∷ _) places out report at e = e.0.0.1
+
+summing : {S D T : Type 0} (archive place : Reader S) (indexes : List (Reader S)) (out : Outs D T) (report : Writer)
+    (at : InputName) → EndsDeed (summary_of archive place indexes) out report (Err (Input at CannotOpen)) → ⊥
+summing archive place [] out report at e = text _ archive e.0.1
+summing archive place (index ∷ _) out report at e = by_index 0 index place at e.0
+
+pub spared : {S D T : Type 0} (asked : Plan) (inputs places : Inputs (Reader S)) (out : Outs D T) (report : Writer)
+    (at : InputName) → Executes asked inputs places out report (Err (Input at CannotOpen)) → ⊥
+spared plan.Admit inputs places out report at e =
+    at_first inputs.archives (λ archive _. streams (admit_as_it_comes archive inputs.files (out_of out).draft)) out
+    report at
+    (λ archive _ e. in_turn archive (IsFirstRefused File IsAccepted IsFileRefused inputs.files)
+    (first_file inputs.files) at e.stops.0.0) e
+spared (plan.Retire key digest) inputs places out report at e =
+    at_first inputs.archives (λ archive _. streams (retire_as_it_comes archive key digest (out_of out).draft)) out
+    report at (λ archive _ e. text _ archive e.stops.0.0.1) e
+spared plan.Merge inputs places out report at e =
+    at_first inputs.archives (λ archive others. streams (merge_as_it_comes archive others out)) out report at
+    (λ archive others e. merging archive others out report at e) e
+spared plan.Migrate inputs places out report at e =
+    at_first inputs.archives (λ archive _. streams (migrate_as_it_comes archive (out_of out).draft)) out report at
+    (λ archive _ e. text _ archive e.stops.0.0.1) e
+spared plan.Apply inputs places out report at e =
+    at_first inputs.archives
+    (λ archive _. of_first none (λ ops _. streams (apply_as_it_comes archive ops (out_of out).draft)) inputs.ops) out
+    report at
+    (λ archive _ e. at_first inputs.ops (λ ops _. streams (apply_as_it_comes archive ops (out_of out).draft)) out
+    report at (λ ops _ e. in_turn archive (IsRefusedOps ops) (operations ops) at e.stops.0.0) e) e
+spared (plan.Find uuid) inputs places out report at e =
+    find inputs.archives places.archives places.indexes uuid at e.0.0
+spared plan.List inputs places out report at e =
+    at_first inputs.archives
+    (λ archive _. of_first none (λ place _. answers (list_of archive place places.indexes)) places.archives) out report
+    at
+    (λ archive _ e. at_first places.archives (λ place _. answers (list_of archive place places.indexes)) out report at
+    (λ place _ e. list archive place places.indexes at e.0.0) e) e
+spared (plan.Extract key digest) inputs places out report at e =
+    extracted (extract_of inputs.archives places.archives places.indexes key digest (out_of out).draft) out report at
+    (extract inputs.archives places.archives places.indexes key digest (out_of out).draft at) e
+spared (plan.Name sought) inputs places out report at e =
+    at_first inputs.archives (λ archive others. answers (name archive others sought.now)) out report at
+    (λ archive others e. together archive others at e.0.0) e
+spared (plan.Symbolicate key load lines addresses) inputs places out report at e =
+    symbolicate inputs.archives places.archives places.indexes key load lines addresses.now at e.0.0
+spared (plan.Frames lines) inputs places out report at e =
+    at_first inputs.frames
+    (λ crash _. answers (frames_of lines crash inputs.archives places.archives places.indexes)) out report at
+    (λ crash _ e. frames lines crash inputs.archives places.archives places.indexes at e.0.0) e
+spared plan.Summary inputs places out report at e =
+    at_first inputs.archives
+    (λ archive _. of_first none (λ place _. summary_of archive place places.indexes) places.archives) out report at
+    (λ archive _ e. at_first places.archives (λ place _. summary_of archive place places.indexes) out report at
+    (λ place _ e. summing archive place places.indexes out report at e) e) e
+spared plan.Index inputs places out report at e =
+    at_first inputs.archives (λ archive _. streams (index_of archive (draft_of out))) out report at
+    (λ archive _ e. making e.stops.stopped at e.stops.tells) e
+spared plan.Delta inputs places out report at e =
+    at_first inputs.archives
+    (λ archive _. of_first none (λ named _. streams (delta_as_it_comes archive named (out_of out).draft))
+    inputs.summaries) out report at
+    (λ archive _ e. at_first inputs.summaries
+    (λ named _. streams (delta_as_it_comes archive named (out_of out).draft)) out report at
+    (λ named _ e. in_turn archive (IsRefusedSummary named) (entries named) at e.stops.0.0) e) e
+spared plan.Rehearse inputs places out report at e =
+    at_first inputs.scripts (λ script _. answers (rehearse script)) out report at (λ script _ e. e.0.0.1) e
 spared asked inputs places out report at e = e

@@ -3,7 +3,7 @@ use Rattle.std.specs.Prelude.{◌≡◌, ◌≢◌, ◌⊎◌, ℕ, List, OnOk, 
 use Rattle.std.specs.Io.KnownBytes.{Appends}
 use Rattle.std.specs.declared.io.traits.{Read.Ghosts as Reads, Seek.Ghosts as Seeks, Write.Ghosts as Writes}
 use Rattle.clap.specs.Words.{Text}
-use Rattle.command_line.specs.Lines.{Line, inputs_of, out_of}
+use Rattle.command_line.specs.{Inputs.Inputs, Lines.Line, Lines.inputs_of, Lines.out_of}
 use Rattle.byte_device.specs.declared.targets.Output.{Output as Out}
 use Rattle.command_core.specs.declared.failures.Failure.{Failure}
 use Rattle.command_core.specs.declared.failures.Failure.TheVariants.{Command, CannotCreate, CannotReplace}
@@ -110,8 +110,8 @@ pub record IsCarriedOut {S D T : Type 0} (calls : Calls S D T) (line : Line) (re
   pub begun_unfailed : calls.draft_failures begun.draft ≡ 0
   pub nothing_published : calls.published begun.target ≡ None
   pub asked : calls.asked_new ≡ calls.asked_old ++ inputs_of line
-  pub before : List S
-  pub behind : List S
+  pub before : Inputs S
+  pub behind : Inputs S
   pub noted : List Note
   pub plan : Plan
   pub carried : Carried calls.told line plan before behind (outs_in calls begun done) report ended [] noted

@@ -1,18 +1,11 @@
 -- Inputs that were not opened, and what is told of them.
-use Rattle.std.specs.Prelude.{◌≡◌, ◌≢◌, ◌⊎◌, ℕ, List, [], ◌∷◌, Option, Some, option_and_then, slice_get}
+use Rattle.std.specs.Prelude.{◌≡◌, ◌≢◌, ◌⊎◌, ℕ, List, [], ◌∷◌, Some}
 use Rattle.std.specs.IoError.{error_kind}
 use Rattle.std.specs.declared.io.ErrorKind.TheVariants.{OutOfMemory as WantsMemory}
 use Rattle.archive_files.specs.InputStates.{Told, Unopened}
 use Rattle.archive_files.specs.declared.input_state.Unopened.TheVariants.{Refused}
 use Rattle.byte_device.specs.Disks.{At, FileAt, Holding, Missing, Path}
 use Rattle.byte_device.specs.declared.disks.CannotOpen.{CannotOpen}
-use Rattle.command_core.specs.declared.faults.InputName.{InputName}
-use Rattle.command_line.specs.Lines.{Line}
-use Rattle.error_lines.specs.Numbers.{number_at}
-
--- the input of this name among those of a line
-abbrev pub input_at : {S : Type 0} → Line → List S → InputName → Option S
-input_at line inputs name = option_and_then (slice_get inputs) (number_at line name)
 
 -- The turn of the input came, and its disk refused it: its own path was opened, once; memory was not wanting, as far as
 -- the disk says; and no file is known to be there.

@@ -1,10 +1,12 @@
 -- How the command of a plan ends.
-use Rattle.std.specs.Prelude.{◌≡◌, suc, Bool, true, false, not, List, [], ◌∷◌, take, drop, Result}
+use Rattle.std.specs.Prelude.{◌≡◌, ℕ, Bool, true, false, not, List, [], ◌∷◌, Option, Result}
 use Rattle.std.specs.FinSet as set
 use Rattle.command_line.specs.declared.plan.Plan.{Plan}
 use Rattle.command_line.specs.declared.plan.Plan.TheVariants as plan
 use Rattle.archive_records.specs.Text.{written}
-use Rattle.command_core.specs.{declared.faults.CommandFault.CommandFault, declared.faults.Status.Status, Inputs.Reader}
+use Rattle.command_line.specs.Inputs.{Inputs}
+use Rattle.command_core.specs.{declared.faults.CommandFault.CommandFault, declared.faults.Status.Status}
+use Rattle.command_core.specs.Inputs.{Reader, readers}
 use Rattle.command_core.specs.Ends.{Command, Ends, EndsReport, EndsStreamed, Query, Streamed}
 use Rattle.command_core.specs.Outputs.{Outs, Publishes, Writer, draft_of, out_of, report_of}
 use Rattle.archive_files.specs.declared.replaceable.Replaces.{Replaces}
@@ -24,7 +26,7 @@ use Rattle.slice_extraction.specs.Extract.{Extraction, Extracts}
 abbrev pub replaces_of : Plan → Replaces
 replaces_of plan.Summary = Summaries
 replaces_of plan.Index = Indexes
-replaces_of (plan.Extract _ _ _) = SameBytes
+replaces_of (plan.Extract _ _) = SameBytes
 replaces_of _ = ArchivesBelow
 
 -- what the command of a plan is, over inputs: it writes the empty archive, it writes OUT, it writes OUT while it reads,
@@ -37,53 +39,93 @@ pub data Deed : Type 1 where
   answers : Query → Deed
   none : Deed
 
--- what a plan without OUT asks of the inputs of its line, in their order, as they are read from their start, and
--- from any place: an archive and the further ones are asked as their join
-abbrev pub asked_of : {S : Type 0} → Plan → List (Reader S) → List (Reader S) → Deed
-asked_of (plan.Find uuid others) inputs places =
-    answers (find_of (take (suc others) inputs) (take (suc others) places) (drop (suc others) places) uuid)
-asked_of plan.List (archive ∷ _) (place ∷ indexes) = answers (list_of archive place indexes)
-asked_of (plan.Name sought) (archive ∷ others) _ = answers (name archive others sought.now)
-asked_of (plan.Symbolicate key load lines others addresses) inputs places =
-    answers (symbolicate_of (take (suc others) inputs) (take (suc others) places) (drop (suc others) places) key load
-    lines addresses.now)
-asked_of (plan.Frames lines indexes) (crash ∷ inputs) (_ ∷ places) =
-    answers (frames_of lines crash (drop indexes inputs) (drop indexes places) (take indexes places))
-asked_of plan.Rehearse (script ∷ _) _ = answers (rehearse script)
+-- inputs by what they are, as they are read between two states of theirs
+abbrev pub readers_by : {S : Type 0} → (S → Option (List ℕ)) → (S → ℕ) → Inputs S → Inputs S → Inputs (Reader S)
+readers_by left failures old new = record {
+  archives = readers left failures old.archives new.archives;
+  indexes = readers left failures old.indexes new.indexes;
+  files = readers left failures old.files new.files;
+  ops = readers left failures old.ops new.ops;
+  summaries = readers left failures old.summaries new.summaries;
+  scripts = readers left failures old.scripts new.scripts;
+  frames = readers left failures old.frames new.frames;
+}
+
+-- what is said of the first of these and the others, or else this, where there is none
+abbrev pub of_first : {X : Type 0} {A : Type 1} → A → (X → List X → A) → List X → A
+of_first otherwise says [] = otherwise
+of_first otherwise says (x ∷ xs) = says x xs
+
+-- what `name` asks of an archive and the further ones
+abbrev pub named_of : {S : Type 0} → List (Reader S) → List ℕ → Deed
+named_of archives sought = of_first none (λ archive others. answers (name archive others sought)) archives
+
+-- what a plan without OUT asks of its inputs, as they are read from their start, and from any place: an archive and the
+-- further ones are asked as their join
+abbrev pub asked_of : {S : Type 0} → Plan → Inputs (Reader S) → Inputs (Reader S) → Deed
+asked_of (plan.Find uuid) inputs places =
+    answers (find_of inputs.archives places.archives places.indexes uuid)
+asked_of plan.List inputs places =
+    of_first none (λ archive _. of_first none (λ place _. answers (list_of archive place places.indexes))
+    places.archives) inputs.archives
+asked_of (plan.Name sought) inputs places = named_of inputs.archives sought.now
+asked_of (plan.Symbolicate key load lines addresses) inputs places =
+    answers (symbolicate_of inputs.archives places.archives places.indexes key load lines addresses.now)
+asked_of (plan.Frames lines) inputs places =
+    of_first none (λ crash _. answers (frames_of lines crash inputs.archives places.archives places.indexes))
+    inputs.frames
+asked_of plan.Rehearse inputs places = of_first none (λ script _. answers (rehearse script)) inputs.scripts
 asked_of _ _ _ = none
 
 -- it writes no OUT
 abbrev pub only_reports : Plan → Bool
-only_reports (plan.Find _ _) = true
+only_reports (plan.Find _) = true
 only_reports plan.List = true
 only_reports (plan.Name _) = true
-only_reports (plan.Symbolicate _ _ _ _ _) = true
-only_reports (plan.Frames _ _) = true
+only_reports (plan.Symbolicate _ _ _ _) = true
+only_reports (plan.Frames _) = true
 only_reports plan.Rehearse = true
 only_reports _ = false
 
--- it writes OUT while it reads an archive, or once it has read it
+-- it writes OUT while it reads one archive, or once it has read it
 abbrev pub writes_archive : Plan → Bool
 writes_archive plan.New = false
-writes_archive (plan.Extract _ _ _) = false
+writes_archive plan.Merge = false
+writes_archive (plan.Extract _ _) = false
 writes_archive asked = not (only_reports asked)
 
+-- what `summary` does, over an archive, and its index, if there is one
+abbrev pub summary_of : {S : Type 0} → Reader S → Reader S → List (Reader S) → Deed
+summary_of archive place [] = changes (summary archive)
+summary_of archive place (named ∷ _) = changes (summary_at named place)
+
+-- what `merge` does, over an archive and the further ones
+abbrev pub merged_of : {S D T : Type 0} → List (Reader S) → Outs D T → Deed
+merged_of archives out = of_first none (λ archive others. streams (merge_as_it_comes archive others out)) archives
+
 -- what any plan does, over the same inputs
-abbrev pub deed_of : {S D T : Type 0} → Plan → List (Reader S) → List (Reader S) → Outs D T → Deed
-deed_of plan.New _ _ out = empties
-deed_of plan.Admit (input ∷ files) _ out = streams (admit_as_it_comes input files (out_of out).draft)
-deed_of (plan.Retire key digest) (input ∷ _) _ out =
-    streams (retire_as_it_comes input key digest (out_of out).draft)
-deed_of plan.Merge (input ∷ files) _ out = streams (merge_as_it_comes input files out)
-deed_of plan.Migrate (input ∷ _) _ out = streams (migrate_as_it_comes input (out_of out).draft)
-deed_of plan.Apply (input ∷ ops ∷ _) _ out = streams (apply_as_it_comes input ops (out_of out).draft)
-deed_of (plan.Extract key digest others) inputs places out =
-    extracts (extract_of (take (suc others) inputs) (take (suc others) places) (drop (suc others) places) key digest
-    (out_of out).draft)
-deed_of plan.Summary (archive ∷ []) _ out = changes (summary archive)
-deed_of plan.Summary (_ ∷ _ ∷ _) (place ∷ named ∷ _) out = changes (summary_at named place)
-deed_of plan.Index (archive ∷ _) _ out = streams (index archive (draft_of out))
-deed_of plan.Delta (archive ∷ named ∷ _) _ out = streams (delta_as_it_comes archive named (out_of out).draft)
+abbrev pub deed_of : {S D T : Type 0} → Plan → Inputs (Reader S) → Inputs (Reader S) → Outs D T → Deed
+deed_of plan.New inputs places out = empties
+deed_of plan.Admit inputs places out =
+    of_first none (λ archive _. streams (admit_as_it_comes archive inputs.files (out_of out).draft)) inputs.archives
+deed_of (plan.Retire key digest) inputs places out =
+    of_first none (λ archive _. streams (retire_as_it_comes archive key digest (out_of out).draft)) inputs.archives
+deed_of plan.Merge inputs places out = merged_of inputs.archives out
+deed_of plan.Migrate inputs places out =
+    of_first none (λ archive _. streams (migrate_as_it_comes archive (out_of out).draft)) inputs.archives
+deed_of plan.Apply inputs places out =
+    of_first none (λ archive _. of_first none (λ ops _. streams (apply_as_it_comes archive ops (out_of out).draft))
+    inputs.ops) inputs.archives
+deed_of (plan.Extract key digest) inputs places out =
+    extracts (extract_of inputs.archives places.archives places.indexes key digest (out_of out).draft)
+deed_of plan.Summary inputs places out =
+    of_first none (λ archive _. of_first none (λ place _. summary_of archive place places.indexes) places.archives)
+    inputs.archives
+deed_of plan.Index inputs places out =
+    of_first none (λ archive _. streams (index archive (draft_of out))) inputs.archives
+deed_of plan.Delta inputs places out =
+    of_first none (λ archive _. of_first none (λ named _. streams (delta_as_it_comes archive named
+    (out_of out).draft)) inputs.summaries) inputs.archives
 deed_of asked inputs places out = asked_of asked inputs places
 
 -- What is asked is answered so, and nothing else is.
@@ -92,8 +134,8 @@ EndsAsked (answers query) report result = EndsReport query report result
 EndsAsked _ _ _ = ⊥
 
 -- A plan without OUT ends so over its inputs.
-abbrev pub Answers : {S : Type 0} → Plan → List (Reader S) → List (Reader S) → Writer → Result Status CommandFault
-    → Type 0
+abbrev pub Answers : {S : Type 0} → Plan → Inputs (Reader S) → Inputs (Reader S) → Writer
+    → Result Status CommandFault → Type 0
 Answers asked inputs places report result = EndsAsked (asked_of asked inputs places) report result
 
 -- The query ends so, and OUT is as it was.
@@ -110,15 +152,22 @@ EndsDeed (extracts command) out report result = Extracts command out report resu
 EndsDeed (answers query) out report result = EndsQuery query out report result
 EndsDeed none out report result = ⊥
 
--- How the command of a plan ends over the inputs at the paths of its line, in their order, as they are read from their
--- start, and as they are read from any place.
-abbrev pub Executes : {S D T : Type 0} → Plan → List (Reader S) → List (Reader S) → Outs D T → Writer
+-- How the command of a plan ends over its inputs, as they are read from their start, and as they are read from any
+-- place.
+abbrev pub Executes : {S D T : Type 0} → Plan → Inputs (Reader S) → Inputs (Reader S) → Outs D T → Writer
     → Result Status CommandFault → Type 0
 Executes asked inputs places out report result = EndsDeed (deed_of asked inputs places out) out report result
 
+-- What `name` notes of an archive and the further ones.
+abbrev pub NotesNamed : {S : Type 0} → List (Reader S) → List ℕ → List Note → List Note → Type 0
+NotesNamed archives sought old new =
+    of_first (new ≡ old) (λ archive others. NotesUnderscored archive others sought old new) archives
+
 -- What the command of a plan that ended well notes over these inputs: `admit`, `retire` and `name` alone note something.
-abbrev pub Notes : {S : Type 0} → Plan → List (Reader S) → List Note → List Note → Type 0
-Notes plan.Admit (input ∷ files) old new = NotesRetired input files old new
-Notes (plan.Retire key digest) (input ∷ _) old new = NotesMissing input key digest old new
-Notes (plan.Name sought) (archive ∷ others) old new = NotesUnderscored archive others sought.now old new
-Notes _ _ old new = new ≡ old
+abbrev pub Notes : {S : Type 0} → Plan → Inputs (Reader S) → List Note → List Note → Type 0
+Notes plan.Admit inputs old new =
+    of_first (new ≡ old) (λ archive _. NotesRetired archive inputs.files old new) inputs.archives
+Notes (plan.Retire key digest) inputs old new =
+    of_first (new ≡ old) (λ archive _. NotesMissing archive key digest old new) inputs.archives
+Notes (plan.Name sought) inputs old new = NotesNamed inputs.archives sought.now old new
+Notes _ inputs old new = new ≡ old

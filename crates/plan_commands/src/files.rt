@@ -7,11 +7,14 @@ ghost use Rattle.archive_files.specs.AtTurns.{told as told_of, told_by};
 ghost use Rattle.archive_files.specs.Fresh.{AreFresh};
 ghost use Rattle.archive_files.specs.OutFiles.{Untouched, stage_of};
 ghost use Rattle.archive_files.specs.Publishing.{IsPath};
-ghost use Rattle.archive_files.specs.InputStates.{AreFirstAsked, AreWaiting};
+ghost use Rattle.archive_files.specs.InputStates.{AreFirstAsked};
+ghost use Rattle.command_line.specs.Inputs.{inputs_view};
 ghost use Rattle.command_line.specs.Lines.{inputs_of, out_of};
 ghost use Rattle.command_line.specs.LineView.{line_view};
 ghost use Rattle.plan_commands.specs.Files.{IsDone, calls_of, command_fault_of, out_failure};
-ghost use Rattle.command_line.specs.Plan.{IsPlanOf};
+ghost use Rattle.command_line.specs.Plan.{HasInputs, IsPlanOf};
+ghost use Rattle.command_line.specs.declared.plan.Plan.{Plan};
+ghost use Rattle.error_lines.specs.Names.{AreOfLine};
 
 use crate::execute_on;
 use crate::plans::replaces;
@@ -22,7 +25,7 @@ use archive_files::{
 use archive_writing::Note;
 use byte_device::{CannotCreate, Placed, Sink, Source, Target};
 use command_core::{CommandFault, Failure, Status};
-use command_line::{Line, Plan};
+use command_line::{Inputs, Line, Plan};
 use error_lines::Seen;
 use memory::{Heap, NoMemory};
 use sorted_archive::{IndexedArchive, PlainArchive};
@@ -56,8 +59,10 @@ fn begin<F: Files>(
 fn inputs_for<'l, 'f, F: Files>(
     files: &mut SystemFiles<'f, F>,
     line: &'l Line,
-) -> Result<Vec<SystemInput<'l, 'f, F>>, NoMemory>
-    ensures inputs { IfOk result (λ inputs. AreWaiting told_of (inputs_of (line_view line.now)) inputs.items) }
+) -> Result<Inputs<SystemInput<'l, 'f, F>>, NoMemory>
+    ensures inputs { IfOk result (λ inputs. AreOfLine told_of (line_view line.now) (inputs_view inputs)) }
+    ensures enough { IfOk result (λ inputs. (plan : Plan) → IsPlanOf plan (line_view line.now)
+        → HasInputs plan (inputs_view inputs)) }
     ensures asked { OnOk result
         (files.new.asked.entries ≡ files.old.asked.entries ++ inputs_of (line_view line.now)) }
     ensures first { AreFirstAsked files.old.asked.entries files.new.asked.entries (inputs_of (line_view line.now)) }
@@ -65,7 +70,8 @@ fn inputs_for<'l, 'f, F: Files>(
     ensures compared { files.new.compared ≡ files.old.compared }
 {
     let paths = line.inputs(files.alloc())?;
-    files.inputs(&paths)
+    let inputs = files.inputs(&paths)?;
+    line.by_kind(files.alloc(), inputs)
 }
 
 /// Why OUT failed after it took so many bytes: it was not begun, or not published, or its device failed.
@@ -138,13 +144,12 @@ pub fn execute<'f, F: Files, P: Sink>(
     let ended = execute_on::<PlainArchive, IndexedArchive, _, _, _>(
         heap,
         &mut inputs,
-        line,
         plan,
         &mut notes,
         &mut files.out,
         report,
     );
     files.out.draft.discard();
-    *seen = Seen::by(&ended, line, &inputs, &files.out.draft);
+    *seen = Seen::by(&ended, &inputs, &files.out.draft);
     told_with(ended, notes, files.out.draft.fault())
 }

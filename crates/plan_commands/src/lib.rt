@@ -1,10 +1,10 @@
 //! The program but for `main`: a command line, carried out over any files and over those of the system, and
 //! what is said of how it ended.
 //!
-//! - `queries`: the command of a plan without OUT, over the inputs of its line and the report;
+//! - `queries`: the command of a plan without OUT, over its inputs and the report;
 //! - `updates`: the command of a plan that writes OUT from an archive;
-//! - `plans`: the command of any plan over the inputs of its line, OUT and the report;
-//! - `disks`: a line over inputs that are opened at their turn;
+//! - `plans`: the command of any plan over its inputs, OUT and the report;
+//! - `disks`: a plan over inputs that are opened at their turn;
 //! - `files`: a line over files of the system;
 //! - `runs`: the words of a command line, carried out over files of the system;
 //! - `laws`: what is said of an output without a path, and of inputs that were not opened.

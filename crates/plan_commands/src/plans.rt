@@ -1,19 +1,20 @@
-//! The command of a plan, over the inputs of its line.
+//! The command of a plan, over its inputs.
 
-ghost use Rattle.std.specs.Prelude.{◌≡◌, ◌≤◌, OnOk, length};
-ghost use Rattle.command_core.specs.Inputs.{readers};
+ghost use Rattle.std.specs.Prelude.{◌≡◌, OnOk};
 ghost use Rattle.command_core.specs.Outputs.{outs, writer};
-ghost use Rattle.command_line.specs.Plan.{least_inputs};
-ghost use Rattle.plan_commands.specs.Plans.{Executes, Notes, replaces_of};
+ghost use Rattle.command_line.specs.Inputs.{inputs_view};
+ghost use Rattle.command_line.specs.Plan.{HasInputs};
+ghost use Rattle.plan_commands.specs.Disks.{AreAsMany};
+ghost use Rattle.plan_commands.specs.Plans.{Executes, Notes, readers_by, replaces_of};
 
 use crate::queries::answer;
-use crate::updates::{extract, write};
+use crate::updates::{extract, merge, write};
 use archive_core::Archive;
 use archive_files::Replaces;
 use archive_writing::{Note, run_new};
 use byte_device::{Output, Placed, Sink, Source, Target};
 use command_core::{CommandFault, Status};
-use command_line::Plan;
+use command_line::{Inputs, Plan};
 use memory::Heap;
 
 /// Which files the OUT of a plan replaces: a summary and an index their own kind, a slice its own bytes, an archive those
@@ -29,32 +30,39 @@ pub fn replaces(plan: &Plan) -> Replaces
     }
 }
 
-/// Carries out a plan over its inputs, which stand in the order of the words. An archive of the type `L` is asked for
-/// addresses, and one of `A` for all else. What the command notes is added to `notes`.
+/// Carries out a plan over its inputs. An archive of the type `L` is asked for addresses, and one of `A` for all else.
+/// What the command notes is added to `notes`.
 pub fn execute<A: Archive + Drop, L: Archive + Drop, S: Source + Placed, T: Target, P: Sink>(
     heap: Heap,
     plan: &Plan,
-    inputs: &mut [S],
+    inputs: &mut Inputs<S>,
     notes: &mut Vec<Note, Heap>,
     out: &mut Output<T::Draft, T>,
     report: &mut P,
 ) -> Result<Status, CommandFault>
-    requires { least_inputs plan.now ≤ length inputs.old }
+    requires { HasInputs plan.now (inputs_view inputs.old) }
+    ensures as_many { AreAsMany (inputs_view inputs.old) (inputs_view inputs.new) }
     ensures ends { Executes plan.now
-        (readers ⟦<S as Source>⟧.left ⟦<S as Source>⟧.failures inputs.old inputs.new)
-        (readers ⟦<S as Placed>⟧.whole ⟦<S as Placed>⟧.failures inputs.old inputs.new)
+        (readers_by ⟦<S as Source>⟧.left ⟦<S as Source>⟧.failures (inputs_view inputs.old) (inputs_view inputs.new))
+        (readers_by ⟦<S as Placed>⟧.whole ⟦<S as Placed>⟧.failures (inputs_view inputs.old) (inputs_view inputs.new))
         (outs T.Draft.held T.Draft.failures T.published T.failures out.old out.new)
         (writer P.held P.failures report.old report.new) result }
     ensures noted { OnOk result (Notes plan.now
-        (readers ⟦<S as Source>⟧.left ⟦<S as Source>⟧.failures inputs.old inputs.new)
+        (readers_by ⟦<S as Source>⟧.left ⟦<S as Source>⟧.failures (inputs_view inputs.old) (inputs_view inputs.new))
         notes.old.items notes.new.items) }
 {
     match plan {
         Plan::New => run_new::<A, _, _>(heap, out, report),
-        Plan::Extract { key, digest, more } => {
-            let (archives, indexes) = inputs.split_at_mut(*more + 1);
-            extract::<A, _, _, _>(heap, archives, indexes, key, digest, out, report)
-        }
+        Plan::Merge => merge::<A, _, _, _>(heap, &mut inputs.archives, out, report),
+        Plan::Extract { key, digest } => extract::<A, _, _, _>(
+            heap,
+            &mut inputs.archives,
+            &mut inputs.indexes,
+            key,
+            digest,
+            out,
+            report,
+        ),
         Plan::Find { .. }
         | Plan::List
         | Plan::Name { .. }
@@ -63,11 +71,10 @@ pub fn execute<A: Archive + Drop, L: Archive + Drop, S: Source + Placed, T: Targ
         | Plan::Rehearse => answer::<A, L, _, _>(heap, plan, inputs, notes, report),
         Plan::Admit
         | Plan::Retire { .. }
-        | Plan::Merge
         | Plan::Migrate
         | Plan::Apply
         | Plan::Summary
         | Plan::Index
-        | Plan::Delta => write::<A, _, _, _>(heap, plan, inputs, notes, out, report),
+        | Plan::Delta => write(heap, plan, inputs, notes, out, report),
     }
 }

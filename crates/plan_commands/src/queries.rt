@@ -1,14 +1,15 @@
-//! The plans that write no OUT, over the inputs of a line, which stand in the order of its words: archives are read whole,
-//! or by their indexes.
+//! The plans that write no OUT, over their inputs: archives are read whole, or by their indexes.
 
-ghost use Rattle.std.specs.Prelude.{◌≡◌, ◌<◌, ◌≤◌, ◌∷◌, IfErr, OnOk, length, true};
+ghost use Rattle.std.specs.Prelude.{◌≡◌, ◌<◌, ◌∷◌, IfErr, OnOk, length, true};
 ghost use Rattle.std.specs.Borrow.{Array, LendsBoth, sem};
 ghost use Rattle.command_core.specs.Ends.{EndsReport};
 ghost use Rattle.command_core.specs.Inputs.{reader, readers};
 ghost use Rattle.command_core.specs.Outputs.{writer};
-ghost use Rattle.command_line.specs.Plan.{least_inputs};
+ghost use Rattle.command_line.specs.Inputs.{inputs_view};
+ghost use Rattle.command_line.specs.Plan.{HasInputs};
 ghost use Rattle.archive_queries.specs.Name.{name as name_of};
-ghost use Rattle.plan_commands.specs.Plans.{Answers, Notes, only_reports};
+ghost use Rattle.plan_commands.specs.Disks.{AreAsMany};
+ghost use Rattle.plan_commands.specs.Plans.{Answers, EndsAsked, Notes, NotesNamed, named_of, only_reports, readers_by};
 ghost use Rattle.plan_commands.specs.Queries.{AddsUnderscored, NotesUnderscored};
 ghost use Rattle.plan_commands.specs.Queries.{IsAlone, find_of, frames_of, list_of, symbolicate_of};
 
@@ -18,7 +19,7 @@ use archive_queries::{answer_name, run_find, run_frames, run_list, run_symbolica
 use archive_writing::Note;
 use byte_device::{Placed, Sink, Source};
 use command_core::{CommandFault, InputName, Status, Why, publish_report};
-use command_line::Plan;
+use command_line::{Inputs, Plan};
 use indexed_queries::{run_find_at, run_find_together, run_list_at};
 use indexed_symbols::{run_frames_at, run_symbolicate_at};
 use memory::{Heap, NoMemory};
@@ -135,6 +136,24 @@ fn name<S: Source, P: Sink>(
     publish_report(answer.status, &answer.text, report)
 }
 
+/// `name` over archives that are asked together.
+fn name_in<S: Source, P: Sink>(
+    heap: Heap,
+    archives: &mut [S],
+    sought: &[u8],
+    notes: &mut Vec<Note, Heap>,
+    report: &mut P,
+) -> Result<Status, CommandFault>
+    requires { 0 < length archives.old }
+    ensures ends { EndsAsked (named_of (readers S.left S.failures archives.old archives.new) sought.now)
+        (writer P.held P.failures report.old report.new) result }
+    ensures noted { OnOk result (NotesNamed (readers S.left S.failures archives.old archives.new) sought.now
+        notes.old.items notes.new.items) }
+{
+    let (archive, others) = first_and_rest(archives);
+    name(heap, archive, others, sought, notes, report)
+}
+
 /// `symbolicate` over archives, which are read by these indexes, if there are some.
 fn symbolicate<A: Archive + Drop, S: Source + Placed, P: Sink>(
     heap: Heap,
@@ -194,51 +213,51 @@ fn frames<A: Archive + Drop, S: Source + Placed, P: Sink>(
 pub fn answer<A: Archive + Drop, L: Archive + Drop, S: Source + Placed, P: Sink>(
     heap: Heap,
     plan: &Plan,
-    inputs: &mut [S],
+    inputs: &mut Inputs<S>,
     notes: &mut Vec<Note, Heap>,
     report: &mut P,
 ) -> Result<Status, CommandFault>
     requires reports { only_reports plan.now ≡ true }
-    requires inputs { least_inputs plan.now ≤ length inputs.old }
+    requires inputs { HasInputs plan.now (inputs_view inputs.old) }
+    ensures as_many { AreAsMany (inputs_view inputs.old) (inputs_view inputs.new) }
     ensures ends { Answers plan.now
-        (readers ⟦<S as Source>⟧.left ⟦<S as Source>⟧.failures inputs.old inputs.new)
-        (readers ⟦<S as Placed>⟧.whole ⟦<S as Placed>⟧.failures inputs.old inputs.new)
+        (readers_by ⟦<S as Source>⟧.left ⟦<S as Source>⟧.failures (inputs_view inputs.old) (inputs_view inputs.new))
+        (readers_by ⟦<S as Placed>⟧.whole ⟦<S as Placed>⟧.failures (inputs_view inputs.old) (inputs_view inputs.new))
         (writer P.held P.failures report.old report.new) result }
     ensures noted { OnOk result (Notes plan.now
-        (readers ⟦<S as Source>⟧.left ⟦<S as Source>⟧.failures inputs.old inputs.new)
+        (readers_by ⟦<S as Source>⟧.left ⟦<S as Source>⟧.failures (inputs_view inputs.old) (inputs_view inputs.new))
         notes.old.items notes.new.items) }
 {
+    let Inputs {
+        archives,
+        indexes,
+        scripts,
+        frames: crashes,
+        ..
+    } = inputs;
     match plan {
-        Plan::Find { uuid, more } => {
-            let (archives, indexes) = inputs.split_at_mut(*more + 1);
-            find::<A, _, _>(heap, archives, indexes, uuid, report)
-        }
-        Plan::List => {
-            let (archive, indexes) = first_and_rest(inputs);
-            list(heap, archive, indexes, report)
-        }
-        Plan::Name { name: sought } => {
-            let (archive, others) = first_and_rest(inputs);
-            name(heap, archive, others, sought.as_bytes(), notes, report)
-        }
+        Plan::Find { uuid } => find::<A, _, _>(heap, archives, indexes, uuid, report),
+        Plan::List => match archives.as_mut_slice() {
+            [archive, ..] => list(heap, archive, indexes, report),
+            [] => unreachable!(),
+        },
+        Plan::Name { name } => name_in(heap, archives, name.as_bytes(), notes, report),
         Plan::Symbolicate {
             key,
             load,
             lines,
-            more,
             addresses,
-        } => {
-            let (archives, indexes) = inputs.split_at_mut(*more + 1);
-            symbolicate::<L, _, _>(
-                heap, archives, indexes, key, *load, *lines, addresses, report,
-            )
-        }
-        Plan::Frames { lines, indexes } => {
-            let (crash, rest) = first_and_rest(inputs);
-            let (indexes, archives) = rest.split_at_mut(*indexes);
-            frames::<L, _, _>(heap, *lines, crash, archives, indexes, report)
-        }
-        Plan::Rehearse => run_rehearse::<A, _, _>(heap, first_and_rest(inputs).0, report),
+        } => symbolicate::<L, _, _>(
+            heap, archives, indexes, key, *load, *lines, addresses, report,
+        ),
+        Plan::Frames { lines } => match crashes.as_mut_slice() {
+            [crash, ..] => frames::<L, _, _>(heap, *lines, crash, archives, indexes, report),
+            [] => unreachable!(),
+        },
+        Plan::Rehearse => match scripts.as_mut_slice() {
+            [script, ..] => run_rehearse::<A, _, _>(heap, script, report),
+            [] => unreachable!(),
+        },
         _ => unreachable!(),
     }
 }

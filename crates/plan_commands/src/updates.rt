@@ -1,10 +1,12 @@
-//! The plans that write OUT from an archive, over the inputs of a line, which stand in the order of its words.
+//! The plans that write OUT from archives, over their inputs.
 
-ghost use Rattle.std.specs.Prelude.{◌≡◌, ◌<◌, ◌≤◌, OnOk, length, true};
+ghost use Rattle.std.specs.Prelude.{◌≡◌, ◌<◌, OnOk, length, true};
 ghost use Rattle.command_core.specs.Inputs.{readers};
 ghost use Rattle.command_core.specs.Outputs.{out_of, outs, writer};
-ghost use Rattle.command_line.specs.Plan.{least_inputs};
-ghost use Rattle.plan_commands.specs.Plans.{Executes, Notes, writes_archive};
+ghost use Rattle.command_line.specs.Inputs.{inputs_view};
+ghost use Rattle.command_line.specs.Plan.{HasInputs};
+ghost use Rattle.plan_commands.specs.Disks.{AreAsMany};
+ghost use Rattle.plan_commands.specs.Plans.{EndsDeed, Executes, Notes, merged_of, readers_by, writes_archive};
 ghost use Rattle.plan_commands.specs.Queries.{extract_of};
 ghost use Rattle.slice_extraction.specs.Extract.{Extracts};
 
@@ -15,7 +17,7 @@ use archive_writing::{
 };
 use byte_device::{Output, Placed, Sink, Source, Target};
 use command_core::{CommandFault, Status};
-use command_line::Plan;
+use command_line::{Inputs, Plan};
 use index_writing::run_index;
 use indexed_queries::run_summary_at;
 use memory::Heap;
@@ -47,40 +49,73 @@ pub fn extract<A: Archive + Drop, S: Source + Placed, T: Target, P: Sink>(
     run_extract_at::<A, _, _, _, _>(heap, indexes, archives, key, digest, out, report)
 }
 
-/// Carries out a plan that writes OUT from an archive, which is the first input. What the command notes is added to
-/// `notes`.
-pub fn write<A: Archive + Drop, S: Source + Placed, T: Target, P: Sink>(
+/// `merge` of archives.
+pub fn merge<A: Archive + Drop, S: Source, T: Target, P: Sink>(
+    heap: Heap,
+    archives: &mut [S],
+    out: &mut Output<T::Draft, T>,
+    report: &mut P,
+) -> Result<Status, CommandFault>
+    requires { 0 < length archives.old }
+    ensures { let known = outs T.Draft.held T.Draft.failures T.published T.failures out.old out.new in
+        EndsDeed (merged_of (readers S.left S.failures archives.old archives.new) known) known
+        (writer P.held P.failures report.old report.new) result }
+{
+    let (archive, others) = first_and_rest(archives);
+    run_merge::<A, _, _, _, _>(heap, archive, others, out, report)
+}
+
+/// Carries out a plan that writes OUT from one archive. What the command notes is added to `notes`.
+pub fn write<S: Source + Placed, T: Target, P: Sink>(
     heap: Heap,
     plan: &Plan,
-    inputs: &mut [S],
+    inputs: &mut Inputs<S>,
     notes: &mut Vec<Note, Heap>,
     out: &mut Output<T::Draft, T>,
     report: &mut P,
 ) -> Result<Status, CommandFault>
     requires writes { writes_archive plan.now ≡ true }
-    requires inputs { least_inputs plan.now ≤ length inputs.old }
+    requires inputs { HasInputs plan.now (inputs_view inputs.old) }
+    ensures as_many { AreAsMany (inputs_view inputs.old) (inputs_view inputs.new) }
     ensures ends { Executes plan.now
-        (readers ⟦<S as Source>⟧.left ⟦<S as Source>⟧.failures inputs.old inputs.new)
-        (readers ⟦<S as Placed>⟧.whole ⟦<S as Placed>⟧.failures inputs.old inputs.new)
+        (readers_by ⟦<S as Source>⟧.left ⟦<S as Source>⟧.failures (inputs_view inputs.old) (inputs_view inputs.new))
+        (readers_by ⟦<S as Placed>⟧.whole ⟦<S as Placed>⟧.failures (inputs_view inputs.old) (inputs_view inputs.new))
         (outs T.Draft.held T.Draft.failures T.published T.failures out.old out.new)
         (writer P.held P.failures report.old report.new) result }
     ensures noted { OnOk result (Notes plan.now
-        (readers ⟦<S as Source>⟧.left ⟦<S as Source>⟧.failures inputs.old inputs.new)
+        (readers_by ⟦<S as Source>⟧.left ⟦<S as Source>⟧.failures (inputs_view inputs.old) (inputs_view inputs.new))
         notes.old.items notes.new.items) }
 {
-    let (first, others) = first_and_rest(inputs);
+    let Inputs {
+        archives,
+        indexes,
+        files,
+        ops,
+        summaries,
+        ..
+    } = inputs;
+    let [archive, ..] = archives.as_mut_slice() else {
+        unreachable!();
+    };
     match plan {
-        Plan::Admit => run_admit(heap, first, others, notes, out, report),
-        Plan::Retire { key, digest } => run_retire(heap, first, *key, *digest, notes, out, report),
-        Plan::Merge => run_merge::<A, _, _, _, _>(heap, first, others, out, report),
-        Plan::Migrate => run_migrate(heap, first, out, report),
-        Plan::Apply => run_apply(heap, first, first_and_rest(others).0, out, report),
-        Plan::Summary => match others {
-            [] => run_summary(heap, first, out, report),
-            [index, ..] => run_summary_at(heap, index, first, out, report),
+        Plan::Admit => run_admit(heap, archive, files, notes, out, report),
+        Plan::Retire { key, digest } => {
+            run_retire(heap, archive, *key, *digest, notes, out, report)
+        }
+        Plan::Migrate => run_migrate(heap, archive, out, report),
+        Plan::Apply => match ops.as_mut_slice() {
+            [ops, ..] => run_apply(heap, archive, ops, out, report),
+            [] => unreachable!(),
         },
-        Plan::Index => run_index(heap, first, out, report),
-        Plan::Delta => run_delta(heap, first, first_and_rest(others).0, out, report),
+        Plan::Summary => match indexes.as_mut_slice() {
+            [] => run_summary(heap, archive, out, report),
+            [index, ..] => run_summary_at(heap, index, archive, out, report),
+        },
+        Plan::Index => run_index(heap, archive, out, report),
+        Plan::Delta => match summaries.as_mut_slice() {
+            [summary, ..] => run_delta(heap, archive, summary, out, report),
+            [] => unreachable!(),
+        },
         _ => unreachable!(),
     }
 }

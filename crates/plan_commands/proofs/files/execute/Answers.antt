@@ -3,7 +3,7 @@ use mathlib.Core.Logic.{∥∥₁_map}
 use Rattle.std.specs.Io.KnownBytes.{Appends}
 use Rattle.archive_files.specs.{FileCalls.bytes_in, Publishing.IsPublished, Publishing.IsRemoved, Publishing.account}
 use Rattle.archive_files.specs.OutFiles.{draft_account, is_settled, published_account, publishing_calls, Untouched, stage_of}
-use Rattle.command_line.specs.{LineView.line_view, Lines.inputs_of}
+use Rattle.command_line.specs.{Inputs.inputs_view, LineView.line_view, Lines.inputs_of}
 use Rattle.plan_commands.specs.Files.{command_fault_of}
 use Rattle.plan_commands.proofs.OutPublished.{draft_took, first_from, none_asked, nothing_taken, nothing_there, published_there, settled_of, settled_without_calls}
 use Rattle.plan_commands.proofs.{Noting.told_done, Noting.unbegun, Saying.none_called, Outcomes.carried_outcome}
@@ -59,7 +59,8 @@ returns g c =
     ∙ last.first (nothing_taken _ _ (c.discard.ensures.bytes ∙ none)
     (c.discard.ensures.failures ∙ as_often ∙ unfailed)) in
     let noted = c.execute_on-ended.new.notes.items in
-    let carried = rw c.new-notes.ensures.items at c.execute_on-ended.ensures in
+    let carried = rw c.new-notes.ensures.items at (c.execute_on-ended.ensures (line_view c.args.line.now) c.requires.plan
+    c.in_ok-inputs.ensures.inputs) in
     told_done (λ notes. notes.items) _ _ _ c.fault.result c.execute_on-ended.result noted c.told_with.result c.told_with.ensures
     (λ told notes same_told alike. record {
       path = path;
@@ -75,8 +76,8 @@ returns g c =
       nothing_published = none_before;
       asked = c.in_ok-inputs.ensures.asked
           ∙ ap (λ asked. asked ++ inputs_of (line_view c.args.line.now)) c.begin.ensures.asked;
-      before = c.deref_mut.result.now;
-      behind = c.execute_on-ended.new.inputs;
+      before = inputs_view c.in_ok-inputs.inputs;
+      behind = inputs_view c.execute_on-ended.new.inputs;
       noted = noted;
       plan = c.args.plan.now;
       carried = carried;
@@ -110,3 +111,6 @@ returns g c =
           let is = took [] kept.0.0 in none_called is.2 kept.0.1 kept.1.0;
       told_is = same_told ∙ ap (λ fault. command_fault_of fault c.execute_on-ended.result) c.fault.ensures;
     })
+
+pub execute_on-ended-requires : goal.execute_on-ended-requires
+execute_on-ended-requires g c = c.in_ok-inputs.ensures.enough c.args.plan.now c.requires.plan
