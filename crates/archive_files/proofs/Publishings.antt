@@ -10,7 +10,7 @@ use Rattle.archive_files.specs.OutFiles.{IsSoFar, Stage, Through, Drafted, Write
 use Rattle.archive_files.proofs.Same.{both_probes, probes_append}
 use Rattle.archive_files.specs.declared.out_file.OutState.{OutState}
 use Rattle.archive_files.specs.declared.out_file.OutState.TheVariants as state
-use Rattle.archive_files.specs.Publishing.{BeginsSo, FindsReplaced, HandsOn, IsBeside, IsDrafted, IsPublished, IsRemoved, IsTakenBack, IsTargetOf, IsTested, IsWritable, IsWrittenThrough, account, both_give, draft_mode, folder_of, number_of, place, there, took_nothing}
+use Rattle.archive_files.specs.Publishing.{BeginsSo, FindsReplaced, HandsOn, IsBeside, IsDescriptor, IsDrafted, IsPublished, IsRemoved, IsTakenBack, IsTargetOf, IsTested, IsWritable, IsWrittenThrough, account, both_give, draft_mode, folder_of, number_of, place, there, took_nothing}
 use Rattle.archive_files.specs.Replacing.{GivesWay}
 use Rattle.archive_files.specs.declared.found.Found.{Found}
 use Rattle.archive_files.specs.declared.replaceable.Replaces.{Replaces}
@@ -72,11 +72,11 @@ begun_through replaces path probes new writable is = (
 )
 
 pub begun_drafted : (replaces : Replaces) (path draft target : List ℕ) (probes new : List FileCall)
-    → IsTargetOf replaces path target probes
+    → (IsDescriptor path → ⊥) → IsTargetOf replaces path target probes
     → IsBeside draft target → new ≡ probes ++ Creates draft (draft_mode (there probes)) ∷ []
     → IsSoFar replaces (Some path) (Drafted draft target) new × (bytes_in new ≡ [])
-begun_drafted replaces path draft target probes new led beside is = (
-  (path, refl, record { probes = probes; pieces = []; target_is = led; beside = beside; calls_are = is }),
+begun_drafted replaces path draft target probes new none led beside is = (
+  (path, refl, record { probes = probes; pieces = []; no_descriptor = none; target_is = led; beside = beside; calls_are = is }),
   ap bytes_in is ∙ bytes_behind probes (Creates draft (draft_mode (there probes)) ∷ []) (target_probes replaces path target probes led),
 )
 
@@ -101,6 +101,7 @@ pub more_drafted : (replaces : Replaces) (path draft target bytes : List ℕ) (c
 more_drafted replaces path draft target bytes calls d = record {
   probes = d.probes;
   pieces = d.pieces ++ bytes ∷ [];
+  no_descriptor = d.no_descriptor;
   target_is = d.target_is;
   beside = d.beside;
   calls_are = ap (λ cs. cs ++ Writes bytes ∷ []) d.calls_are
@@ -170,6 +171,7 @@ hands_on_draft path replaces draft target calls new so put =
         target = target;
         probes = d.probes;
         pieces = d.pieces;
+        no_descriptor = d.no_descriptor;
         target_is = d.target_is;
         beside = d.beside;
         tests = tests;

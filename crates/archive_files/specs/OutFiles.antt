@@ -2,7 +2,7 @@
 use Rattle.std.specs.Prelude.{◌≡◌, ◌≢◌, ℕ, Bool, true, false, List, [], Option, Some, None, Result, IsErr, string_bytes}
 use Rattle.std.specs.Io.KnownBytes.{WriteAppends}
 use Rattle.archive_files.specs.FileCalls.{FileCall, bytes_in}
-use Rattle.archive_files.specs.Publishing.{IsDrafted, IsRemoved, IsTargetOf, IsWritable, IsWrittenThrough, account, there}
+use Rattle.archive_files.specs.Publishing.{IsDescriptor, IsDrafted, IsRemoved, IsTargetOf, IsWritable, IsWrittenThrough, account, there}
 use Rattle.archive_files.specs.declared.out_file.OutState.{OutState}
 use Rattle.archive_files.specs.declared.out_file.OutState.TheVariants as state
 use Rattle.archive_files.specs.declared.published.Published.{Published}
@@ -93,7 +93,7 @@ fault_of Settled = None
 abbrev pub IsWayTo : Replaces → List ℕ → Way → List FileCall → Type 0
 IsWayTo replaces path way.Through probes = IsWritable path probes
 IsWayTo replaces path (way.Beside target found) probes =
-    IsTargetOf replaces path (string_bytes target) probes × (found ≡ there probes)
+    IsTargetOf replaces path (string_bytes target) probes × (found ≡ there probes) × (IsDescriptor path → ⊥)
 
 -- what was called for OUT so far, which has this path, if it has one, and replaces these files
 abbrev pub IsSoFar : Replaces → Option (List ℕ) → Stage → List FileCall → Type 0

@@ -143,13 +143,14 @@ IsTakenBack draft old new =
     × ((new ≡ old ++ tests ++ Removes draft ∷ [])
     ⊎ ((said : FileCall) × (is_probe said ≡ true) × (new ≡ old ++ tests ++ Syncs ∷ said ∷ Removes draft ∷ [])))
 
--- Pieces of the text went to a draft beside the target of a path, and the draft, which may replace what is there, was
--- put in its place.
+-- Pieces of the text went to a draft beside the target of a path, which is no descriptor, and the draft, which may
+-- replace what is there, was put in its place.
 pub record IsReplaced (path : List ℕ) (replaces : Replaces) (text : List ℕ) (calls : List FileCall) : Type 0 where
   pub draft : List ℕ
   pub target : List ℕ
   pub probes : List FileCall
   pub pieces : List (List ℕ)
+  pub no_descriptor : IsDescriptor path → ⊥
   pub target_is : IsTargetOf replaces path target probes
   pub beside : IsBeside draft target
   pub tests : List FileCall
@@ -169,10 +170,11 @@ pub record IsWrittenThrough (path text : List ℕ) (calls : List FileCall) : Typ
 abbrev pub IsPublished : List ℕ → Replaces → List ℕ → List FileCall → Type 0
 IsPublished path replaces text calls = IsReplaced path replaces text calls ⊎ IsWrittenThrough path text calls
 
--- Pieces of a text went to a draft beside the target of a path.
+-- Pieces of a text went to a draft beside the target of a path, which is no descriptor.
 pub record IsDrafted (replaces : Replaces) (path draft target : List ℕ) (calls : List FileCall) : Type 0 where
   pub probes : List FileCall
   pub pieces : List (List ℕ)
+  pub no_descriptor : IsDescriptor path → ⊥
   pub target_is : IsTargetOf replaces path target probes
   pub beside : IsBeside draft target
   pub calls_are : calls ≡ probes ++ drafting draft (draft_mode (there probes)) pieces

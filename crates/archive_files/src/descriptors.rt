@@ -1,32 +1,32 @@
 //! The paths of descriptors.
 
-ghost use Rattle.std.specs.Prelude.{◌≡◌, ◌≤◌, All, true};
+ghost use Rattle.std.specs.Prelude.{◌≡◌, ◌≤◌, ◌↔◌, All, true};
 ghost use Rattle.archive_files.specs.Publishing.{IsDescriptor, IsNumber, IsProcess};
 
 /// Whether all bytes of a text are digits.
 fn are_digits(text: &[u8]) -> bool
-    ensures { result ≡ true → All (λ digit. 48 ≤ digit × digit ≤ 57) text.now }
+    ensures { (result ≡ true) ↔ All (λ digit. 48 ≤ digit × digit ≤ 57) text.now }
 {
     text.iter().all(u8::is_ascii_digit)
 }
 
 /// Whether this is a number, in digits.
 fn is_number(text: &str) -> bool
-    ensures { result ≡ true → IsNumber text.now }
+    ensures { (result ≡ true) ↔ IsNumber text.now }
 {
     !text.is_empty() && are_digits(text.as_bytes())
 }
 
 /// Whether a process is so named under /proc.
 fn is_process(name: &str) -> bool
-    ensures { result ≡ true → IsProcess name.now }
+    ensures { (result ≡ true) ↔ IsProcess name.now }
 {
     name == "self" || name == "thread-self" || is_number(name)
 }
 
 /// Whether this is the path of a descriptor that a process has.
 pub fn is_descriptor(path: &str) -> bool
-    ensures { result ≡ true → IsDescriptor path.now }
+    ensures { (result ≡ true) ↔ IsDescriptor path.now }
 {
     if path == "/dev/stdout" || path == "/dev/stderr" {
         return true;

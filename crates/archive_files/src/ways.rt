@@ -4,7 +4,7 @@ ghost use Rattle.std.specs.Prelude.{◌≡◌, ◌∷◌, [], IfOk, List, OnErr,
 ghost use Rattle.archive_files.specs.declared.replaceable.Replaces.{Replaces};
 ghost use Rattle.archive_files.specs.FileCalls.{FileCall, Finds, FindsNothing, are_probes};
 ghost use Rattle.archive_files.specs.OutFiles.{IsWayTo};
-ghost use Rattle.archive_files.specs.Publishing.{FindsReplaced, IsTargetOf, there};
+ghost use Rattle.archive_files.specs.Publishing.{FindsReplaced, IsDescriptor, IsTargetOf, there};
 ghost use Rattle.archive_files.specs.declared.found.Found.{Found};
 
 use crate::descriptors::is_descriptor;
@@ -60,6 +60,7 @@ fn absent<F: Files>(
     error: io::Error,
     calls: &mut FileCalls,
 ) -> Result<Way, OutFault>
+    requires { IsDescriptor path.now → ⊥ }
     ensures way { calls.old.entries ≡ FindsNothing path.now ∷ []
         → IfOk result (λ way. (replaces : Replaces) → IsWayTo replaces path.now way calls.new.entries) }
     ensures refused { calls.old.entries ≡ FindsNothing path.now ∷ []
@@ -81,7 +82,8 @@ fn replaced<F: Files>(
     found: Found,
     calls: &mut FileCalls,
 ) -> Result<Way, OutFault>
-    requires { found.is_file ≡ true }
+    requires regular { found.is_file ≡ true }
+    requires no_descriptor { IsDescriptor path.now → ⊥ }
     ensures way { calls.old.entries ≡ Finds path.now found ∷ []
         → IfOk result (λ way. IsWayTo replaces path.now way calls.new.entries) }
     ensures refused { calls.old.entries ≡ Finds path.now found ∷ []

@@ -35,10 +35,13 @@ pub fn removed_leaves_it()
         → left ≡ before }
 {}
 
-/// A regular file is not written to: bytes that go to no draft go to what the system said is none, or to a descriptor.
+/// A regular file is not written to: bytes that go to no draft go to what the system said is none, or to a descriptor;
+/// and to a descriptor they go, and to no draft.
 pub fn never_written_through()
-    ensures { (path text : List ℕ) (calls : List FileCall) (is : IsWrittenThrough path text calls)
+    ensures others { (path text : List ℕ) (calls : List FileCall) (is : IsWrittenThrough path text calls)
         → ((found : Found) × (found.is_file ≡ false) × Contains calls (Finds path found)) ⊎ IsDescriptor path }
+    ensures descriptors { (path text : List ℕ) (replaces : Replaces) (calls : List FileCall)
+        → IsReplaced path replaces text calls → IsDescriptor path → ⊥ }
 {}
 
 /// What is at the place of OUT's path gives way, whatever the command: what begins as an archive to an archive that has

@@ -13,6 +13,7 @@ returns-clause-way g c = λ first.
     c.in-Ok.ensures.calls
     (c.in-Ok-beginning.ensures ∙ ap (λ at. opened ++ Begins at bytes ∷ []) c.in-Ok.ensures.path) in (
       c.in_ok-target.ensures.target c.args.replaces (finds_replaced c.args.replaces path c.args.found bytes
-          c.beginning.new.calls.entries c.requires c.in_ok-test_kind.ensures.gives_way calls),
+          c.beginning.new.calls.entries c.requires.regular c.in_ok-test_kind.ensures.gives_way calls),
       sym (c.in_ok-target.ensures.found c.args.found (Begins path bytes ∷ []) calls),
+      c.requires.no_descriptor,
     )
