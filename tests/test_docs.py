@@ -23,9 +23,9 @@ LINK = re.compile(r"\]\(([^)\s]+)\)")
 PUBLIC = re.compile(r"^( *)pub (?:const )?fn (\w+)(?:.*\n)*?(?:.* )?\{\}?$", re.M)
 METHODS_OF = re.compile(r"^impl(?:<.*?>)? (?:.* for )?(\w+).*\{$", re.M)
 # The crates of which few functions have a clause: they are tests.
-OF_TESTS = ("acceptance", "case_calls", "case_parts")
+OF_TESTS = ("test_acceptance", "test_calls", "test_parts")
 # Help and refusals, which have usage lines; and what these have of options.
-HELPS = "crates/acceptance/data/cases/words"
+HELPS = "crates/test_acceptance/data/cases/words"
 OPTIONS = re.compile(r"\[OPTIONS\] |--lines |--\w+ <\w+> ")
 # A command of the program in a line of README.
 COMMAND_LINE = re.compile(r"(?<![\w./-])symarch((?: [\w./-]+)+)")
@@ -136,7 +136,7 @@ class Definitions(unittest.TestCase):
 
 
 class Crates(unittest.TestCase):
-    """ARCHITECTURE has the layers of crates.txt, and a line for each crate, in its order."""
+    """ARCHITECTURE has the layers of crates.txt, and a line for each crate, by families, in its order."""
 
     def test_layers(self) -> None:
         came = call([TOP / "docs/draw-layers", "--check"])
@@ -144,7 +144,13 @@ class Crates(unittest.TestCase):
 
     def test_table(self) -> None:
         listed = re.findall(r"^ *(\w+) *:", text_of("crates.txt"), re.M)
-        self.assertEqual(re.findall(r"^\| `(\w+)` \|", text_of("docs/ARCHITECTURE.md"), re.M), listed)
+        parts = re.split(r"^### ", text_of("docs/ARCHITECTURE.md").partition("\n## Families\n")[2], flags=re.M)[1:]
+        tables = [re.findall(r"^\| `(\w+)` \|", part, re.M) for part in parts]
+        self.assertEqual(sorted(sum(tables, [])), sorted(listed))
+        for names in tables:
+            self.assertEqual(names, [it for it in listed if it in names])
+        families = [{it.partition("_")[0] for it in names} for names in tables[1:]]
+        self.assertEqual(len(set().union(*families)), sum(map(len, families)))
 
 
 class Commands(unittest.TestCase):

@@ -33,8 +33,8 @@ def methods() -> Set[str]:
 
 
 def cases() -> Set[str]:
-    """The cases of `acceptance`, SUBJECT/CASE."""
-    texts = {it.name: it.read_text(encoding="utf-8") for it in (TOP / "crates/acceptance/data/cases").iterdir()}
+    """The cases of `test_acceptance`, SUBJECT/CASE."""
+    texts = {it.name: it.read_text(encoding="utf-8") for it in (TOP / "crates/test_acceptance/data/cases").iterdir()}
     return {f"{subject}/{name}" for subject, text in texts.items() for name in re.findall("^= (.*)$", text, re.M)}
 
 

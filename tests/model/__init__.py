@@ -15,7 +15,7 @@
 - hints             the second line of a fault
 - parts             the words of cases that spell bytes
 - calls             the calls of cases below the commands
-- cases             the language of crates/acceptance/data/cases, carried out
+- cases             the language of crates/test_acceptance/data/cases, carried out
 - checking          the cases beside what the model computes
 - take_growths      takes over the numbers of refused growths, which the model does not compute
 """

@@ -1,11 +1,11 @@
-"""The cases of `acceptance` beside what the model computes. Texts of the command line, calls on images alone and
+"""The cases of `test_acceptance` beside what the model computes. Texts of the command line, calls on images alone and
 numbers of refused growths are left as they stand."""
 from typing import List, NamedTuple, Tuple
 
 from ..support.program import TOP
 from . import cases
 
-DATA = TOP / "crates" / "acceptance" / "data"
+DATA = TOP / "crates" / "test_acceptance" / "data"
 
 
 class Difference(NamedTuple):

@@ -2,7 +2,7 @@
 
 - program           where the program is, and what came of a call
 - cases             cases with a folder of their own, and cases over the program
-- case_slices       the slices of the files of crates/acceptance/data/cases
+- case_slices       the slices of the files of crates/test_acceptance/data/cases
 - made_images       images, universal files, archives and the other files of symarch
 - made_trees        folders of files of every kind
 - rooms             a folder in which symarch-keep is called

@@ -7,7 +7,7 @@ from .program import TOP
 
 # The table: an argument, which may be as another one in what it leaves out, what it has, and a command with the names
 # of its own.
-TABLE = "crates/command_line/src/commands.rt"
+TABLE = "crates/cli_arguments/src/commands.rt"
 ARGUMENT = re.compile(r"^const (\w+): Argument = Argument \{\n(.*?)^\};", re.M | re.S)
 FIELD = re.compile(r'^ +(name|count|role): (?:\w+::)?"?(\w+)(?:\("(\w+)"\))?', re.M)
 SIGNATURE = re.compile(r'^ +Signature \{\n +name: "(\w+)",\n.*?^ +arguments: &\[(.*?)\]', re.M | re.S)

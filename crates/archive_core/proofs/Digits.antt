@@ -11,7 +11,7 @@ use Rattle.std.proofs.lemmas.List.Elements.{recursion_from_All}
 use Rattle.std.proofs.lemmas.Nat.{from_be_bytes-to_be_bytes_4, from_be_bytes-to_be_bytes_8}
 use Rattle.archive_core.proofs.Compare.{then_assoc}
 
--- the number that digits to the base 256 make behind another
+-- the number that digits to the base 256 make after another
 abbrev read : List ℕ → ℕ → ℕ
 read [] p = p
 read (x ∷ xs) p = read xs (p * 256 + x)

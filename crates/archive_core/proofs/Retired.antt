@@ -91,7 +91,7 @@ same_prefix : (prefix x y : List ℕ) → order (prefix ++ x) (prefix ++ y) ≡ 
 same_prefix [] x y = refl
 same_prefix (a ∷ ass) x y = rw (tied_itself nat_cmp_total a) (same_prefix ass x y)
 
--- a prefix with zeros behind it is at most what begins so
+-- a prefix with zeros after it is at most what begins so
 pub least_begins : (prefix zeros r : List ℕ) → length prefix ≡ 25 → length zeros ≡ 32 → list_all (λ n. n == 0) zeros ≡ true → take 25 r ≡ prefix → length r ≡ 57 → is_gt (order (prefix ++ zeros) r) ≡ false
 least_begins prefix zeros r f z each begins long =
     let whole : prefix ++ drop 25 r ≡ r = ap (λ (t : List ℕ). t ++ drop 25 r) (sym begins) ∙ take-append-drop 25 r in

@@ -19,7 +19,7 @@ Operations = set.FinSet (slice_cmp nat_cmp)
 abbrev pub is_admission : List ℕ → Bool
 is_admission r = slice_index r 0 == 2
 
--- the key of an admission and the SHA-256 of its slice, by its record: the key stands behind the tag, the slice behind
+-- the key of an admission and the SHA-256 of its slice, by its record: the key stands after the tag, the slice after
 -- 33 bytes
 unfoldable pub key_and_digest : List ℕ → List ℕ
 key_and_digest r = take 24 (drop 1 r) ++ sha256 (drop 33 r)

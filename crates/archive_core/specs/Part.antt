@@ -7,7 +7,7 @@ use Rattle.archive_core.specs.declared.keys.SliceKey.{SliceKey}
 use Rattle.archive_core.specs.Record.{admission_record, retirement_record}
 use Rattle.archive_core.specs.Content.{Operations}
 
--- the bytes behind the tag of a record begin with these: a UUID, or a key
+-- the bytes after the tag of a record begin with these: a UUID, or a key
 unfoldable pub is_under : List ℕ → List ℕ → Bool
 is_under prefix r = bytes_eq prefix (take (length prefix) (drop 1 r))
 
@@ -15,7 +15,7 @@ is_under prefix r = bytes_eq prefix (take (length prefix) (drop 1 r))
 abbrev pub part : Operations → (List ℕ → Bool) → Operations
 part o picks = set.retain o picks
 
--- the two have the same records that begin so behind their tags
+-- the two have the same records that begin so after their tags
 abbrev pub AreAlikeUnder : List ℕ → Operations → Operations → Type 0
 AreAlikeUnder prefix o p = (r : List ℕ) → is_under prefix r ≡ true → set.contains o r ≡ set.contains p r
 

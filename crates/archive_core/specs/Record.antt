@@ -9,7 +9,7 @@ use Rattle.archive_core.specs.declared.operations.Operation.TheVariants.{Admit, 
 use Rattle.archive_core.specs.declared.operations.Record.{Record}
 use Rattle.archive_core.specs.declared.operations.Record.TheVariants.{Admit as Borrowed_Admit, Retire as Borrowed_Retire}
 
--- an admission's record behind its tag: the key, the length in 8 bytes, the slice
+-- an admission's record after its tag: the key, the length in 8 bytes, the slice
 unfoldable pub admission : List ℕ → List ℕ
 admission slice = key_bytes (key_of slice) ++ (to_be_bytes w64 (length slice) ++ slice)
 

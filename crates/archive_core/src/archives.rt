@@ -95,7 +95,7 @@ pub trait Archive: Join<Content = Contents> {
 
 /// Joins an archive with another one of its type, and takes over what that holds without a copy. Refused for want of
 /// memory alone; a part of `other` may then have been taken in, and `other` is dropped. A caller that makes the call
-/// again makes `other` again from where it had it, as by reading its text once more; `contents_join` of `archive_laws`
+/// again makes `other` again from where it had it, as by reading its text once more; `contents_join` of `laws_archive`
 /// (`resumed`) says that this gives what the first call would have given.
 pub fn take_all<A: Archive>(archive: &mut A, other: A) -> Result<(), NoMemory>
     ensures joined { OnOk result (A.content archive.new ≡ joined (A.content archive.old) (A.content other)) }

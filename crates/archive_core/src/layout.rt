@@ -30,7 +30,7 @@ fn lay_key(part: &mut [u8], key: &SliceKey)
     part[20..].copy_from_slice(&key.arch.cpusubtype.to_be_bytes());
 }
 
-/// The bytes of a key, as they stand behind a record's tag.
+/// The bytes of a key, as they stand after a record's tag.
 pub fn key_prefix(key: &SliceKey) -> [u8; 24]
     ensures { result ≡ key_bytes key.now }
 {

@@ -4,7 +4,7 @@
 //! set of Shapiro, Preguiça, Baquero and Zawirski (INRIA RR-7506, 2011): what was removed never comes
 //! back, and two archives join by taking in each other's operations. In two points it differs. A
 //! retirement may come before the admission that it covers, and is kept. And a slice that is retired
-//! is not kept: where its retirement comes in it is dropped, with its bytes, and behind that it is not
+//! is not kept: where its retirement comes in it is dropped, with its bytes, and after that it is not
 //! taken.
 //!
 //! - `keys`: under what a slice is kept;

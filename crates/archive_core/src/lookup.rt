@@ -11,7 +11,7 @@ use memory::Heap;
 pub enum Where {
     /// An address as the image's file has it.
     File(u64),
-    /// An address of the image where it was loaded: it stands for `address - load` behind the
+    /// An address of the image where it was loaded: it stands for `address - load` after the
     /// `vmaddr` of the segment `__TEXT`.
     Loaded {
         /// Where the image's `__TEXT` was loaded.

@@ -149,7 +149,7 @@ fn compare_retirements(key: &SliceKey, digest: &Digest, that: &SliceKey, other: 
     digest.0.cmp(&other.0)
 }
 
-// Compares two admissions by what their records hold behind the tag: key, length, bytes.
+// Compares two admissions by what their records hold after the tag: key, length, bytes.
 fn compare_admissions(key: &SliceKey, bytes: &[u8], that: &SliceKey, other: &[u8]) -> Ordering
     requires key { key.now ≡ key_of bytes.now }
     requires that { that.now ≡ key_of other.now }

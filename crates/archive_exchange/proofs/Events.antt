@@ -5,7 +5,7 @@ use Rattle.std.proofs.Math.Seq.{take-suc}
 use Rattle.std.specs.Fmt.{decimal}
 use Rattle.archive_exchange.specs.declared.outcome.Outcome.{Outcome}
 use Rattle.archive_exchange.specs.EventLines.{event_lines, outcome_text}
-use Rattle.report_text.specs.Report.{line}
+use Rattle.text_reports.specs.Report.{line}
 
 abbrev one_line : List (List ℕ) → ℕ → Outcome → List ℕ
 one_line messages number outcome = line (decimal number ++ codes " " ++ outcome_text messages outcome)

@@ -13,11 +13,11 @@ use Rattle.archive_core.specs.Content.{Operations}
 use Rattle.archive_exchange.specs.SiteState.{SiteState}
 use Rattle.archive_exchange.specs.WorldState.{Represents, message_text}
 use Rattle.archive_exchange.specs.ModelEvent.{ModelEvent, AreSeen, OutcomeIs}
-use Rattle.line_inputs.specs.declared.event.Event.{Event as Event_given}
-use Rattle.admission.specs.declared.fault.TakeFault.{TakeFault}
+use Rattle.text_inputs.specs.declared.event.Event.{Event as Event_given}
+use Rattle.archive_admission.specs.declared.fault.TakeFault.{TakeFault}
 use Rattle.archive_exchange.specs.declared.outcome.Outcome.{Outcome}
 use Rattle.archive_exchange.specs.declared.outcome.Outcome.TheVariants.{Sent}
-use Rattle.command_core.proofs.Readers.{all_more}
+use Rattle.command_common.proofs.Readers.{all_more}
 use Rattle.archive_exchange.specs.EventLines.{IsSentAmong, event_lines}
 use Rattle.archive_exchange.specs.Rehearse.{TellsEvents, held_line, site_lines}
 

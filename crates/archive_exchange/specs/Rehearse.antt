@@ -7,15 +7,15 @@ use Rattle.archive_records.specs.Text.{written}
 use Rattle.archive_exchange.specs.World.{World, state, outcomes}
 use Rattle.archive_exchange.specs.WorldState.{message_text}
 use Rattle.archive_exchange.specs.ModelEvent.{ModelEvent, AreSeen, OutcomeIs}
-use Rattle.line_inputs.specs.declared.event.Event.{Event}
+use Rattle.text_inputs.specs.declared.event.Event.{Event}
 use Rattle.archive_exchange.specs.declared.outcome.Outcome.{Outcome}
-use Rattle.line_inputs.specs.Script.{acts, script_of}
+use Rattle.text_inputs.specs.Script.{acts, script_of}
 use Rattle.archive_exchange.specs.EventLines.{event_lines, site_line}
-use Rattle.command_core.specs.declared.faults.Status.{Status}
-use Rattle.command_core.specs.declared.faults.Status.TheVariants.{Done}
-use Rattle.command_core.specs.Ends.{Query}
-use Rattle.command_core.specs.Inputs.{Reader, Gives, Unfailed, IsRefusedScript}
-use Rattle.command_core.specs.Outputs.{sizes_of}
+use Rattle.command_common.specs.declared.faults.Status.{Status}
+use Rattle.command_common.specs.declared.faults.Status.TheVariants.{Done}
+use Rattle.command_common.specs.Ends.{Query}
+use Rattle.command_common.specs.Inputs.{Reader, Gives, Unfailed, IsRefusedScript}
+use Rattle.command_common.specs.Outputs.{sizes_of}
 
 -- the line of a site that holds this content
 abbrev pub held_line : ℕ → Operations → List ℕ
@@ -26,12 +26,12 @@ unfoldable pub site_lines : (ℕ → Operations) → ℕ → List ℕ
 site_lines held zero = []
 site_lines held (suc n) = site_lines held n ++ held_line n (held n)
 
--- a line an event, and behind them a line a site: what was answered to the events, where they leave this world
+-- a line an event, and after them a line a site: what was answered to the events, where they leave this world
 abbrev pub rehearsal_lines : ℕ → List Outcome → World → List ℕ
 rehearsal_lines sites told w = event_lines (map message_text w.messages) 0 told ++ site_lines w.held sites
 
 -- The events are carried out on so many sites, which begin empty: these outcomes tell what is answered to each, and
--- these are their lines and those of what the sites hold behind all events.
+-- these are their lines and those of what the sites hold after all events.
 pub record TellsEvents (sites : ℕ) (events : List Event) (text : List ℕ) : Type 0 where
   pub seen : List ModelEvent
   pub told : List Outcome

@@ -6,9 +6,9 @@ ghost use Rattle.std.specs.Prelude.{◌≡◌, ℕ, List};
 ghost use Rattle.archive_core.specs.Content.{IsContent, IsBelow};
 ghost use Rattle.archive_exchange.specs.SiteState.{SiteState, HasJoined, HasJoinedInPart};
 ghost use Rattle.archive_exchange.specs.ModelEvent.{ModelEvent, AreSeen};
-ghost use Rattle.line_inputs.specs.declared.event.Event.{Event};
+ghost use Rattle.text_inputs.specs.declared.event.Event.{Event};
 
-use admission::laws::one_take_fault;
+use archive_admission::laws::one_take_fault;
 
 /// A delivery that stopped half way left a content between the old one and the one asked for, and gives the latter when
 /// it is made again.

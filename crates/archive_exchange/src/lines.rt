@@ -3,17 +3,17 @@ ghost use Rattle.std.specs.Prelude.{◌≡◌, ◌<◌, ◌++◌, [], All, OnOk,
 ghost use Rattle.std.specs.List.{count_by};
 ghost use Rattle.archive_exchange.specs.EventLines.{IsSentAmong, event_lines, is_added, is_known, is_skipped, outcome_text};
 ghost use Rattle.archive_exchange.specs.EventLines.{site_line, took_text};
-ghost use Rattle.report_text.specs.Report.{line};
+ghost use Rattle.text_reports.specs.Report.{line};
 
 use crate::outcome::{EventFault, Outcome};
 use crate::world::World;
-use admission::Taken;
+use archive_admission::Taken;
 use archive_core::{Archive, Digest};
 use archive_records::Sizes;
-use archive_words::Spelled;
 use memory::{Heap, NoMemory};
-use report_text::Text;
 use std::fmt::{self, Display};
+use text_reports::Text;
+use text_values::Spelled;
 
 // Why an event is refused, shown as this program prints it.
 #[derive(Clone, Copy)]

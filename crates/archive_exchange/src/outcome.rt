@@ -1,6 +1,6 @@
 //! What is answered to an event.
 
-use admission::{TakeFault, Taken};
+use archive_admission::{TakeFault, Taken};
 use archive_records::RecordFault;
 use memory::Heap;
 

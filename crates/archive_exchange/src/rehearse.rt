@@ -2,9 +2,9 @@
 ghost use Rattle.std.specs.Prelude.{◌≡◌, ◌++◌, IfOk, OnOk, length, string_bytes};
 ghost use Rattle.archive_exchange.specs.World.{World as WorldModel};
 ghost use Rattle.archive_exchange.specs.WorldState.{Represents};
-ghost use Rattle.command_core.specs.Ends.{EndsReport};
-ghost use Rattle.command_core.specs.Inputs.{reader};
-ghost use Rattle.command_core.specs.Outputs.{writer};
+ghost use Rattle.command_common.specs.Ends.{EndsReport};
+ghost use Rattle.command_common.specs.Inputs.{reader};
+ghost use Rattle.command_common.specs.Outputs.{writer};
 ghost use Rattle.archive_exchange.specs.Rehearse.{TellsEvents, held_line, rehearse, site_lines};
 
 use crate::laws::one_meaning;
@@ -15,10 +15,10 @@ use crate::world::World;
 use archive_core::{Archive, Digest};
 use archive_records::Sizes;
 use byte_device::{Sink, Source};
-use command_core::{CommandFault, Status, publish_report, read_events};
-use line_inputs::Script;
+use command_common::{CommandFault, Status, publish_report, read_events};
 use memory::{Heap, NoMemory};
 use sha2::{Digest as _, Sha256};
+use text_inputs::Script;
 
 /// Adds the line of a site, of which the archive's text is made for its sizes and its SHA-256.
 fn push_held<A: Archive + Drop>(
@@ -59,7 +59,7 @@ fn lines_of<A: Archive + Drop>(heap: Heap, script: &Script) -> Result<String<Hea
     Ok(text)
 }
 
-/// Carries out the events of SCRIPT on sites that begin empty, and writes a line an event to the report, and behind
+/// Carries out the events of SCRIPT on sites that begin empty, and writes a line an event to the report, and after
 /// them a line a site: how many records and bytes its archive has, and the SHA-256 of that archive's text. The script
 /// is read to its end before anything is carried out, and the lines are made whole before any is written. Why an event
 /// is refused stands in its line; the status is `Done` all the same.

@@ -17,10 +17,10 @@ use crate::model_laws::{
     answered_agree, delta_lifts, issued_and_kept, reached_is_held, same_reached,
 };
 use crate::{Outcome, Site, World};
-use admission::TakeFault;
+use archive_admission::TakeFault;
 use archive_core::Archive;
-use line_inputs::Event;
 use memory::{Heap, NoMemory};
+use text_inputs::Event;
 
 fn empty_sites<A: Archive + Drop>(heap: &Heap, sites: u32) -> Result<Vec<Site<A>, Heap>, NoMemory>
     ensures number { IfOk result (λ row. length row.items ≡ sites) }

@@ -5,16 +5,16 @@ ghost use Rattle.archive_core.specs.Content.{with_record, changes, joined};
 ghost use Rattle.archive_core.specs.Record.{retirement_record, IsRecord};
 ghost use Rattle.archive_core.specs.Summary.{Entries, summary, delta};
 ghost use Rattle.archive_records.specs.Text.{written, summary_text};
-ghost use Rattle.admission.specs.File.{IsAcceptedFile, IsTakeFault, admissible, parts};
-ghost use Rattle.admission.specs.Take.{admitted, taken_rows, HoldsFirstParts};
+ghost use Rattle.archive_admission.specs.File.{IsAcceptedFile, IsTakeFault, admissible, parts};
+ghost use Rattle.archive_admission.specs.Take.{admitted, taken_rows, HoldsFirstParts};
 ghost use Rattle.archive_exchange.specs.SiteState.{IsArchiveTextOf, Gives, IsWhole, IsBetween};
 ghost use Rattle.archive_exchange.specs.SiteState.{IsDeliverFault, HasJoined, HasJoinedInPart};
 ghost use Rattle.archive_exchange.specs.SiteState.{Names, RepliesTo, IsReplyFault};
 
 use crate::{DeliverFault, ReplyFault};
-use admission::{TakeFault, Taken, check_file, take_accepted};
+use archive_admission::{TakeFault, Taken, check_file, take_accepted};
 use archive_core::{Archive, Digest, Operation, SliceKey, take_all};
-use archive_reading::read_archive;
+use archive_read::read_archive;
 use archive_records::{
     RecordFaultKind, Summary, read_summary, write_archive, write_delta, write_summary,
 };
@@ -32,7 +32,7 @@ fn archive_text<A: Archive>(heap: Heap, archive: &A) -> Result<Vec<u8, Heap>, No
     }
 }
 
-fn archive_in<A: Archive + Drop>(heap: Heap, text: &[u8]) -> Result<A, DeliverFault>
+fn parse_archive<A: Archive + Drop>(heap: Heap, text: &[u8]) -> Result<A, DeliverFault>
     ensures gives { IfOk result (λ archive. Gives text.now (A.content archive)) }
     ensures refused { IfErr result (IsDeliverFault text.now) }
 {
@@ -57,7 +57,7 @@ fn text_of_summary<A: Archive>(heap: Heap, archive: &A) -> Result<Vec<u8, Heap>,
     }
 }
 
-fn summary_in(heap: Heap, text: &[u8]) -> Result<Summary, ReplyFault>
+fn parse_summary(heap: Heap, text: &[u8]) -> Result<Summary, ReplyFault>
     ensures names { IfOk result (Names text.now) }
     ensures alone { IfOk result (λ summary. (other : Entries) → Names text.now other → summary ≡ other) }
     ensures refused { IfErr result (IsReplyFault text.now) }
@@ -192,7 +192,7 @@ impl<A: Archive + Drop> Site<A> {
         ensures replies { IfOk result (λ text. RepliesTo message.now self.now.held text.items) }
         ensures refused { IfErr result (IsReplyFault message.now) }
     {
-        let summary = summary_in(self.saved.allocator().share(), message)?;
+        let summary = parse_summary(self.saved.allocator().share(), message)?;
         let text = text_of_delta(self.saved.allocator().share(), &self.archive, &summary)?;
         Ok(text)
     }
@@ -211,7 +211,7 @@ impl<A: Archive + Drop> Site<A> {
         ensures stopped { OnErr result ((self.new ≡ self.old) ⊎ HasJoinedInPart message.now self.old self.new) }
         ensures whole { IsWhole self.new }
     {
-        let other: A = archive_in(self.saved.allocator().share(), message)?;
+        let other: A = parse_archive(self.saved.allocator().share(), message)?;
         take_all(&mut self.archive, other)?;
         Ok(())
     }
@@ -236,7 +236,7 @@ impl<A: Archive + Drop> Site<A> {
     {
         let heap = self.saved.allocator().share();
         // The saved bytes are an archive's text, which is refused for want of memory alone.
-        let Ok(archive) = archive_in(heap, &self.saved) else {
+        let Ok(archive) = parse_archive(heap, &self.saved) else {
             return Err(NoMemory);
         };
         self.archive = archive;

@@ -1,4 +1,4 @@
--- Whether a record may stand behind the one that it was read over.
+-- Whether a record may stand after the one that it was read over.
 use Rattle.std.proofs.Common.{◌≡◌, ℕ, ◌≤◌, Bool, List, [], ◌∷◌, ◌++◌, length, take, drop, Result, Ok, Err, refl, sym, ap, ◌∙◌, arith, length-take, take-append-drop}
 use Rattle.std.proofs.lemmas.List.{append-nil, take_all}
 use Rattle.std.proofs.Math.ListN.{drop_of_length-le}

@@ -1,4 +1,4 @@
--- What steps that read say of the reader and of what they took: one alone, one behind the other, and one that failed.
+-- What steps that read say of the reader and of what they took: one alone, one after the other, and one that failed.
 use Rattle.std.proofs.Common.{◌≡◌, ◌≢◌, ℕ, List, ◌++◌, length, take, drop, ap, refl, sym, ◌∙◌, subst, Option, arith, length-append, length-take, length-drop}
 use Rattle.std.specs.Prelude.{Result, Ok, Err, IfErr, IsErrAnd}
 use Rattle.std.proofs.lemmas.List.{take-take}

@@ -49,7 +49,7 @@ length-ending _ n = omega (arith, length-end_record n)
 nothing_taken : (file : Format) (low : List ℕ) → Takes file low [] → ⊥
 nothing_taken file low t = omega (arith, (holds file t.item (length t.item) (item-framed file t.item t.is)).one, ap length t.whole, length-append t.item t.more)
 
--- no record begins with it; in an operations file nothing stands behind it
+-- no record begins with it; in an operations file nothing stands after it
 ending_stops : (file : Format) (low : List ℕ) (n : ℕ) (more : List ℕ) → (file ≡ Operations_file → more ≡ []) → Takes file low (ending file n ++ more) → ⊥
 ending_stops Operations_file low n more alone t = nothing_taken Operations_file low (subst (Takes Operations_file low) (alone refl) t)
 ending_stops file low n more alone t = end-stops file low (end_record n ++ more) (end_more n more) t
@@ -102,7 +102,7 @@ module _ (file : Format) where
   one_magic_fault t Truncated k a b = absurd b
   one_magic_fault t j k a b = absurd a
 
-  -- ---- what stops behind a good front
+  -- ---- what stops after a good front
 
   pub fails_stop : (records : List (List ℕ)) (rest : List ℕ) (kind : RecordFaultKind) → Fails file records rest kind → Goes file records rest → ⊥
   fails_stop records rest kind (inl f) g = fault-stops file (last_of [] records) (length records) rest kind f g.next
@@ -112,7 +112,7 @@ module _ (file : Format) where
   behind_stops records rest fault (inl f) g = fails_stop records rest fault.kind f.0 g
   behind_stops records rest fault (inr t) g = end-stops file (last_of [] records) rest t.1.end g.next
 
-  -- a fault behind a good front stands at the end of the longest
+  -- a fault after a good front stands at the end of the longest
   pub fault_longest : (text : List ℕ) (records : List (List ℕ)) (front : IsGoodFront file text records) (fault : RecordFault) → IsFaultBehind file records front.rest fault → IsLongestFront file text records
   fault_longest text records front fault f = is_longest file text records front (behind_stops records front.rest fault f)
 
@@ -149,7 +149,7 @@ module _ (file : Format) where
       let here : IsFaultBehind file b.0 b.1.rest f = subst (λ (x : List ℕ). IsFaultBehind file b.0 x f) same.1 (subst (λ (x : List (List ℕ)). IsFaultBehind file x a.1.rest f) same.0 a.3) in
       one_behind b.0 b.1.rest f g here b.3
 
-  -- ---- a text, and what stands behind it
+  -- ---- a text, and what stands after it
 
   module _ (t : List ℕ) (xs : List (List ℕ)) (more : List ℕ) (ordered : InOrder file [] xs) (apart : AreApart file xs) (text : t ≡ text_of file xs ++ more) (alone : file ≡ Operations_file → more ≡ []) where
     whole : t ≡ magic_of file ++ (concat xs ++ (ending file (length xs) ++ more))

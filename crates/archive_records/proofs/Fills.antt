@@ -74,7 +74,7 @@ Fills-laid a c b n m order le at items then is taken =
       };
     }
 
--- what came stands behind what came before, where that differs from the last record
+-- what came stands after what came before, where that differs from the last record
 pub Fills-behind : (a c : Option (List ℕ)) (b n : Buffer) (m : List ℕ) → b.at ≤ length b.bytes.items → n.at ≡ b.at + length m → bytes_so_far n ≡ bytes_so_far b ++ m
     → n.order ≡ b.order → b.order ≢ Equal → Consumes a c m → Fills a c b n
 Fills-behind a c b n m le at front same differs taken = record {
@@ -103,7 +103,7 @@ Fills-room a c b n le items at order taken =
       };
     }
 
--- one read behind another
+-- one read after another
 pub Fills-then : {a b c : Option (List ℕ)} {x y z : Buffer} → Fills a b x y → Fills b c y z → Fills a c x z
 Fills-then {a = a} {b = b} {c = c} {x = x} p q = record {
   within = q.within;

@@ -90,7 +90,7 @@ pub kind_read : (kind : TextKind) (text : List ℕ) → kind_of (format_for kind
 kind_read Archive_text text = kind_archive text
 kind_read _ text = refl
 
--- what stops in the magic is no byte behind a text
+-- what stops in the magic is no byte after a text
 no_trailing : (f : Format) (bytes : List ℕ) (why : RecordFaultKind) → StopsInMagic f bytes why → why ≢ Trailing
 no_trailing f bytes why stops = grind arith
 

@@ -149,7 +149,7 @@ admitted_is bytes slice a e = ap admission_record (e ∙ (parts-of bytes a).slic
 item_whole : (file : Format) (item : List ℕ) (head body : ℕ) → head_length file (get_or item 0 0) ≡ Some head → body_length file item ≡ body → length item ≡ head + body → 1 ≤ head → body ≤ largest_slice → framed file item ≡ Ok (length item)
 item_whole file item head body tag is long one small = framed-whole file item head (omega arith) tag (omega arith) (omega arith) (omega arith) ∙ ap (λ (n : ℕ). Ok n) (omega arith)
 
--- a record is whole where its slice stands behind an admission's head
+-- a record is whole where its slice stands after an admission's head
 record-framed : (file : Format) → admission_length file ≡ 33 → ((bytes : List ℕ) → admission_body file bytes ≡ slice_length bytes) → (r : List ℕ) → IsRecord r → framed file r ≡ Ok (length r)
 unfolding head_length
 record-framed file head behind r (inl a) =

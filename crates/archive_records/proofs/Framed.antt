@@ -18,7 +18,7 @@ unfolding slice_length
 slice_kept bytes more le =
     ap (λ (t : List ℕ). from_be_bytes w64 (take 8 t)) (drop-append-le 25 bytes more (omega arith)) ∙ ap (from_be_bytes w64) (take-append-le 8 (drop 25 bytes) more (omega (arith, length-drop 25 bytes)))
 
--- the number in an admission's head, where its slice stands behind it
+-- the number in an admission's head, where its slice stands after it
 pub slice_body : (file : Format) → (file ≡ Archive) ⊎ (file ≡ OldArchive) ⊎ (file ≡ Operations) → (bytes : List ℕ) (n : ℕ) → n ≡ slice_length bytes → n ≡ admission_body file bytes
 slice_body file is bytes n e = grind arith
 

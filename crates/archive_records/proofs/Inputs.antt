@@ -144,7 +144,7 @@ module _ (file : Format) where
   record_stop records rest fault known (inr (inl t)) = inr t
   record_stop records rest fault known (inr (inr d)) = absurd (known.0 d.0)
 
-  -- a fault of the text, behind fewer records than are too many
+  -- a fault of the text, after fewer records than are too many
   abbrev FewFault : List ℕ → RecordFault → Type 0
   FewFault t fault =
       (IsMagicFault file t fault.kind × (fault.offset ≡ 0))
@@ -224,7 +224,7 @@ module _ (kind : TextKind) where
       let same : format_for kind t ≡ format = format_read kind format s.1 t ((concat s.2 ++ s.3.rest) ++ ys) (s.3.taken ∙ append_assoc (magic_of format) (concat s.2 ++ s.3.rest) ys) in
       inr (s.2, subst (λ (f : Format). Stopped f (Some t) (Some ys) s.2 fault) (sym same) s.3)
 
-  -- where the machine stopped it: what holds of fewer bytes than the magic has, and behind good fronts
+  -- where the machine stopped it: what holds of fewer bytes than the magic has, and after good fronts
   taken_by : (P : List ℕ → Type 0) (a b : Option (List ℕ)) (fault : RecordFault) → ((bytes : List ℕ) → length bytes < 8 → fault.offset ≡ 0 → P bytes)
       → ((file : Format) (records : List (List ℕ)) (s : Stopped file a b records fault) → format_for kind (magic_of file ++ (concat records ++ s.rest)) ≡ file → P (magic_of file ++ (concat records ++ s.rest)))
       → IsOfMachine fault.kind → HasStopped kind a b fault → HoldsOfTaken P a b
@@ -249,7 +249,7 @@ module _ (kind : TextKind) where
 
 -- ---- an archive that is read
 
--- the rest that is left behind an archive's text
+-- the rest that is left after an archive's text
 front_alone : (t : List ℕ) (b : Option (List ℕ)) (o p : Operations) (text rest : List ℕ) → IsReadTo Archive_text (Some t) b o → IsContent p → IsArchiveOf p text → t ≡ text ++ rest → (o ≡ p) × (b ≡ Some rest)
 front_alone t None o p text rest h content form is = absurd h.taken
 front_alone t (Some ys) o p text rest h content form is =
@@ -292,7 +292,7 @@ one_operations t xs ys p q =
 operations_text : (a b : Option (List ℕ)) (xs : List Operation) → AreRead a b xs → IfSome a (λ t. IsOperationsText t xs)
 operations_text a b xs h = IfSome_then a (all_taken a b (text_of Operations_file (map record_bytes xs)) h.taken h.at_end) (λ t is. IsOperationsText-text t xs h.are is)
 
--- and it has no fault: behind it nothing is left
+-- and it has no fault: after it nothing is left
 pub operations_no_fault : (t : List ℕ) (xs : List Operation) (fault : RecordFault) → IsOperationsText t xs → IsOperationsFault t fault → ⊥
 operations_no_fault t xs fault p (inl m) = no_magic_fault Operations_file t (concat (map record_bytes xs)) fault.kind p.whole m.0
 operations_no_fault t xs fault p (inr f) =

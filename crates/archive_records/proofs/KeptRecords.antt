@@ -39,7 +39,7 @@ pub from_kept : (out : List (List ℕ)) (z : List ℕ) → Contains (kept out) z
 unfolding kept
 from_kept out z c = (in_filter (free_in out) out z c).0
 
--- what stands behind covers none of them
+-- what stands after covers none of them
 module _ (out more : List (List ℕ)) (a : InOrder Archive [] (out ++ more)) (o : InOrder Archive [] out) where
   covers_alike : (r : List ℕ) → Contains out r → is_covered (set_of (out ++ more)) r ≡ is_covered (set_of out) r
   covers_alike r c = and_same (is_admission r) (contains (set_of (out ++ more)) (covering r)) (contains (set_of out) (covering r)) (λ a'. both_ways (contains (set_of (out ++ more)) (covering r)) (contains (set_of out) (covering r))

@@ -40,7 +40,7 @@ module _ (file : Format) where
     pub is : IsItem file item
     pub above : may_follow file low item ≡ true
 
-  -- ---- more bytes behind
+  -- ---- more bytes after
 
   pub framed-grows : (bytes more : List ℕ) (n : ℕ) → framed file bytes ≡ Ok n → framed file (bytes ++ more) ≡ Ok n
   framed-grows bytes more n e =
@@ -96,7 +96,7 @@ module _ (file : Format) where
       let n = longest_by xs ys x r s a.2 rest both.1 (λ k more is. stop k more (cc (both.0, is))) in
       record { more = n.more; records = cc (both.0, n.records); rest = n.rest }
 
-  -- a record stands in front of the rest that a good front may have behind these
+  -- a record stands in front of the rest that a good front may have after these
   pub record Goes (records : List (List ℕ)) (rest : List ℕ) : Type 0 where
     pub next : Takes (last_of [] records) rest
     pub apart : AreApart file (records ++ next.item ∷ [])

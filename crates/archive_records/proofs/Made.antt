@@ -81,7 +81,7 @@ module _ {T : Type 0} (Makes : List (List ℕ) → T → Type 0) (a b : Option (
 
 -- ---- the whole input
 
--- what is told behind the last record
+-- what is told after the last record
 pub finished : {R T X : Type 0} (file : TextKind) (Makes : List (List ℕ) → T → Type 0) (Tells : X → Meaning file → Type 0) (left : R → Option (List ℕ)) (failures : R → ℕ) (old new : R) (value : T) (told : X)
     → IsGathered file Makes (left old) (left new) value → IsAtEnd (left new) → failures new ≡ failures old
     → ((m : Meaning file) → IsMeaning file m → Makes (records_in file m) value → Tells told m)
@@ -90,7 +90,7 @@ finished file Makes Tells left failures old new value told gathered end unfailed
     let s = says Makes (left old) (left new) value end file gathered in
     record { meaning = s.meaning; whole = read_whole file s.meaning left failures old new s.said end unfailed; kept = tells s.meaning s.is s.makes }
 
--- memory was wanted behind the text
+-- memory was wanted after the text
 pub wanted : {R T : Type 0} (file : TextKind) (Makes : List (List ℕ) → T → Type 0) (left : R → Option (List ℕ)) (failures : R → ℕ) (old new : R) (value : T)
     → IsGathered file Makes (left old) (left new) value → IsAtEnd (left new) → failures new ≡ failures old
     → ReadsWhole file (λ (m : Meaning file). m) left failures old new (Err (record { kind = OutOfMemory; offset = 8 }))

@@ -1,4 +1,4 @@
--- The texts of records, one behind the other.
+-- The texts of records, one after the other.
 use Rattle.std.proofs.Common.{◌≡◌, ℕ, ◌+◌, ◌^◌, ◌<◌, ◌≤◌, List, [], ◌∷◌, ◌++◌, length, get_or, take, drop, Option, Result, sym, ap, ◌∙◌, subst, arith, append_assoc, length-append}
 use Rattle.std.specs.Prelude.{IfOk, Ok, Err, true, false, cond, not}
 use Rattle.std.proofs.lemmas.List.Elements.{filter-append}

@@ -125,7 +125,7 @@ module _ (file : Format) where
         (apart_whole file before.retired records s.rest h.ordered follows h.apart h.retired_are (λ is. w.uncovered (h.file_is ∙ is))) (omega (arith, h.count_is, s.few))
   ]
 
-  -- a test failed behind the records, or memory ran out there
+  -- a test failed after the records, or memory ran out there
   abbrev pub Stopped-fails : (a b c : Option (List ℕ)) (records : List (List ℕ)) (before : Position) (fault : RecordFault) → HasRead file a b records before → StopsAt b c before fault → Stopped file a c records fault
   Stopped-fails a b c records before fault h s = record {
     rest = s.rest;
@@ -202,7 +202,7 @@ step-never_trailing a b before fault s trailing = elim (s.fails (λ memory. cc))
   | inr c ↦ cc (trailing, c.kind_is)
 ]
 
--- ---- behind an end record
+-- ---- after an end record
 
 module _ (file : Format) (counts : end_length file ≡ Some 9) where
   taken_all : (a b : Option (List ℕ)) (records : List (List ℕ)) → Consumes a b (text_of file records) → Consumes a b (magic_of file ++ (concat records ++ end_record (length records)))

@@ -1,4 +1,4 @@
--- The tests of whole bytes behind a last record, one by one.
+-- The tests of whole bytes after a last record, one by one.
 use Rattle.std.proofs.Common.{◌≡◌, ℕ, true, false, List, length, get_or, Ok, Err, arith}
 use Rattle.std.proofs.lemmas.Bool.Decides.{nat_tests}
 use Rattle.std.proofs.lemmas.List.{take_all}

@@ -11,7 +11,7 @@ abbrev pub entry_bytes : Entry → List ℕ
 entry_bytes (Retirement key digest) = 1 ∷ (key_bytes key ++ digest.0)
 entry_bytes (Admission key digest) = 2 ∷ (key_bytes key ++ digest.0)
 
--- these bytes are an entry: the tag of a retirement, 1, or of an admission, 2, and behind it the 56 bytes of a key and
+-- these bytes are an entry: the tag of a retirement, 1, or of an admission, 2, and after it the 56 bytes of a key and
 -- a digest
 pub record IsEntry (bytes : List ℕ) : Type 0 where
   pub tag : (slice_index bytes 0 ≡ 1) ⊎ (slice_index bytes 0 ≡ 2)

@@ -22,7 +22,7 @@ use Rattle.archive_records.specs.Front.{IsGoodFront, front_length}
 unfoldable pub is_end : List ℕ → Bool
 is_end bytes = slice_index bytes 0 == 3
 
--- the tests of a whole record of n bytes, behind this last record, or of an end record, behind so many records
+-- the tests of a whole record of n bytes, after this last record, or of an end record, after so many records
 unfoldable pub tested : Format → List ℕ → ℕ → List ℕ → ℕ → Result ℕ RecordFaultKind
 tested file last count rest n =
     if is_end rest then (if record_count rest == count then Ok n else Err BadCount)
@@ -70,12 +70,12 @@ abbrev pub FailsBehind : Format → List (List ℕ) → List ℕ → RecordFault
 FailsBehind Archive records rest kind = (kind ≡ Covered) × IsCoveredNext records rest
 FailsBehind _ records rest kind = ⊥
 
--- the first test that fails in front of the rest, behind these records
+-- the first test that fails in front of the rest, after these records
 abbrev pub Fails : Format → List (List ℕ) → List ℕ → RecordFaultKind → Type 0
 Fails file records rest kind =
     FailsNext file (last_of [] records) (length records) rest kind ⊎ FailsBehind file records rest kind
 
--- the end record of so many records, and bytes behind it
+-- the end record of so many records, and bytes after it
 pub record IsTrailing (file : Format) (last : List ℕ) (count : ℕ) (rest : List ℕ) : Type 0 where
   pub whole : next file last count rest ≡ Ok 9
   pub end : is_end rest ≡ true
@@ -87,19 +87,19 @@ IsMagicFault file text BadMagic = (n : ℕ) × (n ≤ 8) × (n ≤ length text) 
 IsMagicFault file text Truncated = (length text < 8) × (text ≡ take (length text) (magic_of file))
 IsMagicFault file text _ = ⊥
 
--- what is wrong behind a good front, and where
+-- what is wrong after a good front, and where
 abbrev pub IsFaultBehind : Format → List (List ℕ) → List ℕ → RecordFault → Type 0
 IsFaultBehind file records rest fault =
     (Fails file records rest fault.kind × (fault.offset ≡ front_length records))
     ⊎ ((fault.kind ≡ Trailing) × IsTrailing file (last_of [] records) (length records) rest
     × (fault.offset ≡ front_length records + 9))
 
--- The file does not end before the rest: operations do where nothing is left, the others only behind their end record.
+-- The file does not end before the rest: operations do where nothing is left, the others only after their end record.
 abbrev pub IsUnended : Format → List ℕ → Type 0
 IsUnended Operations rest = rest ≢ []
 IsUnended _ rest = Unit {0}
 
--- The fault of a text of this format: that of the magic, or else what stops behind a good front.
+-- The fault of a text of this format: that of the magic, or else what stops after a good front.
 abbrev pub IsFaultOf : Format → List ℕ → RecordFault → Type 0
 IsFaultOf file text fault =
     (IsMagicFault file text fault.kind × (fault.offset ≡ 0))

@@ -44,13 +44,13 @@ abbrev pub end_length : Format → Option ℕ
 end_length Operations = None
 end_length _ = Some 9
 
--- whether a record may stand behind one that compares so with it: those of an archive and entries ascend, operations
+-- whether a record may stand after one that compares so with it: those of an archive and entries ascend, operations
 -- come in any order
 unfoldable pub allows : Format → Ordering → Bool
 allows Operations order = true
 allows _ order = is_lt order
 
--- whether the second may stand behind the first
+-- whether the second may stand after the first
 unfoldable pub may_follow : Format → List ℕ → List ℕ → Bool
 may_follow file a b = allows file (slice_cmp nat_cmp a b)
 

@@ -35,7 +35,7 @@ body_length file bytes = if slice_index bytes 0 == 2 then admission_body file by
 abbrev pub largest_slice : ℕ
 largest_slice = 4294967295
 
--- what a head of this length and the bytes behind it are
+-- what a head of this length and the bytes after it are
 unfoldable pub framed_behind : Format → ℕ → List ℕ → Result ℕ RecordFaultKind
 framed_behind file head bytes =
     if nat_lt (length bytes) head then Err Truncated

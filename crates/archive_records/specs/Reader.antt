@@ -1,5 +1,5 @@
--- Records that are read from a source one over the other: the words of the inner functions. No contract of a public one
--- has them.
+-- Records that are read from a source one over the other: the words of the inner functions, and of the methods of
+-- `RecordReader`.
 use Rattle.std.specs.Prelude.{◌≡◌, ◌≢◌, ℕ, ◌+◌, ◌*◌, ◌^◌, ◌<◌, ◌≤◌, Bool, true, false, List, [], ◌∷◌, ◌++◌, length}
 use Rattle.std.specs.Prelude.{take, drop, Option, Some, None, Result, Ok, Err, MatchResult, ◌⊎◌, ◌==◌, ◌&&◌}
 use Rattle.std.specs.Prelude.{if◌then◌else◌, slice_index}
@@ -41,7 +41,7 @@ abbrev pub bytes_so_far : Buffer → List ℕ
 bytes_so_far b = take b.at b.bytes.items
 
 -- The order is that of the last record's front and what came, and as long as these are the same the rest of the last
--- record stands behind them.
+-- record stands after them.
 pub record Over (last : List ℕ) (b : Buffer) : Type 0 where
   pub rest : b.order ≡ Equal → drop b.at b.bytes.items ≡ drop b.at last
   pub order : b.order ≡ slice_cmp nat_cmp (take b.at last) (bytes_so_far b)
@@ -84,7 +84,7 @@ abbrev pub FaultBlamesReader : {R T : Type 0} → (R → Option (List ℕ)) → 
 FaultBlamesReader left failures old new result =
     MatchResult result (λ _. failures new ≡ failures old) (λ fault. Blames left failures old new fault.kind)
 
--- The head of a record of such a file came, and nothing behind it: it is this long.
+-- The head of a record of such a file came, and nothing after it: it is this long.
 pub record IsHead (file : Format) (buffer : Buffer) (head : ℕ) : Type 0 where
   pub tag : head_length file (slice_index (bytes_so_far buffer) 0) ≡ Some head
   pub at_is : buffer.at ≡ head
@@ -121,7 +121,7 @@ abbrev pub IsEnded : Format → Option (List ℕ) → Type 0
 IsEnded Operations_file left = IsAtEnd left
 IsEnded _ left = Unit {0}
 
--- The buffer holds the next item or end record behind the last record, whole, and nothing else.
+-- The buffer holds the next item or end record after the last record, whole, and nothing else.
 pub record HoldsNext (file : Format) (last : List ℕ) (count : ℕ) (buffer : Buffer) : Type 0 where
   pub is_next : next file last count (bytes_so_far buffer) ≡ Ok (length (bytes_so_far buffer))
   pub whole : buffer.bytes.items ≡ bytes_so_far buffer
@@ -137,12 +137,12 @@ pub record HoldsItem (file : Format) (last : List ℕ) (buffer : Buffer) (found 
   pub found_is : IsFoundIn (kind_of file) (bytes_so_far buffer) found
   pub follows : may_follow file last (bytes_so_far buffer) ≡ true
 
--- what the buffer holds behind the last record, and where the source stands: what ends the file, or one item more
+-- what the buffer holds after the last record, and where the source stands: what ends the file, or one item more
 abbrev pub StepsTo : Format → List ℕ → ℕ → Option (List ℕ) → Buffer → NextRecord → Type 0
 StepsTo file last count left buffer End = (bytes_so_far buffer ≡ ending file count) × IsEnded file left
 StepsTo file last count left buffer (Item found) = HoldsItem file last buffer found
 
--- Where a reader of records stands: in which format, behind which last record, how many records and how many bytes,
+-- Where a reader of records stands: in which format, after which last record, how many records and how many bytes,
 -- with which retirements of an archive, and whether the last record is dropped.
 pub record Position : Type 0 where
   pub file : Format
@@ -269,7 +269,7 @@ Advances left failures old new before after (Err fault) =
     (stop : StopsAt (left old) (left new) before fault) × Blames left failures old new fault.kind
     × (fault.kind ≡ OutOfMemory → HasWhole before.file stop.rest after.last)
 
--- The magic and these records were read, and nothing behind them.
+-- The magic and these records were read, and nothing after them.
 pub record HasRead (file : Format) (a b : Option (List ℕ)) (records : List (List ℕ))
     (position : Position) : Type 0 where
   pub file_is : position.file ≡ file
@@ -282,7 +282,7 @@ pub record HasRead (file : Format) (a b : Option (List ℕ)) (records : List (Li
   pub retired_are : AreRetired file position.retired records
   pub dropped_is : DropsLast file position.dropped records
 
--- The magic, these records and what ends the file behind them were read, and nothing behind it.
+-- The magic, these records and what ends the file after them were read, and nothing after it.
 pub record HasReadAll (file : Format) (a b : Option (List ℕ)) (records : List (List ℕ))
     (position : Position) : Type 0 where
   pub taken : Consumes a b (text_of file records)
@@ -293,7 +293,7 @@ pub record HasReadAll (file : Format) (a b : Option (List ℕ)) (records : List 
   pub offset_is : position.offset ≡ front_length records
   pub retired_are : AreRetired file position.retired records
 
--- what came behind the records, and why reading stopped there
+-- what came after the records, and why reading stopped there
 abbrev pub Stops : Format → List (List ℕ) → List ℕ → RecordFault → Type 0
 Stops file records rest fault =
     ((fault.offset ≡ front_length records) × (fault.kind ≢ OutOfMemory → Fails file records rest (seen_as fault.kind)))
@@ -301,7 +301,7 @@ Stops file records rest fault =
     × (fault.offset ≡ front_length records + 9))
     ⊎ ((fault.kind ≡ Device) × (rest ≡ end_record (length records)) × (fault.offset ≡ front_length records))
 
--- The magic, these records and what came behind them were read, where reading stopped.
+-- The magic, these records and what came after them were read, where reading stopped.
 pub record Stopped (file : Format) (a b : Option (List ℕ)) (records : List (List ℕ))
     (fault : RecordFault) : Type 0 where
   pub rest : List ℕ
@@ -323,7 +323,7 @@ pub record AreListed (entries : List (List ℕ)) : Type 0 where
   pub ascending : IsStrictlySortedBy (slice_cmp nat_cmp) entries
   pub are : AllByRecursion IsEntry entries
 
--- reading stopped, in the magic or behind some records
+-- reading stopped, in the magic or after some records
 abbrev pub HasStopped : TextKind → Option (List ℕ) → Option (List ℕ) → RecordFault → Type 0
 HasStopped file a b fault =
     ((bytes : List ℕ) × Consumes a b bytes × StopsInMagicOf file bytes fault.kind × (fault.offset ≡ 0))

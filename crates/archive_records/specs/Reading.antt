@@ -75,8 +75,8 @@ DecidesNoFault kind bytes = (length bytes < 8) ⊎ IsCutAtMost (format_for kind 
 abbrev pub HoldsOfTaken : (List ℕ → Type 0) → Option (List ℕ) → Option (List ℕ) → Type 0
 HoldsOfTaken Holds a b = (bytes : List ℕ) × Consumes a b bytes × Holds bytes
 
--- Why an input is refused: its text has this fault, its reader failed behind the longest good front of what came, or
--- memory was wanted behind a good front. No fault of the text was decided before the latter two.
+-- Why an input is refused: its text has this fault, its reader failed after the longest good front of what came, or
+-- memory was wanted after a good front. No fault of the text was decided before the latter two.
 pub record IsRefused {R : Type 0} (file : TextKind) (left : R → Option (List ℕ)) (failures : R → ℕ) (old new : R)
     (fault : RecordFault) : Type 0 where
   pub blames : Blames left failures old new fault.kind
@@ -115,7 +115,7 @@ pub record IsReadFront {R : Type 0} (file : TextKind) (meaning : Meaning file) (
       → IsTextOf file other text → input ≡ text ++ rest → (meaning ≡ other) × (left new ≡ Some rest))
   pub unfailed : failures new ≡ failures old
 
--- What came of reading the front of an input. No byte behind it is at fault, and inputs that begin with such a text are
+-- What came of reading the front of an input. No byte after it is at fault, and inputs that begin with such a text are
 -- refused by the machine alone.
 abbrev pub ReadsFront : {R T : Type 0} → (file : TextKind) → (T → Meaning file) → (R → Option (List ℕ)) → (R → ℕ) → R
     → R → Result T RecordFault → Type 0

@@ -20,7 +20,7 @@ use Rattle.archive_records.specs.Kind.{magic, old_magic, operations_magic, summa
 unfoldable pub end_record : ℕ → List ℕ
 end_record count = 3 ∷ to_be_bytes w64 count
 
--- what stands behind so many records: an end record, or nothing
+-- what stands after so many records: an end record, or nothing
 abbrev pub ending : Format → ℕ → List ℕ
 ending Operations_file count = []
 ending _ count = end_record count
@@ -41,7 +41,7 @@ pub record IsWritten (o : Operations) (text : List ℕ) : Type 0 where
 unfoldable pub written : Operations → List ℕ
 written o = magic ++ (concat (listing o) ++ end_record (set.len o))
 
--- the text of a set of operations in version 1: the same form, behind the old magic. Slices may stand in it that are
+-- the text of a set of operations in version 1: the same form, after the old magic. Slices may stand in it that are
 -- covered.
 unfoldable pub old_written : Operations → List ℕ
 old_written p = old_magic ++ (concat (listing p) ++ end_record (set.len p))

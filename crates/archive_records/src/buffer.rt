@@ -13,7 +13,7 @@ use byte_device::{Failed, Source};
 use memory::{Heap, NoMemory};
 use std::cmp::Ordering;
 
-/// A record as it comes: its first `at` bytes, and behind them what is left of the last one.
+/// A record as it comes: its first `at` bytes, and after them what is left of the last one.
 #[derive(Drop)]
 pub struct Buffer {
     pub bytes: Vec<u8, Heap>,
@@ -29,7 +29,7 @@ fn compare_bytes(a: &[u8], b: &[u8]) -> Ordering
     a.cmp(&b)
 }
 
-/// Writes the bytes over those from `at` on, and says how what stood there compares with them, behind what compared so
+/// Writes the bytes over those from `at` on, and says how what stood there compares with them, after what compared so
 /// before.
 fn write_over(under: &mut Vec<u8, Heap>, at: usize, order: Ordering, bytes: &[u8]) -> Ordering
     requires within { at ≤ length under.old.items }
@@ -88,7 +88,7 @@ fn make_room(bytes: &mut Vec<u8, Heap>, least: usize, most: usize) -> Result<(),
     bytes.reserve_exact(room - bytes.len())
 }
 
-/// Pulls a piece of a record of which the last one differs straight behind what came of it.
+/// Pulls a piece of a record of which the last one differs straight after what came of it.
 fn pull_behind<R: Source>(r: &mut R, want: usize, buffer: &mut Buffer) -> Result<usize, Failed>
     requires within { buffer.old.at ≤ length buffer.old.bytes.items }
     requires room { buffer.old.at + want ≤ vec_capacity buffer.old.bytes }
@@ -115,7 +115,7 @@ fn pull_piece<R: Source>(r: &mut R, chunk: &mut [u8], buffer: &mut Buffer) -> Re
 }
 
 /// Reads this many bytes over the buffer, in pieces of the chunk's length at most. They come through the chunk for as
-/// long as the last record may be the same, and behind that straight into the buffer.
+/// long as the last record may be the same, and after that straight into the buffer.
 pub fn fill<R: Source>(
     r: &mut R,
     chunk: &mut [u8],

@@ -22,7 +22,7 @@ pub enum RecordFaultKind {
     KeyMismatch,
     /// The end record's number is not the number of the records; those that are dropped count.
     BadCount,
-    /// Bytes stand behind the end record.
+    /// Bytes stand after the end record.
     Trailing,
     /// The reader failed.
     Device,
@@ -37,7 +37,7 @@ pub enum RecordFaultKind {
 #[derive(Clone, Copy, Debug, PartialEq, Eq)]
 pub struct RecordFault {
     pub kind: RecordFaultKind,
-    /// How many bytes stand before the first byte of the faulty record; for `Trailing`, before the first byte behind
+    /// How many bytes stand before the first byte of the faulty record; for `Trailing`, before the first byte after
     /// the end record. It is 0 for the magic.
     pub offset: u128,
 }
@@ -65,7 +65,7 @@ impl RecordFault {
     ghost use Rattle.std.specs.Prelude.{◌≡◌};
     ghost use Rattle.archive_records.specs.declared.fault.RecordFaultKind.TheVariants.{OutOfMemory};
 
-    /// Want of memory behind so many bytes.
+    /// Want of memory after so many bytes.
     pub fn out_of_memory(offset: u128) -> RecordFault
         ensures { result ≡ record { kind = OutOfMemory; offset = offset } }
     {

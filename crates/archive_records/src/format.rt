@@ -9,13 +9,13 @@ use std::cmp::Ordering;
 /// What a file of records begins with, and what follows.
 #[derive(Clone, Copy, Debug, PartialEq, Eq)]
 pub enum Format {
-    /// The text of an archive: its records ascend, and an end record stands behind them.
+    /// The text of an archive: its records ascend, and an end record stands after them.
     Archive,
     /// The same of version 1, in which slices may stand that its retirements cover.
     OldArchive,
     /// Operations in any order, with repeats, up to the end of the input.
     Operations,
-    /// The text of a summary: its entries ascend, and an end record stands behind them.
+    /// The text of a summary: its entries ascend, and an end record stands after them.
     Summary,
 }
 
@@ -40,7 +40,7 @@ impl Format {
         bytes == &self.magic()[..bytes.len()]
     }
 
-    /// Whether a record may stand behind one that compares so with it.
+    /// Whether a record may stand after one that compares so with it.
     #[tactic(auto, unfolding(crate::specs::Kind::allows))]
     pub fn allows(self, order: Ordering) -> bool
         ensures { result ≡ allows self order }
@@ -51,7 +51,7 @@ impl Format {
         }
     }
 
-    /// Whether the file ends where nothing is left behind its records.
+    /// Whether the file ends where nothing is left after its records.
     pub fn is_open(self) -> bool
         ensures { IsTrue result ↔ (self ≡ Operations) }
     {

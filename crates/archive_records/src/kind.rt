@@ -52,7 +52,7 @@ impl TextKind {
         }
     }
 
-    /// Whether such a file ends where nothing is left behind its records.
+    /// Whether such a file ends where nothing is left after its records.
     pub fn is_open(self) -> bool
         ensures { IsTrue result ↔ (self ≡ Operations) }
     {

@@ -50,7 +50,7 @@ pub trait FromRecords {
             → MakeThemselves file (records ++ reader.now.last ∷ [])
             → makes question records self.old → makes question (records ++ reader.now.last ∷ []) self.new) };
 
-    /// What is told, behind the last of them. Refused for want of memory alone.
+    /// What is told, after the last of them. Refused for want of memory alone.
     fn finish(self, heap: &Heap) -> Result<Self::Told, NoMemory>
         requires { (question : Self.Question) × (m : Meaning file) × IsMeaning file m
             × makes question (records_in file m) self }
@@ -134,7 +134,7 @@ fn read_records<T: FromRecords + Drop, R: Source>(
     Ok(taker)
 }
 
-/// Reads a whole input as the text of a file, and tells what is asked of it. Memory that is wanted behind the last
+/// Reads a whole input as the text of a file, and tells what is asked of it. Memory that is wanted after the last
 /// record is reported after the magic, a good front of every text.
 pub fn tell_text<T: FromRecords + Drop, R: Source>(
     heap: &Heap,

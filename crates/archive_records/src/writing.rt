@@ -31,7 +31,7 @@ pub struct Sizes {
 /// A record of so many bytes at most goes out in one push.
 const SMALL_RECORD: usize = 1024;
 
-/// Lays two parts, one behind the other.
+/// Lays two parts, one after the other.
 fn lay_both(room: &mut [u8], head: &[u8], body: &[u8])
     requires { length (head.now ++ body.now) ≤ length room.old }
     ensures laid { take (length (head.now ++ body.now)) room.new ≡ head.now ++ body.now }
@@ -42,7 +42,7 @@ fn lay_both(room: &mut [u8], head: &[u8], body: &[u8])
     room[head.len()..end].copy_from_slice(body);
 }
 
-/// Writes two small parts of a text, one behind the other, in one push.
+/// Writes two small parts of a text, one after the other, in one push.
 fn put_together<W: Sink>(
     w: &mut W,
     done: u128,
@@ -58,7 +58,7 @@ fn put_together<W: Sink>(
     put(w, done, &room[..head.len() + body.len()])
 }
 
-/// Writes two parts of a text, one behind the other.
+/// Writes two parts of a text, one after the other.
 fn put_both<W: Sink>(w: &mut W, done: u128, head: &[u8], body: &[u8]) -> Result<u128, WriteFault>
     requires { done + length (head.now ++ body.now) < 2 ^ 128 }
     ensures { Puts W.held W.failures (λ n. n) w.old w.new done (head.now ++ body.now) result }
@@ -70,7 +70,7 @@ fn put_both<W: Sink>(w: &mut W, done: u128, head: &[u8], body: &[u8]) -> Result<
     put(w, done, body)
 }
 
-/// Writes the record behind the first `done` bytes of a text, and says how many there are then. No slice is copied.
+/// Writes the record after the first `done` bytes of a text, and says how many there are then. No slice is copied.
 pub fn put_record<W: Sink>(w: &mut W, done: u128, item: &Record<'_>) -> Result<u128, WriteFault>
     requires { done + 2 ^ 33 < 2 ^ 128 }
     ensures puts { Puts W.held W.failures (λ n. n) w.old w.new done (borrowed_bytes item.now) result }
@@ -82,7 +82,7 @@ pub fn put_record<W: Sink>(w: &mut W, done: u128, item: &Record<'_>) -> Result<u
     }
 }
 
-/// Writes the records in ascending order behind the first `done` bytes of a text.
+/// Writes the records in ascending order after the first `done` bytes of a text.
 fn put_records<A: Archive, W: Sink>(archive: &A, w: &mut W, done: u128) -> Result<u128, WriteFault>
     requires { done ≤ 8 }
     ensures puts { Puts W.held W.failures (λ n. n) w.old w.new done (concat (listing (A.content archive.now))) result }
@@ -104,7 +104,7 @@ fn put_front<A: Archive, W: Sink>(archive: &A, w: &mut W) -> Result<u128, WriteF
     put_records(archive, w, done)
 }
 
-/// Writes the end record behind the first `done` bytes of a text.
+/// Writes the end record after the first `done` bytes of a text.
 pub fn put_end<W: Sink>(w: &mut W, done: u128, records: u64) -> Result<Sizes, WriteFault>
     requires { done + 9 < 2 ^ 128 }
     ensures puts { Puts W.held W.failures (λ sizes. sizes.bytes) w.old w.new done (end_record records) result }
@@ -124,7 +124,7 @@ pub fn write_archive<A: Archive, W: Sink>(archive: &A, w: &mut W) -> Result<Size
     put_end(w, done, archive.len())
 }
 
-/// Writes the entries in their order behind the first `done` bytes of a text.
+/// Writes the entries in their order after the first `done` bytes of a text.
 fn put_entries<W: Sink>(entries: &[Entry], w: &mut W, done: u128) -> Result<u128, WriteFault>
     requires { done ≤ 8 }
     ensures puts { Puts W.held W.failures (λ n. n) w.old w.new done (concat (map entry_bytes entries.now)) result }
@@ -180,7 +180,7 @@ pub fn put_missing_record<W: Sink>(
     })
 }
 
-/// Writes the records that the summary does not name in ascending order behind the first `done` bytes of a text, and
+/// Writes the records that the summary does not name in ascending order after the first `done` bytes of a text, and
 /// says how many records and bytes there are then.
 fn put_missing<A: Archive, W: Sink>(
     archive: &A,

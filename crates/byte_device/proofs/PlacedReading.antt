@@ -5,7 +5,7 @@ use Rattle.std.proofs.Math.Seq.{take-add}
 use Rattle.byte_device.proofs.Taken.{take-behind}
 use Rattle.byte_device.specs.Places.{Stands, TakenAt}
 
--- the first bytes stand at a place, and behind them n more do
+-- the first bytes stand at a place, and after them n more do
 pub stands_more : (whole : Option (List ℕ)) (at n : ℕ) (front piece : List ℕ) → n ≤ length piece → Stands whole at front → TakenAt whole (at + length front) n piece → Stands whole at (front ++ take n piece)
 stands_more None at n front piece bound first next = tt
 stands_more (Some all) at n front piece bound first next =

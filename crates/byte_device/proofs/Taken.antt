@@ -5,7 +5,7 @@ use Rattle.std.proofs.Math.Seq.{take-append-add}
 use Rattle.std.specs.Io.KnownBytes.{Consumes}
 use Rattle.byte_device.proofs.Known.{Consumes-then}
 
--- `piece` was written behind the first `at` bytes of a buffer of `len` bytes
+-- `piece` was written after the first `at` bytes of a buffer of `len` bytes
 pub length-behind : (xs piece after rest : List ℕ) (at len n : ℕ) → at ≤ length xs → at + n ≤ len → n ≤ length piece → at + n ≤ length (take len (take at xs ++ (piece ++ after) ++ rest))
 length-behind xs piece after rest at len n in_front in_len in_piece =
     omega (arith, length-take len (take at xs ++ (piece ++ after) ++ rest), length-append (take at xs ++ (piece ++ after)) rest, length-append (take at xs) (piece ++ after), length-append piece after, length-take at xs)

@@ -32,7 +32,7 @@ IsOpened left failures path_of Missing input = IsErr input
 IsOpened left failures path_of (Holding bytes) input =
     MatchResult input (λ source. (left source ≡ Some bytes) × (failures source ≡ 0)) (λ _. ⊥)
 
--- the paths that were opened, where they are known, and these behind them
+-- the paths that were opened, where they are known, and these after them
 abbrev pub opened_with : Option (List Path) → List Path → Option (List Path)
 opened_with opened paths = option_map (λ before. before ++ paths) opened
 

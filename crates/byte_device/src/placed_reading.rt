@@ -39,7 +39,7 @@ pub fn read_at<P: Placed>(
     Ok(Some(bytes))
 }
 
-// Makes room behind the first `filled` bytes where there is none, for no more than `most` bytes in all.
+// Makes room after the first `filled` bytes where there is none, for no more than `most` bytes in all.
 fn make_room(bytes: &mut Vec<u8, Heap>, filled: usize, most: usize) -> Result<(), NoMemory>
     requires filled { filled ≤ length bytes.old.items }
     requires within { length bytes.old.items ≤ most }

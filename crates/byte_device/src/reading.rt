@@ -65,7 +65,7 @@ pub fn read_to_end<R: Source>(heap: Heap, r: &mut R) -> Result<Vec<u8, Heap>, Re
     }
 }
 
-// Makes room behind the first `filled` bytes where there is none. The memory doubles where it has
+// Makes room after the first `filled` bytes where there is none. The memory doubles where it has
 // to grow, and each byte of it is set to 0 once.
 fn make_room(bytes: &mut Vec<u8, Heap>, filled: usize) -> Result<(), NoMemory>
     requires { filled ≤ length bytes.old.items }

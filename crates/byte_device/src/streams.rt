@@ -63,7 +63,7 @@ pub struct Writing<W> {
 }
 
 impl<W: Write + Drop> Writing<W> {
-    /// A device that takes bytes behind those of the writer.
+    /// A device that takes bytes after those of the writer.
     pub fn new(writer: W) -> Self
         ensures held { ⟦<Writing<W> as Sink>⟧.held result ≡ W.contents writer }
         ensures failures { ⟦<Writing<W> as Sink>⟧.failures result ≡ 0 }

@@ -34,7 +34,7 @@ pub fn push_all<W: Sink>(w: &mut W, bytes: &[u8]) -> Result<(), WriteFault>
     Ok(())
 }
 
-/// Gives the writer the bytes that stand behind the first `written` bytes of a text, and says how
+/// Gives the writer the bytes that stand after the first `written` bytes of a text, and says how
 /// many bytes of the text it has then. A fault, too, counts from the beginning of the text.
 pub fn put<W: Sink>(w: &mut W, written: u128, bytes: &[u8]) -> Result<u128, WriteFault>
     requires { written + length bytes.now < 2 ^ 128 }

@@ -26,7 +26,7 @@ pub length-sections_in : (segment : SegmentRecord) → length (sections_in segme
 unfolding sections_in
 length-sections_in segment = length-section_records (nsects segment.bytes) (segment.offset + 72) (drop 72 segment.bytes)
 
--- and each stands at its place behind the segment_command_64
+-- and each stands at its place after the segment_command_64
 pub section_in-at : (segment : SegmentRecord) (i : ℕ) → i < nsects segment.bytes
     → slice_get (sections_in segment) i ≡ Some (section_record (segment.offset + 72 + 80 * i) (drop (72 + 80 * i) segment.bytes))
 unfolding sections_in

@@ -34,7 +34,7 @@ segments_stand image offset (c ∷ cs) tail room stands =
     (cond_both (is_segment c) (record { offset = offset; bytes = c } ∷ rest) rest (AllByRecursion (IsSegmentOf image))
     (λ e. (record { rest = concat cs ++ tail; stands = here; room = room.0.sections e }, more)) (λ e. more))
 
--- sections that stand one behind another
+-- sections that stand one after another
 records_stand : (image : List ℕ) (count offset : ℕ) (bytes rest : List ℕ) → 80 * count ≤ length bytes → drop offset image ≡ bytes ++ rest
     → AllByRecursion (IsSectionOf image) (section_records count offset bytes)
 unfolding section_records section_at section_record

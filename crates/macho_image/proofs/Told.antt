@@ -26,7 +26,7 @@ has_header bytes fine = grind (arith, nat_tests)
 pub length-image : (image : List ℕ) → IsImage image → length image < 2 ^ 32
 length-image image sound = (has_header image sound.header).small
 
--- a front ends behind each of its commands
+-- a front ends after each of its commands
 front_to : (area : List ℕ) (count : ℕ) (before after : List (List ℕ)) (command : List ℕ) → AreFirst area count (before ++ command ∷ after) → AreFirst area (length before + 1) (before ++ command ∷ [])
 front_to area count before after command front = record {
   number = length-append before (command ∷ []);
@@ -83,7 +83,7 @@ split_contained : (xs : List (List ℕ)) (x : List ℕ) (k : ℕ) → k < length
 split_contained xs x k h e =
     (take k xs, drop (k + 1) xs, sym (take-append-drop k xs) ∙ ap (λ s. take k xs ++ s) (drop_more xs k x h ∙ ap (λ y. y ∷ drop (k + 1) xs) e))
 
--- what passes behind others that do not is found
+-- what passes after others that do not is found
 find_behind : (p : List ℕ → Bool) (before after : List (List ℕ)) (x : List ℕ) → list_any p before ≡ false → p x ≡ true → find p (before ++ x ∷ after) ≡ Some x
 find_behind p [] after x none passes = rw passes refl
 find_behind p (y ∷ before) after x none passes =

@@ -14,7 +14,7 @@ use Rattle.macho_image.specs.declared.symtab_command.Symtab.{Symtab}
 use Rattle.macho_image.proofs.FirstCommands.{fronts_agree, one_list_of_commands}
 use Rattle.macho_image.proofs.CommandFaults.{room_of}
 
--- Before this place stand commands without a fault, the rest is behind them, and they say this.
+-- Before this place stand commands without a fault, the rest is after them, and they say this.
 pub record Reached (area : List ℕ) (index : ℕ) (rest : List ℕ) (uuid : Option (List ℕ)) (symtab : Option Symtab) : Type 0 where
   pub before : List (List ℕ)
   pub number : length before ≡ index

@@ -1,4 +1,4 @@
--- Load commands: how the bytes behind the header fall into them (mach-o/loader.h).
+-- Load commands: how the bytes after the header fall into them (mach-o/loader.h).
 use Rattle.std.specs.Prelude.{ℕ, suc, zero, Bool, true, ◌+◌, ◌*◌, List, [], ◌∷◌, ◌++◌, length}
 use Rattle.std.specs.Prelude.{take, drop, ◌≡◌, ◌≤◌, ◌==◌, ◌&&◌, nat_le, if◌then◌else◌}
 use Rattle.std.specs.List.{concat, AllByRecursion}
@@ -36,12 +36,12 @@ is_symtab command = u32_le_at command 0 == 0x2
 abbrev pub nsects : List ℕ → ℕ
 nsects segment = u32_le_at segment 64
 
--- a segment_command_64 with the sections behind it: its place in the image, in bytes from the start, and its bytes
+-- a segment_command_64 with the sections after it: its place in the image, in bytes from the start, and its bytes
 pub record SegmentRecord : Type 0 where
   pub offset : ℕ
   pub bytes : List ℕ
 
--- a command has its eight bytes, a segment_command_64 (72 bytes) each section_64 (80 bytes) behind it, and a
+-- a command has its eight bytes, a segment_command_64 (72 bytes) each section_64 (80 bytes) after it, and a
 -- uuid_command and a symtab_command their twenty-four
 pub record HasRoom (command : List ℕ) : Type 0 where
   pub long : 8 ≤ length command

@@ -14,7 +14,7 @@ load_command offset command =
     else if is_symtab command then Symtab (symtab_fields command)
     else Other
 
--- commands that stand one behind another from a place on
+-- commands that stand one after another from a place on
 unfoldable pub load_commands_from : ℕ → List (List ℕ) → List LoadCommand
 load_commands_from offset [] = []
 load_commands_from offset (command ∷ commands) =

@@ -95,7 +95,11 @@ impl Contents {
 
 /// What the first commands of the bytes say, so many of them, or the first fault among them. The bytes begin
 /// at an offset of the image. It stops where no command is left, however many the count promises.
-pub(crate) fn read_contents(area: &[u8], start: u32, count: u32) -> Result<Contents, ImageFault>
+pub(crate) fn read_load_commands(
+    area: &[u8],
+    start: u32,
+    count: u32,
+) -> Result<Contents, ImageFault>
     requires { start + length area.now < 2 ^ 32 }
     ensures faulty { IfErr result (λ fault. IsFirstFault area.now count fault) }
     ensures sound { IfOk result (λ contents. AreContents area.now count contents.uuid contents.symtab) }

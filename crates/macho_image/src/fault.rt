@@ -9,7 +9,7 @@ pub enum ImageFault {
     NotMachO64,
     /// Fewer bytes than the 32 of `mach_header_64`.
     HeaderTruncated,
-    /// The `sizeofcmds` bytes behind the header pass the end.
+    /// The `sizeofcmds` bytes after the header pass the end.
     CommandsOutside,
     /// Fewer than 8 of the `sizeofcmds` bytes are left for this command, or its `cmdsize` is below 8 or
     /// above what is left.

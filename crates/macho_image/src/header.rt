@@ -59,7 +59,7 @@ pub(crate) fn command_bytes(image: &[u8]) -> &[u8]
     &image[MACH_HEADER_64_LEN..][..sizeofcmds(image) as usize]
 }
 
-/// Whether the bytes begin with a header and have room for the load commands behind it.
+/// Whether the bytes begin with a header and have room for the load commands after it.
 pub(crate) fn check_header(bytes: &[u8]) -> Result<(), ImageFault>
     ensures faulty { IfErr result (λ fault. header_fault bytes.now ≡ Some fault) }
     ensures sound { IfOk result (λ _. header_fault bytes.now ≡ None) }

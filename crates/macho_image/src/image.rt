@@ -9,7 +9,7 @@ ghost use Rattle.macho_image.specs.Kinds.{load_commands};
 ghost use Rattle.macho_image.specs.Fault.{IsImageFault, IsImage};
 ghost use Rattle.macho_image.specs.Sections.{IsSectionOf, sections, section_of, text_base_of};
 
-use crate::contents::read_contents;
+use crate::contents::read_load_commands;
 use crate::fault::ImageFault;
 use crate::header::{
     CPU_SUBTYPE_MASK, check_header, command_bytes, cpusubtype, cputype, filetype, ncmds,
@@ -54,7 +54,7 @@ impl<'a> Image<'a> {
         ensures bytes { IfOk result (λ image. image ≡ bytes.now) }
     {
         check_header(bytes)?;
-        let contents = read_contents(
+        let contents = read_load_commands(
             command_bytes(bytes),
             MACH_HEADER_64_LEN as u32,
             ncmds(bytes),

@@ -35,7 +35,7 @@ pub fn one_of_each()
         is_symtab command ≡ true → symtab_of image ≡ Some (symtab_fields command) }
 {}
 
-/// The sections of a segment stand behind its 72 bytes, as many as it says and 80 bytes apart.
+/// The sections of a segment stand after its 72 bytes, as many as it says and 80 bytes apart.
 pub fn section_places()
     ensures number { (segment : SegmentRecord) → length (sections_in segment) ≡ nsects segment.bytes }
     ensures places { (segment : SegmentRecord) (i : ℕ) → i < nsects segment.bytes →

@@ -34,7 +34,7 @@ pub(crate) fn cmd(command: &[u8]) -> u32
     number32(command, 0)
 }
 
-/// The bytes of the load command that begins some bytes, and those behind it. Any `cmdsize` that fits will
+/// The bytes of the load command that begins some bytes, and those after it. Any `cmdsize` that fits will
 /// do, a multiple of 8 or not.
 #[tactic(auto, using(crate::proofs::FirstCommands::commands_in_front))]
 pub(crate) fn split_command(bytes: &[u8]) -> Option<(&[u8], &[u8])>

@@ -1,4 +1,4 @@
-//! The load commands behind the header, one after another.
+//! The load commands after the header, one after another.
 
 ghost use Rattle.std.specs.Prelude.{◌≡◌, ◌+◌, ◌<◌, ◌^◌, length};
 ghost use Rattle.std.specs.List.{AllByRecursion};

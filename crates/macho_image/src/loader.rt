@@ -21,7 +21,7 @@ pub(crate) const LC_SEGMENT_64: u32 = 0x19;
 /// A `cmd`: `uuid_command`.
 pub(crate) const LC_UUID: u32 = 0x1b;
 
-/// The size of `segment_command_64`, behind which its sections stand.
+/// The size of `segment_command_64`, after which its sections stand.
 pub(crate) const SEGMENT_COMMAND_64_LEN: usize = 72;
 
 /// The size of `segname` and of `sectname`.

@@ -1,4 +1,4 @@
-//! `segment_command_64`: the command LC_SEGMENT_64, and the sections behind it.
+//! `segment_command_64`: the command LC_SEGMENT_64, and the sections after it.
 
 ghost use Rattle.std.specs.Prelude.{◌≡◌, ◌*◌, ◌+◌, ◌<◌, ◌≤◌, ◌^◌, [], length, nat_lt};
 ghost use Rattle.macho_image.specs.Layout.{name_at, u64_le_at};

@@ -6,7 +6,7 @@ use Rattle.macho_image.specs.Sections.{section_of}
 use Rattle.macho_symbols.specs.Symbols.{Tuple, candidates}
 use Rattle.macho_symbols.specs.Nearest.{IsNearest}
 
--- a symbol that was found: its name and address, how far behind it the address lies that was asked for, the number of
+-- a symbol that was found: its name and address, how far after it the address lies that was asked for, the number of
 -- its section, and that section's names
 pub record FoundRecord : Type 0 where
   pub name : List ℕ

@@ -5,7 +5,7 @@ pub struct Found<'a> {
     pub name: &'a [u8],
     /// `n_value`: the address of the symbol.
     pub address: u64,
-    /// How far behind the symbol the address lies that was asked for; 0 where a name was asked for.
+    /// How far after the symbol the address lies that was asked for; 0 where a name was asked for.
     pub offset: u64,
     /// `n_sect`: the number of the section, from 1 on.
     pub sect: u8,

@@ -24,7 +24,7 @@
 //!
 //! - `name_order`: compares the names from two places;
 //! - `name_ranks`: the ranks of samples, a sixteenth of the places: by the first 1,024 bytes of their names, and then by
-//!   four times as many each round, by the ranks of three samples behind them (after Karp, Miller and Rosenberg, 1972,
+//!   four times as many each round, by the ranks of three samples after them (after Karp, Miller and Rosenberg, 1972,
 //!   who double);
 //! - `samples`: which places are samples, such that from any two places on two samples are equally far, and less than
 //!   1,024 bytes away: a difference cover (Burkhardt and Kärkkäinen, 2003);

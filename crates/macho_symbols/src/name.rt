@@ -26,7 +26,7 @@ const FIRST_PIECE: usize = 64;
 /// NUL is searched for.
 const LARGEST_PIECE: usize = 4096;
 
-/// The first bytes, so many or all that there are, and those behind them.
+/// The first bytes, so many or all that there are, and those after them.
 fn split_piece(bytes: &[u8], size: usize) -> (&[u8], &[u8])
     ensures piece { result.0.now ≡ take size bytes.now }
     ensures rest { result.1.now ≡ drop size bytes.now }
@@ -98,7 +98,7 @@ impl<'a> Name<'a> {
         compare_to_nul(self.from, other.from)
     }
 
-    /// Whether these are its bytes. It reads no more than these, and one byte behind them.
+    /// Whether these are its bytes. It reads no more than these, and one byte after them.
     pub(crate) fn is(&self, bytes: &[u8]) -> bool
         ensures { result ≡ pointwise nat_eq (name_view self.now) bytes.now }
     {

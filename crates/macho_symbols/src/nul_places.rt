@@ -10,7 +10,7 @@ use memory::{Heap, NoMemory};
 /// How many bytes of the string table a block has.
 const BLOCK_SIZE: usize = 4096;
 
-/// The place of the first NUL at or behind a place, where that of an earlier place is known: what lies between
+/// The place of the first NUL at or after a place, where that of an earlier place is known: what lies between
 /// the two is not looked at again.
 fn next_nul(strings: &[u8], index: usize, known: usize) -> usize
     requires within { index ≤ length strings.now }
@@ -23,7 +23,7 @@ fn next_nul(strings: &[u8], index: usize, known: usize) -> usize
     index + before_nul(strings.split_at(index).1).len()
 }
 
-/// The place of the first NUL at or behind the beginning of each block of a string table. It reads each byte
+/// The place of the first NUL at or after the beginning of each block of a string table. It reads each byte
 /// once.
 pub(crate) fn collect_nul_places(heap: Heap, strings: &[u8]) -> Result<Vec<usize, Heap>, NoMemory>
     ensures { IfOk result (λ places. AreNulPlaces strings.now places.items) }
@@ -39,7 +39,7 @@ pub(crate) fn collect_nul_places(heap: Heap, strings: &[u8]) -> Result<Vec<usize
     Ok(places)
 }
 
-/// The place of the first NUL at or behind a place. It looks at no byte behind that place's block.
+/// The place of the first NUL at or after a place. It looks at no byte after that place's block.
 fn nul_from(strings: &[u8], nul_places: &[usize], index: usize) -> usize
     requires places { AreNulPlaces strings.now nul_places.now }
     requires within { index ≤ length strings.now }

@@ -19,7 +19,7 @@ pub type Heap = Memory<Global>;
 /// A growth is an allocation, or a block that is made larger, which counts as one growth however
 /// `B` makes it larger, and asks for all bytes that the block has then. A block that is made smaller, or
 /// goes back, is none, and gives no bytes back. The contract of an allocator does not say when it
-/// refuses, so that growths and bytes are counted is shown by cases of `acceptance` and by no clause.
+/// refuses, so that growths and bytes are counted is shown by cases of `test_acceptance` and by no clause.
 pub struct Memory<B: Allocator> {
     inner: B,
     left: Granted,

@@ -1,13 +1,12 @@
 //! `symarch`: an archive of Mach-O images and their dSYM companions, kept on several sites.
 //!
-//! `command_line` reads the words. `plan_commands` carries the line out over files of the system, by the commands of
-//! `archive_queries`, `archive_writing` and `archive_exchange`, and says how it ended.
+//! `cli_run` reads the command line by `cli_arguments`, carries it out over files of the system, and reports how it ended.
 #![tactic(auto)]
 
-use archive_files::SystemFiles;
 use byte_device::Writing;
-use error_lines::say_report;
-use plan_commands::run;
+use cli_files::SystemFiles;
+use cli_messages::say_report;
+use cli_run::run;
 use std::fs::File;
 use std::process::{self, ExitCode};
 use std::{env, io};

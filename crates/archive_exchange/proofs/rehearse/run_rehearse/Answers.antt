@@ -1,6 +1,6 @@
 use Rattle.std.proofs.Common.{subst, sym, refl}
 use Rattle.archive_exchange.specs.Rehearse.{TellsEvents}
-use Rattle.command_core.proofs.Endings.{reported}
+use Rattle.command_common.proofs.Endings.{reported}
 use Rattle.archive_exchange.proofs.rehearse.run_rehearse.Goals as goal
 
 pub returns : goal.returns

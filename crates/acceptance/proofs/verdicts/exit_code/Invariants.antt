@@ -1,7 +1,0 @@
-use Rattle.std.proofs.Common.{ℕ, ◌<◌, slice_index_or}
-use Rattle.acceptance.specs.Verdicts.{CameAsItStands}
-use Rattle.acceptance.specs.declared.verdicts.Outcome.{Outcome}
-use Rattle.acceptance.proofs.verdicts.exit_code.Given as goal
-
-abbrev pub invariant-loop-outcome : goal.invariant-loop-outcome
-invariant-loop-outcome l = (k : ℕ) (d : Outcome) → k < l.outcome-index → CameAsItStands (slice_index_or l.outcomes k d)

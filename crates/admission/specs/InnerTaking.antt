@@ -1,9 +1,0 @@
--- What an accepted file is of: the word of an inner function. No contract of a public one has it.
-use Rattle.std.specs.Prelude.{ℕ, List}
-use Rattle.admission.specs.declared.checking.AcceptedFile.{AcceptedFile}
-use Rattle.admission.specs.declared.checking.AcceptedFile.TheVariants.{Thin, Universal}
-
--- the bytes of the file that was accepted
-abbrev pub file_of : AcceptedFile → List ℕ
-file_of (Thin slice) = slice
-file_of (Universal universal found) = universal

@@ -1,0 +1,10 @@
+pub mod FileKinds
+pub mod Files
+pub mod Found
+pub mod Accepting
+pub mod Rows
+pub mod PartSlices
+pub mod Fronts
+pub mod Resumed
+pub mod RowPlaces
+pub mod FaultLaws

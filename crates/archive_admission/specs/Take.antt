@@ -1,0 +1,33 @@
+-- What an archive's content becomes where a file is taken, and the rows that tell it.
+use Rattle.std.specs.Prelude.{◌≡◌, ◌≤◌, ℕ, List, [], ◌∷◌, length, map, take, if◌then◌else◌}
+use Rattle.sha2.specs.Sha256.{sha256}
+use Rattle.archive_core.specs.Valid.{key_of}
+use Rattle.archive_core.specs.Record.{admission_record}
+use Rattle.archive_core.specs.Content.{Operations, with_records, changes}
+use Rattle.archive_admission.specs.File.{is_admissible, admissible}
+use Rattle.archive_admission.specs.declared.taken.Taken.{Taken}
+use Rattle.archive_admission.specs.declared.taken.Taken.TheVariants.{Added, Known, Skipped}
+
+-- the content after images were admitted, one after another
+abbrev pub admitted : Operations → List (List ℕ) → Operations
+admitted o images = with_records o (map admission_record images)
+
+-- what becomes of an image: it is added where its admission changes the content, and known where it does not, since it
+-- is there or a retirement covers it
+unfoldable pub taken_of : Operations → List ℕ → Taken
+taken_of o image =
+    if changes o (admission_record image) then Added (key_of image) (record { 0 = sha256 image })
+    else Known (key_of image) (record { 0 = sha256 image })
+
+-- a row a part, in their order, each over what the parts before it left; laws.rows_in_order says what stands where
+unfoldable pub taken_rows : Operations → List (List ℕ) → List Taken
+taken_rows o [] = []
+taken_rows o (part ∷ parts) =
+    if is_admissible part then taken_of o part ∷ taken_rows (admitted o (part ∷ [])) parts
+    else Skipped ∷ taken_rows o parts
+
+-- some first ones of the file's admissible parts were admitted, and nothing else
+pub record HoldsFirstParts (file : List ℕ) (old new : Operations) : Type 0 where
+  pub count : ℕ
+  pub some : count ≤ length (admissible file)
+  pub content : new ≡ admitted old (take count (admissible file))

@@ -1,5 +1,0 @@
-use Rattle.std.proofs.Common.{◌≡◌}
-use Rattle.archive_files.proofs.drafts.create_draft.Given as goal
-
-abbrev pub invariant-names : goal.invariant-names
-invariant-names g l = l.calls.entries ≡ l.initial.calls.entries

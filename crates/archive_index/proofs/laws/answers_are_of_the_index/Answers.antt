@@ -1,5 +1,0 @@
-use Rattle.archive_index.proofs.Named.{of_the_index}
-use Rattle.archive_index.proofs.laws.answers_are_of_the_index.Goals as goal
-
-pub returns : goal.returns
-returns c = of_the_index

@@ -1,5 +1,0 @@
-use Rattle.archive_core.proofs.Made.{joined_made}
-use Rattle.archive_laws.proofs.content_laws.migrate_joins.Goals as goal
-
-pub returns : goal.returns
-returns c = joined_made

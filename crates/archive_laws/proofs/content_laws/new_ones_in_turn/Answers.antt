@@ -1,5 +1,0 @@
-use Rattle.archive_core.proofs.Taken.{new_of_none, new_in_turn, new_within}
-use Rattle.archive_laws.proofs.content_laws.new_ones_in_turn.Goals as goal
-
-pub returns : goal.returns
-returns c = record { none = new_of_none; in_turn = new_in_turn; within = new_within }

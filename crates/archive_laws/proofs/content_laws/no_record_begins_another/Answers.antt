@@ -1,5 +1,0 @@
-use Rattle.archive_core.proofs.Records.{no_record_begins}
-use Rattle.archive_laws.proofs.content_laws.no_record_begins_another.Goals as goal
-
-pub returns : goal.returns
-returns c = no_record_begins

@@ -1,5 +1,0 @@
-use Rattle.archive_core.proofs.Answering.{counted}
-use Rattle.archive_laws.proofs.content_laws.rows_count_answering.Goals as goal
-
-pub returns : goal.returns
-returns c = counted

@@ -1,5 +1,0 @@
-use Rattle.archive_laws.proofs.GivingWay.{archives_covered, kind_there}
-use Rattle.archive_laws.proofs.out_laws.archives_give_way_to_those_above.Goals as goal
-
-pub returns : goal.returns
-returns c = record { archives = archives_covered; kinds = kind_there }

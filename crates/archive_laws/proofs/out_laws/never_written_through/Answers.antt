@@ -1,5 +1,0 @@
-use Rattle.archive_laws.proofs.Crashes.{no_file}
-use Rattle.archive_laws.proofs.out_laws.never_written_through.Goals as goal
-
-pub returns : goal.returns
-returns c = record { others = no_file; descriptors = λ path text replaces calls is. is.no_descriptor }

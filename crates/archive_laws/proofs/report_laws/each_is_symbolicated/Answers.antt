@@ -1,5 +1,0 @@
-use Rattle.archive_laws.proofs.FramesTold.{each_is}
-use Rattle.archive_laws.proofs.report_laws.each_is_symbolicated.Goals as goal
-
-pub returns : goal.returns
-returns g c = λ lines input archive others bytes listed o given says join status text. each_is lines input archive others bytes listed o status text given says join

@@ -1,5 +1,0 @@
-use Rattle.archive_laws.proofs.Coverings.{is_covered_there, told_covered}
-use Rattle.archive_laws.proofs.text_laws.covered_in_words.Goals as goal
-
-pub returns : goal.returns
-returns c = record { stands = is_covered_there; told = told_covered }

@@ -1,5 +1,0 @@
-use Rattle.archive_records.proofs.Versions.{no_text_begins}
-use Rattle.archive_laws.proofs.text_laws.no_text_begins_another.Goals as goal
-
-pub returns : goal.returns
-returns c = no_text_begins

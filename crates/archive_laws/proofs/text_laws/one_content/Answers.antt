@@ -1,5 +1,0 @@
-use Rattle.archive_records.proofs.Versions.{one_content as exact}
-use Rattle.archive_laws.proofs.text_laws.one_content.Goals as goal
-
-pub returns : goal.returns
-returns c = exact

@@ -1,6 +1,0 @@
-use Rattle.archive_records.specs.Kind.{archive_format}
-use Rattle.archive_records.proofs.Exact.{one_fault as exact}
-use Rattle.archive_laws.proofs.text_laws.one_fault.Goals as goal
-
-pub returns : goal.returns
-returns c = λ text. exact (archive_format text) text

@@ -1,5 +1,0 @@
-use Rattle.archive_records.proofs.Inputs.{one_summary as exact}
-use Rattle.archive_laws.proofs.text_laws.one_summary.Goals as goal
-
-pub returns : goal.returns
-returns c = exact

@@ -1,5 +1,0 @@
-use Rattle.archive_laws.proofs.Sides.{texts_or_stopped}
-use Rattle.archive_laws.proofs.text_laws.texts_or_one_side_stops.Goals as goal
-
-pub returns : goal.returns
-returns c = texts_or_stopped

@@ -1,0 +1,45 @@
+-- What is lost where one archive takes the place of another.
+use Rattle.std.specs.Prelude.{◌≡◌, ℕ, count_by, IfSome}
+use Rattle.join_core.specs.Listing.{listing}
+use Rattle.byte_device.specs.Devices.{Stream}
+use Rattle.archive_core.specs.Content.{Operations, changes, content_of}
+use Rattle.archive_records.specs.declared.fault.MergeCause.{MergeCause}
+use Rattle.archive_records.specs.declared.fault.MergeCause.TheVariants.{Left, Right, Write}
+use Rattle.archive_records.specs.declared.fault.RecordFault.{RecordFault}
+use Rattle.archive_records.specs.declared.kind.TextKind.TheVariants.{Archive as Archive_text}
+use Rattle.archive_records.specs.Fault.{IsOfText}
+use Rattle.archive_records.specs.Reading.{IsReadWhole}
+use Rattle.archive_records.specs.Text.{AreOperations}
+use Rattle.archive_merge.specs.Merging.{ForTexts, IsRefusedAlone, IsUnfailed, LeftStops, RightStops}
+use Rattle.archive_merge.specs.Telling.{HasOperations}
+
+-- Both inputs are texts of archives, and of the operations of the old one so many are lost in the new one, which
+-- neither has them nor covers them.
+pub record Loses {R S : Type 0} (new : Stream R) (old : Stream S) (lost : ℕ) : Type 0 where
+  pub content : Operations
+  pub operations : Operations
+  pub new_is : IsReadWhole Archive_text content new.bytes new.failures new.old new.new
+  pub old_is : IsReadWhole Archive_text (content_of operations) old.bytes old.failures old.old old.new
+  pub are : AreOperations operations
+  pub old_has : IfSome (old.bytes old.old) (HasOperations operations)
+  pub lost_is : lost ≡ count_by (changes content) (listing operations)
+
+-- The new archive is refused: reading it whole, and it alone, is refused so. Unless its device failed or memory was
+-- wanted, it is the one that stops a merge of both.
+pub record IsNewRefused {R S : Type 0} (new : Stream R) (old : Stream S) (fault : RecordFault) : Type 0 where
+  pub refused : IsRefusedAlone new fault
+  pub old_unfailed : IsUnfailed old
+  pub stops : IsOfText fault.kind → ForTexts new old LeftStops
+
+-- The old one is.
+pub record IsOldRefused {R S : Type 0} (new : Stream R) (old : Stream S) (fault : RecordFault) : Type 0 where
+  pub refused : IsRefusedAlone old fault
+  pub new_unfailed : IsUnfailed new
+  pub stops : IsOfText fault.kind → ForTexts new old RightStops
+
+-- why two archives are not compared: the left one, which is the new one, is refused, or the right one; and nothing is
+-- written that could fail
+abbrev pub IsNotCompared : {R S : Type 0} → Stream R → Stream S → MergeCause → Type 0
+IsNotCompared new old (Left fault) = IsNewRefused new old fault
+IsNotCompared new old (Right fault) = IsOldRefused new old fault
+IsNotCompared new old Write = ⊥

@@ -1,0 +1,77 @@
+//! What a merge tells of its sides.
+
+ghost use Rattle.std.specs.Prelude.{◌≡◌, ◌≤◌, ◌&&◌, ◌||◌, count_by, false, [], length};
+ghost use Rattle.archive_merge.specs.Arrivals.{is_new, arrival_by};
+
+use memory::Heap;
+
+/// What a record of the right side is to the left one.
+#[derive(Clone, Copy, Debug, PartialEq, Eq)]
+pub enum Arrival {
+    /// The left side neither has it nor retires it.
+    New,
+    /// The left side has it.
+    Had,
+    /// The left side retires it.
+    Retired,
+}
+
+impl Arrival {
+    /// Whether the left side neither has it nor retires it.
+    pub fn is_new(&self) -> bool
+        ensures { result ≡ is_new self.now }
+    {
+        *self == Arrival::New
+    }
+}
+
+/// How many are new.
+pub fn number_of_new(arrivals: &[Arrival]) -> u64
+    ensures counted { result ≡ count_by is_new arrivals.now }
+    ensures within { result ≤ length arrivals.now }
+{
+    arrivals.iter().filter(|arrival| arrival.is_new()).count() as u64
+}
+
+/// What a merge tells of its sides.
+#[derive(Drop)]
+pub struct Told {
+    /// What each record of the right side was to the left one when its turn came, in their order.
+    pub arrivals: Vec<Arrival, Heap>,
+    /// Whether the right side retires a slice that the left one has.
+    pub withdraws: bool,
+}
+
+impl Told {
+    /// Nothing.
+    pub fn nothing(heap: Heap) -> Told
+        ensures arrivals { result.arrivals.items ≡ [] }
+        ensures withdraws { result.withdraws ≡ false }
+    {
+        Told {
+            arrivals: Vec::new(heap),
+            withdraws: false,
+        }
+    }
+
+    /// Tells that a record was passed over, or was not, and whether the left side had it.
+    pub fn pass(&mut self, passed: bool, had: bool)
+        ensures withdraws { self.new.withdraws ≡ ((passed && had) || self.old.withdraws) }
+        ensures arrivals { self.new.arrivals ≡ self.old.arrivals }
+    {
+        if passed && had {
+            self.withdraws = true;
+        }
+    }
+}
+
+/// What a record is to the left side by whether that side retires it, and else whether it has it.
+pub fn arrival_by(retired: bool, had: bool) -> Arrival
+    ensures { result ≡ arrival_by retired had }
+{
+    match (retired, had) {
+        (true, _) => Arrival::Retired,
+        (false, true) => Arrival::Had,
+        (false, false) => Arrival::New,
+    }
+}

@@ -1,0 +1,36 @@
+//! What is lost where one archive takes the place of another.
+
+ghost use Rattle.std.specs.Prelude.{IfErr, IfOk};
+ghost use Rattle.byte_device.specs.Devices.{stream};
+ghost use Rattle.archive_merge.specs.Losses.{IsNotCompared, Loses};
+
+use crate::arrivals::number_of_new;
+use crate::side::MergeInput;
+use crate::telling::merge_telling;
+use archive_records::MergeFault;
+use byte_device::{Nowhere, Source};
+use memory::Heap;
+
+/// How many operations of the old archive the new one neither has nor covers by a retirement: those that are lost where
+/// it takes the place of the old one. Each may be of either version. The two are read side by side, as
+/// [`merge_streams`](crate::merge_streams) reads them, in the memory of one record of each, of 57 bytes for each
+/// retirement of either and of one for each record of the old one.
+///
+/// # Errors
+///
+/// `Left` with the fault that `read_archive` of `archive_read` gives of the new archive, and `Right` with that of the
+/// old one: of two that are refused it is the one that stops [`merge_streams`](crate::merge_streams). `Write` never
+/// comes.
+pub fn lost_operations<R: Source, S: Source>(
+    heap: &Heap,
+    new: &mut R,
+    old: &mut S,
+) -> Result<u64, MergeFault>
+    ensures lost { IfOk result (λ lost. Loses (stream R.left R.failures new.old new.new)
+        (stream S.left S.failures old.old old.new) lost) }
+    ensures refused { IfErr result (λ e. IsNotCompared (stream R.left R.failures new.old new.new)
+        (stream S.left S.failures old.old old.new) e.cause) }
+{
+    let (_, told) = merge_telling::<R, S, MergeInput, Nowhere>(heap, new, old, &mut Nowhere)?;
+    Ok(number_of_new(&told.arrivals))
+}

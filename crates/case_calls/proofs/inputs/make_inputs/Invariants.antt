@@ -1,7 +1,0 @@
-use Rattle.std.proofs.Common.{take, map}
-use Rattle.archive_files.specs.AtTurns.{told}
-use Rattle.archive_files.specs.InputStates.{AreWaiting}
-use Rattle.case_calls.proofs.inputs.make_inputs.Given as goal
-
-abbrev pub invariant-paths : goal.invariant-paths
-invariant-paths l = AreWaiting told (map (λ p. p.now) (take l.path-index l.paths)) l.inputs.items

@@ -1,0 +1,226 @@
+//! What a line asks for: its plan, with the values of the line.
+
+ghost use Rattle.std.specs.Prelude.{◌≡◌, IsSomeAnd, map, true};
+ghost use Rattle.cli_arguments.specs.Arguments.{are_values_of};
+ghost use Rattle.cli_arguments.specs.LineView.{line_view};
+ghost use Rattle.cli_arguments.specs.ValuesView.{values_view};
+ghost use Rattle.cli_arguments.specs.Lines.{line_with};
+ghost use Rattle.cli_arguments.specs.Plan.{IsPlanOf, key_of};
+ghost use Rattle.cli_arguments.specs.Table.{extract_command, find_command, frames_command, name_command};
+ghost use Rattle.cli_arguments.specs.Table.{retire_command, symbolicate_command};
+
+use crate::lines::Line;
+use crate::values::Amount::{Flag, One, Perhaps, Several};
+use crate::values::Values;
+use crate::values::Values::{Archs, Digests, Numbers, Texts, Uuids};
+use archive_core::{ArchKey, Digest, SliceKey};
+use uuid::Uuid;
+
+/// What a line asks for: its command, with the values that it is carried out with. The paths of its inputs stay in the
+/// line.
+#[derive(Clone, Copy, Debug)]
+pub enum Plan<'l> {
+    /// To write the empty archive.
+    New,
+    /// To take each file, in the order of the words. A file that is named twice is taken twice.
+    Admit,
+    /// To take one retirement.
+    Retire {
+        key: SliceKey,
+        digest: Digest,
+    },
+    /// To join archives, in the order of the words.
+    Merge,
+    /// To take an archive over to the present version.
+    Migrate,
+    /// To take the records of an operations file.
+    Apply,
+    /// To list what the archives have of a build.
+    Find {
+        uuid: Uuid,
+    },
+    /// To list all that the archive has.
+    List,
+    /// To write the slice that answers under a key, or one that has the digest.
+    Extract {
+        key: SliceKey,
+        digest: Option<Digest>,
+    },
+    /// To find where symbols of a name stand. The name is the word itself.
+    Name {
+        name: &'l str,
+    },
+    /// To answer each address, in the order of the words. With `load` the addresses are those of an image that was
+    /// loaded there. If `lines`, the source frames follow what each slice answers.
+    Symbolicate {
+        key: SliceKey,
+        load: Option<u64>,
+        lines: bool,
+        addresses: &'l [u64],
+    },
+    /// To answer each frame of a crash, in the order of the lines of FRAMES; `lines` as of `Symbolicate`.
+    Frames {
+        lines: bool,
+    },
+    /// To write the summary of an archive.
+    Summary,
+    /// To write the index of an archive.
+    Index,
+    /// To write what an archive has that a summary does not name.
+    Delta,
+    /// To carry out the events of a script, and print what comes of them.
+    Rehearse,
+}
+
+impl<'l> Plan<'l> {
+    ghost use Rattle.std.specs.Prelude.{◌≡◌};
+    ghost use Rattle.cli_arguments.specs.LineView.{line_view};
+    ghost use Rattle.cli_arguments.specs.Plan.{IsPlanOf};
+
+    /// What a line asks for. Each line of the table asks for something.
+    pub fn of(line: &'l Line) -> Plan<'l>
+        ensures { IsPlanOf result (line_view line.now) }
+    {
+        match plan_in(line) {
+            Some(plan) => plan,
+            None => unreachable!(),
+        }
+    }
+}
+
+/// The plan of a line, by the name of its command.
+fn plan_in<'l>(line: &'l Line) -> Option<Plan<'l>>
+    ensures { IsSomeAnd result (λ plan. IsPlanOf plan (line_view line.now)) }
+{
+    let values = line.values.as_slice();
+    match line.name.as_str() {
+        "new" => Some(Plan::New),
+        "admit" => Some(Plan::Admit),
+        "retire" => retire(values),
+        "merge" => Some(Plan::Merge),
+        "migrate" => Some(Plan::Migrate),
+        "apply" => Some(Plan::Apply),
+        "find" => find(values),
+        "list" => Some(Plan::List),
+        "extract" => extract(values),
+        "name" => name(values),
+        "symbolicate" => symbolicate(values),
+        "frames" => frames(values),
+        "summary" => Some(Plan::Summary),
+        "index" => Some(Plan::Index),
+        "delta" => Some(Plan::Delta),
+        "rehearse" => Some(Plan::Rehearse),
+        _ => None,
+    }
+}
+
+fn retire<'l>(values: &'l [Values]) -> Option<Plan<'l>>
+    requires { are_values_of retire_command.arguments (map values_view values.now) ≡ true }
+    ensures { IsSomeAnd result (λ plan. IsPlanOf plan (line_with retire_command (map values_view values.now))) }
+{
+    match values {
+        [
+            Texts(One(_)),
+            Texts(One(_)),
+            Uuids(One(uuid)),
+            Archs(One(arch)),
+            Digests(One(digest)),
+        ] => Some(Plan::Retire {
+            key: key(uuid, arch),
+            digest: *digest,
+        }),
+        _ => None,
+    }
+}
+
+fn find<'l>(values: &'l [Values]) -> Option<Plan<'l>>
+    requires { are_values_of find_command.arguments (map values_view values.now) ≡ true }
+    ensures { IsSomeAnd result (λ plan. IsPlanOf plan (line_with find_command (map values_view values.now))) }
+{
+    match values {
+        [
+            Texts(One(_)),
+            Uuids(One(uuid)),
+            Texts(Several(_)),
+            Texts(Several(_)),
+        ] => Some(Plan::Find { uuid: *uuid }),
+        _ => None,
+    }
+}
+
+fn extract<'l>(values: &'l [Values]) -> Option<Plan<'l>>
+    requires { are_values_of extract_command.arguments (map values_view values.now) ≡ true }
+    ensures { IsSomeAnd result (λ plan. IsPlanOf plan (line_with extract_command (map values_view values.now))) }
+{
+    let [Texts(One(_)), Uuids(One(uuid)), Archs(One(arch)), rest @ ..] = values else {
+        return None;
+    };
+    let [Texts(One(_)), Digests(Perhaps(digest)), rest @ ..] = rest else {
+        return None;
+    };
+    match rest {
+        [Texts(Several(_)), Texts(Several(_))] => Some(Plan::Extract {
+            key: key(uuid, arch),
+            digest: *digest,
+        }),
+        _ => None,
+    }
+}
+
+fn name<'l>(values: &'l [Values]) -> Option<Plan<'l>>
+    requires { are_values_of name_command.arguments (map values_view values.now) ≡ true }
+    ensures { IsSomeAnd result (λ plan. IsPlanOf plan (line_with name_command (map values_view values.now))) }
+{
+    match values {
+        [Texts(One(_)), Texts(One(name)), Texts(Several(_))] => Some(Plan::Name { name }),
+        _ => None,
+    }
+}
+
+fn symbolicate<'l>(values: &'l [Values]) -> Option<Plan<'l>>
+    requires { are_values_of symbolicate_command.arguments (map values_view values.now) ≡ true }
+    ensures { IsSomeAnd result (λ plan. IsPlanOf plan (line_with symbolicate_command (map values_view values.now))) }
+{
+    let [Texts(One(_)), Uuids(One(uuid)), Archs(One(arch)), rest @ ..] = values else {
+        return None;
+    };
+    let [Numbers(Perhaps(load)), Texts(Flag(lines)), rest @ ..] = rest else {
+        return None;
+    };
+    match rest {
+        [
+            Texts(Several(_)),
+            Texts(Several(_)),
+            Numbers(Several(addresses)),
+        ] => Some(Plan::Symbolicate {
+            key: key(uuid, arch),
+            load: *load,
+            lines: *lines,
+            addresses,
+        }),
+        _ => None,
+    }
+}
+
+fn frames<'l>(values: &'l [Values]) -> Option<Plan<'l>>
+    requires { are_values_of frames_command.arguments (map values_view values.now) ≡ true }
+    ensures { IsSomeAnd result (λ plan. IsPlanOf plan (line_with frames_command (map values_view values.now))) }
+{
+    let [Texts(One(_)), Texts(Flag(lines)), rest @ ..] = values else {
+        return None;
+    };
+    match rest {
+        [Texts(Several(_)), Texts(Several(_))] => Some(Plan::Frames { lines: *lines }),
+        _ => None,
+    }
+}
+
+/// The key that a line names.
+fn key(uuid: &Uuid, arch: &ArchKey) -> SliceKey
+    ensures { result ≡ key_of uuid.now arch.now }
+{
+    SliceKey {
+        uuid: *uuid,
+        arch: *arch,
+    }
+}

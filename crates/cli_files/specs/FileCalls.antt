@@ -1,0 +1,151 @@
+-- What is called of the system for an output.
+use Rattle.std.specs.Prelude.{ℕ, Bool, true, false, ◌&&◌, ◌==◌, if◌then◌else◌, List, [], ◌∷◌, ◌++◌, map, string_bytes}
+use Rattle.std.specs.Prelude.{Option, Some, None, Result, Ok, Err}
+use Rattle.std.specs.IoError.{error_kind}
+use Rattle.std.specs.declared.io.Error.{Error}
+use Rattle.std.specs.declared.io.ErrorKind.{ErrorKind}
+use Rattle.std.specs.declared.io.ErrorKind.TheVariants.{AlreadyExists, NotFound, OutOfMemory}
+use Rattle.std.specs.declared.string.String.{String}
+use Rattle.cli_files.specs.declared.found.Found.{Found}
+
+-- A call, and what the system said. It says what a path leads to: a file, or nothing; whether the path itself is a
+-- link; which path it leads to; which bytes the file there begins with, none if it is empty; and which come next. An
+-- archive is compared with another one, of which it neither has nor covers so many records. A file is created that was
+-- not there, with a mode, or what is there is opened and emptied; it takes bytes, which are synced to the disk; it is
+-- renamed, and the folder synced; or it is removed. Or the system refuses a call of a path, for want of memory or
+-- otherwise.
+pub data FileCall : Type 0 where
+  Finds : (path : List ℕ) → (found : Found) → FileCall
+  FindsNothing : (path : List ℕ) → FileCall
+  FindsLink : (path : List ℕ) → FileCall
+  FindsNoLink : (path : List ℕ) → FileCall
+  Leads : (path : List ℕ) → (target : List ℕ) → FileCall
+  Begins : (path : List ℕ) → (bytes : List ℕ) → FileCall
+  Gives : (path : List ℕ) → (bytes : List ℕ) → FileCall
+  Compares : (draft : List ℕ) → (target : List ℕ) → (lost : ℕ) → FileCall
+  Creates : (path : List ℕ) → (mode : ℕ) → FileCall
+  Opens : (path : List ℕ) → FileCall
+  Writes : (bytes : List ℕ) → FileCall
+  Syncs : FileCall
+  Renames : (draft : List ℕ) → (target : List ℕ) → FileCall
+  SyncsFolder : (path : List ℕ) → FileCall
+  Removes : (path : List ℕ) → FileCall
+  WantsMemory : (path : List ℕ) → FileCall
+  Refuses : (path : List ℕ) → FileCall
+
+-- the call with this number, as the log notes it, with the numbers of what the system said
+abbrev pub call_of : List ℕ → List ℕ → List ℕ → FileCall
+call_of (call ∷ mode ∷ []) path other = if call == 0 then Creates path mode else Compares path other mode
+call_of (call ∷ size ∷ device ∷ number ∷ mode ∷ user ∷ group ∷ []) path other = Finds path (record {
+  is_file = call == 7;
+  size = size;
+  device = device;
+  number = number;
+  mode = mode;
+  user = user;
+  group = group;
+})
+call_of (call ∷ []) path other =
+    if call == 1 then Opens path
+    else if call == 2 then Writes path
+    else if call == 3 then Syncs
+    else if call == 4 then Renames path other
+    else if call == 5 then SyncsFolder path
+    else if call == 6 then Removes path
+    else if call == 9 then FindsLink path
+    else if call == 10 then FindsNoLink path
+    else if call == 11 then Leads path other
+    else if call == 12 then Begins path other
+    else if call == 13 then Gives path other
+    else if call == 15 then FindsNothing path
+    else if call == 16 then WantsMemory path
+    else Refuses path
+call_of _ path other = Refuses path
+
+-- ---- answers
+
+-- a call of a path failed so
+abbrev pub failed : List ℕ → ErrorKind → FileCall
+failed path NotFound = FindsNothing path
+failed path OutOfMemory = WantsMemory path
+failed path kind = Refuses path
+
+-- a call was done, or failed
+abbrev pub answered : {T : Type 0} → FileCall → List ℕ → Result T Error → List FileCall
+answered call path (Ok done) = call ∷ []
+answered call path (Err error) = failed path (error_kind error) ∷ []
+
+-- only that it failed is noted
+abbrev pub refused : {T : Type 0} → List ℕ → Result T Error → List FileCall
+refused path (Ok done) = []
+refused path (Err error) = failed path (error_kind error) ∷ []
+
+-- what a path leads to
+abbrev pub found : List ℕ → Result Found Error → List FileCall
+found path (Ok file) = Finds path file ∷ []
+found path (Err error) = failed path (error_kind error) ∷ []
+
+-- whether it is a link itself
+abbrev pub linked : List ℕ → Bool → List FileCall
+linked path true = FindsLink path ∷ []
+linked path false = FindsNoLink path ∷ []
+
+-- which path it leads to
+abbrev pub led : {A : Type 0} → List ℕ → Result (String A) Error → List FileCall
+led path (Ok target) = Leads path (string_bytes target) ∷ []
+led path (Err error) = failed path (error_kind error) ∷ []
+
+-- what a file begins with, of which this was read: nothing, if it is empty
+abbrev pub first_bytes : Option (List ℕ) → List ℕ
+first_bytes None = []
+first_bytes (Some bytes) = bytes
+
+-- what the file there begins with
+abbrev pub begun : List ℕ → Result (Option (List ℕ)) Error → List FileCall
+begun path (Ok beginning) = Begins path (first_bytes beginning) ∷ []
+begun path (Err error) = failed path (error_kind error) ∷ []
+
+-- a file was to be created with this mode, at a path that was free or taken
+abbrev pub untaken : List ℕ → ErrorKind → List FileCall
+untaken path AlreadyExists = []
+untaken path kind = failed path kind ∷ []
+
+abbrev pub created : {T : Type 0} → List ℕ → ℕ → Result T Error → List FileCall
+created path mode (Ok done) = Creates path mode ∷ []
+created path mode (Err error) = untaken path (error_kind error)
+
+-- ---- lists of calls
+
+-- the bytes of the calls that write
+abbrev pub bytes_in : List FileCall → List ℕ
+bytes_in [] = []
+bytes_in (Writes bytes ∷ calls) = bytes ++ bytes_in calls
+bytes_in (_ ∷ calls) = bytes_in calls
+
+-- a call that only asks, or failed
+abbrev pub is_probe : FileCall → Bool
+is_probe (Creates path mode) = false
+is_probe (Opens path) = false
+is_probe (Writes bytes) = false
+is_probe Syncs = false
+is_probe (Renames draft target) = false
+is_probe (SyncsFolder path) = false
+is_probe (Removes path) = false
+is_probe _ = true
+
+-- the calls only ask
+abbrev pub are_probes : List FileCall → Bool
+are_probes [] = true
+are_probes (call ∷ calls) = is_probe call && are_probes calls
+
+-- pieces of a text go to a draft with this mode
+abbrev pub drafting : List ℕ → ℕ → List (List ℕ) → List FileCall
+drafting draft mode pieces = Creates draft mode ∷ map Writes pieces
+
+-- the draft is put in the place of the target
+abbrev pub publishing : List ℕ → List ℕ → List ℕ → List FileCall
+publishing draft target folder = Syncs ∷ Renames draft target ∷ SyncsFolder folder ∷ []
+
+-- pieces of a text go to what is at a path
+abbrev pub writing : List ℕ → List (List ℕ) → List FileCall
+writing path pieces = Opens path ∷ map Writes pieces

@@ -1,0 +1,168 @@
+//! Drafts of OUT: a file of its own beside OUT, which takes the bytes and is renamed when it is whole. What the system
+//! does is in no contract; what is called of it is, and what it said.
+
+ghost use Rattle.std.specs.Prelude.{◌≡◌, ◌∷◌, ◌++◌, [], IfOk, List, OnErr, OnOk, string_bytes, true};
+ghost use Rattle.std.specs.Path.{path_with_file_name};
+ghost use Rattle.cli_files.specs.FileCalls.{Creates, FileCall, Removes, are_probes, publishing};
+ghost use Rattle.cli_files.specs.Publishing.{IsBeside, IsTakenBack, IsTested, draft_mode, draft_name, folder_of};
+
+use crate::file_calls::FileCalls;
+use crate::found::Found;
+use crate::losses::{given_way, test_losses};
+use crate::replaceable::{Obstacle, OutFault, Replaces};
+use crate::sameness::test_sameness;
+use crate::system_calls::{Own, System};
+use memory::NoMemory;
+use std::alloc::Global;
+use std::io::{self, ErrorKind};
+use std::path::Path;
+use std::rt::Files;
+
+/// How many names are tried for a draft.
+const MOST_NAMES: u32 = 100;
+
+/// The mode of a file that was not there, from which the system takes what the user does not give.
+const NEW_FILE_MODE: u32 = 0o666;
+
+/// The bits of a mode that say who may read and write.
+const PERMISSION_BITS: u32 = 0o777;
+
+/// A file of this run's own, beside the file that it is to replace.
+#[derive(Drop)]
+pub struct Draft<T> {
+    pub own: Own<T>,
+    pub target: String,
+}
+
+/// The path of the draft of this number.
+fn draft_path(alloc: Global, target: &str, process: u32, number: u32) -> Result<String, NoMemory>
+    ensures { IfOk result
+        (λ path. string_bytes path ≡ path_with_file_name target.now (draft_name process number)) }
+{
+    let name = format!(in alloc; ".symarch-{process}-{number}")?;
+    Ok(
+        Path::new(target)
+            .with_file_name(alloc, &name)?
+            .into_string(),
+    )
+}
+
+/// The mode of a draft that replaces this file: its permissions, without set-id bits.
+fn mode_of(there: &Option<Found>) -> u32
+    ensures { result ≡ draft_mode there.now }
+{
+    match there {
+        Some(there) => there.mode & PERMISSION_BITS,
+        None => NEW_FILE_MODE,
+    }
+}
+
+/// Creates a draft beside the target, with a name that no file has, for those who may use what is there.
+pub fn create_draft<F: Files>(
+    alloc: Global,
+    system: &System<'_, F>,
+    process: u32,
+    target: String,
+    there: Option<Found>,
+    calls: &mut FileCalls,
+) -> Result<Draft<F::File>, OutFault>
+    ensures target { IfOk result (λ draft. draft.target ≡ target) }
+    ensures beside { IfOk result (λ draft. IsBeside (string_bytes draft.own.path) (string_bytes target)) }
+    ensures created { IfOk result (λ draft. calls.new.entries
+        ≡ calls.old.entries ++ Creates (string_bytes draft.own.path) (draft_mode there) ∷ []) }
+    ensures refused { OnErr result ((tests : List FileCall) × (are_probes tests ≡ true)
+        × (calls.new.entries ≡ calls.old.entries ++ tests)) }
+{
+    let mode = mode_of(&there);
+    'names: for number in 0..MOST_NAMES {
+        let path = draft_path(alloc, &target, process, number)?;
+        if path == target {
+            continue;
+        }
+        match system.create_new(path, mode, there, calls) {
+            Ok(own) => return Ok(Draft { own, target }),
+            Err(error) if error.kind() == ErrorKind::AlreadyExists => {}
+            Err(error) => return Err(OutFault::NotCreated(Some(error))),
+        }
+    }
+    let taken = io::Error::new(ErrorKind::AlreadyExists, "no name is free for its draft");
+    Err(OutFault::NotCreated(Some(taken)))
+}
+
+/// The folder that a path stands in.
+fn folder_of(path: &str) -> &str
+    ensures { result.now ≡ folder_of path.now }
+{
+    match Path::new(path).parent() {
+        Some(folder) if !folder.as_str().is_empty() => folder.as_str(),
+        _ => ".",
+    }
+}
+
+/// Removes a draft.
+pub fn remove_draft<F: Files, T>(system: &System<'_, F>, draft: &Draft<T>, calls: &mut FileCalls)
+    ensures { calls.new.entries ≡ calls.old.entries ++ Removes (string_bytes draft.now.own.path) ∷ [] }
+{
+    system.remove(&draft.own, calls);
+}
+
+/// Puts a draft in the place of what it is to replace, or removes it. Its bytes are on the disk before it is renamed.
+pub fn put_draft<F: Files>(
+    alloc: Global,
+    system: &System<'_, F>,
+    draft: &Draft<F::File>,
+    replaces: Replaces,
+    calls: &mut FileCalls,
+) -> Result<(), OutFault>
+    ensures published { OnOk result ((tests : List FileCall)
+        × IsTested replaces (string_bytes draft.now.own.path) (string_bytes draft.now.target) tests
+        × (calls.new.entries ≡ calls.old.entries ++ tests
+        ++ publishing (string_bytes draft.now.own.path) (string_bytes draft.now.target)
+        (folder_of (string_bytes draft.now.target)))) }
+    ensures removed { OnErr result (IsTakenBack (string_bytes draft.now.own.path) calls.old.entries calls.new.entries) }
+{
+    if let Err(fault) = test_place(alloc, system, draft, replaces, calls) {
+        remove_draft(system, draft, calls);
+        return Err(fault);
+    }
+    if let Err(error) = draft.own.sync(calls) {
+        remove_draft(system, draft, calls);
+        return Err(OutFault::NotReplaced(Obstacle::Refused(Some(error))));
+    }
+    if let Err(error) = system.rename(&draft.own, &draft.target, calls) {
+        remove_draft(system, draft, calls);
+        return Err(OutFault::NotReplaced(Obstacle::Refused(Some(error))));
+    }
+    system.sync_folder(folder_of(&draft.target), calls);
+    Ok(())
+}
+
+/// Whether a draft may be put in the place of what is there.
+fn test_place<F: Files>(
+    alloc: Global,
+    system: &System<'_, F>,
+    draft: &Draft<F::File>,
+    replaces: Replaces,
+    calls: &mut FileCalls,
+) -> Result<(), OutFault>
+    ensures tested { OnOk result ((tests : List FileCall)
+        × IsTested replaces (string_bytes draft.now.own.path) (string_bytes draft.now.target) tests
+        × (calls.new.entries ≡ calls.old.entries ++ tests)) }
+    ensures refused { OnErr result ((tests : List FileCall) × (are_probes tests ≡ true)
+        × (calls.new.entries ≡ calls.old.entries ++ tests)) }
+{
+    match replaces {
+        Replaces::Summaries | Replaces::Indexes => {
+            given_way(system, &draft.target, replaces, calls)?;
+            Ok(())
+        }
+        Replaces::ArchivesBelow => test_losses(
+            alloc,
+            system,
+            draft.own.path(),
+            &draft.target,
+            calls,
+        ),
+        Replaces::SameBytes => test_sameness(system, draft.own.path(), &draft.target, calls),
+    }
+}

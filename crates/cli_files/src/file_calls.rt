@@ -1,0 +1,204 @@
+//! What was called of the system for one output, in order, and what it said. Only clauses read it: it takes no memory, and
+//! its methods do nothing at run time.
+
+ghost use Rattle.std.specs.Prelude.{◌≡◌, List, [], ◌∷◌, ◌++◌};
+ghost use Rattle.std.specs.Borrow.{ftrue};
+ghost use Rattle.std.specs.IoError.{error_kind};
+ghost use Rattle.cli_files.specs.FileCalls.{Compares, FileCall, Finds, Gives, Opens, Removes, Renames, Syncs};
+ghost use Rattle.cli_files.specs.FileCalls.{SyncsFolder, Writes, answered, begun, call_of, created, failed, found};
+ghost use Rattle.cli_files.specs.FileCalls.{led, linked, refused};
+
+use crate::found::Found;
+use crate::opened_file::LeadingBytes;
+use std::io::{self, ErrorKind};
+use std::marker::{Model, PhantomData};
+
+/// The calls that were made for one output, and what the system said. A call stands there once the system said that it was
+/// done, and one that failed by that; of the removal of a draft and the sync of its folder that is not asked.
+#[derive(Drop)]
+pub struct FileCalls {
+    marker: PhantomData<u8>,
+    pub ghost entries: { List FileCall },
+}
+
+impl Model for FileCalls {
+    ghost also_owns = { λ _. ftrue };
+}
+
+impl FileCalls {
+    /// None.
+    pub fn new() -> FileCalls
+        ensures { result.entries ≡ [] }
+    {
+        FileCalls {
+            marker: PhantomData,
+        }
+    }
+
+    // The number of a call stands for its name, since a ghost list takes only numbers; what the system said follows it.
+    fn note(&mut self, _numbers: &[u64], _path: &[u8], _other: &[u8])
+        ensures { self.new.entries ≡ self.old.entries ++ call_of _numbers.now _path.now _other.now ∷ [] }
+    {}
+
+    /// A path was asked of, and the system said this.
+    pub fn finds(&mut self, path: &str, answer: &io::Result<Found>)
+        ensures { self.new.entries ≡ self.old.entries ++ found path.now answer.now }
+    {
+        match answer {
+            Ok(found) => self.finds_file(path, found),
+            Err(error) => self.fails(path, error),
+        }
+    }
+
+    // What the system said of a file.
+    fn finds_file(&mut self, path: &str, found: &Found)
+        ensures { self.new.entries ≡ self.old.entries ++ Finds path.now found.now ∷ [] }
+    {
+        let number = if found.is_file { 7 } else { 8 };
+        self.note(
+            &[
+                number,
+                found.size,
+                found.device,
+                found.number,
+                found.mode as u64,
+                found.user as u64,
+                found.group as u64,
+            ],
+            path.as_bytes(),
+            &[],
+        );
+    }
+
+    /// It was asked whether a path itself is a link.
+    pub fn finds_link(&mut self, path: &str, is_link: bool)
+        ensures { self.new.entries ≡ self.old.entries ++ linked path.now is_link }
+    {
+        if is_link {
+            self.note(&[9], path.as_bytes(), &[]);
+        } else {
+            self.note(&[10], path.as_bytes(), &[]);
+        }
+    }
+
+    /// It was asked which path a path leads to.
+    pub fn leads(&mut self, path: &str, answer: &io::Result<String>)
+        ensures { self.new.entries ≡ self.old.entries ++ led path.now answer.now }
+    {
+        match answer {
+            Ok(target) => self.note(&[11], path.as_bytes(), target.as_bytes()),
+            Err(error) => self.fails(path, error),
+        }
+    }
+
+    /// The first bytes of the file at a path were read; `None` if it is empty.
+    pub fn begins(&mut self, path: &str, answer: &io::Result<Option<LeadingBytes>>)
+        ensures { self.new.entries ≡ self.old.entries ++ begun path.now answer.now }
+    {
+        match answer {
+            Ok(Some(bytes)) => self.note(&[12], path.as_bytes(), bytes),
+            Ok(None) => self.note(&[12], path.as_bytes(), &[]),
+            Err(error) => self.fails(path, error),
+        }
+    }
+
+    /// The next bytes of the file at a path were read.
+    pub fn gives(&mut self, path: &str, bytes: &[u8], answer: &io::Result<()>)
+        ensures { self.new.entries ≡ self.old.entries ++ answered (Gives path.now bytes.now) path.now answer.now }
+    {
+        match answer {
+            Ok(()) => self.note(&[13], path.as_bytes(), bytes),
+            Err(error) => self.fails(path, error),
+        }
+    }
+
+    /// The archive at the first path neither has nor covers so many records of the one at the second.
+    pub fn compares(&mut self, draft: &str, target: &str, lost: u64)
+        ensures { self.new.entries ≡ self.old.entries ++ Compares draft.now target.now lost ∷ [] }
+    {
+        self.note(&[14, lost], draft.as_bytes(), target.as_bytes());
+    }
+
+    /// A file was opened to be read, of which only a failure is noted.
+    pub fn opens_to_read<T>(&mut self, path: &str, answer: &io::Result<T>)
+        ensures { self.new.entries ≡ self.old.entries ++ refused path.now answer.now }
+    {
+        if let Err(error) = answer {
+            self.fails(path, error);
+        }
+    }
+
+    /// What is there was to be opened and emptied.
+    pub fn opens<T>(&mut self, path: &str, answer: &io::Result<T>)
+        ensures { self.new.entries ≡ self.old.entries ++ answered (Opens path.now) path.now answer.now }
+    {
+        match answer {
+            Ok(_) => self.note(&[1], path.as_bytes(), &[]),
+            Err(error) => self.fails(path, error),
+        }
+    }
+
+    /// A file was to be created that was not there, with this mode. Nothing is noted of a path that is taken.
+    pub fn creates<T>(&mut self, path: &str, mode: u32, answer: &io::Result<T>)
+        ensures { self.new.entries ≡ self.old.entries ++ created path.now mode answer.now }
+    {
+        match answer {
+            Ok(_) => self.note(&[0, mode as u64], path.as_bytes(), &[]),
+            Err(error) if error.kind() == ErrorKind::AlreadyExists => {}
+            Err(error) => self.fails(path, error),
+        }
+    }
+
+    /// Bytes were written to the file that was created or opened.
+    pub fn writes(&mut self, bytes: &[u8])
+        ensures { self.new.entries ≡ self.old.entries ++ Writes bytes.now ∷ [] }
+    {
+        self.note(&[2], bytes, &[]);
+    }
+
+    /// Its bytes, which are at this path, were to be on the disk.
+    pub fn syncs(&mut self, path: &str, answer: &io::Result<()>)
+        ensures { self.new.entries ≡ self.old.entries ++ answered Syncs path.now answer.now }
+    {
+        match answer {
+            Ok(()) => self.note(&[3], &[], &[]),
+            Err(error) => self.fails(path, error),
+        }
+    }
+
+    /// A file was to get the path of another one, which is gone then.
+    pub fn renames(&mut self, draft: &str, target: &str, answer: &io::Result<()>)
+        ensures { self.new.entries ≡ self.old.entries
+            ++ answered (Renames draft.now target.now) target.now answer.now }
+    {
+        match answer {
+            Ok(()) => self.note(&[4], draft.as_bytes(), target.as_bytes()),
+            Err(error) => self.fails(target, error),
+        }
+    }
+
+    /// The names of a folder were to be on the disk.
+    pub fn syncs_folder(&mut self, path: &str)
+        ensures { self.new.entries ≡ self.old.entries ++ SyncsFolder path.now ∷ [] }
+    {
+        self.note(&[5], path.as_bytes(), &[]);
+    }
+
+    /// A file was to be removed.
+    pub fn removes(&mut self, path: &str)
+        ensures { self.new.entries ≡ self.old.entries ++ Removes path.now ∷ [] }
+    {
+        self.note(&[6], path.as_bytes(), &[]);
+    }
+
+    // A call of a path failed, of which the system said this.
+    fn fails(&mut self, path: &str, error: &io::Error)
+        ensures { self.new.entries ≡ self.old.entries ++ failed path.now (error_kind error.now) ∷ [] }
+    {
+        match error.kind() {
+            ErrorKind::NotFound => self.note(&[15], path.as_bytes(), &[]),
+            ErrorKind::OutOfMemory => self.note(&[16], path.as_bytes(), &[]),
+            _ => self.note(&[17], path.as_bytes(), &[]),
+        }
+    }
+}

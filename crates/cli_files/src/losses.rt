@@ -1,0 +1,181 @@
+//! What would be lost of an archive where a draft takes its place.
+
+ghost use Rattle.std.specs.Prelude.{◌≡◌, ◌≤◌, ◌∷◌, ◌++◌, IfOk, List, OnErr, OnOk, [], length, true};
+ghost use Rattle.std.specs.Io.KnownBytes.{ReadConsumes};
+ghost use Rattle.byte_device.specs.Devices.{stream};
+ghost use Rattle.archive_merge.specs.Losses.{Loses};
+ghost use Rattle.cli_files.specs.FileCalls.{Compares, FileCall, are_probes, first_bytes};
+ghost use Rattle.cli_files.specs.Publishing.{BeginsSo, IsTested};
+ghost use Rattle.cli_files.specs.Replacing.{GivesWay};
+ghost use Rattle.cli_files.specs.declared.replaceable.Replaces.TheVariants.{ArchivesBelow};
+
+use crate::file_calls::FileCalls;
+use crate::opened_file::LeadingBytes;
+use crate::replaceable::{Obstacle, OutFault, Replaces, test_kind};
+use crate::sides::{ArchiveSide, side_of};
+use crate::system_calls::System;
+use archive_merge::lost_operations;
+use archive_records::{MergeCause, MergeFault, RecordFaultKind};
+use byte_device::Source;
+use memory::Heap;
+use std::alloc::Global;
+use std::io::{self, ErrorKind, Read};
+use std::rt::Files;
+
+/// Tests whether an archive may take the place of what is at its target: nothing, an empty file, or an archive that has
+/// no record which the draft neither has nor covers.
+pub fn test_losses<F: Files>(
+    alloc: Global,
+    system: &System<'_, F>,
+    draft: &str,
+    target: &str,
+    calls: &mut FileCalls,
+) -> Result<(), OutFault>
+    ensures tested { OnOk result ((tests : List FileCall) × IsTested ArchivesBelow draft.now target.now tests
+        × (calls.new.entries ≡ calls.old.entries ++ tests)) }
+    ensures refused { OnErr result ((tests : List FileCall) × (are_probes tests ≡ true)
+        × (calls.new.entries ≡ calls.old.entries ++ tests)) }
+{
+    if given_way(system, target, Replaces::ArchivesBelow, calls)?.is_none() {
+        return Ok(());
+    }
+    match lost_at(alloc, system, draft, target, calls)? {
+        0 => Ok(()),
+        lost => Err(OutFault::NotReplaced(Obstacle::Loses(lost))),
+    }
+}
+
+/// How many records of the archive at the target the draft neither has nor covers.
+fn lost_at<F: Files>(
+    alloc: Global,
+    system: &System<'_, F>,
+    draft: &str,
+    target: &str,
+    calls: &mut FileCalls,
+) -> Result<u64, OutFault>
+    ensures lost { IfOk result
+        (λ lost. calls.new.entries ≡ calls.old.entries ++ Compares draft.now target.now lost ∷ []) }
+    ensures refused { OnErr result ((tests : List FileCall) × (are_probes tests ≡ true)
+        × (calls.new.entries ≡ calls.old.entries ++ tests)) }
+{
+    let heap = Heap::new(alloc)?;
+    let mut new = side_at(alloc, system, draft, calls)?;
+    let mut old = side_at(alloc, system, target, calls)?;
+    lost_between(&heap, &mut new, &mut old, calls)
+}
+
+/// How many records of the old archive the new one neither has nor covers.
+fn lost_between<'d, 't, R: Read + Drop>(
+    heap: &Heap,
+    new: &mut ArchiveSide<'d, R>,
+    old: &mut ArchiveSide<'t, R>,
+    calls: &mut FileCalls,
+) -> Result<u64, OutFault>
+    ensures lost { IfOk result (λ lost.
+        Loses (stream ⟦<ArchiveSide<'d, R> as Source>⟧.left ⟦<ArchiveSide<'d, R> as Source>⟧.failures new.old new.new)
+        (stream ⟦<ArchiveSide<'t, R> as Source>⟧.left ⟦<ArchiveSide<'t, R> as Source>⟧.failures old.old old.new)
+        lost) }
+    ensures noted { IfOk result (λ lost. calls.new.entries
+        ≡ calls.old.entries ++ Compares new.old.path.now old.old.path.now lost ∷ []) }
+    ensures refused { OnErr result (calls.new.entries ≡ calls.old.entries) }
+{
+    let (draft, target) = (new.path(), old.path());
+    match lost_operations(heap, new, old) {
+        Ok(lost) => {
+            calls.compares(draft, target, lost);
+            Ok(lost)
+        }
+        Err(fault) => Err(unread(fault, new.reason(), old.reason())),
+    }
+}
+
+/// What the file at a path begins with, which has to give way: `None` if it is empty, or nothing is there.
+pub fn given_way<F: Files>(
+    system: &System<'_, F>,
+    path: &str,
+    replaces: Replaces,
+    calls: &mut FileCalls,
+) -> Result<Option<LeadingBytes>, OutFault>
+    ensures begins { IfOk result (λ beginning. GivesWay replaces (first_bytes beginning)
+        × (tests : List FileCall) × BeginsSo path.now (first_bytes beginning) tests
+        × (calls.new.entries ≡ calls.old.entries ++ tests)) }
+    ensures refused { OnErr result ((tests : List FileCall) × (are_probes tests ≡ true)
+        × (calls.new.entries ≡ calls.old.entries ++ tests)) }
+{
+    let beginning = match beginning_at(system, path, calls) {
+        Ok(beginning) => beginning,
+        Err(error) => return Err(refused(error)),
+    };
+    test_kind(replaces, &beginning)?;
+    Ok(beginning)
+}
+
+/// The first bytes of the file at a path: `None` if it is empty, or nothing is there.
+fn beginning_at<F: Files>(
+    system: &System<'_, F>,
+    path: &str,
+    calls: &mut FileCalls,
+) -> io::Result<Option<LeadingBytes>>
+    ensures begins { IfOk result (λ beginning. (tests : List FileCall) × BeginsSo path.now (first_bytes beginning) tests
+        × (calls.new.entries ≡ calls.old.entries ++ tests)) }
+    ensures refused { OnErr result ((tests : List FileCall) × (are_probes tests ≡ true)
+        × (calls.new.entries ≡ calls.old.entries ++ tests)) }
+{
+    let size = match system.metadata(path, calls) {
+        Ok(there) => there.size,
+        Err(error) if error.kind() == ErrorKind::NotFound => return Ok(None),
+        Err(error) => return Err(error),
+    };
+    system.open(path, false, calls)?.beginning(size, calls)
+}
+
+/// The archive at a path, read from its beginning.
+fn side_at<'p, F: Files>(
+    alloc: Global,
+    system: &System<'_, F>,
+    path: &'p str,
+    calls: &mut FileCalls,
+) -> Result<ArchiveSide<'p, F::File>, OutFault>
+    ensures path { IfOk result (λ side. side.path.now ≡ path.now) }
+    ensures opened { OnOk result (calls.new.entries ≡ calls.old.entries) }
+    ensures refused { OnErr result ((tests : List FileCall) × (are_probes tests ≡ true)
+        × (calls.new.entries ≡ calls.old.entries ++ tests)) }
+{
+    let opened = match system.open(path, false, calls) {
+        Ok(opened) => opened,
+        Err(error) => return Err(refused(error)),
+    };
+    match side_of(alloc, opened) {
+        Ok(side) => Ok(side),
+        Err(error) => Err(refused(error)),
+    }
+}
+
+/// The fault where the system refused.
+fn refused(error: io::Error) -> OutFault {
+    if error.kind() == ErrorKind::OutOfMemory {
+        OutFault::OutOfMemory
+    } else {
+        OutFault::NotReplaced(Obstacle::Refused(Some(error)))
+    }
+}
+
+/// The fault where one of the two archives was not read to its end, with what the system said of each. The draft was
+/// written by this command: where it cannot be read, its device is why.
+fn unread(
+    fault: MergeFault,
+    of_draft: Option<io::Error>,
+    of_target: Option<io::Error>,
+) -> OutFault {
+    match fault.cause {
+        MergeCause::Left(fault) | MergeCause::Right(fault)
+            if fault.kind == RecordFaultKind::OutOfMemory => OutFault::OutOfMemory,
+        MergeCause::Right(fault) if fault.kind == RecordFaultKind::Device => {
+            OutFault::NotReplaced(Obstacle::Refused(of_target))
+        }
+        MergeCause::Right(_) => OutFault::NotReplaced(Obstacle::Damaged),
+        MergeCause::Left(_) | MergeCause::Write => {
+            OutFault::NotReplaced(Obstacle::Refused(of_draft))
+        }
+    }
+}

@@ -1,0 +1,119 @@
+//! A file of the system that was opened to be read, and is closed at its end.
+
+ghost use Rattle.std.specs.Prelude.{◌≡◌, ◌≤◌, ◌<◌, None, Ok, IfOk, ◌∷◌, [], length};
+ghost use Rattle.std.specs.Io.KnownBytes.{ReadConsumes};
+ghost use Rattle.cli_files.specs.Opened.{left_of};
+
+use crate::call_log::CallLog;
+use byte_device::{Failed, Reading, Source};
+use std::io::{self, Read};
+
+/// How many of the first bytes of a file are kept.
+pub const LEADING_LEN: usize = 8;
+
+/// The first bytes of a file, as far as it was read, with zeros after them.
+pub type LeadingBytes = [u8; LEADING_LEN];
+
+/// The reader of a file that was opened at a path. It is closed at its end, and gives no more bytes then.
+#[derive(Drop)]
+pub struct OpenedFile<R> {
+    // None where it is closed.
+    reading: Option<Reading<R>>,
+    failures: u64,
+    leading_bytes: LeadingBytes,
+    read: usize,
+    // Its path, which only clauses read.
+    at: CallLog,
+}
+
+impl<R: Read + Drop> OpenedFile<R> {
+    /// The file that this reader reads, which was opened at this path.
+    pub fn new(reader: R, path: &str) -> Self
+        ensures { result.at.entries ≡ path.now ∷ [] }
+    {
+        let mut at = CallLog::new();
+        at.note(path.as_bytes());
+        OpenedFile {
+            reading: Some(Reading::new(reader)),
+            failures: 0,
+            leading_bytes: [0; LEADING_LEN],
+            read: 0,
+            at,
+        }
+    }
+
+    /// Why it could not be read, if it could not.
+    pub fn reason(&self) -> Option<io::Error> {
+        match &self.reading {
+            Some(reading) => reading.reason(),
+            None => None,
+        }
+    }
+
+    /// Its first bytes.
+    pub fn leading_bytes(&self) -> LeadingBytes {
+        self.leading_bytes
+    }
+}
+
+/// Keeps bytes that come after so many, where they are among the first, and gives how many came then.
+pub(crate) fn keep(leading_bytes: &mut LeadingBytes, read: usize, bytes: &[u8]) -> usize {
+    if read >= LEADING_LEN {
+        return read;
+    }
+    let most = bytes.len().min(LEADING_LEN - read);
+    leading_bytes[read..read + most].copy_from_slice(&bytes[..most]);
+    read + most
+}
+
+/// Takes bytes of a file, and closes it where there are no more.
+fn pull_open<R: Read + Drop>(
+    reading: &mut Option<Reading<R>>,
+    buf: &mut [u8],
+) -> Result<usize, Failed>
+    ensures bound { IfOk result (λ n. n ≤ length buf.new) }
+    ensures bytes { ReadConsumes (left_of ⟦<Reading<R> as Source>⟧.left reading.old)
+        (left_of ⟦<Reading<R> as Source>⟧.left reading.new) result buf.new }
+    ensures closed { result ≡ Ok 0 → 0 < length buf.new → reading.new ≡ None }
+{
+    let Some(open) = reading else {
+        return Ok(0);
+    };
+    let taken = open.pull(buf)?;
+    if taken == 0 && !buf.is_empty() {
+        *reading = None;
+    }
+    Ok(taken)
+}
+
+impl<R: Read + Drop> Source for OpenedFile<R> {
+    ghost use Rattle.byte_device.specs.Devices.{CountsFailure};
+
+    ghost left = { λ file. left_of ⟦<Reading<R> as Source>⟧.left file.reading };
+
+    ghost failures = { λ file. file.failures };
+
+    fn pull(&mut self, buf: &mut [u8]) -> Result<usize, Failed>
+        ensures bound { IfOk result (λ n. n ≤ length buf.new) }
+        ensures bytes { ReadConsumes (left_of ⟦<Reading<R> as Source>⟧.left self.old.reading)
+            (left_of ⟦<Reading<R> as Source>⟧.left self.new.reading) result buf.new }
+        ensures count { CountsFailure self.old.failures self.new.failures result }
+
+        // At its end it is closed.
+        ensures closed { result ≡ Ok 0 → 0 < length buf.new → self.new.reading ≡ None }
+    {
+        if self.failures == u64::MAX {
+            return Err(Failed);
+        }
+        match pull_open(&mut self.reading, buf) {
+            Ok(taken) => {
+                self.read = keep(&mut self.leading_bytes, self.read, &buf[..taken]);
+                Ok(taken)
+            }
+            Err(Failed) => {
+                self.failures += 1;
+                Err(Failed)
+            }
+        }
+    }
+}

@@ -1,0 +1,393 @@
+//! OUT, whose draft is created with its first bytes, and published when it is whole. What the files hold is in no
+//! contract; what was called of the system is.
+
+ghost use Rattle.std.specs.Prelude.{◌≡◌, ◌≢◌, ◌⊎◌, ◌≤◌, ◌<◌, ◌-◌, ◌^◌, ℕ, List, Option, None, Some, IfSome, IfOk};
+ghost use Rattle.std.specs.Prelude.{IsSome, OnErr, OnOk, length, true, false, [], option_map, string_bytes};
+ghost use Rattle.cli_files.specs.FileCalls.{are_probes, bytes_in};
+ghost use Rattle.cli_files.specs.OutFiles.{IsSoFar, Settled, Untouched, WritesBegun, WritesTo};
+ghost use Rattle.cli_files.specs.OutFiles.{draft_account, fault_of};
+ghost use Rattle.cli_files.specs.OutFiles.{has_calls, is_drafted, is_settled, stage_of, takes_bytes};
+ghost use Rattle.cli_files.specs.declared.replaceable.Replaces.{Replaces};
+ghost use Rattle.cli_files.specs.declared.replaceable.Replaces.TheVariants.{ArchivesBelow};
+ghost use Rattle.cli_files.specs.Publishing.{HandsOn, IsRemoved, took_nothing};
+
+use crate::drafts::{Draft, create_draft, put_draft, remove_draft};
+use crate::file_calls::FileCalls;
+use crate::published::Published;
+use crate::replaceable::{Obstacle, OutFault, Replaces};
+use crate::system_calls::System;
+use crate::ways::{Way, way_to};
+use byte_device::{Failed, Sink};
+use std::alloc::Global;
+use std::io::{self, Write};
+use std::mem;
+use std::rt::Files;
+
+/// How often a device fails at most.
+pub const MOST_FAILURES: u64 = u64::MAX;
+
+/// OUT before it is published. It begins with the first bytes, so that a command that is refused before them leaves
+/// nothing; a push of no bytes begins nothing. Bytes go to a draft beside OUT, or to OUT where that is no regular file.
+#[derive(Drop)]
+pub struct OutFile<'a, F: Files> {
+    alloc: Global,
+    system: System<'a, F>,
+    process: u32,
+    path: Option<String>,
+    replaces: Replaces,
+    state: OutState<F::File>,
+    failures: u64,
+    /// Why it took no bytes last, if the system said.
+    reason: Option<io::Error>,
+    calls: FileCalls,
+    // What was called is what its state says: nothing before the first bytes and once it was handed on, and nothing
+    // where neither bytes nor a failure came.
+    ghost so_far: { ∥ IsSoFar replaces (option_map string_bytes path) (stage_of state) calls.entries ∥₁ },
+    ghost empty: { has_calls (stage_of state) ≡ false → calls.entries ≡ [] },
+    ghost first: { took_nothing (bytes_in calls.entries) failures ≡ true → calls.entries ≡ [] },
+}
+
+/// How far an [`OutFile`] is.
+#[derive(Drop)]
+enum OutState<T> {
+    /// No byte came.
+    Untouched,
+    /// Bytes go to what is at the path.
+    Through(T),
+    /// Bytes go to a draft.
+    Drafted(Draft<T>),
+    /// It could not be begun, or not be published.
+    Refused(OutFault),
+    /// Its draft was removed.
+    Removed,
+    /// It was published, and what was called for it handed on.
+    Settled,
+}
+
+/// What bytes go to first, where OUT has this path.
+#[tactic(auto, using(crate::proofs::Publishings::begun_drafted, crate::proofs::Publishings::probes_bytes))]
+fn begun<F: Files>(
+    alloc: Global,
+    system: &System<'_, F>,
+    process: u32,
+    path: &str,
+    replaces: Replaces,
+    calls: &mut FileCalls,
+) -> Result<OutState<F::File>, OutFault>
+    ensures calls { calls.old.entries ≡ [] → IfOk result
+        (λ state. IsSoFar replaces (Some path.now) (stage_of state) calls.new.entries) }
+    ensures bytes { calls.old.entries ≡ [] → bytes_in calls.new.entries ≡ [] }
+    ensures begun { IfOk result (λ state. has_calls (stage_of state) ≡ true) }
+    ensures refused { calls.old.entries ≡ [] → OnErr result (are_probes calls.new.entries ≡ true) }
+{
+    match way_to(alloc, system, path, replaces, calls)? {
+        Way::Through => match system.create(path, calls) {
+            Ok(file) => Ok(OutState::Through(file)),
+            Err(error) => Err(OutFault::NotCreated(Some(error))),
+        },
+        Way::Beside(target, there) => {
+            let draft = create_draft(alloc, system, process, target, there, calls)?;
+            Ok(OutState::Drafted(draft))
+        }
+    }
+}
+
+/// How far OUT is once it was begun; without a path there is none.
+fn first_state<F: Files>(
+    alloc: Global,
+    system: &System<'_, F>,
+    process: u32,
+    path: &Option<String>,
+    replaces: Replaces,
+    calls: &mut FileCalls,
+) -> OutState<F::File>
+    ensures calls { calls.old.entries ≡ []
+        → IsSoFar replaces (option_map string_bytes path.now) (stage_of result) calls.new.entries }
+    ensures bytes { calls.old.entries ≡ [] → bytes_in calls.new.entries ≡ [] }
+    ensures begun { has_calls (stage_of result) ≡ true }
+{
+    let Some(path) = path else {
+        return OutState::Refused(OutFault::NotCreated(None));
+    };
+    match begun(alloc, system, process, path, replaces, calls) {
+        Ok(state) => state,
+        Err(fault) => OutState::Refused(fault),
+    }
+}
+
+/// Begins OUT where no bytes came before.
+fn begin<F: Files>(
+    alloc: Global,
+    system: &System<'_, F>,
+    process: u32,
+    path: &Option<String>,
+    replaces: Replaces,
+    state: &mut OutState<F::File>,
+    calls: &mut FileCalls,
+)
+    ensures so_far { IsSoFar replaces (option_map string_bytes path.now) (stage_of state.old) calls.old.entries
+        → IsSoFar replaces (option_map string_bytes path.now) (stage_of state.new) calls.new.entries }
+    ensures bytes { (has_calls (stage_of state.old) ≡ false → calls.old.entries ≡ [])
+        → bytes_in calls.new.entries ≡ bytes_in calls.old.entries }
+    ensures empty { (has_calls (stage_of state.old) ≡ false → calls.old.entries ≡ [])
+        → has_calls (stage_of state.new) ≡ false → calls.new.entries ≡ [] }
+    ensures settled { is_settled (stage_of state.new) ≡ is_settled (stage_of state.old) }
+    ensures same { stage_of state.old ≢ Untouched → state.new ≡ state.old }
+{
+    if let OutState::Untouched = state {
+        *state = first_state(alloc, system, process, path, replaces, calls);
+    }
+}
+
+/// Writes some first bytes, and says how many; `Err` with what the system said where the file took none, and with
+/// `None` where there is no file.
+fn write<T: Write>(state: &mut OutState<T>, bytes: &[u8]) -> Result<usize, Option<io::Error>>
+    ensures bound { IfOk result (λ n. n ≤ length bytes.now) }
+    ensures bytes { WritesTo T.contents state.old state.new result bytes.now }
+    ensures stage { stage_of state.new ≡ stage_of state.old }
+    ensures takes { OnOk result (takes_bytes (stage_of state.new) ≡ true) }
+{
+    match state {
+        OutState::Through(file) => file.write(bytes).map_err(Some),
+        OutState::Drafted(draft) => draft.own.write(bytes).map_err(Some),
+        OutState::Untouched | OutState::Refused(_) | OutState::Removed | OutState::Settled => Err(
+            None,
+        ),
+    }
+}
+
+/// Publishes what was written, and tells whether that was done. A draft that could not be put there is removed.
+fn finish<F: Files>(
+    alloc: Global,
+    system: &System<'_, F>,
+    replaces: Replaces,
+    state: &mut OutState<F::File>,
+    calls: &mut FileCalls,
+) -> bool
+    ensures published { result ≡ true → (path : Option (List ℕ)) → IsSoFar replaces path (stage_of state.old) calls.old.entries
+        → HandsOn path replaces calls.new.entries }
+    ensures settled { result ≡ true → stage_of state.new ≡ Settled }
+    ensures was_open { result ≡ true → is_settled (stage_of state.old) ≡ false }
+    ensures refused { result ≡ false → (path : Option (List ℕ)) → IsSoFar replaces path (stage_of state.old) calls.old.entries
+        → IsSoFar replaces path (stage_of state.new) calls.new.entries }
+    ensures same { result ≡ false → is_settled (stage_of state.new) ≡ is_settled (stage_of state.old) }
+    ensures bytes { bytes_in calls.new.entries ≡ bytes_in calls.old.entries }
+    ensures same_calls { result ≡ false
+        → (is_drafted (stage_of state.old) ≡ true) ⊎ (calls.new.entries ≡ calls.old.entries) }
+    ensures has_calls { result ≡ false → has_calls (stage_of state.new) ≡ has_calls (stage_of state.old) }
+{
+    match mem::replace(state, OutState::Settled) {
+        OutState::Through(_) => true,
+        OutState::Drafted(draft) => match put_draft(alloc, system, &draft, replaces, calls) {
+            Ok(()) => true,
+            Err(fault) => {
+                *state = OutState::Refused(fault);
+                false
+            }
+        },
+        other => {
+            *state = other;
+            false
+        }
+    }
+}
+
+/// Removes the draft of an output that was not published.
+fn remove<F: Files>(system: &System<'_, F>, state: &mut OutState<F::File>, calls: &mut FileCalls)
+    ensures so_far { (replaces : Replaces) (path : Option (List ℕ)) → IsSoFar replaces path (stage_of state.old) calls.old.entries
+        → IsSoFar replaces path (stage_of state.new) calls.new.entries }
+    ensures removed { (replaces : Replaces) (path : Option (List ℕ)) → IsSoFar replaces path (stage_of state.old) calls.old.entries
+        → IsRemoved replaces path calls.new.entries }
+    ensures bytes { bytes_in calls.new.entries ≡ bytes_in calls.old.entries }
+    ensures same_calls { (is_drafted (stage_of state.old) ≡ true) ⊎ (calls.new.entries ≡ calls.old.entries) }
+    ensures has_calls { has_calls (stage_of state.new) ≡ has_calls (stage_of state.old) }
+    ensures settled { is_settled (stage_of state.new) ≡ is_settled (stage_of state.old) }
+    ensures fault { fault_of (stage_of state.new) ≡ fault_of (stage_of state.old) }
+{
+    match mem::replace(state, OutState::Removed) {
+        OutState::Drafted(draft) => remove_draft(system, &draft, calls),
+        other => *state = other,
+    }
+}
+
+impl<'a, F: Files> OutFile<'a, F> {
+    /// A file without a path, which is never begun. Drafts are named for this process.
+    pub fn new(alloc: Global, files: &'a F, process: u32) -> Self
+        ensures path { result.path ≡ None }
+        ensures replaces { result.replaces ≡ ArchivesBelow }
+        ensures untouched { stage_of result.state ≡ Untouched }
+        ensures unfailed { result.failures ≡ 0 }
+        ensures calls { result.calls.entries ≡ [] }
+    {
+        OutFile {
+            alloc,
+            system: System::new(files),
+            process,
+            path: None,
+            replaces: Replaces::ArchivesBelow,
+            state: OutState::Untouched,
+            failures: 0,
+            reason: None,
+            calls: FileCalls::new(),
+        }
+    }
+
+    /// Takes a path.
+    pub fn take_path(&mut self, path: String)
+        requires { stage_of self.old.state ≡ Untouched }
+        ensures path { self.new.path ≡ Some path }
+        ensures replaces { self.new.replaces ≡ self.old.replaces }
+        ensures state { self.new.state ≡ self.old.state }
+        ensures failures { self.new.failures ≡ self.old.failures }
+        ensures calls { self.new.calls ≡ self.old.calls }
+    {
+        self.path = Some(path);
+    }
+
+    /// Takes which files that are at its path may be replaced.
+    pub fn take_rule(&mut self, replaces: Replaces)
+        requires { stage_of self.old.state ≡ Untouched }
+        ensures path { self.new.path ≡ self.old.path }
+        ensures replaces { self.new.replaces ≡ replaces }
+        ensures state { self.new.state ≡ self.old.state }
+        ensures failures { self.new.failures ≡ self.old.failures }
+        ensures calls { self.new.calls ≡ self.old.calls }
+    {
+        self.replaces = replaces;
+    }
+
+    /// Why it was not begun, or not published, if it was not.
+    pub fn fault(&self) -> Option<OutFault>
+        ensures { result ≡ fault_of (stage_of self.now.state) }
+    {
+        match self.state {
+            OutState::Refused(fault) => Some(fault),
+            _ => None,
+        }
+    }
+
+    /// What the system said where it failed, if it did.
+    pub fn reason(&self) -> Option<io::Error> {
+        match self.state {
+            OutState::Refused(
+                OutFault::NotCreated(reason) | OutFault::NotReplaced(Obstacle::Refused(reason)),
+            ) => reason,
+            _ => self.reason,
+        }
+    }
+
+    /// Why what is at its path was not replaced, if it was not.
+    pub fn obstacle(&self) -> Option<Obstacle> {
+        match self.state {
+            OutState::Refused(OutFault::NotReplaced(obstacle)) => Some(obstacle),
+            _ => None,
+        }
+    }
+
+    /// Publishes what was written, and hands on what was called for it. A draft that could not be put there is
+    /// removed.
+    pub fn settle(&mut self) -> Option<Published>
+        ensures published { IfSome result (λ published.
+            (Some (string_bytes published.path) ≡ option_map string_bytes self.old.path)
+            × (published.replaces ≡ self.old.replaces)
+            × (bytes_in published.calls.entries ≡ bytes_in self.old.calls.entries)
+            × (is_settled (stage_of self.old.state) ≡ false)) }
+        ensures settled { IsSome result → stage_of self.new.state ≡ Settled }
+        ensures kept { result ≡ None
+            → (self.new.path ≡ self.old.path) × (self.new.replaces ≡ self.old.replaces)
+            × (bytes_in self.new.calls.entries ≡ bytes_in self.old.calls.entries)
+            × (is_settled (stage_of self.new.state) ≡ is_settled (stage_of self.old.state)) }
+        ensures failures { self.new.failures ≡ self.old.failures }
+    {
+        if !finish(
+            self.alloc,
+            &self.system,
+            self.replaces,
+            &mut self.state,
+            &mut self.calls,
+        ) {
+            return None;
+        }
+        let calls = mem::replace(&mut self.calls, FileCalls::new());
+        match mem::replace(&mut self.path, None) {
+            Some(path) => Some(Published {
+                path,
+                replaces: self.replaces,
+                calls,
+            }),
+            None => unreachable!(),
+        }
+    }
+
+    /// Removes the draft of an output that was not published.
+    pub fn discard(&mut self)
+        ensures removed { ∥ IsRemoved self.new.replaces (option_map string_bytes self.new.path) self.new.calls.entries ∥₁ }
+        ensures path { self.new.path ≡ self.old.path }
+        ensures replaces { self.new.replaces ≡ self.old.replaces }
+        ensures bytes { bytes_in self.new.calls.entries ≡ bytes_in self.old.calls.entries }
+        ensures failures { self.new.failures ≡ self.old.failures }
+        ensures settled { is_settled (stage_of self.new.state) ≡ is_settled (stage_of self.old.state) }
+        ensures fault { fault_of (stage_of self.new.state) ≡ fault_of (stage_of self.old.state) }
+    {
+        remove(&self.system, &mut self.state, &mut self.calls);
+    }
+}
+
+impl<'a, F: Files> Sink for OutFile<'a, F> {
+    ghost use Rattle.std.specs.Prelude.{Some};
+    ghost use Rattle.std.specs.Io.KnownBytes.{WriteAppends};
+    ghost use Rattle.byte_device.specs.Devices.{CountsFailure};
+
+    ghost held = { λ s. Some (draft_account (is_settled (stage_of s.state)) (option_map string_bytes s.path)
+        s.replaces s.calls.entries) };
+
+    ghost failures = { λ s. s.failures };
+
+    fn push(&mut self, bytes: &[u8]) -> Result<usize, Failed>
+        ensures bound { IfOk result (λ n. n ≤ length bytes.now) }
+        ensures some { 0 < length bytes.now → IfOk result (λ n. 0 < n) }
+        ensures bytes { WriteAppends
+            (Some (draft_account (is_settled (stage_of self.old.state)) (option_map string_bytes self.old.path)
+            self.old.replaces self.old.calls.entries))
+            (Some (draft_account (is_settled (stage_of self.new.state)) (option_map string_bytes self.new.path)
+            self.new.replaces self.new.calls.entries)) result bytes.now }
+        ensures count { CountsFailure self.old.failures self.new.failures result }
+
+        // The bytes that it is given are what is written.
+        ensures written { 0 < length bytes.now → self.old.failures ≢ 2 ^ 64 - 1
+            → WritesBegun ⟦<F::File as Write>⟧.contents self.old.state self.new.state result bytes.now }
+
+        // No bytes begin nothing, and what was not begun or not published stays so.
+        ensures path { self.new.path ≡ self.old.path }
+        ensures replaces { self.new.replaces ≡ self.old.replaces }
+        ensures empty { bytes.now ≡ [] → self.new.state ≡ self.old.state }
+        ensures taken { IfOk result (λ n. 0 < n → takes_bytes (stage_of self.new.state) ≡ true) }
+    {
+        if self.failures == MOST_FAILURES {
+            return Err(Failed);
+        }
+        if bytes.is_empty() {
+            return Ok(0);
+        }
+        begin(
+            self.alloc,
+            &self.system,
+            self.process,
+            &self.path,
+            self.replaces,
+            &mut self.state,
+            &mut self.calls,
+        );
+        match write(&mut self.state, bytes) {
+            Ok(n) if n > 0 => {
+                self.calls.writes(&bytes[..n]);
+                Ok(n)
+            }
+            taken => {
+                self.reason = taken.err().flatten();
+                self.failures += 1;
+                Err(Failed)
+            }
+        }
+    }
+}

@@ -1,0 +1,17 @@
+//! A published output.
+
+ghost use Rattle.std.specs.Prelude.{string_bytes};
+ghost use Rattle.cli_files.specs.FileCalls.{bytes_in};
+ghost use Rattle.cli_files.specs.Publishing.{IsPublished};
+
+use crate::file_calls::FileCalls;
+use crate::replaceable::Replaces;
+
+/// The path of a published output, which files could be replaced there, and what was called for it.
+#[derive(Drop)]
+pub struct Published {
+    pub path: String,
+    pub replaces: Replaces,
+    pub calls: FileCalls,
+    ghost whole: { ∥ IsPublished (string_bytes path) replaces (bytes_in calls.entries) calls.entries ∥₁ },
+}

@@ -1,0 +1,123 @@
+//! Whether what is at OUT has no other bytes than a draft, as the system gives them.
+
+ghost use Rattle.std.specs.Prelude.{◌≡◌, ◌≢◌, ◌∷◌, ◌++◌, ◌⊎◌, ℕ, List, IfOk, OnErr, OnOk, [], length, true, false};
+ghost use Rattle.std.specs.List.{concat};
+ghost use Rattle.cli_files.specs.FileCalls.{FileCall, Gives, are_probes};
+ghost use Rattle.cli_files.specs.Publishing.{AreOther, AreSame, IsEmptyAt, IsTested, both_give};
+ghost use Rattle.cli_files.specs.declared.replaceable.Replaces.TheVariants.{SameBytes};
+
+use crate::file_calls::FileCalls;
+use crate::replaceable::{Obstacle, OutFault};
+use crate::system_calls::{Opened, System};
+use std::io::{self, ErrorKind, Read};
+use std::rt::Files;
+
+/// How many bytes of a file are compared at a time.
+const PIECE: usize = 8 * 1024;
+
+/// Tests whether a draft may take the place of what is at its target: nothing, an empty file, or one that has the very
+/// bytes of the draft.
+pub fn test_sameness<F: Files>(
+    system: &System<'_, F>,
+    draft: &str,
+    target: &str,
+    calls: &mut FileCalls,
+) -> Result<(), OutFault>
+    ensures tested { OnOk result ((tests : List FileCall) × IsTested SameBytes draft.now target.now tests
+        × (calls.new.entries ≡ calls.old.entries ++ tests)) }
+    ensures refused { OnErr result ((tests : List FileCall) × (are_probes tests ≡ true)
+        × (calls.new.entries ≡ calls.old.entries ++ tests)) }
+{
+    match agrees(system, draft, target, calls) {
+        Ok(true) => Ok(()),
+        Ok(false) => Err(OutFault::NotReplaced(Obstacle::Differs)),
+        Err(error) => Err(OutFault::NotReplaced(Obstacle::Refused(Some(error)))),
+    }
+}
+
+/// Whether nothing or an empty file is at a path, or one that has the bytes of a draft.
+fn agrees<F: Files>(
+    system: &System<'_, F>,
+    draft: &str,
+    target: &str,
+    calls: &mut FileCalls,
+) -> io::Result<bool>
+    ensures agrees { IfOk result (λ same. same ≡ true → (tests : List FileCall)
+        × (IsEmptyAt target.now tests ⊎ AreSame draft.now target.now tests)
+        × (calls.new.entries ≡ calls.old.entries ++ tests)) }
+    ensures differs { IfOk result (λ same. same ≡ false → (tests : List FileCall)
+        × AreOther draft.now target.now tests × (calls.new.entries ≡ calls.old.entries ++ tests)) }
+    ensures refused { OnErr result ((tests : List FileCall) × (are_probes tests ≡ true)
+        × (calls.new.entries ≡ calls.old.entries ++ tests)) }
+{
+    let there = match system.metadata(target, calls) {
+        Ok(there) => there,
+        Err(error) if error.kind() == ErrorKind::NotFound => return Ok(true),
+        Err(error) => return Err(error),
+    };
+    if there.size == 0 {
+        return Ok(true);
+    }
+    if there.size != system.metadata(draft, calls)?.size {
+        return Ok(false);
+    }
+    let mut first = system.open(draft, false, calls)?;
+    let mut second = system.open(target, false, calls)?;
+    have_same(&mut first, &mut second, there.size, calls)
+}
+
+/// Whether the next pieces of two files, which are as long as these buffers, are the same.
+fn has_same_piece<R: Read>(
+    first: &mut Opened<'_, R>,
+    second: &mut Opened<'_, R>,
+    of_first: &mut [u8],
+    of_second: &mut [u8],
+    calls: &mut FileCalls,
+) -> io::Result<bool>
+    requires { length of_first.old ≡ length of_second.old }
+    ensures same { IfOk result (λ same. same ≡ true → (piece : List ℕ) × (length piece ≡ length of_first.old)
+        × (calls.new.entries ≡ calls.old.entries ++ Gives first.old.path.now piece ∷ Gives second.old.path.now piece ∷ [])) }
+    ensures differs { IfOk result (λ same. same ≡ false → (a : List ℕ) × (b : List ℕ) × (a ≢ b)
+        × (calls.new.entries ≡ calls.old.entries ++ Gives first.old.path.now a ∷ Gives second.old.path.now b ∷ [])) }
+    ensures refused { OnErr result ((tests : List FileCall) × (are_probes tests ≡ true)
+        × (calls.new.entries ≡ calls.old.entries ++ tests)) }
+    ensures paths { (first.new.path.now ≡ first.old.path.now) × (second.new.path.now ≡ second.old.path.now) }
+{
+    first.read_exact(of_first, calls)?;
+    second.read_exact(of_second, calls)?;
+    Ok(&*of_first == &*of_second)
+}
+
+/// Whether the first bytes of two files, so many, are the same.
+fn have_same<R: Read>(
+    first: &mut Opened<'_, R>,
+    second: &mut Opened<'_, R>,
+    count: u64,
+    calls: &mut FileCalls,
+) -> io::Result<bool>
+    ensures same { IfOk result (λ same. same ≡ true → (pieces : List (List ℕ)) × (length (concat pieces) ≡ count)
+        × (calls.new.entries ≡ calls.old.entries ++ both_give first.old.path.now second.old.path.now pieces)) }
+    ensures differs { IfOk result (λ same. same ≡ false → (pieces : List (List ℕ)) × (a : List ℕ) × (b : List ℕ) × (a ≢ b)
+        × (calls.new.entries ≡ calls.old.entries ++ both_give first.old.path.now second.old.path.now pieces
+        ++ Gives first.old.path.now a ∷ Gives second.old.path.now b ∷ [])) }
+    ensures refused { OnErr result ((tests : List FileCall) × (are_probes tests ≡ true)
+        × (calls.new.entries ≡ calls.old.entries ++ tests)) }
+{
+    let mut left = count;
+    let mut of_first = [0; PIECE];
+    let mut of_second = [0; PIECE];
+    'pieces: while left > 0 {
+        let size = left.min(PIECE as u64) as usize;
+        if !has_same_piece(
+            first,
+            second,
+            &mut of_first[..size],
+            &mut of_second[..size],
+            calls,
+        )? {
+            return Ok(false);
+        }
+        left -= size as u64;
+    }
+    Ok(true)
+}

@@ -1,0 +1,126 @@
+//! How OUT is written: what its path leads to, as the system says it. A call that asks is noted with its answer.
+
+ghost use Rattle.std.specs.Prelude.{◌≡◌, ◌∷◌, [], IfOk, List, OnErr, Some, string_bytes, true};
+ghost use Rattle.cli_files.specs.declared.replaceable.Replaces.{Replaces};
+ghost use Rattle.cli_files.specs.FileCalls.{FileCall, Finds, FindsNothing, are_probes};
+ghost use Rattle.cli_files.specs.OutFiles.{IsWayTo};
+ghost use Rattle.cli_files.specs.Publishing.{FindsReplaced, IsDescriptor, IsTargetOf, there};
+ghost use Rattle.cli_files.specs.declared.found.Found.{Found};
+
+use crate::descriptors::is_descriptor;
+use crate::file_calls::FileCalls;
+use crate::found::Found;
+use crate::replaceable::{Obstacle, OutFault, Replaces, test_kind};
+use crate::system_calls::System;
+use std::alloc::Global;
+use std::io::{self, ErrorKind};
+use std::rt::Files;
+
+/// How OUT is written.
+#[derive(Drop)]
+pub enum Way {
+    /// To what is there, which is no regular file, or a descriptor.
+    Through,
+    /// To a draft beside this path, where no symbolic link is; and what is there, if a file is.
+    Beside(String, Option<Found>),
+}
+
+/// How OUT is written that has this path, where a command replaces these files.
+///
+/// What is no regular file is written to, and so is a descriptor, which others may hold. A symbolic link is followed;
+/// one that leads to nothing is refused.
+pub fn way_to<F: Files>(
+    alloc: Global,
+    system: &System<'_, F>,
+    path: &str,
+    replaces: Replaces,
+    calls: &mut FileCalls,
+) -> Result<Way, OutFault>
+    ensures way { calls.old.entries ≡ [] → IfOk result (λ way. IsWayTo replaces path.now way calls.new.entries) }
+    ensures refused { calls.old.entries ≡ [] → OnErr result (are_probes calls.new.entries ≡ true) }
+{
+    if is_descriptor(path) {
+        return Ok(Way::Through);
+    }
+    match system.metadata(path, calls) {
+        Ok(found) if found.is_file => replaced(alloc, system, path, replaces, found, calls),
+        Ok(_) => Ok(Way::Through),
+        Err(error) if error.kind() == ErrorKind::NotFound => {
+            absent(alloc, system, path, error, calls)
+        }
+        Err(error) => Err(OutFault::NotCreated(Some(error))),
+    }
+}
+
+/// The way to a path at which the system finds nothing, unless it is a link, or no file can have that path.
+fn absent<F: Files>(
+    alloc: Global,
+    system: &System<'_, F>,
+    path: &str,
+    error: io::Error,
+    calls: &mut FileCalls,
+) -> Result<Way, OutFault>
+    requires { IsDescriptor path.now → ⊥ }
+    ensures way { calls.old.entries ≡ FindsNothing path.now ∷ []
+        → IfOk result (λ way. (replaces : Replaces) → IsWayTo replaces path.now way calls.new.entries) }
+    ensures refused { calls.old.entries ≡ FindsNothing path.now ∷ []
+        → OnErr result (are_probes calls.new.entries ≡ true) }
+{
+    let is_no_name = path.is_empty() || path.ends_with('/');
+    if is_no_name || system.is_link(path, calls) {
+        return Err(OutFault::NotCreated(Some(error)));
+    }
+    Ok(Way::Beside(String::from_str(alloc, path)?, None))
+}
+
+/// The way to a regular file, which has to be one that may be written and that is replaced, by its first bytes.
+fn replaced<F: Files>(
+    alloc: Global,
+    system: &System<'_, F>,
+    path: &str,
+    replaces: Replaces,
+    found: Found,
+    calls: &mut FileCalls,
+) -> Result<Way, OutFault>
+    requires regular { found.is_file ≡ true }
+    requires no_descriptor { IsDescriptor path.now → ⊥ }
+    ensures way { calls.old.entries ≡ Finds path.now found ∷ []
+        → IfOk result (λ way. IsWayTo replaces path.now way calls.new.entries) }
+    ensures refused { calls.old.entries ≡ Finds path.now found ∷ []
+        → OnErr result (are_probes calls.new.entries ≡ true) }
+{
+    let mut file = match system.open(path, true, calls) {
+        Ok(file) => file,
+        Err(error) => return Err(OutFault::NotCreated(Some(error))),
+    };
+    let beginning = match file.beginning(found.size, calls) {
+        Ok(beginning) => beginning,
+        Err(error) => return Err(OutFault::NotReplaced(Obstacle::Refused(Some(error)))),
+    };
+    test_kind(replaces, &beginning)?;
+    let target = target_of(alloc, system, path, calls)?;
+    Ok(Way::Beside(target, Some(found)))
+}
+
+/// The path of the regular file that a path leads to: its own, unless it is a link.
+fn target_of<F: Files>(
+    alloc: Global,
+    system: &System<'_, F>,
+    path: &str,
+    calls: &mut FileCalls,
+) -> Result<String, OutFault>
+    ensures target { (replaces : Replaces) → FindsReplaced replaces path.now calls.old.entries
+        → IfOk result (λ target. IsTargetOf replaces path.now (string_bytes target) calls.new.entries) }
+    ensures found { (found : Found) (rest : List FileCall) → calls.old.entries ≡ Finds path.now found ∷ rest
+        → there calls.new.entries ≡ Some found }
+    ensures refused { are_probes calls.old.entries ≡ true → OnErr result (are_probes calls.new.entries ≡ true) }
+{
+    if !system.is_link(path, calls) {
+        return Ok(String::from_str(alloc, path)?);
+    }
+    match system.canonicalize(alloc, path, calls) {
+        Ok(target) => Ok(target),
+        Err(error) if error.kind() == ErrorKind::OutOfMemory => Err(OutFault::OutOfMemory),
+        Err(error) => Err(OutFault::NotCreated(Some(error))),
+    }
+}

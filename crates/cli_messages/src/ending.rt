@@ -1,0 +1,144 @@
+//! What the program says at its end, and its exit status.
+
+ghost use Rattle.std.specs.Prelude.{◌≡◌, ◌≢◌, Err, MatchResult, Ok};
+ghost use Rattle.std.specs.IoError.{error_kind};
+ghost use Rattle.command_common.specs.Outputs.{writer};
+ghost use Rattle.command_common.specs.Statuses.{status_of};
+ghost use Rattle.cli_arguments.specs.LineView.{line_view};
+ghost use Rattle.cli_messages.specs.Ending.{EndsLine, IsUnreadable, WantsMemory};
+ghost use Rattle.cli_messages.specs.StandardError.{SaysFailure, SaysNotes, behind_error, reason_in, without_line_feed};
+
+use crate::hints::{Seen, help_with};
+use crate::standard_error::{RefusedLine, say, say_help, say_notes, say_wanting};
+use byte_device::{Sink, push_all};
+use cli_arguments::{Line, LineFault};
+use command_common::{Failure, Status, status_of};
+use command_write::Note;
+use memory::Heap;
+use std::alloc::Global;
+use std::io::{self, ErrorKind};
+
+/// The exit status of help and of the version.
+const DONE: u8 = 0;
+
+/// The exit status of a command line that is refused.
+const BAD_LINE: u8 = 3;
+
+/// The exit status of want of memory.
+const OUT_OF_MEMORY: u8 = 4;
+
+/// Ends as a line did, of which the notes are said, or why it failed.
+pub fn end<E: Sink>(
+    alloc: Global,
+    line: &Line,
+    ended: Result<(Status, Vec<Note, Heap>), Failure>,
+    seen: Seen,
+    errors: &mut E,
+) -> u8
+    ensures says { MatchResult ended
+        (λ both. SaysNotes (writer E.held E.failures errors.old errors.new) both.1.items)
+        (λ failure. SaysFailure (writer E.held E.failures errors.old errors.new) (line_view line.now) failure) }
+    ensures status { MatchResult ended
+        (λ both. result ≡ status_of (Ok both.0))
+        (λ failure. result ≡ status_of (Err failure)) }
+{
+    match ended {
+        Ok((status, notes)) => {
+            say_notes(alloc, &notes, errors);
+            status_of(&Ok(status))
+        }
+        Err(failure) => {
+            say_failure(alloc, line, failure, seen, errors);
+            status_of(&Err(failure))
+        }
+    }
+}
+
+/// Says why a line failed, and after it what helps a person.
+fn say_failure<E: Sink>(alloc: Global, line: &Line, failure: Failure, seen: Seen, errors: &mut E)
+    ensures { SaysFailure (writer E.held E.failures errors.old errors.new) (line_view line.now) failure }
+{
+    if !say(alloc, &failure, errors) {
+        return;
+    }
+    if let Some(help) = help_with(line, &failure, seen) {
+        say_help(alloc, &help, errors);
+    }
+}
+
+/// Ends where the words ask for nothing.
+pub fn end_without_line<P: Sink, E: Sink>(
+    alloc: Global,
+    fault: LineFault,
+    report: &mut P,
+    errors: &mut E,
+) -> u8
+    ensures { EndsLine fault (writer P.held P.failures report.old report.new)
+        (writer E.held E.failures errors.old errors.new) result }
+{
+    match fault {
+        LineFault::Help(text) => {
+            let _ = push_all(report, text.as_bytes());
+            DONE
+        }
+        LineFault::Refused(text) => {
+            say(alloc, &RefusedLine(reason_in(&text)), errors);
+            BAD_LINE
+        }
+        LineFault::OutOfMemory => {
+            say_wanting(errors);
+            OUT_OF_MEMORY
+        }
+    }
+}
+
+/// The reason in the text of a refused line, which begins with `error: ` and ends with a line feed.
+fn reason_in(text: &str) -> &str
+    ensures { result.now ≡ reason_in text.now }
+{
+    behind_error(without_line_feed(text))
+}
+
+fn without_line_feed(text: &str) -> &str
+    ensures { result.now ≡ without_line_feed text.now }
+{
+    match text.strip_suffix("\n") {
+        Some(line) => line,
+        None => text,
+    }
+}
+
+fn behind_error(text: &str) -> &str
+    ensures { result.now ≡ behind_error text.now }
+{
+    match text.strip_prefix("error: ") {
+        Some(reason) => reason,
+        None => text,
+    }
+}
+
+/// Refuses words that could not be read: there was no memory for them, or one is no text.
+pub fn refuse_words<P: Sink, E: Sink>(
+    alloc: Global,
+    error: &io::Error,
+    report: &mut P,
+    errors: &mut E,
+) -> u8
+    ensures memory { error_kind error.now ≡ ErrorKind.OutOfMemory
+        → WantsMemory (writer P.held P.failures report.old report.new)
+        (writer E.held E.failures errors.old errors.new) result }
+    ensures text { error_kind error.now ≢ ErrorKind.OutOfMemory
+        → IsUnreadable (writer P.held P.failures report.old report.new)
+        (writer E.held E.failures errors.old errors.new) result }
+{
+    if error.kind() == ErrorKind::OutOfMemory {
+        end_without_line(alloc, LineFault::OutOfMemory, report, errors)
+    } else {
+        say(
+            alloc,
+            &RefusedLine("invalid word: expected UTF-8 text"),
+            errors,
+        );
+        BAD_LINE
+    }
+}

@@ -1,0 +1,290 @@
+//! What helps a person with a failure: which file it was, what the system said, and what a refused file looks like. Of
+//! it contracts say what it is of, the path, the faulty line, and the hint for a stale index.
+
+ghost use Rattle.std.specs.Prelude.{◌≡◌, ℕ, codes, IfSome, None, Option, Some};
+ghost use Rattle.command_common.specs.declared.failures.Failure.TheVariants.{Command};
+ghost use Rattle.command_common.specs.declared.faults.CommandFault.TheVariants.{Input};
+ghost use Rattle.command_common.specs.declared.faults.InputName.{InputName};
+ghost use Rattle.command_common.specs.declared.faults.Why.TheVariants.{Damaged, NoLines, Stale};
+ghost use Rattle.cli_arguments.specs.LineView.{line_view};
+ghost use Rattle.cli_arguments.specs.Lines.{out_of};
+ghost use Rattle.cli_messages.specs.declared.hints.Hint.TheVariants.{Lineless, Torn};
+ghost use Rattle.cli_messages.specs.Hints.{IsOfInput, IsOfNoFile, IsOfOut, faulty_line_of, file_of};
+ghost use Rattle.cli_messages.specs.Hints.{stale_hint, subject_of, subject_text};
+
+use crate::file_kinds::FileKind;
+use crate::flaws::FaultyLine;
+use crate::input_names::{input_at, path_at};
+use cli_arguments::{Inputs, Line};
+use cli_files::{Obstacle, OutFile, SystemInput, Unopened};
+use command_common::{CommandFault, Failure, InputName, Status, Why};
+use std::fmt::{self, Display, Write};
+use std::io::{self, ErrorKind};
+use std::rt::Files;
+
+/// What was seen of the file that a command failed at.
+#[derive(Clone, Copy)]
+pub struct Seen {
+    /// What the system said, if it refused something.
+    pub reason: Option<io::Error>,
+    /// What the file looks like, if that is known.
+    pub kind: Option<FileKind>,
+    /// Why what is at OUT was not replaced, if it was not.
+    pub obstacle: Option<Obstacle>,
+}
+
+impl Seen {
+    /// Nothing.
+    pub const NOTHING: Seen = Seen {
+        reason: None,
+        kind: None,
+        obstacle: None,
+    };
+
+    /// What was seen of an input.
+    fn of_input<F: Files>(input: &SystemInput<'_, '_, F>) -> Seen
+        ensures { result.obstacle ≡ None }
+    {
+        match (input.input(), input.unopened()) {
+            (Some(file), _) => Seen {
+                reason: file.reason(),
+                kind: FileKind::of(&file.leading_bytes()),
+                obstacle: None,
+            },
+            (None, Some(Unopened::Refused(refused))) => Seen {
+                reason: Some(refused.reason),
+                ..Seen::NOTHING
+            },
+            (None, _) => match input.places() {
+                Some(file) => Seen {
+                    reason: file.reason(),
+                    kind: FileKind::of(&file.leading_bytes()),
+                    obstacle: None,
+                },
+                None => Seen::NOTHING,
+            },
+        }
+    }
+
+    /// What was seen of the file that a command with these inputs failed at.
+    pub fn by<F: Files>(
+        ended: &Result<Status, CommandFault>,
+        inputs: &Inputs<SystemInput<'_, '_, F>>,
+        out: &OutFile<'_, F>,
+    ) -> Seen
+        ensures nothing { IsOfNoFile ended.now
+            → (result.reason ≡ None) × (result.kind ≡ None) × (result.obstacle ≡ None) }
+        ensures out { IsOfOut ended.now → result.kind ≡ None }
+        ensures input { IsOfInput ended.now → result.obstacle ≡ None }
+    {
+        match ended {
+            Err(CommandFault::Input(name, _)) => match input_at(inputs, *name) {
+                Some(input) => Seen::of_input(input),
+                None => Seen::NOTHING,
+            },
+            Err(CommandFault::Output(_)) => Seen {
+                reason: out.reason(),
+                kind: None,
+                obstacle: out.obstacle(),
+            },
+            _ => Seen::NOTHING,
+        }
+    }
+}
+
+/// What a failure is of.
+#[derive(Clone, Copy)]
+pub(crate) enum Subject {
+    Input(InputName),
+    Output,
+}
+
+#[tactic(auto, unfolding(crate::specs::Hints::subject_text))]
+impl Display for Subject {
+    ghost use Rattle.std.specs.Prelude.{Some};
+    ghost use Rattle.cli_messages.specs.Hints.{subject_text};
+
+    ghost output = { λ subject. Some (subject_text subject) };
+
+    fn fmt<W: fmt::Write>(&self, f: &mut fmt::Formatter<W>) -> fmt::Result {
+        match self {
+            Subject::Input(name) => write!(f, "{name}"),
+            Subject::Output => f.write_str("output"),
+        }
+    }
+}
+
+/// What is known of OUT where it was not created or not replaced, or of an input that is refused.
+#[derive(Clone, Copy)]
+enum Hint {
+    SameFile,
+    OtherKind(Option<FileKind>),
+    Damaged,
+    Differs,
+    Loses(u64),
+    OldVersion,
+    Stale,
+    Torn,
+    Lineless,
+    Changed,
+}
+
+impl Hint {
+    /// What is known where this is why OUT was not replaced; what the system said stands at the end of the line.
+    fn of(obstacle: Obstacle) -> Option<Hint> {
+        match obstacle {
+            Obstacle::OtherKind(bytes) => Some(Hint::OtherKind(FileKind::of(&bytes))),
+            Obstacle::Damaged => Some(Hint::Damaged),
+            Obstacle::Differs => Some(Hint::Differs),
+            Obstacle::Loses(lost) => Some(Hint::Loses(lost)),
+            Obstacle::Refused(_) => None,
+        }
+    }
+}
+
+impl Display for Hint {
+    fn fmt<W: fmt::Write>(&self, f: &mut fmt::Formatter<W>) -> fmt::Result {
+        match self {
+            Hint::SameFile => f.write_str("the file of an input"),
+            Hint::OldVersion => f.write_str("an archive of version 1, which `migrate` takes"),
+            Hint::Stale => f.write_str("not of this archive, of which `index` writes a new one"),
+            Hint::Torn => f.write_str(
+                "changed since it was written: run `symarch-keep check` if it keeps the archive, else `index`",
+            ),
+            Hint::Lineless => f.write_str(
+                "without the lines of that slice, which are too many for it: ask without `--index`",
+            ),
+            Hint::Changed => f.write_str(
+                "of an archive in which a slice changed since it came in: run `symarch-keep check` first",
+            ),
+            Hint::OtherKind(kind) => f.write_str(match kind {
+                Some(FileKind::Archive) => "there, and an archive",
+                Some(FileKind::Operations) => "there, and an operations file",
+                Some(FileKind::Summary) => "there, and a summary",
+                Some(FileKind::Index) => "there, and an index",
+                _ => "there, and neither empty nor one of symarch's files",
+            }),
+            Hint::Damaged => f.write_str("there, and an archive that is damaged"),
+            Hint::Differs => f.write_str("there, and neither empty nor the same slice"),
+            Hint::Loses(1) => {
+                f.write_str("there, and has 1 record that the new archive neither has nor retires")
+            }
+            Hint::Loses(lost) => {
+                write!(
+                    f,
+                    "there, and has {lost} records that the new archive neither has nor retires"
+                )
+            }
+        }
+    }
+}
+
+/// A line that helps a person with a failure.
+#[derive(Clone, Copy)]
+pub struct Help<'p> {
+    pub(crate) subject: Subject,
+    pub(crate) path: &'p str,
+    hint: Option<Hint>,
+    faulty: Option<FaultyLine>,
+    seen: Seen,
+}
+
+/// What a refused file looks like, where that says why it is refused.
+fn kind_of(why: Why, kind: Option<FileKind>) -> Option<FileKind> {
+    match (why, kind) {
+        (Why::Record(fault), _) if fault.offset == 0 => kind,
+        (Why::Index(fault), _) if fault.offset == 0 => kind,
+        (Why::Take(_), Some(FileKind::MachO | FileKind::Universal | FileKind::Marked)) => None,
+        (Why::Take(_), _) => kind,
+        _ => None,
+    }
+}
+
+/// The hint for an input that is refused for this.
+fn hint_of(why: Why) -> Option<Hint>
+    ensures stale { (entry : Option ℕ) → why ≡ Stale entry → result ≡ Some (stale_hint entry) }
+    ensures torn { (entry : ℕ) → why ≡ Damaged entry → result ≡ Some Torn }
+    ensures lineless { (entry : ℕ) → why ≡ NoLines entry → result ≡ Some Lineless }
+{
+    match why {
+        Why::OldArchive => Some(Hint::OldVersion),
+        Why::Stale(None) => Some(Hint::Stale),
+        Why::Stale(Some(_)) => Some(Hint::Changed),
+        Why::Damaged(_) => Some(Hint::Torn),
+        Why::NoLines(_) => Some(Hint::Lineless),
+        _ => None,
+    }
+}
+
+/// The line that helps with this failure of a line, if there is one.
+pub fn help_with<'p>(line: &'p Line, failure: &Failure, seen: Seen) -> Option<Help<'p>>
+    ensures path { IfSome result (λ help. Some help.path.now ≡ file_of (line_view line.now) failure.now) }
+    ensures subject { IfSome result (λ help. subject_text help.subject ≡ subject_of failure.now) }
+    ensures faulty { IfSome result (λ help. help.faulty ≡ faulty_line_of failure.now) }
+    ensures stale { (name : InputName) (entry : Option ℕ) → failure.now ≡ Command (Input name (Stale entry))
+        → IfSome result (λ help. help.hint ≡ Some (stale_hint entry)) }
+    ensures torn { (name : InputName) (entry : ℕ) → failure.now ≡ Command (Input name (Damaged entry))
+        → IfSome result (λ help. help.hint ≡ Some Torn) }
+    ensures lineless { (name : InputName) (entry : ℕ) → failure.now ≡ Command (Input name (NoLines entry))
+        → IfSome result (λ help. help.hint ≡ Some Lineless) }
+{
+    match failure {
+        Failure::Command(CommandFault::Input(name, why)) => {
+            Some(Help {
+                subject: Subject::Input(*name),
+                path: path_at(line, *name)?,
+                hint: hint_of(*why),
+                faulty: FaultyLine::of(*why),
+                seen: Seen {
+                    kind: kind_of(*why, seen.kind),
+                    ..seen
+                },
+            })
+        }
+        Failure::Command(CommandFault::Output(_)) => out_help(line, None, seen),
+        // Why the report failed is known to its owner.
+        Failure::Command(CommandFault::Report(_) | CommandFault::OutOfMemory) => None,
+        Failure::CannotCreate(_) => out_help(line, Some(Hint::SameFile), seen),
+        Failure::CannotReplace => out_help(line, seen.obstacle.and_then(Hint::of), seen),
+    }
+}
+
+/// A line of OUT. The hint is given where the system said nothing.
+fn out_help<'p>(line: &'p Line, hint: Option<Hint>, seen: Seen) -> Option<Help<'p>>
+    ensures path { IfSome result (λ help. Some help.path.now ≡ out_of (line_view line.now)) }
+    ensures subject { IfSome result (λ help. subject_text help.subject ≡ codes "output") }
+    ensures faulty { IfSome result (λ help. help.faulty ≡ None) }
+{
+    Some(Help {
+        subject: Subject::Output,
+        path: line.out_path()?,
+        hint: if seen.reason.is_none() { hint } else { None },
+        faulty: None,
+        seen,
+    })
+}
+
+/// What is known of the file.
+impl Display for Help<'_> {
+    fn fmt<W: fmt::Write>(&self, f: &mut fmt::Formatter<W>) -> fmt::Result {
+        if let Some(hint) = self.hint {
+            write!(f, ", {hint}")?;
+        }
+        if let Some(faulty) = self.faulty {
+            write!(f, ", {faulty}")?;
+        }
+        if let Some(kind) = self.seen.kind {
+            write!(f, ", {kind}")?;
+        }
+        let Some(reason) = self.seen.reason else {
+            return Ok(());
+        };
+        write!(f, ": {reason}")?;
+        match self.subject {
+            Subject::Input(InputName::File(_)) if reason.kind() == ErrorKind::IsADirectory => {
+                f.write_str("; of a dSYM, name the file in its folder Contents/Resources/DWARF")
+            }
+            _ => Ok(()),
+        }
+    }
+}

@@ -1,0 +1,124 @@
+//! What is said on standard error.
+
+ghost use Rattle.std.specs.Prelude.{◌≡◌, [], IfOk, IfSome, None, Some, string_bytes};
+ghost use Rattle.command_common.specs.Outputs.{Takes, writer};
+ghost use Rattle.command_common.specs.declared.failures.Failure.{Failure};
+ghost use Rattle.cli_arguments.specs.Lines.{Line};
+ghost use Rattle.text_reports.specs.Report.{line};
+ghost use Rattle.cli_messages.specs.Hints.{file_of, subject_of, subject_text};
+ghost use Rattle.cli_messages.specs.StandardError.{IsPushed, SaysHelp, SaysLine, SaysNotes, SaysReport};
+ghost use Rattle.cli_messages.specs.StandardError.{SaysWanting, note_lines};
+
+use crate::help_lines::{help_line, report_line};
+use crate::hints::Help;
+use byte_device::{Sink, push_all};
+use command_write::Note;
+use memory::NoMemory;
+use std::alloc::Global;
+use std::fmt::{self, Display, Write};
+use std::io;
+
+/// The line of words that are refused for this reason.
+#[derive(Clone, Copy)]
+pub struct RefusedLine<'a>(pub &'a str);
+
+impl Display for RefusedLine<'_> {
+    ghost use Rattle.std.specs.Prelude.{◌++◌, Some, codes};
+
+    ghost output = { λ line. Some (codes "symarch: " ++ line.0.now) };
+
+    fn fmt<W: fmt::Write>(&self, f: &mut fmt::Formatter<W>) -> fmt::Result {
+        let reason = self.0;
+        write!(f, "symarch: {reason}")
+    }
+}
+
+/// A line with its line feed.
+fn line_of<T: Display>(alloc: Global, told: &T) -> Result<String, NoMemory>
+    ensures { IfOk result (λ whole. IfSome (T.output told.now) (λ text. string_bytes whole ≡ line text)) }
+{
+    let mut whole = String::new(alloc);
+    writeln!(whole, "{told}")?;
+    Ok(whole)
+}
+
+/// Gives the writer these bytes, and says whether it took them.
+fn push_whole<E: Sink>(errors: &mut E, bytes: &[u8]) -> bool
+    ensures { IsPushed (writer E.held E.failures errors.old errors.new) bytes.now result }
+{
+    match push_all(errors, bytes) {
+        Ok(()) => true,
+        Err(_) => false,
+    }
+}
+
+/// Says that memory is wanting, for which none is needed.
+pub fn say_wanting<E: Sink>(errors: &mut E) -> bool
+    ensures { SaysWanting (writer E.held E.failures errors.old errors.new) result }
+{
+    push_whole(errors, b"symarch: out of memory\n")
+}
+
+/// Says a line; or, where there is no memory for it, that memory is wanting. Whether the line itself was said to its
+/// end is handed back.
+pub fn say<E: Sink, T: Display>(alloc: Global, told: &T, errors: &mut E) -> bool
+    ensures { IfSome (T.output told.now)
+        (λ text. SaysLine (writer E.held E.failures errors.old errors.new) text result) }
+{
+    match line_of(alloc, told) {
+        Ok(whole) => push_whole(errors, whole.as_bytes()),
+        Err(NoMemory) => {
+            say_wanting(errors);
+            false
+        }
+    }
+}
+
+/// Says the line that helps with a failure of this line, where there is memory for it.
+pub fn say_help<E: Sink>(alloc: Global, help: &Help<'_>, errors: &mut E)
+    ensures { (asked : Line) (failure : Failure) → Some help.now.path.now ≡ file_of asked failure
+        → subject_text help.now.subject ≡ subject_of failure
+        → SaysHelp (writer E.held E.failures errors.old errors.new) asked failure }
+{
+    if let Ok(text) = help_line(alloc, help) {
+        push_whole(errors, text.as_bytes());
+    }
+}
+
+/// Says why the report failed, if that is known, after the line of that failure.
+pub fn say_report<E: Sink>(alloc: Global, reason: Option<io::Error>, errors: &mut E)
+    ensures unknown { reason ≡ None → Takes (writer E.held E.failures errors.old errors.new) [] }
+    ensures known { IfSome reason (λ _. SaysReport (writer E.held E.failures errors.old errors.new)) }
+{
+    let Some(reason) = reason else {
+        return;
+    };
+    match report_line(alloc, reason) {
+        Ok(line) => push_whole(errors, line.as_bytes()),
+        Err(NoMemory) => push_whole(errors, b"  report is standard output\n"),
+    };
+}
+
+/// The lines of the notes.
+fn lines_of(alloc: Global, notes: &[Note]) -> Result<String, NoMemory>
+    ensures { IfOk result (λ lines. string_bytes lines ≡ note_lines notes.now) }
+{
+    let mut lines = String::new(alloc);
+    'notes: for note in notes {
+        writeln!(lines, "{note}")?;
+    }
+    Ok(lines)
+}
+
+/// Says the notes, a line each; or, where there is no memory for the lines, that.
+pub fn say_notes<E: Sink>(alloc: Global, notes: &[Note], errors: &mut E)
+    ensures { SaysNotes (writer E.held E.failures errors.old errors.new) notes.now }
+{
+    if notes.is_empty() {
+        return;
+    }
+    match lines_of(alloc, notes) {
+        Ok(lines) => push_whole(errors, lines.as_bytes()),
+        Err(NoMemory) => push_whole(errors, b"note: out of memory\n"),
+    };
+}

@@ -1,0 +1,111 @@
+-- Archives and indexes that are handed on, and the query that they make.
+use Rattle.std.proofs.Common.{◌≡◌, ℕ, ◌<◌, List, [], ◌∷◌, length, Option, Result, Bool, false, Ok, Err, refl, sym, subst, arith, inl, inr}
+use Rattle.std.proofs.KnownBytes.{Appends-nil}
+use Rattle.std.proofs.lemmas.Bool.{le-ltb, lt-ltb, Decides.nat_tests}
+use Rattle.std.specs.Prelude.{◌==◌}
+use Rattle.command_common.specs.{Ends.EndsReport, Ends.Query, Outputs.Writer, Outputs.writer}
+use Rattle.command_common.specs.declared.faults.{CommandFault.CommandFault, CommandFault.TheVariants.Input, Status.Status}
+use Rattle.command_common.specs.declared.faults.InputName.{InputName, TheVariants.Archive, TheVariants.Index}
+use Rattle.command_common.specs.declared.faults.Why.{Why, TheVariants.NoArchive, TheVariants.NoIndex}
+use Rattle.command_common.specs.Inputs.{Reader, readers}
+use Rattle.archive_core.specs.declared.keys.SliceKey.{SliceKey}
+use Rattle.command_common.proofs.Readers.{readers_long}
+use Rattle.command_index_queries.specs.Find.{find_together}
+use Rattle.command_index_frames.specs.{Frames.frames_at, Symbolicate.symbolicate_at}
+use Rattle.cli_run.specs.Queries.{IsAlone, find_of, frames_of, if_paired, index_for_each_archive, symbolicate_of}
+
+module _ {S : Type 0} (left : S → Option (List ℕ)) (failures : S → ℕ) where
+  -- there is one where there is an input
+  pub some_read : (a c : List S) → length c ≡ length a → 0 < length a
+      → 0 < length (readers left failures a c)
+  some_read a c same some = omega (arith, readers_long left failures a c same)
+
+-- ---- queries by indexes
+
+-- there is one
+pub not_none : {A : Type 0} (xs : List A) → false ≡ (length xs == 0) → 0 < length xs
+not_none xs is = grind (arith, nat_tests)
+
+pub symbolicate_by : {S : Type 0} (archives places indexes : List (Reader S)) (key : SliceKey) (load : Option ℕ)
+    (lines : Bool) (addresses : List ℕ) → 0 < length indexes
+    → symbolicate_of archives places indexes key load lines addresses
+    ≡ if_paired (index_for_each_archive (length archives) (length indexes)) (symbolicate_at indexes places key load lines addresses)
+symbolicate_by archives places [] key load lines addresses some = absurd (omega arith)
+symbolicate_by [] places (i ∷ indexes) key load lines addresses some = refl
+symbolicate_by (a ∷ archives) places (i ∷ indexes) key load lines addresses some = refl
+
+pub frames_by : {S : Type 0} (lines : Bool) (crash : Reader S) (archives places indexes : List (Reader S))
+    → 0 < length indexes
+    → frames_of lines crash archives places indexes
+    ≡ if_paired (index_for_each_archive (length archives) (length indexes)) (frames_at lines crash indexes places)
+frames_by lines crash archives places [] some = absurd (omega arith)
+frames_by lines crash [] places (i ∷ indexes) some = refl
+frames_by lines crash (a ∷ archives) places (i ∷ indexes) some = refl
+
+-- of more than one archive
+pub find_by : {S : Type 0} (archives places indexes : List (Reader S)) (uuid : List ℕ) → 0 < length indexes
+    → (length archives ≡ 1 → length indexes ≡ 1 → ⊥)
+    → find_of archives places indexes uuid
+    ≡ if_paired (index_for_each_archive (length archives) (length indexes)) (find_together indexes places uuid)
+find_by archives places [] uuid some several = absurd (omega arith)
+find_by (a ∷ []) (p ∷ []) (i ∷ []) uuid some several = absurd (several refl refl)
+find_by archives places indexes uuid some several = refl
+
+-- ---- how they end
+
+-- one of them has no fellow, and is refused for that
+alone : (archives indexes : ℕ) (fault : CommandFault) → IsAlone archives indexes fault
+    → (at : InputName) × (why : Why) × (fault ≡ Input at why) × (index_for_each_archive archives indexes ≡ Err (Input at why))
+alone archives indexes fault (inl more) =
+    (Index archives, NoArchive, more.1, rw (lt-ltb archives indexes more.0) refl)
+alone archives indexes fault (inr fewer) =
+    let not_more = le-ltb archives indexes (omega (arith, fewer.0)) in
+    (Archive indexes, NoIndex, fewer.1, rw (not_more, lt-ltb indexes archives fewer.0) refl)
+
+-- each has one
+all_paired : (archives indexes : ℕ) → indexes ≡ archives → index_for_each_archive archives indexes ≡ Ok tt
+all_paired archives indexes same =
+    rw (le-ltb archives indexes (omega (arith, same)), le-ltb indexes archives (omega (arith, same))) refl
+
+-- they are not one each
+pub apart : (archives indexes : ℕ) (fault : CommandFault) → IsAlone archives indexes fault → archives ≡ 1 → indexes ≡ 1 → ⊥
+apart archives indexes fault (inl more) one single = omega (arith, more.0, one, single)
+apart archives indexes fault (inr fewer) one single = omega (arith, fewer.0, one, single)
+
+-- the same of archives and indexes that are handed on
+module _ {S : Type 0} (left whole : S → Option (List ℕ)) (failures place_failures : S → ℕ) where
+  pub readers_alone : (archives ix : List S) (fault : CommandFault)
+      → IsAlone (length archives) (length ix) fault
+      → (at : InputName) × (why : Why) × (fault ≡ Input at why)
+      × (index_for_each_archive (length (readers left failures archives archives)) (length (readers whole place_failures ix ix))
+      ≡ Err (Input at why))
+  readers_alone archives ix fault is =
+      alone (length (readers left failures archives archives)) (length (readers whole place_failures ix ix)) fault
+      (rw (readers_long left failures archives archives refl, readers_long whole place_failures ix ix refl) is)
+
+  pub readers_paired : (a c ix iy : List S) → length ix ≡ length a → length c ≡ length a
+      → length iy ≡ length ix
+      → index_for_each_archive (length (readers left failures a c)) (length (readers whole place_failures ix iy)) ≡ Ok tt
+  readers_paired a c ix iy as_many same indexes =
+      all_paired (length (readers left failures a c)) (length (readers whole place_failures ix iy))
+      (omega (arith, readers_long left failures a c same, readers_long whole place_failures ix iy indexes, as_many))
+
+  -- and of any query that is made of them
+  pub alone_refused : {W : Type 0} (held : W → Option (List ℕ)) (write_failures : W → ℕ)
+      (archives ix : List S) (query made : Query) (report : W) (fault : CommandFault)
+      → IsAlone (length archives) (length ix) fault
+      → query ≡ if_paired
+      (index_for_each_archive (length (readers left failures archives archives)) (length (readers whole place_failures ix ix))) made
+      → EndsReport query (writer held write_failures report report) (Err fault)
+  alone_refused held write_failures archives ix query made report fault is by =
+      let refused = readers_alone archives ix fault is in
+      subst (λ (q : Query). EndsReport q (writer held write_failures report report) (Err fault)) (sym by)
+      (rw (refused.2, refused.3) (refl, (Appends-nil (held report), refl)))
+
+  pub paired_kept : (a c ix iy : List S) (query made : Query) (report : Writer)
+      (result : Result Status CommandFault) → length ix ≡ length a → length c ≡ length a → length iy ≡ length ix
+      → query ≡ if_paired
+      (index_for_each_archive (length (readers left failures a c)) (length (readers whole place_failures ix iy))) made
+      → EndsReport made report result → EndsReport query report result
+  paired_kept a c ix iy query made report result as_many same indexes by ends =
+      rw (by, readers_paired a c ix iy as_many same indexes) ends

@@ -1,0 +1,80 @@
+//! The command of a plan, over its inputs.
+
+ghost use Rattle.std.specs.Prelude.{◌≡◌, OnOk};
+ghost use Rattle.command_common.specs.Outputs.{outs, writer};
+ghost use Rattle.cli_arguments.specs.Inputs.{inputs_view};
+ghost use Rattle.cli_arguments.specs.Plan.{HasInputs};
+ghost use Rattle.cli_run.specs.Disks.{AreAsMany};
+ghost use Rattle.cli_run.specs.Plans.{Executes, Notes, readers_by, replaces_of};
+
+use crate::queries::answer;
+use crate::updates::{extract, merge, write};
+use archive_core::Archive;
+use byte_device::{Output, Placed, Sink, Source, Target};
+use cli_arguments::{Inputs, Plan};
+use cli_files::Replaces;
+use command_common::{CommandFault, Status};
+use command_write::{Note, run_new};
+use memory::Heap;
+
+/// Which files the OUT of a plan replaces: a summary and an index their own kind, a slice its own bytes, an archive those
+/// below it.
+pub fn replaces(plan: &Plan) -> Replaces
+    ensures { result ≡ replaces_of plan.now }
+{
+    match plan {
+        Plan::Summary => Replaces::Summaries,
+        Plan::Index => Replaces::Indexes,
+        Plan::Extract { .. } => Replaces::SameBytes,
+        _ => Replaces::ArchivesBelow,
+    }
+}
+
+/// Carries out a plan over its inputs. An archive of the type `L` is asked for addresses, and one of `A` for all else.
+/// What the command notes is added to `notes`.
+pub fn execute<A: Archive + Drop, L: Archive + Drop, S: Source + Placed, T: Target, P: Sink>(
+    heap: Heap,
+    plan: &Plan,
+    inputs: &mut Inputs<S>,
+    notes: &mut Vec<Note, Heap>,
+    out: &mut Output<T::Draft, T>,
+    report: &mut P,
+) -> Result<Status, CommandFault>
+    requires { HasInputs plan.now (inputs_view inputs.old) }
+    ensures as_many { AreAsMany (inputs_view inputs.old) (inputs_view inputs.new) }
+    ensures ends { Executes plan.now
+        (readers_by ⟦<S as Source>⟧.left ⟦<S as Source>⟧.failures (inputs_view inputs.old) (inputs_view inputs.new))
+        (readers_by ⟦<S as Placed>⟧.whole ⟦<S as Placed>⟧.failures (inputs_view inputs.old) (inputs_view inputs.new))
+        (outs T.Draft.held T.Draft.failures T.published T.failures out.old out.new)
+        (writer P.held P.failures report.old report.new) result }
+    ensures noted { OnOk result (Notes plan.now
+        (readers_by ⟦<S as Source>⟧.left ⟦<S as Source>⟧.failures (inputs_view inputs.old) (inputs_view inputs.new))
+        notes.old.items notes.new.items) }
+{
+    match plan {
+        Plan::New => run_new::<A, _, _>(heap, out, report),
+        Plan::Merge => merge::<A, _, _, _>(heap, &mut inputs.archives, out, report),
+        Plan::Extract { key, digest } => extract::<A, _, _, _>(
+            heap,
+            &mut inputs.archives,
+            &mut inputs.indexes,
+            key,
+            digest,
+            out,
+            report,
+        ),
+        Plan::Find { .. }
+        | Plan::List
+        | Plan::Name { .. }
+        | Plan::Symbolicate { .. }
+        | Plan::Frames { .. }
+        | Plan::Rehearse => answer::<A, L, _, _>(heap, plan, inputs, notes, report),
+        Plan::Admit
+        | Plan::Retire { .. }
+        | Plan::Migrate
+        | Plan::Apply
+        | Plan::Summary
+        | Plan::Index
+        | Plan::Delta => write(heap, plan, inputs, notes, out, report),
+    }
+}

@@ -1,0 +1,263 @@
+//! The plans that write no OUT, over their inputs: archives are read whole, or by their indexes.
+
+ghost use Rattle.std.specs.Prelude.{◌≡◌, ◌<◌, ◌∷◌, IfErr, OnOk, length, true};
+ghost use Rattle.std.specs.Borrow.{Array, LendsBoth, sem};
+ghost use Rattle.command_common.specs.Ends.{EndsReport};
+ghost use Rattle.command_common.specs.Inputs.{reader, readers};
+ghost use Rattle.command_common.specs.Outputs.{writer};
+ghost use Rattle.cli_arguments.specs.Inputs.{inputs_view};
+ghost use Rattle.cli_arguments.specs.Plan.{HasInputs};
+ghost use Rattle.command_queries.specs.Name.{name as name_of};
+ghost use Rattle.cli_run.specs.Disks.{AreAsMany};
+ghost use Rattle.cli_run.specs.Plans.{Answers, EndsAsked, Notes, NotesNamed, named_of, only_reports, readers_by};
+ghost use Rattle.cli_run.specs.Queries.{AddsUnderscored, NotesUnderscored};
+ghost use Rattle.cli_run.specs.Queries.{IsAlone, find_of, frames_of, list_of, symbolicate_of};
+
+use archive_core::{Archive, SliceKey};
+use archive_exchange::run_rehearse;
+use byte_device::{Placed, Sink, Source};
+use cli_arguments::{Inputs, Plan};
+use command_common::{CommandFault, InputName, Status, Why, publish_report};
+use command_index_frames::{run_frames_at, run_symbolicate_at};
+use command_index_queries::{run_find_at, run_find_together, run_list_at};
+use command_queries::{answer_name, run_find, run_frames, run_list, run_symbolicate};
+use command_write::Note;
+use memory::{Heap, NoMemory};
+use uuid::Uuid;
+
+/// The first of some, and the rest.
+pub fn first_and_rest<T>(items: &mut [T]) -> (&mut T, &mut [T])
+    requires { 0 < length items.old }
+    ensures parts { items.old ≡ result.0.now ∷ result.1.now }
+    ensures* writes_back { sem 𝓛 (LendsBoth (Array T.row 0) T.row (Array T.row 0) items.entry result ◌∷◌) }
+{
+    let (first, rest) = items.split_at_mut(1);
+    (&mut first[0], rest)
+}
+
+/// Refuses the first index that has no archive, or the first archive that has no index.
+pub fn test_pairs(archives: usize, indexes: usize) -> Result<(), CommandFault>
+    ensures same { OnOk result (indexes ≡ archives) }
+    ensures other { IfErr result (IsAlone archives indexes) }
+{
+    if indexes > archives {
+        return Err(CommandFault::Input(InputName::Index(archives as u64), Why::NoArchive));
+    }
+    if indexes < archives {
+        return Err(CommandFault::Input(InputName::Archive(indexes as u64), Why::NoIndex));
+    }
+    Ok(())
+}
+
+/// `find` over archives, which are read by these indexes, if there are some: of one archive by its index alone.
+fn find<A: Archive + Drop, S: Source + Placed, P: Sink>(
+    heap: Heap,
+    archives: &mut [S],
+    indexes: &mut [S],
+    uuid: &Uuid,
+    report: &mut P,
+) -> Result<Status, CommandFault>
+    requires { 0 < length archives.old }
+    ensures { EndsReport (find_of
+        (readers ⟦<S as Source>⟧.left ⟦<S as Source>⟧.failures archives.old archives.new)
+        (readers ⟦<S as Placed>⟧.whole ⟦<S as Placed>⟧.failures archives.old archives.new)
+        (readers ⟦<S as Placed>⟧.whole ⟦<S as Placed>⟧.failures indexes.old indexes.new) uuid.now)
+        (writer P.held P.failures report.old report.new) result }
+{
+    if indexes.is_empty() {
+        let (archive, others) = first_and_rest(archives);
+        return run_find::<A, _, _>(heap, archive, others, uuid, report);
+    }
+    test_pairs(archives.len(), indexes.len())?;
+    if archives.len() == 1 {
+        return match (indexes, archives) {
+            ([index], [archive]) => run_find_at(heap, index, archive, uuid, report),
+            _ => unreachable!(),
+        };
+    }
+    run_find_together::<A, _, _, _>(heap, indexes, archives, uuid, report)
+}
+
+/// `list` over an archive, which is read by its index, if there is one.
+fn list<S: Source + Placed, P: Sink>(
+    heap: Heap,
+    archive: &mut S,
+    indexes: &mut [S],
+    report: &mut P,
+) -> Result<Status, CommandFault>
+    ensures { EndsReport (list_of
+        (reader ⟦<S as Source>⟧.left ⟦<S as Source>⟧.failures archive.old archive.new)
+        (reader ⟦<S as Placed>⟧.whole ⟦<S as Placed>⟧.failures archive.old archive.new)
+        (readers ⟦<S as Placed>⟧.whole ⟦<S as Placed>⟧.failures indexes.old indexes.new))
+        (writer P.held P.failures report.old report.new) result }
+{
+    match indexes {
+        [] => run_list(heap, archive, report),
+        [index, ..] => run_list_at(heap, index, archive, report),
+    }
+}
+
+/// Adds a note that a symbol has this name with a `_` before it, if that is so.
+fn note_underscored(
+    heap: Heap,
+    notes: &mut Vec<Note, Heap>,
+    is_underscored: bool,
+    name: &[u8],
+) -> Result<(), NoMemory>
+    ensures { OnOk result (AddsUnderscored is_underscored name.now notes.old.items notes.new.items) }
+{
+    if is_underscored {
+        let name = Vec::from_slice(heap, name)?;
+        notes.push(Note::Underscored(name))?;
+    }
+    Ok(())
+}
+
+/// `name` over archives: a row for each symbol of this exact name. Where there is none, and a symbol has the name with a
+/// `_` before it, a note is added.
+fn name<S: Source, P: Sink>(
+    heap: Heap,
+    archive: &mut S,
+    others: &mut [S],
+    sought: &[u8],
+    notes: &mut Vec<Note, Heap>,
+    report: &mut P,
+) -> Result<Status, CommandFault>
+    ensures ends { EndsReport (name_of
+        (reader S.left S.failures archive.old archive.new)
+        (readers S.left S.failures others.old others.new) sought.now)
+        (writer P.held P.failures report.old report.new) result }
+    ensures noted { OnOk result (NotesUnderscored
+        (reader S.left S.failures archive.old archive.new)
+        (readers S.left S.failures others.old others.new) sought.now notes.old.items notes.new.items) }
+{
+    let answer = answer_name(heap.share(), archive, others, sought)?;
+    note_underscored(heap, notes, answer.is_underscored, sought)?;
+    publish_report(answer.status, &answer.text, report)
+}
+
+/// `name` over archives that are asked together.
+fn name_in<S: Source, P: Sink>(
+    heap: Heap,
+    archives: &mut [S],
+    sought: &[u8],
+    notes: &mut Vec<Note, Heap>,
+    report: &mut P,
+) -> Result<Status, CommandFault>
+    requires { 0 < length archives.old }
+    ensures ends { EndsAsked (named_of (readers S.left S.failures archives.old archives.new) sought.now)
+        (writer P.held P.failures report.old report.new) result }
+    ensures noted { OnOk result (NotesNamed (readers S.left S.failures archives.old archives.new) sought.now
+        notes.old.items notes.new.items) }
+{
+    let (archive, others) = first_and_rest(archives);
+    name(heap, archive, others, sought, notes, report)
+}
+
+/// `symbolicate` over archives, which are read by these indexes, if there are some.
+fn symbolicate<A: Archive + Drop, S: Source + Placed, P: Sink>(
+    heap: Heap,
+    archives: &mut [S],
+    indexes: &mut [S],
+    key: &SliceKey,
+    load: Option<u64>,
+    lines: bool,
+    addresses: &[u64],
+    report: &mut P,
+) -> Result<Status, CommandFault>
+    requires { 0 < length archives.old }
+    ensures { EndsReport (symbolicate_of
+        (readers ⟦<S as Source>⟧.left ⟦<S as Source>⟧.failures archives.old archives.new)
+        (readers ⟦<S as Placed>⟧.whole ⟦<S as Placed>⟧.failures archives.old archives.new)
+        (readers ⟦<S as Placed>⟧.whole ⟦<S as Placed>⟧.failures indexes.old indexes.new) key.now load lines
+        addresses.now)
+        (writer P.held P.failures report.old report.new) result }
+{
+    if indexes.is_empty() {
+        let (archive, others) = first_and_rest(archives);
+        return run_symbolicate::<A, _, _>(
+            heap, archive, others, key, load, lines, addresses, report,
+        );
+    }
+    test_pairs(archives.len(), indexes.len())?;
+    run_symbolicate_at::<A, _, _, _>(heap, indexes, archives, key, load, lines, addresses, report)
+}
+
+/// `frames` over archives, which are read by these indexes, if there are some.
+fn frames<A: Archive + Drop, S: Source + Placed, P: Sink>(
+    heap: Heap,
+    lines: bool,
+    crash: &mut S,
+    archives: &mut [S],
+    indexes: &mut [S],
+    report: &mut P,
+) -> Result<Status, CommandFault>
+    requires { 0 < length archives.old }
+    ensures { EndsReport (frames_of lines
+        (reader ⟦<S as Source>⟧.left ⟦<S as Source>⟧.failures crash.old crash.new)
+        (readers ⟦<S as Source>⟧.left ⟦<S as Source>⟧.failures archives.old archives.new)
+        (readers ⟦<S as Placed>⟧.whole ⟦<S as Placed>⟧.failures archives.old archives.new)
+        (readers ⟦<S as Placed>⟧.whole ⟦<S as Placed>⟧.failures indexes.old indexes.new))
+        (writer P.held P.failures report.old report.new) result }
+{
+    if indexes.is_empty() {
+        let (archive, others) = first_and_rest(archives);
+        return run_frames::<A, _, _>(heap, lines, crash, archive, others, report);
+    }
+    test_pairs(archives.len(), indexes.len())?;
+    run_frames_at::<A, _, _, _, _>(heap, lines, crash, indexes, archives, report)
+}
+
+/// Carries out a plan that writes no OUT over its inputs. An archive of the type `L` is asked for addresses, and one of
+/// `A` for all else. What the command notes is added to `notes`.
+pub fn answer<A: Archive + Drop, L: Archive + Drop, S: Source + Placed, P: Sink>(
+    heap: Heap,
+    plan: &Plan,
+    inputs: &mut Inputs<S>,
+    notes: &mut Vec<Note, Heap>,
+    report: &mut P,
+) -> Result<Status, CommandFault>
+    requires reports { only_reports plan.now ≡ true }
+    requires inputs { HasInputs plan.now (inputs_view inputs.old) }
+    ensures as_many { AreAsMany (inputs_view inputs.old) (inputs_view inputs.new) }
+    ensures ends { Answers plan.now
+        (readers_by ⟦<S as Source>⟧.left ⟦<S as Source>⟧.failures (inputs_view inputs.old) (inputs_view inputs.new))
+        (readers_by ⟦<S as Placed>⟧.whole ⟦<S as Placed>⟧.failures (inputs_view inputs.old) (inputs_view inputs.new))
+        (writer P.held P.failures report.old report.new) result }
+    ensures noted { OnOk result (Notes plan.now
+        (readers_by ⟦<S as Source>⟧.left ⟦<S as Source>⟧.failures (inputs_view inputs.old) (inputs_view inputs.new))
+        notes.old.items notes.new.items) }
+{
+    let Inputs {
+        archives,
+        indexes,
+        scripts,
+        frames: crashes,
+        ..
+    } = inputs;
+    match plan {
+        Plan::Find { uuid } => find::<A, _, _>(heap, archives, indexes, uuid, report),
+        Plan::List => match archives.as_mut_slice() {
+            [archive, ..] => list(heap, archive, indexes, report),
+            [] => unreachable!(),
+        },
+        Plan::Name { name } => name_in(heap, archives, name.as_bytes(), notes, report),
+        Plan::Symbolicate {
+            key,
+            load,
+            lines,
+            addresses,
+        } => symbolicate::<L, _, _>(
+            heap, archives, indexes, key, *load, *lines, addresses, report,
+        ),
+        Plan::Frames { lines } => match crashes.as_mut_slice() {
+            [crash, ..] => frames::<L, _, _>(heap, *lines, crash, archives, indexes, report),
+            [] => unreachable!(),
+        },
+        Plan::Rehearse => match scripts.as_mut_slice() {
+            [script, ..] => run_rehearse::<A, _, _>(heap, script, report),
+            [] => unreachable!(),
+        },
+        _ => unreachable!(),
+    }
+}

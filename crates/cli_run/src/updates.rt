@@ -1,0 +1,121 @@
+//! The plans that write OUT from archives, over their inputs.
+
+ghost use Rattle.std.specs.Prelude.{◌≡◌, ◌<◌, OnOk, length, true};
+ghost use Rattle.command_common.specs.Inputs.{readers};
+ghost use Rattle.command_common.specs.Outputs.{out_of, outs, writer};
+ghost use Rattle.cli_arguments.specs.Inputs.{inputs_view};
+ghost use Rattle.cli_arguments.specs.Plan.{HasInputs};
+ghost use Rattle.cli_run.specs.Disks.{AreAsMany};
+ghost use Rattle.cli_run.specs.Plans.{EndsDeed, Executes, Notes, merged_of, readers_by, writes_archive};
+ghost use Rattle.cli_run.specs.Queries.{extract_of};
+ghost use Rattle.command_extract.specs.Extract.{Extracts};
+
+use crate::queries::{first_and_rest, test_pairs};
+use archive_core::{Archive, Digest, SliceKey};
+use byte_device::{Output, Placed, Sink, Source, Target};
+use cli_arguments::{Inputs, Plan};
+use command_common::{CommandFault, Status};
+use command_extract::{run_extract, run_extract_at};
+use command_index_queries::run_summary_at;
+use command_write::{
+    Note, run_admit, run_apply, run_delta, run_merge, run_migrate, run_retire, run_summary,
+};
+use index_build::run_index;
+use memory::Heap;
+
+/// `extract` over archives, which are read by these indexes, if there are some.
+pub fn extract<A: Archive + Drop, S: Source + Placed, T: Target, P: Sink>(
+    heap: Heap,
+    archives: &mut [S],
+    indexes: &mut [S],
+    key: &SliceKey,
+    digest: &Option<Digest>,
+    out: &mut Output<T::Draft, T>,
+    report: &mut P,
+) -> Result<Status, CommandFault>
+    requires { 0 < length archives.old }
+    ensures { let known = outs T.Draft.held T.Draft.failures T.published T.failures out.old out.new in
+        Extracts (extract_of
+        (readers ⟦<S as Source>⟧.left ⟦<S as Source>⟧.failures archives.old archives.new)
+        (readers ⟦<S as Placed>⟧.whole ⟦<S as Placed>⟧.failures archives.old archives.new)
+        (readers ⟦<S as Placed>⟧.whole ⟦<S as Placed>⟧.failures indexes.old indexes.new) key.now digest.now
+        (out_of known).draft) known (writer P.held P.failures report.old report.new) result }
+{
+    if indexes.is_empty() {
+        let (archive, others) = first_and_rest(archives);
+        return run_extract::<A, _, _, _>(heap, archive, others, key, digest, out, report);
+    }
+    test_pairs(archives.len(), indexes.len())?;
+    run_extract_at::<A, _, _, _, _>(heap, indexes, archives, key, digest, out, report)
+}
+
+/// `merge` of archives.
+pub fn merge<A: Archive + Drop, S: Source, T: Target, P: Sink>(
+    heap: Heap,
+    archives: &mut [S],
+    out: &mut Output<T::Draft, T>,
+    report: &mut P,
+) -> Result<Status, CommandFault>
+    requires { 0 < length archives.old }
+    ensures { let known = outs T.Draft.held T.Draft.failures T.published T.failures out.old out.new in
+        EndsDeed (merged_of (readers S.left S.failures archives.old archives.new) known) known
+        (writer P.held P.failures report.old report.new) result }
+{
+    let (archive, others) = first_and_rest(archives);
+    run_merge::<A, _, _, _, _>(heap, archive, others, out, report)
+}
+
+/// Carries out a plan that writes OUT from one archive. What the command notes is added to `notes`.
+pub fn write<S: Source + Placed, T: Target, P: Sink>(
+    heap: Heap,
+    plan: &Plan,
+    inputs: &mut Inputs<S>,
+    notes: &mut Vec<Note, Heap>,
+    out: &mut Output<T::Draft, T>,
+    report: &mut P,
+) -> Result<Status, CommandFault>
+    requires writes { writes_archive plan.now ≡ true }
+    requires inputs { HasInputs plan.now (inputs_view inputs.old) }
+    ensures as_many { AreAsMany (inputs_view inputs.old) (inputs_view inputs.new) }
+    ensures ends { Executes plan.now
+        (readers_by ⟦<S as Source>⟧.left ⟦<S as Source>⟧.failures (inputs_view inputs.old) (inputs_view inputs.new))
+        (readers_by ⟦<S as Placed>⟧.whole ⟦<S as Placed>⟧.failures (inputs_view inputs.old) (inputs_view inputs.new))
+        (outs T.Draft.held T.Draft.failures T.published T.failures out.old out.new)
+        (writer P.held P.failures report.old report.new) result }
+    ensures noted { OnOk result (Notes plan.now
+        (readers_by ⟦<S as Source>⟧.left ⟦<S as Source>⟧.failures (inputs_view inputs.old) (inputs_view inputs.new))
+        notes.old.items notes.new.items) }
+{
+    let Inputs {
+        archives,
+        indexes,
+        files,
+        ops,
+        summaries,
+        ..
+    } = inputs;
+    let [archive, ..] = archives.as_mut_slice() else {
+        unreachable!();
+    };
+    match plan {
+        Plan::Admit => run_admit(heap, archive, files, notes, out, report),
+        Plan::Retire { key, digest } => {
+            run_retire(heap, archive, *key, *digest, notes, out, report)
+        }
+        Plan::Migrate => run_migrate(heap, archive, out, report),
+        Plan::Apply => match ops.as_mut_slice() {
+            [ops, ..] => run_apply(heap, archive, ops, out, report),
+            [] => unreachable!(),
+        },
+        Plan::Summary => match indexes.as_mut_slice() {
+            [] => run_summary(heap, archive, out, report),
+            [index, ..] => run_summary_at(heap, index, archive, out, report),
+        },
+        Plan::Index => run_index(heap, archive, out, report),
+        Plan::Delta => match summaries.as_mut_slice() {
+            [summary, ..] => run_delta(heap, archive, summary, out, report),
+            [] => unreachable!(),
+        },
+        _ => unreachable!(),
+    }
+}

@@ -1,5 +1,0 @@
-use Rattle.code_ranges.proofs.TupleLemmas.{one_first_tuple}
-use Rattle.code_ranges.proofs.laws.one_first_tuple.Goals as goal
-
-pub returns : goal.returns
-returns c = one_first_tuple

@@ -1,0 +1,15 @@
+-- Parts of several archives, joined: the words of inner functions. No contract of a public one has them.
+use Rattle.std.specs.Prelude.{◌≡◌, ℕ, List, Bool, map}
+use Rattle.std.specs.List.{AllByRecursion, AllZip}
+use Rattle.archive_core.specs.Content.{Operations, IsContent}
+use Rattle.archive_core.specs.Part.{part}
+use Rattle.command_common.specs.Archives.{merged}
+use Rattle.command_common.specs.Inputs.{Reader, HoldsArchive}
+
+-- These archives are the texts of contents, and the parts of these that are picked are joined to the content now.
+pub record HasJoinedParts {R : Type 0} (archives : List (Reader R)) (picks : List ℕ → Bool) (old new : Operations)
+    : Type 0 where
+  pub contents : List Operations
+  pub are_contents : AllByRecursion IsContent contents
+  pub archives_are : AllZip HoldsArchive archives contents
+  pub content : new ≡ merged old (map (λ o. part o picks) contents)

@@ -1,0 +1,97 @@
+//! The end of each command: OUT, which is published, and then the report.
+ghost use Rattle.std.specs.Prelude.{◌≡◌, ◌++◌, ℕ, List, length, string_bytes};
+ghost use Rattle.archive_records.specs.Text.{summary_text, written};
+ghost use Rattle.text_reports.specs.Report.{archive_line};
+ghost use Rattle.command_common.specs.Outputs.{Publishes, Reports, Takes, out_of, outs, report_of, summary_report_of};
+ghost use Rattle.command_common.specs.Outputs.{writer};
+
+use crate::faults::{CommandFault, Status};
+use crate::outputs::publish_output;
+use archive_core::Archive;
+use archive_records::{Sizes, Summary, write_archive, write_summary};
+use byte_device::{Output, Sink, Target, push_all};
+use memory::Heap;
+use text_reports::{summary_line, with_sizes};
+
+/// Publishes OUT, whose draft has taken a whole text with these sizes since it was `start`, and then writes the lines
+/// and the sizes to the report, which is made whole before that.
+pub fn publish_draft<T: Target, P: Sink>(
+    lines: String<Heap>,
+    sizes: Sizes,
+    out: &mut Output<T::Draft, T>,
+    report: &mut P,
+) -> Result<Status, CommandFault>
+    ensures { (start : T.Draft) (text : List ℕ)
+        → Takes (writer T.Draft.held T.Draft.failures start out.old.draft) text
+        → sizes.bytes ≡ length text
+        → Publishes (out_of (outs T.Draft.held T.Draft.failures T.published T.failures
+        (record { draft = start; target = out.old.target }) out.new))
+        (writer P.held P.failures report.old report.new) text (string_bytes lines ++ archive_line sizes) result }
+{
+    let text = with_sizes(lines, sizes)?;
+    publish_output(out, sizes.bytes)?;
+    publish_report(Status::Done, &text, report)
+}
+
+/// Writes the archive to OUT, publishes it, and then writes the lines and the sizes to the report, which is made whole
+/// before that.
+pub fn publish<A: Archive, T: Target, P: Sink>(
+    archive: &A,
+    lines: String<Heap>,
+    out: &mut Output<T::Draft, T>,
+    report: &mut P,
+) -> Result<Status, CommandFault>
+    ensures { Publishes (out_of (outs T.Draft.held T.Draft.failures T.published T.failures out.old out.new))
+        (writer P.held P.failures report.old report.new)
+        (written (A.content archive.now)) (report_of (A.content archive.now) (string_bytes lines)) result }
+{
+    match write_archive(archive, &mut out.draft) {
+        Ok(sizes) => publish_draft(lines, sizes, out, report),
+        Err(fault) => Err(CommandFault::Output(fault.written)),
+    }
+}
+
+/// Writes the summary to OUT, publishes it, and then writes its sizes to the report.
+pub fn publish_summary<T: Target, P: Sink>(
+    heap: Heap,
+    summary: &Summary,
+    out: &mut Output<T::Draft, T>,
+    report: &mut P,
+) -> Result<Status, CommandFault>
+    ensures { Publishes (out_of (outs T.Draft.held T.Draft.failures T.published T.failures out.old out.new))
+        (writer P.held P.failures report.old report.new)
+        (summary_text summary.now) (summary_report_of summary.now) result }
+{
+    let sizes = match write_summary(summary, &mut out.draft) {
+        Ok(sizes) => sizes,
+        Err(fault) => return Err(CommandFault::Output(fault.written)),
+    };
+    let text = summary_line(heap, sizes)?;
+    publish_output(out, sizes.bytes)?;
+    publish_report(Status::Done, &text, report)
+}
+
+/// Writes a text to the report, which is the end of each command that only reports.
+pub fn publish_report<P: Sink>(
+    status: Status,
+    text: &str,
+    report: &mut P,
+) -> Result<Status, CommandFault>
+    ensures { Reports (writer P.held P.failures report.old report.new) status text.now result }
+{
+    publish_bytes(status, text.as_bytes(), report)
+}
+
+/// The same of a text by its bytes.
+pub fn publish_bytes<P: Sink>(
+    status: Status,
+    bytes: &[u8],
+    report: &mut P,
+) -> Result<Status, CommandFault>
+    ensures { Reports (writer P.held P.failures report.old report.new) status bytes.now result }
+{
+    match push_all(report, bytes) {
+        Ok(()) => Ok(status),
+        Err(fault) => Err(CommandFault::Report(fault.written)),
+    }
+}

@@ -1,0 +1,95 @@
+-- What `extract` makes of archives by their indexes.
+use Rattle.std.specs.Prelude.{◌≡◌, ◌⊎◌, ℕ, List, [], ◌∷◌, Option, None}
+use Rattle.std.specs.List.{AllZip}
+use Rattle.archive_core.specs.Content.{Operations}
+use Rattle.archive_core.specs.Key.{key_bytes}
+use Rattle.archive_core.specs.declared.find.FindRow.{FindRow}
+use Rattle.archive_core.specs.declared.keys.Digest.{Digest}
+use Rattle.archive_core.specs.declared.keys.SliceKey.{SliceKey}
+use Rattle.text_reports.specs.Finds.{find_lines}
+use Rattle.command_common.specs.Inputs.{EachUnfailed, IsRefusal, Reader}
+use Rattle.command_common.specs.Outputs.{Takes, Writer}
+use Rattle.command_common.specs.declared.faults.CommandFault.{CommandFault}
+use Rattle.command_common.specs.declared.faults.InputName.{InputName}
+use Rattle.command_common.specs.declared.faults.Why.{Why}
+use Rattle.index_lookup.specs.Among.{AreTied, EntryAt}
+use Rattle.index_lookup.specs.Named.{IsRowAt}
+use Rattle.command_index_queries.specs.Several.{AreRefusedLater, AreUnfailedTogether, HoldTogether}
+use Rattle.command_index_queries.specs.Together.{AreLater, AreReadWith, IsFirstRefusedByIndex, IsOneOf}
+use Rattle.command_extract.specs.Entries.{AreUnchosen, HoldsSlice, IsChosen, StopsSlice}
+use Rattle.command_extract.specs.Extract.{Extraction, Held, MakesNone, MakesSlice}
+use Rattle.command_extract.specs.Wanted.{written_line}
+
+-- ---- by the entries
+
+-- The indexes were read, and the entry is the one that is wanted. This is its archive, as it stood after that; no other
+-- was touched.
+pub record IsChosenFrom {I P : Type 0} (indexes : List (Reader I)) (archives : List (Reader P)) (key : SliceKey)
+    (digest : Option Digest) (x : EntryAt) (archive : Reader P) : Type 0 where
+  pub all : List (List (List ℕ))
+  pub read : AreReadWith indexes archives all
+  pub unfailed : EachUnfailed indexes
+  pub chosen : IsChosen key digest all x
+  pub later : List (Reader P)
+  pub are_later : AreLater archives later
+  pub archive_is : IsOneOf later x.input archive
+
+-- Its archive has this slice at its place, and this is its line.
+pub record MakesEntry {I P : Type 0} (indexes : List (Reader I)) (archives : List (Reader P)) (key : SliceKey)
+    (digest : Option Digest) (slice told : List ℕ) : Type 0 where
+  pub x : EntryAt
+  pub archive : Reader P
+  pub from : IsChosenFrom indexes archives key digest x archive
+  pub holds : HoldsSlice archive x slice
+  pub told_is : told ≡ written_line key slice
+
+-- Its slice was not sent, for this fault.
+pub record StopsEntry {I P : Type 0} (indexes : List (Reader I)) (archives : List (Reader P)) (key : SliceKey)
+    (digest : Option Digest) (draft : Writer) (fault : CommandFault) : Type 0 where
+  pub x : EntryAt
+  pub archive : Reader P
+  pub from : IsChosenFrom indexes archives key digest x archive
+  pub stops : StopsSlice archive x draft fault
+
+-- The indexes were read, and no entry is wanted: this tells which answer.
+pub record LacksEntry {I P : Type 0} (indexes : List (Reader I)) (archives : List (Reader P)) (key : SliceKey)
+    (digest : Option Digest) (told : List ℕ) : Type 0 where
+  pub all : List (List (List ℕ))
+  pub read : AreReadWith indexes archives all
+  pub answering : List EntryAt
+  pub are : AreUnchosen key digest all answering
+  pub rows : List FindRow
+  pub rows_are : AllZip IsRowAt answering rows
+  pub told_is : told ≡ find_lines rows
+
+-- ---- by the slices, where of two that answer no entry says which comes first
+
+-- what the indexes name under the key is joined to a content of which this is true, and entries are tied
+abbrev pub HoldTied : {I P : Type 0} → List (Reader I) → List (Reader P) → SliceKey → Held
+HoldTied indexes archives key IsTrue =
+    (o : Operations) × (held : HoldTogether (key_bytes key ∷ []) indexes archives o) × AreTied (key_bytes key) held.all
+    × IsTrue o
+
+-- an index or the length of its archive is refused; or, where entries are tied, an archive whose slices are read
+abbrev pub AreRefusedBefore : {I P : Type 0} → List (Reader I) → List (Reader P) → SliceKey → InputName → Why → Type 0
+AreRefusedBefore indexes archives key at why =
+    IsFirstRefusedByIndex indexes archives at why
+    ⊎ ((refused : AreRefusedLater (key_bytes key ∷ []) indexes archives at why) × AreTied (key_bytes key) refused.all)
+
+-- ---- the command
+
+-- `extract`, over these archives. It is stopped before OUT is begun; or while the slice of an entry is sent.
+abbrev pub extract_at : {I P : Type 0} → List (Reader I) → List (Reader P) → SliceKey → Option Digest → Writer
+    → Extraction
+extract_at indexes archives key digest draft = record {
+  writes = record {
+    Makes = λ slice told. MakesEntry indexes archives key digest slice told
+        ⊎ ((digest ≡ None) × MakesSlice (HoldTied indexes archives key) key None slice told);
+    Stops = λ fault.
+        (IsRefusal (AreRefusedBefore indexes archives key) (AreUnfailedTogether indexes archives) fault × Takes draft [])
+        ⊎ StopsEntry indexes archives key digest draft fault;
+    Unfailed = AreUnfailedTogether indexes archives;
+  };
+  Lacks = λ told. LacksEntry indexes archives key digest told
+      ⊎ ((digest ≡ None) × MakesNone (HoldTied indexes archives key) key None told);
+}

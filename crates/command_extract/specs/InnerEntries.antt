@@ -1,0 +1,78 @@
+-- What the entries of indexes choose, and what is sent of it: the words of inner functions. No contract of a public one
+-- has them.
+use Rattle.std.specs.Prelude.{◌≡◌, ◌⊎◌, ℕ, List, [], ◌∷◌, Option, None, Some, Result, Ok, Err, slice_index_or, slice_set}
+use Rattle.std.specs.List.{AllZip}
+use Rattle.archive_core.specs.Content.{Operations}
+use Rattle.archive_core.specs.Key.{key_bytes}
+use Rattle.archive_core.specs.declared.keys.Digest.{Digest}
+use Rattle.archive_core.specs.declared.keys.SliceKey.{SliceKey}
+use Rattle.archive_records.specs.declared.fault.RecordFaultKind.TheVariants.{Device as DeviceFailed}
+use Rattle.command_common.specs.Inputs.{EachUnfailed, IsRefusal, Reader, Unfailed, reader}
+use Rattle.command_common.specs.Outputs.{Outs, PublishesNothing, Publishes, Takes, Writer, out_of}
+use Rattle.command_common.specs.declared.faults.CommandFault.{CommandFault}
+use Rattle.command_common.specs.declared.faults.CommandFault.TheVariants.{Input, Output}
+use Rattle.command_common.specs.declared.faults.InputName.TheVariants as inputs
+use Rattle.command_common.specs.declared.faults.Status.{Status}
+use Rattle.command_common.specs.declared.faults.Why.{Why}
+use Rattle.command_common.specs.declared.faults.Why.TheVariants as why
+use Rattle.command_extract.specs.declared.tested_copy.SendFault.{SendFault}
+use Rattle.command_extract.specs.declared.tested_copy.SendFault.TheVariants.{Other, Device, Sink}
+use Rattle.index_lookup.specs.Among.{AreTied, EntryAt}
+use Rattle.index_lookup.specs.Named.{IsRowAt, Names}
+use Rattle.command_index_queries.specs.Together.{HoldNamed, IsFirstRefusedAtPlaces}
+use Rattle.command_extract.specs.Entries.{AreUnchosen, HoldsSlice, IsChosen, StopsSlice}
+use Rattle.command_extract.specs.InnerChoice.{PublishesWanted}
+use Rattle.command_extract.specs.Wanted.{written_line}
+use Rattle.command_extract.specs.declared.entries.EntryChoice.{EntryChoice}
+use Rattle.command_extract.specs.declared.entries.EntryChoice.TheVariants.{One, Undecided, Tied}
+
+-- the choice is of the wanted slice, by its entry; or there is none, and these are the rows of those that answer; or
+-- entries that answer are tied
+abbrev pub IsEntryChoice : SliceKey → Option Digest → List (List (List ℕ)) → EntryChoice → Type 0
+IsEntryChoice key digest all (One named) = (x : EntryAt) × IsChosen key digest all x × Names x named
+IsEntryChoice key digest all (Undecided rows) =
+    (xs : List EntryAt) × AreUnchosen key digest all xs × AllZip IsRowAt xs rows.items
+IsEntryChoice key digest all Tied = (digest ≡ None) × AreTied (key_bytes key) all
+
+-- why a record was not read which begins at this offset, when its device failed
+abbrev pub unread_record : ℕ → Why
+unread_record offset = why.Record (record { kind = DeviceFailed; offset = offset })
+
+-- how a command tells why the bytes of a record were not sent, which begins at this offset
+abbrev pub told_fault : ℕ → ℕ → ℕ → SendFault → CommandFault
+told_fault input number offset Other = Input (inputs.Index input) (why.Stale (Some number))
+told_fault input number offset Device = Input (inputs.Archive input) (unread_record offset)
+told_fault input number offset (Sink written) = Output written
+
+-- what came of sending the slice of an entry: the draft took it, or why it did not
+abbrev pub SendsSlice : {P : Type 0} → Reader P → EntryAt → Writer → Result (Unit {0}) CommandFault → Type 0
+SendsSlice archive x draft (Ok _) =
+    (slice : List ℕ) × HoldsSlice archive x slice × Takes draft slice × Unfailed archive
+SendsSlice archive x draft (Err fault) = StopsSlice archive x draft fault
+
+-- The slice was sent, and is published; or it was not, nothing is published, and nothing was reported.
+abbrev pub PublishesSlice : {P D T : Type 0} → Reader P → SliceKey → EntryAt → Outs D T → Writer
+    → Result Status CommandFault → Type 0
+PublishesSlice archive key x out report result =
+    ((slice : List ℕ) × HoldsSlice archive x slice × Unfailed archive
+    × Publishes (out_of out) report slice (written_line key slice) result)
+    ⊎ ((fault : CommandFault) × (result ≡ Err fault) × StopsSlice archive x (out_of out).draft fault
+    × PublishesNothing (out_of out) × Takes report [])
+
+-- The same from its archive among several, of which no other is touched.
+abbrev pub PublishesFrom : {P D T : Type 0} → (P → Option (List ℕ)) → (P → ℕ) → List P
+    → List P → SliceKey → EntryAt → Outs D T → Writer → Result Status CommandFault → Type 0
+PublishesFrom {P} whole failures old new key x out report result =
+    (before : P) × (after : P) × (before ≡ slice_index_or old x.input before)
+    × (new ≡ slice_set old x.input after) × PublishesSlice (reader whole failures before after) key x out report result
+
+-- What the slices under the key make, which these entries name in archives, is published; or an archive is refused or
+-- memory is wanting, OUT is as it was, and nothing was reported.
+abbrev pub PublishesTied : {P D T : Type 0} → SliceKey → List (List (List ℕ)) → List (Reader P) → Outs D T → Writer
+    → Result Status CommandFault → Type 0
+PublishesTied key all archives out report result =
+    ((kept : Operations) × HoldNamed (key_bytes key ∷ []) archives all kept × EachUnfailed archives
+    × PublishesWanted kept key None out report result)
+    ⊎ ((fault : CommandFault) × (result ≡ Err fault)
+    × IsRefusal (IsFirstRefusedAtPlaces (key_bytes key ∷ []) archives all) (EachUnfailed archives) fault
+    × (out.new ≡ out.old) × Takes report [])

@@ -1,0 +1,126 @@
+//! The slice that is wanted under a key, among those that an archive holds.
+
+ghost use Rattle.std.specs.Prelude.{◌≡◌, ◌≢◌, ◌∷◌, [], ℕ, List, None, Some, IfNone, IfOk, IfSome, length, map};
+ghost use Rattle.sha2.specs.Sha256.{sha256};
+ghost use Rattle.archive_core.specs.Content.{IsLive};
+ghost use Rattle.archive_core.specs.Key.{key_bytes};
+ghost use Rattle.archive_core.specs.Record.{admission_record, borrowed_bytes};
+ghost use Rattle.archive_core.specs.Valid.{IsValid, key_of};
+ghost use Rattle.command_extract.specs.InnerChoice.{IsChoice};
+ghost use Rattle.command_extract.specs.Wanted.{slice_row};
+
+use archive_core::{Archive, CheckedSlice, Digest, FindRow, Record, Slice, SliceKey, is_key};
+use memory::{Heap, NoMemory};
+
+/// What an archive has for who wants a slice.
+#[derive(Drop)]
+pub(crate) enum Choice<'a> {
+    /// The slice.
+    One(CheckedSlice<'a>),
+    /// None, or several of which none is preferred: the rows of those that answer.
+    Undecided(Vec<FindRow, Heap>),
+}
+
+/// The row of a slice.
+fn row(slice: &Slice) -> FindRow
+    ensures { result ≡ slice_row slice.now }
+{
+    FindRow::of(&Record::Admit(slice.lend()))
+}
+
+/// The rows of slices, in their order.
+fn rows_of(heap: Heap, slices: &[&Slice]) -> Result<Vec<FindRow, Heap>, NoMemory>
+    ensures { IfOk result (λ rows. rows.items ≡ map (λ slice. slice_row slice.now) slices.now) }
+{
+    let mut rows = Vec::new(heap);
+    'slices: for slice in slices {
+        rows.push(row(slice))?;
+    }
+    Ok(rows)
+}
+
+/// The only one of slices, if they are one.
+fn only<'s>(slices: &[&'s Slice]) -> Option<&'s Slice>
+    ensures one { IfSome result (λ slice. map (λ slice. slice.now) slices.now ≡ slice.now ∷ []) }
+    ensures other { IfNone result (length slices.now ≢ 1) }
+{
+    if slices.len() == 1 {
+        Some(slices[0])
+    } else {
+        None
+    }
+}
+
+/// The one slice that answers under a key, or the rows of all that do.
+fn answering<'a, A: Archive>(
+    heap: Heap,
+    archive: &'a A,
+    key: &SliceKey,
+) -> Result<Choice<'a>, NoMemory>
+    ensures { IfOk result (λ choice. IsChoice (A.content archive.now) key.now None choice) }
+{
+    let slices = archive.answering_slices(key)?;
+    match only(&slices) {
+        Some(slice) => Ok(Choice::One(slice.lend())),
+        None => Ok(Choice::Undecided(rows_of(heap, &slices)?)),
+    }
+}
+
+/// The slice that a record admits, if it is one under the key that has the digest.
+fn slice_in<'a>(held: Record<'a>, key: &SliceKey, digest: &Digest) -> Option<CheckedSlice<'a>>
+    requires { length (key_bytes key.now) ≡ 24 }
+    ensures found { IfSome result (λ slice. (borrowed_bytes held.entry ≡ admission_record slice) × IsValid slice
+        × (key_of slice ≡ key.now) × (sha256 slice ≡ digest.now.0)) }
+    ensures none { IfNone result ((slice : List ℕ) → borrowed_bytes held.entry ≡ admission_record slice
+        → key_of slice ≡ key.now → sha256 slice ≡ digest.now.0 → ⊥) }
+{
+    let Record::Admit(slice) = held else {
+        return None;
+    };
+    let found = slice.digest();
+    if is_key(&slice.key(), key) && found == *digest {
+        Some(slice)
+    } else {
+        None
+    }
+}
+
+/// A slice that is held under a key and has a digest.
+fn held_with<'a, A: Archive>(
+    archive: &'a A,
+    key: &SliceKey,
+    digest: &Digest,
+) -> Option<CheckedSlice<'a>>
+    requires { length (key_bytes key.now) ≡ 24 }
+    ensures found { IfSome result (λ slice. IsLive (A.content archive.now) key.now slice
+        × (sha256 slice ≡ digest.now.0)) }
+    ensures none { IfNone result ((slice : List ℕ) → IsLive (A.content archive.now) key.now slice
+        → sha256 slice ≡ digest.now.0 → ⊥) }
+{
+    'records: for index in 0..archive.len() {
+        if let Some(slice) = slice_in(archive.record_at(index), key, digest) {
+            return Some(slice);
+        }
+    }
+    None
+}
+
+/// The slice that is wanted under a key: the one that answers, or one with the digest. The archive holds what is under
+/// the key.
+pub(crate) fn choose<'a, A: Archive>(
+    heap: Heap,
+    archive: &'a A,
+    key: &SliceKey,
+    digest: &Option<Digest>,
+) -> Result<Choice<'a>, NoMemory>
+    requires { length (key_bytes key.now) ≡ 24 }
+    ensures { IfOk result (λ choice. IsChoice (A.content archive.now) key.now digest.now choice) }
+{
+    let Some(digest) = digest else {
+        return answering(heap, archive, key);
+    };
+    match held_with(archive, key, digest) {
+        Some(slice) => Ok(Choice::One(slice)),
+        None => Ok(Choice::Undecided(Vec::new(heap))),
+    }
+}

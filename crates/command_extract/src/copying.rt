@@ -1,0 +1,70 @@
+//! Bytes that are copied from a place into a sink.
+
+ghost use Rattle.std.specs.Prelude.{◌≡◌, ◌+◌, ◌<◌, ◌≤◌, ◌^◌, IfOk, length};
+ghost use Rattle.byte_device.specs.Devices.{CountsFailure, stream};
+ghost use Rattle.byte_device.specs.Places.{TakenAt};
+ghost use Rattle.command_extract.specs.Copies.{CopiesAt};
+
+use byte_device::{Failed, Placed, Sink, push_all};
+use sha2::{Digest, Sha256};
+
+/// Why a copy is not whole.
+#[derive(Clone, Copy, Debug, PartialEq, Eq)]
+pub enum CopyFault {
+    /// Fewer bytes stand at the place.
+    Ended,
+    /// The device failed.
+    Device,
+    /// The sink failed after it had taken this many bytes.
+    Sink(u128),
+}
+
+/// Takes bytes from the place on into the first bytes of a buffer, no more than so many.
+fn take_piece<P: Placed>(
+    device: &mut P,
+    at: u64,
+    most: u64,
+    buffer: &mut [u8],
+) -> Result<usize, Failed>
+    requires room { 0 < length buffer.old }
+    requires some { 0 < most }
+    ensures room { IfOk result (λ n. n ≤ length buffer.new) }
+    ensures most { IfOk result (λ n. n ≤ most) }
+    ensures bytes { IfOk result (λ n. TakenAt (P.whole device.old) at n buffer.new) }
+    ensures keeps { P.whole device.new ≡ P.whole device.old }
+    ensures count { CountsFailure (P.failures device.old) (P.failures device.new) result }
+{
+    let room = buffer.len().min(most as usize);
+    device.take_at(at, &mut buffer[..room])
+}
+
+/// Copies `size` bytes from the place on into a sink, and gives their SHA-256. The buffer has one piece at a time.
+pub fn copy_at<P: Placed, W: Sink>(
+    device: &mut P,
+    at: u64,
+    size: u64,
+    buffer: &mut [u8],
+    w: &mut W,
+) -> Result<[u8; 32], CopyFault>
+    requires room { 0 < length buffer.old }
+    requires fits { at + size < 2 ^ 64 }
+    ensures { CopiesAt (stream P.whole P.failures device.old device.new) (stream W.held W.failures w.old w.new) at size
+        result }
+{
+    let mut hasher = Sha256::new();
+    let mut done = 0;
+    'copying: while done < size {
+        let n = match take_piece(device, at + done, size - done, buffer) {
+            Ok(0) => return Err(CopyFault::Ended),
+            Ok(n) => n,
+            Err(Failed) => return Err(CopyFault::Device),
+        };
+        let piece = &buffer[..n];
+        hasher.update(piece);
+        if let Err(fault) = push_all(w, piece) {
+            return Err(CopyFault::Sink(done as u128 + fault.written));
+        }
+        done += n as u64;
+    }
+    Ok(hasher.finalize())
+}

@@ -1,0 +1,143 @@
+//! A slice that an entry names, sent from its archive to OUT.
+
+ghost use Rattle.std.specs.Prelude.{◌≡◌, ◌+◌, ◌<◌, IfOk, length, string_bytes};
+ghost use Rattle.byte_device.specs.Devices.{stream};
+ghost use Rattle.command_extract.specs.Sending.{SendsAt};
+ghost use Rattle.command_common.specs.Inputs.{reader};
+ghost use Rattle.command_common.specs.Outputs.{outs, writer};
+ghost use Rattle.index_lookup.specs.Among.{EntryAt};
+ghost use Rattle.index_lookup.specs.Named.{Names};
+ghost use Rattle.command_extract.specs.InnerEntries.{PublishesSlice, SendsSlice, told_fault, unread_record};
+ghost use Rattle.command_extract.specs.Wanted.{line_of};
+
+use crate::tested_copy::{SendFault, send_at};
+use archive_core::{Digest, SliceKey};
+use archive_records::{ADMISSION_HEAD_LEN, RecordFault, RecordFaultKind};
+use byte_device::{Output, PIECE_LEN, Placed, Sink, Target};
+use command_common::{CommandFault, InputName, Status, Why, publish_output, publish_report};
+use index_lookup::NamedSlice;
+use memory::{Heap, NoMemory};
+use text_reports::Text;
+use text_values::Spelled;
+
+/// The line of a slice under a key that was written: its digest, and how many bytes it has.
+pub(crate) fn line_of(
+    heap: Heap,
+    key: SliceKey,
+    digest: Digest,
+    size: u64,
+) -> Result<String<Heap>, NoMemory>
+    ensures { IfOk result (λ text. string_bytes text ≡ line_of key digest size) }
+{
+    let mut text = String::new(heap);
+    let key = Text(key);
+    let digest = Spelled(digest);
+    writeln!(text, "slice {key} {digest}, {size} bytes")?;
+    Ok(text)
+}
+
+/// Room for a piece.
+fn room_for_piece(heap: Heap) -> Result<Vec<u8, Heap>, NoMemory>
+    ensures { IfOk result (λ piece. 0 < length piece.items) }
+{
+    let mut piece = Vec::new(heap);
+    piece.resize(PIECE_LEN, 0)?;
+    Ok(piece)
+}
+
+/// Why a record was not read, whose device failed.
+fn unread(offset: u64) -> Why
+    ensures { result ≡ unread_record offset }
+{
+    Why::Record(RecordFault {
+        kind: RecordFaultKind::Device,
+        offset: u128::from(offset),
+    })
+}
+
+/// Why a slice was not sent, as a command tells it.
+fn told(named: &NamedSlice, fault: SendFault) -> CommandFault
+    ensures { result ≡ told_fault named.now.input named.now.number named.now.offset fault }
+{
+    match fault {
+        SendFault::Other => {
+            CommandFault::Input(
+                InputName::Index(named.input),
+                Why::Stale(Some(named.number)),
+            )
+        }
+        SendFault::Device => {
+            CommandFault::Input(InputName::Archive(named.input), unread(named.offset))
+        }
+        SendFault::Sink(written) => CommandFault::Output(written),
+    }
+}
+
+/// Sends the slice of the record that stands at this offset, as [`send_at`] does.
+fn send_slice_at<P: Placed, W: Sink>(
+    device: &mut P,
+    offset: u64,
+    size: u64,
+    digest: &[u8; 32],
+    buffer: &mut [u8],
+    w: &mut W,
+) -> Result<(), SendFault>
+    requires { 0 < length buffer.old }
+    ensures { SendsAt (stream P.whole P.failures device.old device.new) (stream W.held W.failures w.old w.new)
+        (offset + 33) size digest.now result }
+{
+    let start = u128::from(offset);
+    send_at(
+        device,
+        start + ADMISSION_HEAD_LEN as u128,
+        size,
+        digest,
+        buffer,
+        w,
+    )
+}
+
+/// Sends the slice that an entry names from its archive to a draft.
+fn send_named<P: Placed, W: Sink>(
+    heap: Heap,
+    named: &NamedSlice,
+    archive: &mut P,
+    draft: &mut W,
+) -> Result<(), CommandFault>
+    ensures { (x : EntryAt) → Names x named.now → SendsSlice (reader P.whole P.failures archive.old archive.new) x
+        (writer W.held W.failures draft.old draft.new) result }
+{
+    let mut piece = room_for_piece(heap)?;
+    match send_slice_at(
+        archive,
+        named.offset,
+        named.size,
+        &named.row.digest.0,
+        &mut piece,
+        draft,
+    ) {
+        Ok(()) => Ok(()),
+        Err(fault) => Err(told(named, fault)),
+    }
+}
+
+/// Sends the slice that an entry names under a key from its archive to OUT, publishes it, and then writes its line to
+/// the report.
+pub(crate) fn publish_named<P: Placed, T: Target, W: Sink>(
+    heap: &Heap,
+    key: &SliceKey,
+    named: &NamedSlice,
+    archive: &mut P,
+    out: &mut Output<T::Draft, T>,
+    report: &mut W,
+) -> Result<Status, CommandFault>
+    ensures { (x : EntryAt) → Names x named.now
+        → PublishesSlice (reader P.whole P.failures archive.old archive.new) key.now x
+        (outs T.Draft.held T.Draft.failures T.published T.failures out.old out.new)
+        (writer W.held W.failures report.old report.new) result }
+{
+    let text = line_of(heap.share(), *key, named.row.digest, named.size)?;
+    send_named(heap.share(), named, archive, &mut out.draft)?;
+    publish_output(out, named.size as u128)?;
+    publish_report(Status::Done, &text, report)
+}

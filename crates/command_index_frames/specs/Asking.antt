@@ -1,0 +1,120 @@
+-- What is told of addresses by indexes: by the tables of the slices that answer, or by these slices.
+use Rattle.std.specs.Prelude.{◌≡◌, ◌+◌, ◌⊎◌, ℕ, List, [], Bool, true, false, Option, Some, All, Contains, map}
+use Rattle.std.specs.Prelude.{take, drop, slice_get}
+use Rattle.std.specs.List.{AllZip}
+use Rattle.byte_device.specs.Devices.{FailedIn}
+use Rattle.archive_core.specs.Key.{key_bytes}
+use Rattle.archive_core.specs.Lookup.{answer_view}
+use Rattle.archive_core.specs.declared.keys.SliceKey.{SliceKey}
+use Rattle.command_queries.specs.Symbolicate.{Answered, answers_status, answers_text, asked_of}
+use Rattle.index_format.specs.declared.index_fault.IndexFaultKind.TheVariants.{Device}
+use Rattle.index_lookup.specs.Among.{AreAnsweringAmong, AreTied, EntryAt}
+use Rattle.index_lookup.specs.AmongAsked.{IsAskedAt, IsDamagedAt, IsLinelessAt}
+use Rattle.index_lookup.specs.AmongTold.{IsAnswerAmong}
+use Rattle.command_common.specs.Inputs.{Reader, EachUnfailed, IsGiven}
+use Rattle.command_common.specs.declared.faults.InputName.{InputName}
+use Rattle.command_common.specs.declared.faults.InputName.TheVariants.{Index}
+use Rattle.command_common.specs.declared.faults.Status.{Status}
+use Rattle.command_common.specs.declared.faults.Why.{Why}
+use Rattle.command_common.specs.declared.faults.Why.TheVariants.{Damaged, Index as IndexFaulty, NoLines}
+use Rattle.command_index_queries.specs.Several.{AreRefusedLater}
+use Rattle.command_index_queries.specs.Together.{AreReadWith, IsFirstRefusedByIndex}
+
+-- ---- by tables
+
+-- these are the bytes of the indexes, one after another
+abbrev pub AreGiven : {I : Type 0} → List (Reader I) → List (List ℕ) → Type 0
+AreGiven indexes texts = AllZip IsGiven indexes texts
+
+-- The answer is what the tables of these entries tell under the key, whatever bytes the indexes have of which this is
+-- true, and so are the frames that are shown; none are if no lines are wanted.
+pub record IsAnsweredByTables (AreTexts : List (List ℕ) → Type 0) (all : List (List (List ℕ))) (key : SliceKey)
+    (load : Option ℕ) (lines : Bool) (row : Answered) : Type 0 where
+  pub answer_is : (texts : List (List ℕ)) → AreTexts texts
+      → IsAnswerAmong texts all (key_bytes key) lines (asked_of load row.address) (answer_view row.answer) row.frames
+  pub none_shown : lines ≡ false → row.frames ≡ []
+
+-- tables tell this of addresses, one answer an address and in their order
+pub record TellTables (AreTexts : List (List ℕ) → Type 0) (all : List (List (List ℕ))) (key : SliceKey)
+    (load : Option ℕ) (lines : Bool) (addresses : List ℕ) (status : Status) (text : List ℕ) : Type 0 where
+  pub rows : List Answered
+  pub addresses_are : map (λ row. row.address) rows ≡ addresses
+  pub answered : All (IsAnsweredByTables AreTexts all key load lines) rows
+  pub status_is : status ≡ answers_status rows
+  pub text_is : text ≡ answers_text rows
+
+-- ---- by slices
+
+-- Of two slices of one length under one of these keys, in two archives, no entry says which comes first: so the slices
+-- are read, though tables are there.
+abbrev pub AreTiedUnder : List (List ℕ) → List (List (List ℕ)) → Type 0
+AreTiedUnder keys all = (key : List ℕ) × Contains keys key × AreTied key all
+
+-- ---- refused
+
+-- the device of the index of this number failed once, and no other did
+pub record FailsAlone {I : Type 0} (indexes : List (Reader I)) (input : ℕ) : Type 0 where
+  pub index : Reader I
+  pub index_is : slice_get indexes input ≡ Some index
+  pub failed : FailedIn (index.failures index.old) (index.failures index.new)
+  pub before : EachUnfailed (take input indexes)
+  pub after : EachUnfailed (drop (input + 1) indexes)
+
+-- The table of one of the entries that answer was changed, if all bytes are known, and no device failed.
+pub record IsChanged {I : Type 0} (indexes : List (Reader I)) (answering : List EntryAt) (at : InputName) (why : Why)
+    : Type 0 where
+  pub input : ℕ
+  pub number : ℕ
+  pub at_is : at ≡ Index input
+  pub why_is : why ≡ Damaged number
+  pub changed : (texts : List (List ℕ)) → AreGiven indexes texts → IsDamagedAt texts answering input number
+  pub unfailed : EachUnfailed indexes
+
+-- The table of one of the entries that answer has no lines, which are wanted, if all bytes are known, and no device
+-- failed.
+pub record IsLineless {I : Type 0} (lines : Bool) (indexes : List (Reader I)) (answering : List EntryAt)
+    (at : InputName) (why : Why) : Type 0 where
+  pub input : ℕ
+  pub number : ℕ
+  pub at_is : at ≡ Index input
+  pub why_is : why ≡ NoLines number
+  pub wanted : lines ≡ true
+  pub lacks : (texts : List (List ℕ)) → AreGiven indexes texts → IsLinelessAt texts answering input number
+  pub unfailed : EachUnfailed indexes
+
+-- The device of an index failed while the table of one of the entries that answer was read in it.
+pub record IsUnreadTable {I : Type 0} (indexes : List (Reader I)) (answering : List EntryAt) (at : InputName)
+    (why : Why) : Type 0 where
+  pub input : ℕ
+  pub offset : ℕ
+  pub at_is : at ≡ Index input
+  pub why_is : why ≡ IndexFaulty (record { kind = Device; offset = offset })
+  pub asked : IsAskedAt answering input offset
+  pub failed : FailsAlone indexes input
+
+-- Under one of these keys a table is not told.
+pub record IsUntoldUnder {I : Type 0} (lines : Bool) (keys : List (List ℕ)) (indexes : List (Reader I))
+    (all : List (List (List ℕ))) (at : InputName) (why : Why) : Type 0 where
+  pub key : List ℕ
+  pub key_is : Contains keys key
+  pub answering : List EntryAt
+  pub are : AreAnsweringAmong key all answering
+  pub untold : IsChanged indexes answering at why
+      ⊎ (IsLineless lines indexes answering at why ⊎ IsUnreadTable indexes answering at why)
+
+-- The indexes were read, and then a table is not told.
+pub record AreUntold {I P : Type 0} (lines : Bool) (keys : List (List ℕ)) (indexes : List (Reader I))
+    (archives : List (Reader P)) (at : InputName) (why : Why) : Type 0 where
+  pub all : List (List (List ℕ))
+  pub read : AreReadWith indexes archives all
+  pub unfailed : EachUnfailed archives
+  pub untold : IsUntoldUnder lines keys indexes all at why
+
+-- The first that is refused, of commands that ask under these keys: an index, or the length of its archive; after that
+-- an archive whose slices are read, since two are tied; or a table.
+abbrev pub AreRefusedAsking : {I P : Type 0} → Bool → List (List ℕ) → List (Reader I) → List (Reader P) → InputName
+    → Why → Type 0
+AreRefusedAsking lines keys indexes archives at why =
+    IsFirstRefusedByIndex indexes archives at why
+    ⊎ (((refused : AreRefusedLater keys indexes archives at why) × AreTiedUnder keys refused.all)
+    ⊎ AreUntold lines keys indexes archives at why)

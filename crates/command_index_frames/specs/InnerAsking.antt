@@ -1,0 +1,85 @@
+-- What comes of asking by tables, and of asking by slices if two are tied: the words of inner functions. No contract of
+-- a public one has them.
+use Rattle.std.specs.Prelude.{◌≡◌, ◌⊎◌, ℕ, List, Bool, Option, Result, Contains}
+use Rattle.archive_core.specs.Content.{Operations}
+use Rattle.index_format.specs.declared.index_fault.IndexFaultKind.TheVariants.{Device as DeviceKind}
+use Rattle.index_lookup.specs.Among.{AreAnsweringAmong, EntryAt}
+use Rattle.index_lookup.specs.AmongAsked.{BlamesAmong, HaveTexts, IsUntoldAmong, each_known}
+use Rattle.index_lookup.specs.declared.fault.AnswerFault.{AnswerFault}
+use Rattle.index_lookup.specs.declared.fault.AnswerFault.TheVariants.{Damaged, Device, NoLines, OutOfMemory}
+use Rattle.command_common.specs.Inputs.{Reader, EachUnfailed, ReadsInputs}
+use Rattle.command_common.specs.declared.faults.CommandFault.{CommandFault}
+use Rattle.command_common.specs.declared.faults.CommandFault.TheVariants as command
+use Rattle.command_common.specs.declared.faults.InputName.{InputName}
+use Rattle.command_common.specs.declared.faults.InputName.TheVariants.{Index}
+use Rattle.command_common.specs.declared.faults.Why.{Why}
+use Rattle.command_common.specs.declared.faults.Why.TheVariants as why
+use Rattle.command_index_queries.specs.Together.{HoldNamed, IsFirstRefusedAtPlaces}
+use Rattle.command_index_frames.specs.Asking.{AreTiedUnder}
+
+-- how a command tells a fault of answers
+abbrev pub command_fault : AnswerFault → CommandFault
+command_fault (Damaged input entry) = command.Input (Index input) (why.Damaged entry)
+command_fault (NoLines input entry) = command.Input (Index input) (why.NoLines entry)
+command_fault (Device input offset) = command.Input (Index input) (why.Index (record { kind = DeviceKind; offset = offset }))
+command_fault OutOfMemory = command.OutOfMemory
+
+-- Under one of these keys a table is not told, for a fault that a command tells so.
+pub record IsUntoldBy {D : Type 0} (whole : D → Option (List ℕ)) (failures : D → ℕ) (lines : Bool)
+    (keys : List (List ℕ)) (all : List (List (List ℕ))) (old new : List D) (at : InputName)
+    (why : Why) : Type 0 where
+  pub key : List ℕ
+  pub key_is : Contains keys key
+  pub answering : List EntryAt
+  pub are : AreAnsweringAmong key all answering
+  pub fault : AnswerFault
+  pub told_as : command_fault fault ≡ command.Input at why
+  pub says : (texts : List (List ℕ)) → HaveTexts whole old texts → IsUntoldAmong texts answering fault
+  pub counts : BlamesAmong lines answering (each_known failures old) (each_known failures new) fault
+
+-- no device failed
+abbrev pub NoneFailed : {D : Type 0} → (D → ℕ) → List D → List D → Type 0
+NoneFailed failures old new = each_known failures new ≡ each_known failures old
+
+-- What came of asking the tables under these keys: something of which this is true, and each device has its bytes; or a
+-- table is not told.
+abbrev pub AsksTables : {D T : Type 0} → (D → Option (List ℕ)) → (D → ℕ) → Bool → List (List ℕ)
+    → List (List (List ℕ)) → List D → List D → Result T CommandFault
+    → (T → Type 0) → Type 0
+AsksTables whole failures lines keys all old new result IsTrue =
+    ReadsInputs result (λ value. IsTrue value × (each_known whole new ≡ each_known whole old))
+    (IsUntoldBy whole failures lines keys all old new) (NoneFailed failures old new)
+
+-- What the archives hold under such keys: this is true of it.
+pub record AreHeldUnder {P : Type 0} (IsSought : List (List ℕ) → Type 0) (all : List (List (List ℕ)))
+    (archives : List (Reader P)) (IsTrue : Operations → Type 0) : Type 0 where
+  pub keys : List (List ℕ)
+  pub sought : IsSought keys
+  pub content : Operations
+  pub held : HoldNamed keys archives all content
+  pub is_true : IsTrue content
+
+-- an archive is refused, as far as such keys tell
+abbrev pub AreRefusedUnder : {P : Type 0} → (List (List ℕ) → Type 0) → List (List (List ℕ)) → List (Reader P)
+    → InputName → Why → Type 0
+AreRefusedUnder IsSought all archives at why =
+    (keys : List (List ℕ)) × IsSought keys × IsFirstRefusedAtPlaces keys archives all at why
+
+-- what came of asking by slices under such keys
+abbrev pub AsksSlices : {P T : Type 0} → (List (List ℕ) → Type 0) → List (List (List ℕ)) → List (Reader P)
+    → Result T CommandFault → (Operations → T → Type 0) → Type 0
+AsksSlices IsSought all archives result IsTrue =
+    ReadsInputs result (λ told. AreHeldUnder IsSought all archives (λ content. IsTrue content told))
+    (AreRefusedUnder IsSought all archives) (EachUnfailed archives)
+
+-- What came of asking by tables under these keys; or by slices under such keys, if two are tied.
+abbrev pub AsksEither : {D P T : Type 0} → Bool → (List (List ℕ) → Type 0) → (D → Option (List ℕ)) → (D → ℕ)
+    → List (List ℕ) → List (List (List ℕ)) → List D → List D
+    → List (Reader P) → Result T CommandFault → (T → Type 0) → (Operations → T → Type 0) → Type 0
+AsksEither lines IsSought whole failures keys all old new archives result ByTables BySlices =
+    ReadsInputs result
+    (λ told. ByTables told
+    ⊎ (AreTiedUnder keys all × AreHeldUnder IsSought all archives (λ content. BySlices content told)))
+    (λ at why. (EachUnfailed archives × IsUntoldBy whole failures lines keys all old new at why)
+    ⊎ (AreTiedUnder keys all × NoneFailed failures old new × AreRefusedUnder IsSought all archives at why))
+    (NoneFailed failures old new × EachUnfailed archives)

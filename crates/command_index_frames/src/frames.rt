@@ -1,0 +1,146 @@
+//! `frames FRAMES [--lines] ARCHIVE... --index INDEX`, over one archive or several.
+ghost use Rattle.std.specs.Prelude.{◌≡◌, IfOk, MatchOption, length, map};
+ghost use Rattle.archive_core.specs.Content.{HaveSameMembers};
+ghost use Rattle.archive_core.specs.Key.{key_bytes};
+ghost use Rattle.command_queries.specs.Frames.{TellsFrames};
+ghost use Rattle.command_common.specs.Ends.{EndsReport};
+ghost use Rattle.command_common.specs.Inputs.{reader, readers};
+ghost use Rattle.command_common.specs.Outputs.{writer};
+ghost use Rattle.index_lookup.specs.AmongAsked.{HaveTexts};
+ghost use Rattle.command_index_queries.specs.Prefixes.{prefix_bytes};
+ghost use Rattle.command_index_frames.specs.Asking.{AreTiedUnder};
+ghost use Rattle.command_index_frames.specs.Frames.{TellTablesOfFrames, frames_at, keys_of};
+ghost use Rattle.command_index_frames.specs.InnerAsking.{AsksEither, AsksSlices, AsksTables};
+
+use crate::places::asked_places;
+use crate::told::{answer_frames_by_tables, tell_keys};
+use archive_core::{Archive, SliceKey, compare_keys};
+use byte_device::{Placed, Sink, Source};
+use command_common::{CommandFault, Status, publish_bytes, read_crash};
+use command_index_queries::{KeyPrefix, read_indexes, read_prefixes};
+use command_queries::answer_frames;
+use index_format::Index;
+use memory::{Heap, NoMemory};
+use text_inputs::Frame;
+
+/// The key of each frame.
+fn each_key(heap: Heap, frames: &[Frame]) -> Result<Vec<SliceKey, Heap>, NoMemory>
+    ensures { IfOk result (λ keys. keys.items ≡ map (λ frame. frame.key) frames.now) }
+{
+    frames.iter().map(|frame| frame.key).collect(heap)
+}
+
+/// The keys of frames, each once, in the order of their bytes.
+fn keys_once(heap: Heap, frames: &[Frame]) -> Result<Vec<SliceKey, Heap>, NoMemory>
+    ensures { IfOk result (λ keys. HaveSameMembers (map key_bytes keys.items) (keys_of frames.now)) }
+{
+    let mut keys = each_key(heap, frames)?;
+    keys.sort_unstable_by(|a, b| compare_keys(a, b));
+    keys.dedup_by(|a, b| compare_keys(a, b).is_eq());
+    Ok(keys)
+}
+
+/// The same as prefixes.
+fn prefixes_of(heap: &Heap, frames: &[Frame]) -> Result<Vec<KeyPrefix, Heap>, NoMemory>
+    ensures { IfOk result (λ prefixes. HaveSameMembers (map prefix_bytes prefixes.items) (keys_of frames.now)) }
+{
+    let keys = keys_once(heap.share(), frames)?;
+    keys.iter()
+        .map(|key| KeyPrefix::Key(*key))
+        .collect(heap.share())
+}
+
+/// The lines of the answers to the frames by the tables of the indexes, with how a command ends that prints them; or
+/// none, if two slices are tied.
+fn tell_by_tables<I: Placed>(
+    heap: &Heap,
+    lines: bool,
+    frames: &[Frame],
+    read: &[Index],
+    indexes: &mut [I],
+) -> Result<Option<(Status, Vec<u8, Heap>)>, CommandFault>
+    requires { length read.now ≡ length indexes.old }
+    ensures { AsksTables I.whole I.failures lines (keys_of frames.now) read.now indexes.old indexes.new result
+        (λ found. MatchOption found (AreTiedUnder (keys_of frames.now) read.now)
+        (λ told. TellTablesOfFrames (HaveTexts I.whole indexes.old) read.now lines frames.now told.0 told.1.items)) }
+{
+    let asked = asked_places(heap.share(), frames)?;
+    let Some(told) = tell_keys(heap, read, indexes, lines, &asked)? else {
+        return Ok(None);
+    };
+    let (status, text) = answer_frames_by_tables(heap.share(), &told, lines, frames)?;
+    Ok(Some((status, text.into_bytes())))
+}
+
+/// The lines of the answers to the frames by the slices that the indexes name, with how a command ends that prints them.
+fn tell_by_slices<A: Archive + Drop, P: Placed>(
+    heap: &Heap,
+    lines: bool,
+    frames: &[Frame],
+    read: &[Index],
+    archives: &mut [P],
+) -> Result<(Status, Vec<u8, Heap>), CommandFault>
+    requires { length read.now ≡ length archives.old }
+    ensures { AsksSlices (λ keys. HaveSameMembers keys (keys_of frames.now)) read.now
+        (readers P.whole P.failures archives.old archives.new) result
+        (λ content told. TellsFrames lines content frames.now told.0 told.1.items) }
+{
+    let prefixes = prefixes_of(heap, frames)?;
+    let kept: A = read_prefixes(heap, &prefixes, read, archives)?;
+    let told = answer_frames(heap.share(), &kept, frames, lines)?;
+    Ok(told)
+}
+
+/// The lines of the answers to the frames, by the tables of the indexes or by the slices that they name, with how a
+/// command ends that prints them.
+fn tell_frames<A: Archive + Drop, I: Placed, P: Placed>(
+    heap: &Heap,
+    lines: bool,
+    frames: &[Frame],
+    read: &[Index],
+    indexes: &mut [I],
+    archives: &mut [P],
+) -> Result<(Status, Vec<u8, Heap>), CommandFault>
+    requires same { length read.now ≡ length indexes.old }
+    requires many { length read.now ≡ length archives.old }
+    ensures { AsksEither lines (λ keys. HaveSameMembers keys (keys_of frames.now)) I.whole I.failures
+        (keys_of frames.now) read.now indexes.old indexes.new
+        (readers P.whole P.failures archives.old archives.new) result
+        (λ told. TellTablesOfFrames (HaveTexts I.whole indexes.old) read.now lines frames.now told.0 told.1.items)
+        (λ content told. TellsFrames lines content frames.now told.0 told.1.items) }
+{
+    match tell_by_tables(heap, lines, frames, read, indexes)? {
+        Some(told) => Ok(told),
+        None => tell_by_slices::<A, P>(heap, lines, frames, read, archives),
+    }
+}
+
+/// Writes for each frame of FRAMES what `run_symbolicate_at` writes for its address to the report, in the order of the
+/// lines. FRAMES is read to its end first, and then the indexes, which are compared with the lengths of their archives.
+/// The tables under one key are open at a time. If slices are read, then all under the keys of the frames, for as
+/// `run_symbolicate_at` says.
+///
+/// The status is `Done` where each answer is one symbol, and else `Partial`.
+///
+/// # Errors
+///
+/// `Input` for FRAMES, or for the first index, archive or table that is refused; `Report` where the report failed;
+/// `OutOfMemory`.
+pub fn run_frames_at<A: Archive + Drop, C: Source, I: Placed, P: Placed, W: Sink>(
+    heap: Heap,
+    lines: bool,
+    crash: &mut C,
+    indexes: &mut [I],
+    archives: &mut [P],
+    report: &mut W,
+) -> Result<Status, CommandFault>
+    requires { length indexes.old ≡ length archives.old }
+    ensures { EndsReport (frames_at lines (reader C.left C.failures crash.old crash.new)
+        (readers I.whole I.failures indexes.old indexes.new) (readers P.whole P.failures archives.old archives.new))
+        (writer W.held W.failures report.old report.new) result }
+{
+    let frames = read_crash(heap.share(), crash)?;
+    let read = read_indexes(&heap, indexes, archives)?;
+    let (status, text) = tell_frames::<A, I, P>(&heap, lines, &frames, &read, indexes, archives)?;
+    publish_bytes(status, &text, report)
+}

@@ -1,0 +1,35 @@
+use Rattle.std.proofs.Common.{refl, List, ℕ, ap, ◌∙◌, subst}
+use Rattle.text_reports.specs.Finds.{find_lines}
+use Rattle.command_common.specs.Found.{found_status}
+use Rattle.std.proofs.lemmas.Result.{err_from_is_err_and}
+use Rattle.byte_device.proofs.Known.{Appends-none}
+use Rattle.command_common.proofs.Endings.{reported}
+use Rattle.command_index_queries.specs.Rows.{AreIndexRows}
+use Rattle.index_format.specs.Text.{placed_of}
+use Rattle.command_index_queries.proofs.find.run_find_at.Goals as goal
+
+pub returns-in_err-rows : goal.returns-in_err-rows
+returns-in_err-rows g c =
+    let p = err_from_is_err_and c.from_residual-in_err-rows.result c.from_residual-in_err-rows.ensures.1 in
+    rw (p.1, p.2) (c.in_ok-entries.ensures.unfailed, (Appends-none _, refl))
+
+pub returns-in_err-text : goal.returns-in_err-text
+returns-in_err-text g c =
+    let p = err_from_is_err_and c.from_residual-in_err-text.result c.from_residual-in_err-text.ensures.1 in
+    rw (p.1, p.2) (c.in_ok-entries.ensures.unfailed, (Appends-none _, refl))
+
+pub returns : goal.returns
+returns g c =
+    let rows = c.in_ok-rows.rows.items in
+    reported _ _ _ _ c.publish_report.result _ _ c.in_ok-entries.ensures.unfailed
+    (record {
+      entries = placed_of c.in_ok-entries.entries;
+      index_of = c.in_ok-entries.ensures.is;
+      tells = record {
+        rows = rows;
+        are_rows = subst (λ (prefix : List ℕ). AreIndexRows prefix (placed_of c.in_ok-entries.entries) rows) c.uuid_bytes-prefix.ensures.bytes c.in_ok-rows.ensures;
+        status_is = c.found_status.ensures ∙ ap found_status c.deref-2.ensures.value;
+        text_is = c.deref-3.ensures ∙ c.in_ok-text.ensures ∙ ap find_lines c.deref.ensures.value;
+      };
+    })
+    c.publish_report.ensures

@@ -1,0 +1,75 @@
+-- Archives with their indexes: what an index says, and which of the two is refused, and why.
+use Rattle.std.specs.Prelude.{◌≡◌, ◌≢◌, ℕ, List, None, Err, ◌⊎◌}
+use Rattle.archive_core.specs.Summary.{Entries}
+use Rattle.index_format.specs.Index.{AreIndexEntries}
+use Rattle.index_format.specs.Places.{HasIndexedLength}
+use Rattle.index_format.specs.declared.index_fault.IndexFault.{IndexFault}
+use Rattle.index_format.specs.declared.index_fault.IndexFaultKind.TheVariants.{OutOfMemory as IndexOutOfMemory}
+use Rattle.index_format.specs.Reading.{ReadsIndex}
+use Rattle.index_format.specs.Text.{IsIndexText, placed_of}
+use Rattle.command_common.specs.Inputs.{Reader, Gives, IsUnread, IsUntouched, Unfailed}
+use Rattle.command_common.specs.declared.faults.InputName.{InputName}
+use Rattle.command_common.specs.declared.faults.InputName.TheVariants.{Archive, Index}
+use Rattle.command_common.specs.declared.faults.Why.{Why}
+use Rattle.archive_records.specs.declared.fault.RecordFaultKind.TheVariants.{Device as DeviceFailed}
+use Rattle.command_common.specs.declared.faults.Why.TheVariants.{CannotOpen as NotOpened, Device as CannotRead, Record}
+use Rattle.command_common.specs.declared.faults.Why.TheVariants.{Take, Script, BadFrame, OldArchive, TooLong}
+use Rattle.command_common.specs.declared.faults.Why.TheVariants.{Index as IndexFaulty, Stale, Damaged, NoArchive, NoIndex, NoLines}
+
+-- The input is an index with these entries, where its bytes are known.
+abbrev pub HoldsTables : {S : Type 0} → Reader S → List (List ℕ) → Type 0
+HoldsTables input all = Gives input (λ text. IsIndexText text all)
+
+-- The input is an index, and its entries say this of records.
+pub record HoldsIndex {S : Type 0} (input : Reader S) (entries : Entries) : Type 0 where
+  pub are : AreIndexEntries entries
+  pub all : List (List ℕ)
+  pub holds : HoldsTables input all
+  pub placed : entries ≡ placed_of all
+
+-- why an index is not read: reading it is refused for this fault, which is not want of memory
+abbrev pub IsUnreadIndex : {S : Type 0} → Reader S → Why → Type 0
+IsUnreadIndex input why =
+    (fault : IndexFault) × (why ≡ IndexFaulty fault) × (fault.kind ≢ IndexOutOfMemory)
+    × ReadsIndex input.left input.failures input.old input.new (Err fault)
+
+-- why an archive is not read by its index: its device failed, and the fault tells such an offset
+abbrev pub IsUnreadAt : {S : Type 0} → (ℕ → Type 0) → Reader S → Why → Type 0
+IsUnreadAt IsRead archive NotOpened = ⊥
+IsUnreadAt IsRead archive CannotRead = ⊥
+IsUnreadAt IsRead archive (Record fault) =
+    (fault.kind ≡ DeviceFailed) × IsRead fault.offset × IsUnread archive CannotRead
+IsUnreadAt IsRead archive (Take _) = ⊥
+IsUnreadAt IsRead archive (Script _ _ _) = ⊥
+IsUnreadAt IsRead archive (BadFrame _ _) = ⊥
+IsUnreadAt IsRead archive OldArchive = ⊥
+IsUnreadAt IsRead archive TooLong = ⊥
+IsUnreadAt IsRead archive (IndexFaulty _) = ⊥
+IsUnreadAt IsRead archive (Stale _) = ⊥
+IsUnreadAt IsRead archive (Damaged _) = ⊥
+IsUnreadAt IsRead archive (NoLines _) = ⊥
+IsUnreadAt IsRead archive NoArchive = ⊥
+IsUnreadAt IsRead archive NoIndex = ⊥
+
+-- INDEX says these entries, and ARCHIVE has the length that they tell.
+pub record IsIndexOf {R S : Type 0} (index : Reader R) (archive : Reader S) (entries : Entries) : Type 0 where
+  pub index_is : HoldsIndex index entries
+  pub archive_is : Gives archive (HasIndexedLength entries)
+
+-- the archive has another length than the index tells
+abbrev pub HasOtherLength : {S : Type 0} → Reader S → Entries → Type 0
+HasOtherLength archive entries = Gives archive (λ text. HasIndexedLength entries text → ⊥)
+
+-- An archive whose length is compared with that of its index, which have this number among those of the words, is
+-- refused: its device failed, which is told at 0; or it did not, and the archive has another length.
+abbrev pub IsOfOtherLength : {S : Type 0} → ℕ → Reader S → Entries → InputName → Why → Type 0
+IsOfOtherLength number archive entries at why =
+    ((at ≡ Archive number) × IsUnreadAt (λ offset. offset ≡ 0) archive why)
+    ⊎ ((at ≡ Index number) × Unfailed archive × (why ≡ Stale None) × HasOtherLength archive entries)
+
+-- An archive with its index, which have this number among those of the words, is refused: INDEX is refused, and ARCHIVE
+-- is untouched; or INDEX says entries, its reader does not fail, and ARCHIVE is refused.
+abbrev pub IsRefusedByIndex : {R S : Type 0} → ℕ → Reader R → Reader S → InputName → Why → Type 0
+IsRefusedByIndex number index archive at why =
+    ((at ≡ Index number) × IsUnreadIndex index why × IsUntouched archive)
+    ⊎ ((entries : Entries) × HoldsIndex index entries × Unfailed index × IsOfOtherLength number archive entries at why)

@@ -1,0 +1,52 @@
+-- What an index names under several prefixes of keys.
+use Rattle.std.specs.Prelude.{◌≡◌, ◌<◌, ◌⊎◌, ℕ, List, [], Option, Some, None, length, take, slice_index_or}
+use Rattle.std.specs.List.{AllZip}
+use Rattle.archive_core.specs.Content.{Operations}
+use Rattle.archive_core.specs.Key.{key_bytes}
+use Rattle.archive_core.specs.Summary.{Entries}
+use Rattle.index_format.specs.Places.{AreNamed, HasIndexedLength, IsReadUnder, IsStale}
+use Rattle.command_common.specs.Inputs.{Reader, Gives}
+use Rattle.command_index_queries.specs.declared.prefixes.KeyPrefix.{KeyPrefix}
+use Rattle.command_index_queries.specs.declared.prefixes.KeyPrefix.TheVariants.{Uuid, Key}
+
+-- the bytes that keys begin with
+abbrev pub prefix_bytes : KeyPrefix → List ℕ
+prefix_bytes (Uuid uuid) = uuid
+prefix_bytes (Key key) = key_bytes key
+
+-- of the entries under each of these prefixes, what they name in the text makes these contents, in their order
+abbrev pub AreNamedUnder : List (List ℕ) → Entries → List ℕ → List Operations → Type 0
+AreNamedUnder prefixes entries text parts = AllZip (λ prefix part. AreNamed prefix entries text part) prefixes parts
+
+-- at the first of these prefixes at which one does so, this entry names no record of the text
+abbrev pub IsUnnamedUnder : List (List ℕ) → Entries → List ℕ → ℕ → Type 0
+IsUnnamedUnder prefixes entries text entry =
+    (number : ℕ) × (number < length prefixes)
+    × ((parts : List Operations) × AreNamedUnder (take number prefixes) entries text parts)
+    × IsStale (slice_index_or prefixes number []) entries text (Some entry)
+
+-- Why nothing is named so: the text has another length than the index tells; or it has that length, and this entry
+-- names no record of it.
+abbrev pub IsStaleUnder : List (List ℕ) → Entries → List ℕ → Option ℕ → Type 0
+IsStaleUnder prefixes entries text None = HasIndexedLength entries text → ⊥
+IsStaleUnder prefixes entries text (Some entry) =
+    HasIndexedLength entries text × IsUnnamedUnder prefixes entries text entry
+
+-- the record of an admission whose entry is under one of these prefixes begins at this offset
+abbrev pub IsReadUnderOne : List (List ℕ) → Entries → ℕ → Type 0
+IsReadUnderOne prefixes entries offset =
+    (number : ℕ) × (number < length prefixes) × IsReadUnder (slice_index_or prefixes number []) entries offset
+
+-- where an archive is read by its index: its length is asked for, at 0, or such a record is read
+abbrev pub IsReadFor : List (List ℕ) → Entries → ℕ → Type 0
+IsReadFor prefixes entries offset = (offset ≡ 0) ⊎ IsReadUnderOne prefixes entries offset
+
+-- ARCHIVE has the length that the index tells, and what the entries name in it under each of these prefixes makes these
+-- contents.
+abbrev pub HoldsNamed : {S : Type 0} → List (List ℕ) → Reader S → Entries → List Operations → Type 0
+HoldsNamed prefixes archive entries parts =
+    Gives archive (λ text. HasIndexedLength entries text × AreNamedUnder prefixes entries text parts)
+
+-- the index is not of this archive, as far as these prefixes tell
+abbrev pub IsStaleFor : {S : Type 0} → List (List ℕ) → Reader S → Entries → Option ℕ → Type 0
+IsStaleFor prefixes archive entries entry = Gives archive (λ text. IsStaleUnder prefixes entries text entry)

@@ -1,0 +1,56 @@
+-- What commands tell of archives that are asked together by their indexes.
+use Rattle.std.specs.Prelude.{ℕ, List, ◌⊎◌}
+use Rattle.archive_core.specs.Content.{Operations}
+use Rattle.command_common.specs.Ends.{Query}
+use Rattle.command_common.specs.Inputs.{Reader, EachUnfailed}
+use Rattle.command_common.specs.declared.faults.InputName.{InputName}
+use Rattle.command_common.specs.declared.faults.Status.{Status}
+use Rattle.command_common.specs.declared.faults.Why.{Why}
+use Rattle.command_index_queries.specs.Together.{AreLater, AreReadWith, HoldNamed, IsFirstRefusedAtPlaces}
+use Rattle.command_index_queries.specs.Together.{IsFirstRefusedByIndex}
+
+-- The indexes were read, and their archives, which stood so after that, hold this content under these prefixes.
+pub record HoldTogether {I P : Type 0} (prefixes : List (List ℕ)) (indexes : List (Reader I))
+    (archives : List (Reader P)) (p : Operations) : Type 0 where
+  pub all : List (List (List ℕ))
+  pub read : AreReadWith indexes archives all
+  pub later : List (Reader P)
+  pub are_later : AreLater archives later
+  pub named : HoldNamed prefixes later all p
+
+-- The indexes were read, and then one of the archives is refused, as far as these prefixes tell.
+pub record AreRefusedLater {I P : Type 0} (prefixes : List (List ℕ)) (indexes : List (Reader I))
+    (archives : List (Reader P)) (at : InputName) (why : Why) : Type 0 where
+  pub all : List (List (List ℕ))
+  pub read : AreReadWith indexes archives all
+  pub unfailed : EachUnfailed indexes
+  pub later : List (Reader P)
+  pub are_later : AreLater archives later
+  pub refused : IsFirstRefusedAtPlaces prefixes later all at why
+
+-- the first of them that is refused: of the indexes and the lengths of their archives; or, after these, of the archives
+abbrev pub AreRefusedTogether : {I P : Type 0} → List (List ℕ) → List (Reader I) → List (Reader P) → InputName → Why
+    → Type 0
+AreRefusedTogether prefixes indexes archives at why =
+    IsFirstRefusedByIndex indexes archives at why ⊎ AreRefusedLater prefixes indexes archives at why
+
+-- no reader and no device of theirs failed
+abbrev pub AreUnfailedTogether : {I P : Type 0} → List (Reader I) → List (Reader P) → Type 0
+AreUnfailedTogether indexes archives = EachUnfailed indexes × EachUnfailed archives
+
+-- what is joined under these prefixes tells this
+pub record MakesTogether {I P : Type 0} (prefixes : List (List ℕ)) (indexes : List (Reader I))
+    (archives : List (Reader P)) (Tells : Operations → Status → List ℕ → Type 0) (status : Status) (text : List ℕ)
+    : Type 0 where
+  pub content : Operations
+  pub held : HoldTogether prefixes indexes archives content
+  pub tells : Tells content status text
+
+-- a command that tells so of what is joined under these prefixes
+abbrev pub asks_together : {I P : Type 0} → List (List ℕ) → List (Reader I) → List (Reader P)
+    → (Operations → Status → List ℕ → Type 0) → Query
+asks_together prefixes indexes archives Tells = record {
+  Makes = MakesTogether prefixes indexes archives Tells;
+  Refuses = AreRefusedTogether prefixes indexes archives;
+  Unfailed = AreUnfailedTogether indexes archives;
+}

@@ -1,0 +1,110 @@
+//! The rows that an index tells.
+
+ghost use Rattle.std.specs.Prelude.{◌≡◌, ◌<◌, ◌^◌, IfOk, OnOk, filter, length, map};
+ghost use Rattle.std.specs.List.{AllZip};
+ghost use Rattle.std.specs.List.Sorted.{IsPermutation, IsSortedBy, IsStableBy};
+ghost use Rattle.archive_core.specs.Key.{IsKey};
+ghost use Rattle.archive_core.specs.Part.{is_under};
+ghost use Rattle.index_format.specs.Entry.{offset_in, placed_bytes};
+ghost use Rattle.index_format.specs.Text.{placed_of};
+ghost use Rattle.command_index_queries.specs.Rows.{AreIndexRows, IsEntryRow, has_lower_key, stands_before};
+
+use archive_core::{Digest, FindRow, FindState, SliceKey, compare_keys};
+use index_format::{Index, IndexEntry, is_under};
+use memory::{Heap, NoMemory};
+
+/// The row with these parts.
+fn row_with(key: SliceKey, digest: Digest, state: FindState) -> FindRow
+    ensures row { result ≡ record { key = key; digest = digest; state = state } }
+    ensures key { IsKey key }
+    ensures digest { length digest.0 ≡ 32 }
+{
+    FindRow { key, digest, state }
+}
+
+/// The row that an entry tells.
+fn row_of(entry: &IndexEntry) -> FindRow
+    ensures { IsEntryRow (placed_bytes entry.now) result }
+{
+    row_with(entry.row.key, entry.row.digest, entry.row.state)
+}
+
+/// The entries under a prefix, in their order.
+fn entries_under(
+    heap: Heap,
+    prefix: &[u8],
+    entries: &[IndexEntry],
+) -> Result<Vec<IndexEntry, Heap>, NoMemory>
+    ensures { IfOk result (λ picked. map placed_bytes picked.items
+        ≡ filter (is_under prefix.now) (map placed_bytes entries.now)) }
+{
+    let mut picked = Vec::new(heap);
+    'entries: for entry in entries {
+        if !is_under(prefix, entry) {
+            continue 'entries;
+        }
+        picked.push(*entry)?;
+    }
+    Ok(picked)
+}
+
+/// Where the record of an entry with this row stands.
+fn offset_with(row: FindRow, offset: u64) -> u64
+    ensures offset { result ≡ offset }
+    ensures fits { offset < 2 ^ 64 }
+    ensures key { IsKey row.key }
+    ensures digest { length row.digest.0 ≡ 32 }
+{
+    offset
+}
+
+/// Where the record of an entry stands.
+fn offset_of(entry: &IndexEntry) -> u64
+    ensures { result ≡ offset_in (placed_bytes entry.now) }
+{
+    offset_with(entry.row, entry.offset)
+}
+
+/// Puts entries in the order in which their records stand.
+fn sort_by_offset(entries: &mut Vec<IndexEntry, Heap>)
+    ensures moved { IsPermutation (map placed_bytes entries.old.items) (map placed_bytes entries.new.items) }
+    ensures sorted { IsSortedBy stands_before (map placed_bytes entries.new.items) }
+{
+    entries.sort_unstable_by(|a, b| offset_of(a).cmp(&offset_of(b)));
+}
+
+/// The rows that entries tell, in their order.
+fn rows_of(heap: Heap, entries: &[IndexEntry]) -> Result<Vec<FindRow, Heap>, NoMemory>
+    ensures { IfOk result (λ rows. AllZip IsEntryRow (map placed_bytes entries.now) rows.items) }
+{
+    let mut rows = Vec::new(heap);
+    'entries: for entry in entries {
+        rows.push(row_of(entry))?;
+    }
+    Ok(rows)
+}
+
+/// Puts rows in the order of their keys, and those of a key as they stood.
+fn put_by_key(rows: &mut Vec<FindRow, Heap>) -> Result<(), NoMemory>
+    ensures sorted { OnOk result (IsSortedBy has_lower_key rows.new.items) }
+    ensures stable { OnOk result (IsStableBy has_lower_key rows.old.items rows.new.items) }
+{
+    rows.sort_by(|a, b| compare_keys(&a.key, &b.key))?;
+    Ok(())
+}
+
+/// The rows of the entries of an index under a prefix, a UUID or an empty one: by key, and those of a key in the order
+/// in which their records stand. Refused for want of memory alone.
+pub(crate) fn rows_under(
+    heap: &Heap,
+    prefix: &[u8],
+    index: &Index,
+) -> Result<Vec<FindRow, Heap>, NoMemory>
+    ensures { IfOk result (λ rows. AreIndexRows prefix.now (placed_of index.now) rows.items) }
+{
+    let mut placed = entries_under(heap.share(), prefix, index.entries())?;
+    sort_by_offset(&mut placed);
+    let mut rows = rows_of(heap.share(), &placed)?;
+    put_by_key(&mut rows)?;
+    Ok(rows)
+}

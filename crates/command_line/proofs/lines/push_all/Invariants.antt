@@ -1,7 +1,0 @@
-use Rattle.std.proofs.Common.{◌≡◌, ◌++◌, take, map, string_bytes}
-use Rattle.command_line.proofs.lines.push_all.Given as goal
-
-abbrev pub invariant-texts : goal.invariant-texts
-invariant-texts l =
-    map (λ p. p.now) l.paths.items
-    ≡ map (λ p. p.now) l.initial.paths.items ++ map string_bytes (take l.text-index l.texts)

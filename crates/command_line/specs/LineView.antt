@@ -1,6 +1,0 @@
--- A line of the program, as definitions see it.
-use Rattle.std.specs.Prelude.{map, string_bytes}
-use Rattle.command_line.specs.{ValuesView.values_view, Lines.Line, declared.lines.Line.Line as LineOfProgram}
-
-abbrev pub line_view : LineOfProgram → Line
-line_view line = record { name = string_bytes line.name; values = map values_view line.values.items }

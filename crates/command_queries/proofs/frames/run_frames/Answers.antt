@@ -1,0 +1,44 @@
+use Rattle.std.proofs.Common.{refl}
+use Rattle.std.proofs.lemmas.Result.{err_from_is_err_and}
+use Rattle.byte_device.proofs.Known.{Appends-none}
+use Rattle.command_common.specs.{Inputs.reader, Inputs.readers, Outputs.writer}
+use Rattle.command_queries.proofs.Framed.{archives_refused, frames_refused}
+use Rattle.command_common.proofs.Parts.{together_tells}
+use Rattle.command_common.proofs.Endings.{reported}
+use Rattle.command_common.proofs.Readers.{none_failed, none_touched}
+use Rattle.command_queries.proofs.frames.run_frames.Goals as goal
+
+pub returns-in_err-frames : goal.returns-in_err-frames
+returns-in_err-frames g c =
+    let left = g.R.Source.left in
+    let failures = g.R.Source.failures in
+    let p = err_from_is_err_and c.from_residual.result c.from_residual.ensures.1 in
+    rw (p.1, p.2) (frames_refused _ (reader left failures c.args.crash.now c.read_crash.new.frames)
+    (reader left failures c.args.archive.now c.args.archive.now)
+    (readers left failures c.args.others.now c.args.others.now)
+    (writer g.P.Sink.held g.P.Sink.failures c.args.report.now c.args.report.now) c.in_err-frames.field-0.0
+    c.in_err-frames.ensures refl (none_touched left failures c.args.others.now) (none_failed left failures c.args.others.now)
+    (Appends-none _, refl))
+
+pub returns-in_err-status : goal.returns-in_err-status
+returns-in_err-status g c =
+    let left = g.R.Source.left in
+    let failures = g.R.Source.failures in
+    let p = err_from_is_err_and c.from_residual-in_err-status.result c.from_residual-in_err-status.ensures.1 in
+    let listed = c.in_ok-frames.ensures in
+    rw (p.1, p.2) (archives_refused _ (reader left failures c.args.crash.now c.read_crash.new.frames)
+    (reader left failures c.args.archive.now c.tell_frames.new.archive)
+    (readers left failures c.args.others.now c.tell_frames.new.others)
+    (writer g.P.Sink.held g.P.Sink.failures c.args.report.now c.args.report.now) c.in_err-status.field-0.0
+    (c.in_ok-frames.frames.items, listed.is) listed.unfailed c.in_err-status.ensures (Appends-none _, refl))
+
+pub returns : goal.returns
+returns g c =
+    let listed = c.in_ok-frames.ensures in
+    reported _ _ _ _ c.publish_bytes.result _ _ (listed.unfailed, c.in_ok-status.ensures.unfailed)
+    (record {
+      listed = c.in_ok-frames.frames.items;
+      frames_are = listed.is;
+      tells = together_tells _ _ _ _ (λ o tells. rw c.deref-2.ensures.value (rw c.deref.ensures.value at tells)) c.in_ok-status.ensures.is;
+    })
+    c.publish_bytes.ensures

@@ -1,0 +1,22 @@
+use Rattle.std.proofs.Common.{ap, refl, ◌∙◌, arith}
+use Rattle.std.proofs.lemmas.Result.{err_from_is_err_and}
+use Rattle.byte_device.proofs.Known.{Appends-none}
+use Rattle.archive_core.specs.Key.{key_bytes}
+use Rattle.archive_core.specs.Part.{is_under}
+use Rattle.command_queries.proofs.Answered.{told_alike}
+use Rattle.command_common.proofs.Endings.{reported}
+use Rattle.command_common.proofs.Parts.{together_refused, together_tells}
+use Rattle.command_queries.proofs.symbolicate.run_symbolicate.Goals as goal
+
+pub returns-in_err-kept : goal.returns-in_err-kept
+returns-in_err-kept g c =
+    let p = err_from_is_err_and c.from_residual.result c.from_residual.ensures.1 in
+    rw (p.1, p.2) (together_refused _ _ _ _ c.in_err-kept.field-0.0 c.in_err-kept.ensures (Appends-none _, refl))
+
+pub returns : goal.returns
+returns g c =
+    reported _ _ _ _ c.publish_report.result _ _ c.in_ok-kept.ensures.unfailed
+    (together_tells _ _ _ _ (λ o alike.
+    told_alike (g.A.Join.content c.in_ok-kept.kept) o c.args.key.now _ _ _ _ _
+    (alike (key_bytes c.args.key.now) (omega (arith, c.bytes_of-prefix.ensures.long)) (λ r h. ap (λ prefix. is_under prefix r) c.bytes_of-prefix.ensures.bytes ∙ h)) (rw c.deref.ensures c.in_ok-status.ensures)) c.in_ok-kept.ensures.is)
+    c.publish_report.ensures

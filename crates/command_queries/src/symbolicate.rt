@@ -1,0 +1,126 @@
+//! `symbolicate ARCHIVE UUID ARCH [--load HEX] [--lines] ADDRESS...`, over one archive or several.
+ghost use Rattle.std.specs.Prelude.{◌≡◌, ℕ, if◌then◌else◌, Contains, IfOk, map, string_bytes};
+ghost use Rattle.command_common.specs.declared.faults.Status.TheVariants.{Partial};
+ghost use Rattle.command_common.specs.Ends.{EndsReport};
+ghost use Rattle.command_common.specs.Inputs.{reader, readers};
+ghost use Rattle.command_common.specs.Outputs.{writer};
+ghost use Rattle.command_queries.specs.InnerSources.{AreSourcesOf};
+ghost use Rattle.command_queries.specs.Symbolicate.{TellsAddresses, is_symbol, asked_of, symbolicate};
+
+use crate::sources::Sources;
+use archive_core::{Answer, Archive, SliceKey, Where};
+use archive_read::Under;
+use byte_device::{Sink, Source};
+use command_common::{CommandFault, Status, bytes_of, publish_report, read_parts};
+use memory::{Heap, NoMemory};
+use text_reports::push_answer;
+
+/// The place that an address of the words means.
+pub fn asked_of(load: Option<u64>, address: u64) -> Where
+    ensures { result ≡ asked_of load address }
+{
+    match load {
+        Some(load) => Where::Loaded { load, address },
+        None => Where::File(address),
+    }
+}
+
+/// How a command ends after one more answer: as before it, if that is one symbol.
+pub fn status_after(status: Status, answer: &Answer<'_>) -> Status
+    ensures { result ≡ if is_symbol answer.now then status else Partial }
+{
+    match answer {
+        Answer::Symbol(_) => status,
+        Answer::Unknown | Answer::NoSymbol | Answer::Conflict(_) => Status::Partial,
+    }
+}
+
+pub fn places_of(
+    heap: Heap,
+    load: Option<u64>,
+    addresses: &[u64],
+) -> Result<Vec<Where, Heap>, NoMemory>
+    ensures { IfOk result (λ places. places.items ≡ map (asked_of load) addresses.now) }
+{
+    addresses
+        .iter()
+        .map(|address| asked_of(load, *address))
+        .collect(heap)
+}
+
+/// The source frames of addresses of the words, where lines are wanted.
+fn source_frames_of<'s, A: Archive>(
+    heap: &Heap,
+    archive: &'s A,
+    key: &SliceKey,
+    load: Option<u64>,
+    lines: bool,
+    addresses: &[u64],
+) -> Result<Sources<'s>, NoMemory>
+    ensures { IfOk result (λ sources. (address : ℕ) → Contains addresses.now address
+        → AreSourcesOf (A.content archive.now) key.now lines (asked_of load address) sources.found.items) }
+{
+    if lines {
+        let places = places_of(heap.share(), load, addresses)?;
+        Sources::of(heap, archive, key, &places)
+    } else {
+        Ok(Sources::none(heap.share()))
+    }
+}
+
+/// The lines of the answers to the addresses, with how a command ends that prints them. If `lines`, the lines of the
+/// source frames come after that of each slice; the DWARF of a slice is read once for all addresses.
+pub fn answer_each<A: Archive>(
+    heap: Heap,
+    archive: &A,
+    key: &SliceKey,
+    load: Option<u64>,
+    lines: bool,
+    addresses: &[u64],
+) -> Result<(Status, String<Heap>), NoMemory>
+    ensures { IfOk result
+        (λ told. TellsAddresses (A.content archive.now) key.now load lines addresses.now told.0
+        (string_bytes told.1)) }
+{
+    let sources = source_frames_of(&heap, archive, key, load, lines, addresses)?;
+    let mut status = Status::Done;
+    let mut text = String::new(heap.share());
+    'addresses: for address in addresses {
+        let place = asked_of(load, *address);
+        let answer = archive.lookup(key, place)?;
+        status = status_after(status, &answer);
+        let frames = sources.at(heap.share(), place)?;
+        push_answer(&heap, &mut text, *address, &answer, &frames)?;
+    }
+    Ok((status, text))
+}
+
+/// Writes what the join of the archives answers for each address to the report, in their order. They are addresses of
+/// the image where it was loaded, if `load` says where that was, and else of its file. The archives are read one after
+/// another, each to its end. If `lines`, what each slice answers is followed by the source frames of the address in it.
+///
+/// The status is `Done` where each answer is one symbol, and else `Partial`.
+///
+/// # Errors
+///
+/// `Input` for the first archive that is refused; `Report` where the report failed; `OutOfMemory`.
+pub fn run_symbolicate<A: Archive + Drop, R: Source, P: Sink>(
+    heap: Heap,
+    archive: &mut R,
+    others: &mut [R],
+    key: &SliceKey,
+    load: Option<u64>,
+    lines: bool,
+    addresses: &[u64],
+    report: &mut P,
+) -> Result<Status, CommandFault>
+    ensures { EndsReport
+        (symbolicate (reader R.left R.failures archive.old archive.new)
+        (readers R.left R.failures others.old others.new) key.now load lines addresses.now)
+        (writer P.held P.failures report.old report.new) result }
+{
+    let prefix = bytes_of(key);
+    let kept: A = read_parts(heap.share(), &Under(&prefix), archive, others)?;
+    let (status, text) = answer_each(heap, &kept, key, load, lines, addresses)?;
+    publish_report(status, &text, report)
+}

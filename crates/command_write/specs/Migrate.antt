@@ -1,0 +1,26 @@
+-- What `migrate` makes of an archive.
+use Rattle.std.specs.Prelude.{◌≡◌, ℕ, List, []}
+use Rattle.archive_core.specs.Content.{Operations, IsContent}
+use Rattle.command_common.specs.Ends.{Command, MakesArchive, Streamed}
+use Rattle.command_common.specs.Inputs.{Reader, Unfailed, IsRefusedArchive, HoldsArchive}
+use Rattle.command_common.specs.Outputs.{Writer}
+use Rattle.command_write.specs.Begun.{begins_alone}
+
+-- IN is an archive's text, of whichever version, and this is the content that it gives; there are no lines but the
+-- sizes.
+pub record MakesMigrated {R : Type 0} (input : Reader R) (content : Operations) (lines : List ℕ) : Type 0 where
+  pub is_content : IsContent content
+  pub archive : HoldsArchive input content
+  pub lines_are : lines ≡ []
+
+-- `migrate`, over this input
+abbrev pub migrate : {R : Type 0} → Reader R → Command
+migrate input = record {
+  Makes = MakesArchive (MakesMigrated input);
+  Refuses = IsRefusedArchive 0 input;
+  Unfailed = Unfailed input;
+}
+
+-- the same as it comes
+abbrev pub migrate_as_it_comes : {R : Type 0} → Reader R → Writer → Streamed
+migrate_as_it_comes input draft = begins_alone input draft (migrate input)

@@ -1,0 +1,65 @@
+-- What a command that ended well notes of what it was asked for and is not there.
+use Rattle.std.specs.Prelude.{◌≡◌, ℕ, List, [], ◌∷◌, ◌++◌, Bool, codes, drop, map, if◌then◌else◌}
+use Rattle.std.specs.FinSet as set
+use Rattle.std.specs.List.{AllByRecursion, AllZip, filter, list_any}
+use Rattle.sha2.specs.Sha256.{sha256}
+use Rattle.join_core.specs.Listing.{listing}
+use Rattle.archive_core.specs.Content.{Operations, IsContent, is_covered}
+use Rattle.archive_core.specs.Record.{retirement_record}
+use Rattle.archive_core.specs.Valid.{key_of}
+use Rattle.archive_core.specs.declared.keys.Digest.{Digest}
+use Rattle.archive_core.specs.declared.keys.SliceKey.{SliceKey}
+use Rattle.text_values.specs.Words.{digest_text}
+use Rattle.archive_admission.specs.File.{IsAcceptedFile}
+use Rattle.archive_admission.specs.Take.{admitted}
+use Rattle.text_reports.specs.Escapes.{escaped}
+use Rattle.text_reports.specs.Rows.{key_text}
+use Rattle.command_common.specs.Inputs.{Holds, HoldsArchive, Reader}
+use Rattle.command_write.specs.Admit.{images_of}
+use Rattle.command_write.specs.declared.notes.Note.{Note}
+use Rattle.command_write.specs.declared.notes.Note.TheVariants.{Retired, Missing, Underscored}
+
+-- the text of a note
+unfoldable pub note_text : Note → List ℕ
+note_text (Retired key digest) = codes "note: " ++ key_text key ++ codes " " ++ digest_text digest
+    ++ codes " is retired in IN, and does not come in"
+note_text (Missing key digest) = codes "note: IN has no slice " ++ key_text key ++ codes " " ++ digest_text digest
+note_text (Underscored name) = codes "note: there is no symbol " ++ escaped name.items ++ codes ", but there is _"
+    ++ escaped name.items
+
+-- the note of a slice that does not come in, by the record of its admission, in which it stands after 33 bytes
+abbrev pub retired_note : List ℕ → Note
+retired_note r = Retired (key_of (drop 33 r)) (record { 0 = sha256 (drop 33 r) })
+
+-- a note of each of these operations that a content retires, in the order of their records
+abbrev pub retired_notes : Operations → Operations → List Note
+retired_notes o came = map retired_note (filter (is_covered o) (listing came))
+
+-- whether a content has a slice under the key with the digest: one that their retirement covers
+abbrev pub has_slice : Operations → SliceKey → Digest → Bool
+has_slice o key digest = list_any (is_covered (set.from_list (retirement_record key digest.0 ∷ []))) (listing o)
+
+-- the note of a slice that is retired, unless the content has it
+abbrev pub missing_notes : Operations → SliceKey → Digest → List Note
+missing_notes o key digest = if has_slice o key digest then [] else Missing key digest ∷ []
+
+-- `admit` notes: IN is the text of a content and the files are accepted; of each of their slices that the content
+-- retires there is a note more.
+pub record NotesRetired {R S : Type 0} (input : Reader R) (files : List (Reader S)) (old new : List Note)
+    : Type 0 where
+  pub before : Operations
+  pub texts : List (List ℕ)
+  pub is_content : IsContent before
+  pub archive : HoldsArchive input before
+  pub files_are : AllZip Holds files texts
+  pub accepted : AllByRecursion IsAcceptedFile texts
+  pub added : new ≡ old ++ retired_notes before (admitted set.empty (images_of texts))
+
+-- `retire` notes: IN is the text of a content; unless that has a slice under the key with the digest there is a note
+-- more.
+pub record NotesMissing {R : Type 0} (input : Reader R) (key : SliceKey) (digest : Digest) (old new : List Note)
+    : Type 0 where
+  pub before : Operations
+  pub is_content : IsContent before
+  pub archive : HoldsArchive input before
+  pub added : new ≡ old ++ missing_notes before key digest

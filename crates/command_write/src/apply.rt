@@ -1,0 +1,88 @@
+//! `apply IN OUT OPS`.
+ghost use Rattle.std.specs.Prelude.{◌≤◌, map};
+ghost use Rattle.std.specs.Cmp.Lexicographic.{slice_cmp};
+ghost use Rattle.std.specs.FinSet as set;
+ghost use Rattle.std.specs.List.{AllByRecursion, count_by};
+ghost use Rattle.std.specs.List.Sorted.{IsStrictlySortedBy};
+ghost use Rattle.std.specs.Ordering.{nat_cmp};
+ghost use Rattle.archive_core.specs.Content.{Operations, IsMade, changes};
+ghost use Rattle.archive_core.specs.Record.{IsOperation, record_bytes};
+ghost use Rattle.command_write.specs.Apply.{apply_as_it_comes};
+ghost use Rattle.command_write.specs.InnerTelling.{HasNewOf, counts_of, telling};
+ghost use Rattle.command_write.specs.Begun.{EndsBegun};
+ghost use Rattle.command_common.specs.Ends.{EndsStreamed};
+ghost use Rattle.command_common.specs.Inputs.{IsRefusedOps, ReadsInput, reader};
+ghost use Rattle.command_common.specs.Outputs.{out_of, outs, writer};
+
+use crate::telling::tell_operations;
+use archive_core::Operation;
+use archive_index::new_in_turn;
+use archive_merge::number_of_new;
+use byte_device::{Output, Sink, Source, Target};
+use command_common::{CommandFault, Status, publish_draft, read_operations, refused_behind};
+use memory::Heap;
+use text_reports::apply_line;
+
+/// Writes IN's archive to OUT with those operations of so many that are new in their turn, and to the report how many
+/// were new and how many were known, and the sizes.
+fn write_applied<R: Source, T: Target, P: Sink>(
+    heap: Heap,
+    input: &mut R,
+    operations: &[Operation],
+    number: u64,
+    out: &mut Output<T::Draft, T>,
+    report: &mut P,
+) -> Result<Status, CommandFault>
+    requires ascending { IsStrictlySortedBy (slice_cmp nat_cmp) (map record_bytes operations.now) }
+    requires are { AllByRecursion IsOperation operations.now }
+    requires few { (o : Operations) → IsMade o → count_by (changes o) (map record_bytes operations.now) ≤ number }
+    ensures { EndsBegun (reader R.left R.failures input.old input.new)
+        (telling (reader R.left R.failures input.old input.new)
+        (set.from_list (map record_bytes operations.now)) (counts_of (map record_bytes operations.now) number))
+        (out_of (outs T.Draft.held T.Draft.failures T.published T.failures out.old out.new))
+        (writer P.held P.failures report.old report.new) result }
+{
+    let (sizes, told) = tell_operations(&heap, input, operations, &mut out.draft)?;
+    let new = number_of_new(&told.arrivals);
+    let lines = apply_line(heap, new, number - new)?;
+    publish_draft(lines, sizes, out, report)
+}
+
+/// Reads OPS, and gives those of its operations that are new in their turn among them, in the order of their records,
+/// and how many it has.
+fn read_new<S: Source>(heap: Heap, ops: &mut S) -> Result<(Vec<Operation, Heap>, u64), CommandFault>
+    ensures { ReadsInput (reader S.left S.failures ops.old ops.new) result
+        (λ ops both. HasNewOf ops both.0.items both.1) IsRefusedOps }
+{
+    let operations = read_operations(heap, ops)?;
+    let number = operations.len() as u64;
+    let sorted = new_in_turn(operations)?;
+    Ok((sorted, number))
+}
+
+/// Writes IN's archive to OUT with the operations of an operations file, and to the report how many of them were new
+/// and how many were known, there or covered by a retirement, and the sizes. OPS is read first, to its end, and then IN
+/// is merged with its operations as it comes, in the memory of these, of one record and of 57 bytes for each
+/// retirement. Where OPS is refused, IN is tested to its end before that is told.
+///
+/// # Errors
+///
+/// `Input` for the first input that is refused, in the order of the words; `Output` and `Report` where that writer
+/// failed; `OutOfMemory`.
+pub fn run_apply<R: Source, S: Source, T: Target, P: Sink>(
+    heap: Heap,
+    input: &mut R,
+    ops: &mut S,
+    out: &mut Output<T::Draft, T>,
+    report: &mut P,
+) -> Result<Status, CommandFault>
+    ensures { let known = out_of (outs T.Draft.held T.Draft.failures T.published T.failures out.old out.new) in
+        EndsStreamed (apply_as_it_comes (reader R.left R.failures input.old input.new)
+        (reader S.left S.failures ops.old ops.new) known.draft) known
+        (writer P.held P.failures report.old report.new) result }
+{
+    match read_new(heap.share(), ops) {
+        Ok((sorted, number)) => write_applied(heap, input, &sorted, number, out, report),
+        Err(fault) => Err(refused_behind(heap, input, fault)),
+    }
+}

@@ -1,0 +1,165 @@
+//! The slices of files as they come, each once, and the rows that tell them.
+ghost use Rattle.std.specs.Prelude.{◌≡◌, ◌++◌, ◌∷◌, ℕ, ◌<◌, List, [], length, map, IfOk, OnOk};
+ghost use Rattle.std.specs.Prelude.{slice_index_or, slice_set};
+ghost use Rattle.std.specs.FinSet as set;
+ghost use Rattle.join_core.specs.Listing.{listing};
+ghost use Rattle.archive_core.specs.Record.{admission_record};
+ghost use Rattle.archive_admission.specs.Take.{admitted, taken_of};
+ghost use Rattle.archive_merge.specs.Arrivals.{is_new};
+ghost use Rattle.text_reports.specs.declared.rows.AdmitRow.{AdmitRow};
+ghost use Rattle.command_write.specs.Admit.{file_rows};
+ghost use Rattle.command_write.specs.InnerArriving.{AreFirstRows, images_in, record_in, row_again, rows_again};
+ghost use Rattle.command_write.specs.InnerArriving.{slice_rows, taken_again};
+
+use archive_admission::Taken;
+use archive_core::{Archive, Slice};
+use archive_index::PlainArchive;
+use archive_merge::Arrival;
+use memory::{Heap, NoMemory};
+use text_reports::AdmitRow;
+
+/// The slices that came, each once, the row of each part, and beside each slice the number of its first row.
+#[derive(Drop)]
+pub struct Arrivals {
+    pub came: PlainArchive,
+    pub first_rows: Vec<u64, Heap>,
+    pub rows: Vec<AdmitRow, Heap>,
+}
+
+impl Arrivals {
+    pub fn none(heap: &Heap) -> Arrivals
+        ensures came { result.came ≡ set.empty }
+        ensures first_rows { result.first_rows.items ≡ [] }
+        ensures rows { result.rows.items ≡ [] }
+    {
+        Arrivals {
+            came: PlainArchive::empty(heap.share()),
+            first_rows: Vec::new(heap.share()),
+            rows: Vec::new(heap.share()),
+        }
+    }
+
+    /// Takes a slice, whose row is to come next, and tells what became of it.
+    fn take_slice(&mut self, mut slice: Slice) -> Result<Taken, NoMemory>
+        ensures came { OnOk result (self.new.came ≡ admitted self.old.came (slice ∷ [])) }
+        ensures taken { IfOk result (λ taken. taken ≡ taken_of self.old.came slice) }
+        ensures rows { OnOk result (self.new.rows.items ≡ self.old.rows.items) }
+        ensures are_first { IfOk result (λ taken. (records : List (List ℕ)) (row : AdmitRow) → row.taken ≡ taken
+            → AreFirstRows (listing self.old.came) self.old.first_rows.items self.old.rows.items records
+            → AreFirstRows (listing self.new.came) self.new.first_rows.items (self.old.rows.items ++ row ∷ [])
+            (records ++ admission_record slice ∷ [])) }
+    {
+        let key = slice.key();
+        slice.keep_digest();
+        let digest = slice.digest();
+        let row = self.rows.len() as u64;
+        let index = self.came.admit_at(slice)?;
+        match index {
+            Some(index) => {
+                // There are as many first rows as slices, so that this is the index itself.
+                let at = index.min(self.first_rows.len());
+                self.first_rows.insert(at, row)?;
+                Ok(Taken::Added(key, digest))
+            }
+            None => Ok(Taken::Known(key, digest)),
+        }
+    }
+
+    fn push_row(&mut self, file: u64, slice: u64, taken: Taken) -> Result<(), NoMemory>
+        ensures rows { OnOk result
+            (self.new.rows.items ≡ self.old.rows.items ++ record { file = file; slice = slice; taken = taken } ∷ []) }
+        ensures came { self.new.came ≡ self.old.came }
+        ensures first_rows { self.new.first_rows.items ≡ self.old.first_rows.items }
+    {
+        self.rows.push(AdmitRow { file, slice, taken })?;
+        Ok(())
+    }
+
+    /// Takes a part of a file, where it is a slice, and adds its row.
+    fn take_part(&mut self, file: u64, number: u64, part: Option<Slice>) -> Result<(), NoMemory>
+        ensures came { OnOk result (self.new.came ≡ admitted self.old.came (images_in (part ∷ []))) }
+        ensures rows { OnOk result (self.new.rows.items
+            ≡ self.old.rows.items ++ file_rows file number (slice_rows self.old.came (part ∷ []))) }
+        ensures are_first { OnOk result ((records : List (List ℕ))
+            → AreFirstRows (listing self.old.came) self.old.first_rows.items self.old.rows.items records
+            → AreFirstRows (listing self.new.came) self.new.first_rows.items self.new.rows.items
+            (records ++ record_in part ∷ [])) }
+    {
+        match part {
+            Some(slice) => {
+                let taken = self.take_slice(slice)?;
+                self.push_row(file, number, taken)
+            }
+            None => self.push_row(file, number, Taken::Skipped),
+        }
+    }
+
+    /// Takes the slices of the file of this number, and adds a row for each of its parts.
+    pub fn take_slices(
+        &mut self,
+        file: u64,
+        slices: Vec<Option<Slice>, Heap>,
+    ) -> Result<(), NoMemory>
+        ensures came { OnOk result (self.new.came ≡ admitted self.old.came (images_in slices.items)) }
+        ensures rows { OnOk result (self.new.rows.items
+            ≡ self.old.rows.items ++ file_rows file 0 (slice_rows self.old.came slices.items)) }
+        ensures are_first { OnOk result ((records : List (List ℕ))
+            → AreFirstRows (listing self.old.came) self.old.first_rows.items self.old.rows.items records
+            → AreFirstRows (listing self.new.came) self.new.first_rows.items self.new.rows.items
+            (records ++ map record_in slices.items)) }
+    {
+        let mut number = 0;
+        'slices: for part in slices {
+            self.take_part(file, number, part)?;
+            number += 1;
+        }
+        Ok(())
+    }
+}
+
+/// What became of a slice, told again: one that was added is known, if it is not new.
+fn taken_again(taken: Taken, new: bool) -> Taken
+    ensures { result ≡ taken_again new taken }
+{
+    match taken {
+        Taken::Added(key, digest) => {
+            if new {
+                Taken::Added(key, digest)
+            } else {
+                Taken::Known(key, digest)
+            }
+        }
+        Taken::Known(key, digest) => Taken::Known(key, digest),
+        Taken::Skipped => Taken::Skipped,
+    }
+}
+
+fn row_again(row: AdmitRow, new: bool) -> AdmitRow
+    ensures { result ≡ row_again new row }
+{
+    AdmitRow {
+        file: row.file,
+        slice: row.slice,
+        taken: taken_again(row.taken, new),
+    }
+}
+
+fn tell_row(rows: &mut [AdmitRow], number: usize, new: bool)
+    requires { number < length rows.old }
+    ensures { (none : AdmitRow)
+        → rows.new ≡ slice_set rows.old number (row_again new (slice_index_or rows.old number none)) }
+{
+    rows[number] = row_again(rows[number], new);
+}
+
+/// Tells the rows again of which slices came, by what each of these is to IN.
+pub fn tell_rows(rows: &mut [AdmitRow], first_rows: &[u64], told: &[Arrival])
+    requires { (came records : List (List ℕ)) × AreFirstRows came first_rows.now rows.old records
+        × (length told.now ≡ length came) }
+    ensures { (arrival : List ℕ → Arrival) (came records : List (List ℕ)) → AreFirstRows came first_rows.now rows.old records
+        → told.now ≡ map arrival came → rows.new ≡ rows_again (λ r. is_new (arrival r)) rows.old records }
+{
+    'told: for (index, arrival) in told.iter().enumerate() {
+        tell_row(rows, first_rows[index] as usize, arrival.is_new());
+    }
+}

@@ -1,8 +1,0 @@
-use Rattle.std.proofs.lemmas.List.{take_min, drop_min}
-use Rattle.debug_entries.proofs.one_entry.bytes_from.Goals as goal
-
-pub returns : goal.returns
-returns c =
-    let from = drop_min c.args.offset c.args.unit.now in
-    let most = take_min 1024 c.split_at.result.1.now in
-    cc

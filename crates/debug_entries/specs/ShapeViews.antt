@@ -1,8 +1,0 @@
--- What the shape of an entry of the code is in the definitions.
-use Rattle.debug_entries.specs.AttributeViews.{attributes_view}
-use Rattle.debug_entries.specs.Specifications.{ShapeRecord}
-use Rattle.debug_entries.specs.declared.specification.Shape.{Shape}
-
--- a shape, without where its parts lie
-abbrev pub shape_view : Shape → ShapeRecord
-shape_view s = record { constants = attributes_view s.constants; pairs = s.pairs.items }

@@ -1,0 +1,51 @@
+//! Indexes that wait, of which each is passed over once it waits no longer.
+
+ghost use Rattle.std.specs.Prelude.{◌≡◌, ◌<◌, ◌+◌, ◌^◌, ℕ, IfOk, length};
+ghost use Rattle.dwarf_asked_addresses.specs.Waiting.{AreNext, IsFirstWaiting, Waits, WaitTheSame, WaitWithout};
+
+use memory::{Heap, NoMemory};
+
+/// Which of so many indexes wait. Each has one, not below it, up to which none waits; the last one waits always.
+#[derive(Drop)]
+pub struct Waiting {
+    next: Vec<usize, Heap>,
+    ghost are_next: { AreNext next.items },
+}
+
+impl Waiting {
+    /// So many indexes and the last one, which all wait.
+    pub fn new(heap: Heap, count: usize) -> Result<Waiting, NoMemory>
+        requires { count + 1 < 2 ^ 64 }
+        ensures count { IfOk result (λ waiting. length waiting.next.items ≡ count + 1) }
+        ensures all { IfOk result (λ waiting. (i : ℕ) → i < count + 1 → Waits waiting.next.items i) }
+    {
+        let mut next = Vec::new(heap);
+        for index in 0..count + 1 {
+            next.push(index)?;
+        }
+        Ok(Waiting { next })
+    }
+
+    /// The first index from one on that waits.
+    pub fn first_from(&mut self, index: usize) -> usize
+        requires { index < length self.old.next.items }
+        ensures found { IsFirstWaiting self.old.next.items index result }
+        ensures same { WaitTheSame self.old.next.items self.new.next.items }
+    {
+        let mut found = index;
+        'ahead: while self.next[found] != found {
+            let after = self.next[self.next[found]];
+            self.next[found] = after;
+            found = after;
+        }
+        found
+    }
+
+    /// An index waits no longer.
+    pub fn end(&mut self, index: usize)
+        requires { index + 1 < length self.old.next.items }
+        ensures { WaitWithout index self.old.next.items self.new.next.items }
+    {
+        self.next[index] = index + 1;
+    }
+}

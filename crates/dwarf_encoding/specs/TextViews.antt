@@ -1,0 +1,13 @@
+-- What sections of texts of the code are in the definitions.
+use Rattle.dwarf_encoding.specs.TextSections.{TextSectionsRecord}
+use Rattle.dwarf_encoding.specs.declared.text_sections.TextSections.{TextSections}
+
+-- the sections, without where they lie
+abbrev pub text_sections_view : TextSections → TextSectionsRecord
+text_sections_view s =
+    record {
+      debug_str = s.debug_str.now;
+      debug_line_str = s.debug_line_str.now;
+      debug_str_offs = s.debug_str_offs.now;
+      str_offsets_base = s.str_offsets_base;
+    }

@@ -1,0 +1,25 @@
+//! How DWARF writes numbers, texts and the values of attributes (DWARF 5, sections 7.5.5, 7.5.6 and 7.6), in the
+//! 32-bit format, with addresses of eight bytes. Each function reads the value that begins some bytes, and returns it
+//! with the bytes after it. No call takes memory.
+//!
+//! The modules in reading order: `little_endian`, numbers of a fixed size; `leb128`, numbers of any size; `text`,
+//! texts that end with a NUL; `value`, the value of an attribute; `dw_form`, the constants; `form`, how a
+//! value is written; `text_sections`, the text that a value is; `units`, the units of a section.
+#![tactic(auto)]
+
+pub mod dw_form;
+mod form;
+mod leb128;
+mod little_endian;
+mod text;
+mod text_sections;
+mod units;
+mod value;
+
+pub use form::{fixed_size, read_value, skip_value};
+pub use leb128::{signed_leb128, unsigned_leb128};
+pub use little_endian::{u16_le_at, u32_le_at, u64_le_at};
+pub use text::read_text;
+pub use text_sections::TextSections;
+pub use units::{Units, split_unit};
+pub use value::Value;

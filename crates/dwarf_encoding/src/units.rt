@@ -1,0 +1,129 @@
+//! Units that stand in a section one after another (DWARF 5, section 7.2.2), in the 32-bit format.
+
+ghost use Rattle.std.specs.Prelude.{◌≡◌, ◌<◌, ◌≤◌, ◌==◌, ℕ, length, IfOk, IfSome, IfNone, OnOk, Some, None};
+ghost use Rattle.std.specs.Prelude.{if◌then◌else◌};
+ghost use Rattle.std.specs.Option.{option_map, option_or};
+ghost use Rattle.std.specs.Ordering.{nat_cmp};
+ghost use Rattle.std.specs.BTreeMap as tree_map;
+ghost use Rattle.dwarf_encoding.specs.Units.{unit_at, unit_of, IsUnitWith};
+
+use crate::little_endian::u32_le_at;
+use memory::{Heap, NoMemory};
+use std::collections::BTreeMap;
+use std::marker::Model;
+
+/// The unit that begins the bytes, with its `unit_length`, and the bytes after it; `None` if fewer than four bytes are
+/// left or the unit passes the end, as each unit in the 64-bit format does.
+#[tactic(auto, unfolding(crate::specs::Units::unit_at))]
+pub fn split_unit(bytes: &[u8]) -> Option<(&[u8], &[u8])>
+    ensures value { option_map (λ x. (x.0.now, x.1.now)) result ≡ unit_at bytes.now }
+    ensures shorter { IfSome result (λ x. length x.1.now < length bytes.now) }
+{
+    if bytes.len() < 4 {
+        return None;
+    }
+    let size = 4 + u32_le_at(bytes, 0) as usize;
+    if bytes.len() < size {
+        return None;
+    }
+    Some(bytes.split_at(size))
+}
+
+/// The units of a section, which borrow it, up to the first that passes the end. A contract sees the section.
+#[derive(Drop)]
+pub struct Units<'a> {
+    section: &'a [u8],
+    by_offset: BTreeMap<u64, &'a [u8], Heap>,
+}
+
+impl<'a> Model for Units<'a> {
+    ghost use Rattle.std.specs.Prelude.{ℕ, List};
+    ghost use Rattle.dwarf_encoding.specs.UnitTable.{AreUnits};
+
+    ghost Value = { List ℕ };
+
+    ghost view = { λ u. u.section.now };
+
+    ghost invariant = { λ u. AreUnits u.section.now u.by_offset };
+}
+
+/// Puts a unit into the table, unless there is one at its offset.
+fn keep_first<'a>(
+    by_offset: &mut BTreeMap<u64, &'a [u8], Heap>,
+    offset: u64,
+    unit: &'a [u8],
+) -> Result<(), NoMemory>
+    ensures { OnOk result ((q : ℕ) → option_map (λ u. u.now) (tree_map.get nat_cmp by_offset.new q)
+        ≡ (if q == offset
+        then option_or (option_map (λ u. u.now) (tree_map.get nat_cmp by_offset.old q)) (Some unit.now)
+        else option_map (λ u. u.now) (tree_map.get nat_cmp by_offset.old q))) }
+{
+    if !by_offset.contains_key(&offset) {
+        by_offset.insert(offset, unit)?;
+    }
+    Ok(())
+}
+
+/// The table of the units of a section.
+fn table<'a>(heap: Heap, section: &'a [u8]) -> Result<BTreeMap<u64, &'a [u8], Heap>, NoMemory>
+    ensures { IfOk result (λ by_offset. (q : ℕ) →
+        option_map (λ u. u.now) (tree_map.get nat_cmp by_offset q) ≡ unit_of section.now q) }
+{
+    let mut by_offset = BTreeMap::new(heap);
+    let mut rest = section;
+    'units: while let Some((unit, after)) = split_unit(rest) {
+        let offset = section.len() - rest.len();
+        keep_first(&mut by_offset, offset as u64, unit)?;
+        rest = after;
+    }
+    Ok(by_offset)
+}
+
+/// The last unit of the table that begins at an offset or before it, with its own offset.
+fn last_before<'a>(
+    by_offset: &BTreeMap<u64, &'a [u8], Heap>,
+    offset: u64,
+) -> Option<(u64, &'a [u8])>
+    ensures found { IfSome result (λ x. tree_map.get nat_cmp by_offset.now x.0 ≡ Some x.1) }
+    ensures before { IfSome result (λ x. x.0 ≤ offset) }
+    ensures last { IfSome result (λ x. (q : ℕ) → x.0 < q → q ≤ offset → tree_map.get nat_cmp by_offset.now q ≡ None) }
+    ensures none { IfNone result ((q : ℕ) → q ≤ offset → tree_map.get nat_cmp by_offset.now q ≡ None) }
+{
+    let (place, unit) = by_offset.range(..=offset).next_back()?;
+    Some((*place, *unit))
+}
+
+impl<'a> Units<'a> {
+    /// The units of a section. It takes the time of their number, and some words of memory each.
+    pub fn read(heap: Heap, section: &'a [u8]) -> Result<Units<'a>, NoMemory>
+        ensures { IfOk result (λ units. units ≡ section.now) }
+    {
+        let by_offset = table(heap, section)?;
+        Ok(Units { section, by_offset })
+    }
+
+    /// The section.
+    pub fn section(&self) -> &'a [u8]
+        ensures { result.now ≡ self.now }
+    {
+        self.section
+    }
+
+    /// The unit at an offset; `None` if none begins there.
+    pub fn at(&self, offset: u64) -> Option<&'a [u8]>
+        ensures { option_map (λ u. u.now) result ≡ unit_of self.now offset }
+    {
+        self.by_offset.get(&offset).copied()
+    }
+
+    /// The unit that has the byte at an offset, with its own offset; `None` if none has.
+    pub fn containing(&self, offset: u64) -> Option<(u64, &'a [u8])>
+        ensures { IsUnitWith self.now offset (option_map (λ x. (x.0, x.1.now)) result) }
+    {
+        let (place, unit) = last_before(&self.by_offset, offset)?;
+        if unit.len() as u64 <= offset - place {
+            return None;
+        }
+        Some((place, unit))
+    }
+}

@@ -1,0 +1,8 @@
+-- What the shape of an entry of the code is in the definitions.
+use Rattle.dwarf_entries.specs.AttributeViews.{attributes_view}
+use Rattle.dwarf_entries.specs.Specifications.{ShapeRecord}
+use Rattle.dwarf_entries.specs.declared.specification.Shape.{Shape}
+
+-- a shape, without where its parts lie
+abbrev pub shape_view : Shape → ShapeRecord
+shape_view s = record { constants = attributes_view s.constants; pairs = s.pairs.items }

@@ -1,0 +1,141 @@
+//! The declarations of all tables, by which each is found at once where the codes of a table ascend from 1 on, as
+//! compilers write them.
+
+ghost use Rattle.std.specs.Prelude.{[], ◌≡◌, ◌≢◌, ◌==◌, ◌&&◌, ◌++◌, ◌∷◌, ℕ, None, OnOk, Some, length, if◌then◌else◌};
+ghost use Rattle.std.specs.Option.{is_some, option_map, option_or};
+ghost use Rattle.std.specs.Ordering.{nat_cmp};
+ghost use Rattle.std.specs.BTreeMap as tree_map;
+ghost use Rattle.dwarf_entries.specs.DeclarationViews.{declaration_in, declaration_view, row_in, rows_or_none};
+
+use crate::declaration::Declaration;
+use memory::{Heap, NoMemory};
+use std::collections::BTreeMap;
+
+/// The declarations of the codes 1, 2, 3 and so on of a table, as far as they come in this order.
+#[derive(Drop)]
+pub(crate) struct Rows<'a> {
+    pub rows: Vec<Declaration<'a>, Heap>,
+}
+
+/// Rows under the offsets of their tables.
+type RowsByTable<'a> = BTreeMap<u64, Rows<'a>, Heap>;
+
+/// Declarations under the offsets of their tables and their codes.
+pub(crate) type DeclarationsByCode<'a> = BTreeMap<(u64, u64), Declaration<'a>, Heap>;
+
+/// The declarations of all tables: the rows of each, and those that are in no row.
+#[derive(Drop)]
+pub(crate) struct Declarations<'a> {
+    pub rows: RowsByTable<'a>,
+    pub others: DeclarationsByCode<'a>,
+}
+
+/// The declaration of a code in rows, if there are some.
+pub(crate) fn row_in<'t, 'a>(rows: Option<&'t Rows<'a>>, code: u64) -> Option<&'t Declaration<'a>>
+    ensures { option_map (λ d. d.now) result ≡ row_in (rows_or_none (option_map (λ r. r.now) rows.entry)) code }
+{
+    let rows = rows?;
+    if code == 0 || (rows.rows.len() as u64) < code {
+        return None;
+    }
+    Some(&rows.rows[code as usize - 1])
+}
+
+/// Adds a row to those of a table.
+fn push_row<'a>(
+    heap: Heap,
+    by_table: &mut RowsByTable<'a>,
+    table: u64,
+    declaration: Declaration<'a>,
+) -> Result<(), NoMemory>
+    ensures here { OnOk result (rows_or_none (tree_map.get nat_cmp by_table.new table)
+        ≡ rows_or_none (tree_map.get nat_cmp by_table.old table) ++ declaration.entry ∷ []) }
+    ensures others { OnOk result ((other : ℕ) → other ≢ table →
+        rows_or_none (tree_map.get nat_cmp by_table.new other)
+        ≡ rows_or_none (tree_map.get nat_cmp by_table.old other)) }
+{
+    let mut rows = match by_table.remove(&table) {
+        Some(rows) => rows,
+        None => Rows {
+            rows: Vec::new(heap),
+        },
+    };
+    rows.rows.push(declaration)?;
+    by_table.insert(table, rows)?;
+    Ok(())
+}
+
+impl<'a> Declarations<'a> {
+    /// None.
+    pub fn none(heap: Heap) -> Declarations<'a>
+        ensures { (table code : ℕ) → declaration_in result table code ≡ None }
+    {
+        Declarations {
+            rows: BTreeMap::new(heap.share()),
+            others: BTreeMap::new(heap),
+        }
+    }
+
+    /// The rows of a table, if it has some.
+    pub fn rows_of(&self, table: u64) -> Option<&Rows<'a>>
+        ensures { option_map (λ r. r.now) result ≡ tree_map.get nat_cmp self.now.rows table }
+    {
+        self.rows.get(&table)
+    }
+
+    /// How many rows a table has.
+    fn count_of(&self, table: u64) -> usize
+        ensures { result ≡ length (rows_or_none (tree_map.get nat_cmp self.now.rows table)) }
+    {
+        match self.rows_of(table) {
+            Some(rows) => rows.rows.len(),
+            None => 0,
+        }
+    }
+
+    /// Whether a table has a declaration of a code.
+    fn has(&self, table: u64, code: u64) -> bool
+        ensures { result ≡ is_some (declaration_in self.now table code) }
+    {
+        row_in(self.rows_of(table), code).is_some() || self.others.contains_key(&(table, code))
+    }
+
+    /// Puts a declaration into a table that has none of its code: as its next row, or among the others.
+    fn put(
+        &mut self,
+        heap: Heap,
+        table: u64,
+        code: u64,
+        declaration: Declaration<'a>,
+    ) -> Result<(), NoMemory>
+        requires { declaration_in self.old table code ≡ None }
+        ensures { OnOk result ((t c : ℕ) → declaration_in self.new t c
+            ≡ (if (t == table) && (c == code) then Some declaration.entry else declaration_in self.old t c)) }
+    {
+        if code == self.count_of(table) as u64 + 1 {
+            return push_row(heap, &mut self.rows, table, declaration);
+        }
+        self.others.insert((table, code), declaration)?;
+        Ok(())
+    }
+
+    /// Puts a declaration into a table, unless there is one of its code.
+    pub fn keep_first(
+        &mut self,
+        heap: Heap,
+        table: u64,
+        code: u64,
+        declaration: Declaration<'a>,
+    ) -> Result<(), NoMemory>
+        ensures { OnOk result ((t c : ℕ) → option_map declaration_view (declaration_in self.new t c)
+            ≡ (if (t == table) && (c == code)
+            then option_or (option_map declaration_view (declaration_in self.old t c))
+            (Some (declaration_view declaration.entry))
+            else option_map declaration_view (declaration_in self.old t c))) }
+    {
+        if self.has(table, code) {
+            return Ok(());
+        }
+        self.put(heap, table, code, declaration)
+    }
+}

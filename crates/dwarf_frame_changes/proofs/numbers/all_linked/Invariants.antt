@@ -1,0 +1,18 @@
+use Rattle.std.proofs.Common.{◌≤◌, ◌-◌, [], length}
+use Rattle.dwarf_functions.specs.LinkViews.{links_view}
+use Rattle.dwarf_source_frames.specs.FrameViews.{lines_view}
+use Rattle.dwarf_frame_changes.specs.Given.{Takes}
+use Rattle.dwarf_frame_changes.specs.UnitNumbers.{AreLinked, AreNameNumbers, ArePathNumbers}
+use Rattle.dwarf_frame_changes.proofs.numbers.all_linked.Given as goal
+
+abbrev pub invariant-links : goal.invariant-links
+invariant-links g l = record {
+  within : length l.all.items ≤ length l.links.links.items;
+  names : AreNameNumbers (g.T.FrameTaker.tells_name l.taker) l.links l.names;
+  paths : ArePathNumbers (g.T.FrameTaker.tells_path l.taker) (lines_view l.lines) l.paths;
+  linked : AreLinked (g.T.FrameTaker.tells_name l.taker) (g.T.FrameTaker.tells_frames l.taker) (lines_view l.lines) (links_view l.links.links.items) (length l.all.items) l.all.items;
+  taken : Takes (g.T.FrameTaker.has_taken l.fn.taker) (g.T.FrameTaker.has_taken l.taker) [];
+}
+
+abbrev pub decreases-links : goal.decreases-links
+decreases-links g l = length l.links.links.items - length l.all.items

@@ -1,0 +1,25 @@
+//! What the definitions say of each other.
+
+ghost use Rattle.std.specs.Prelude.{[], ◌≡◌, ◌<◌, ◌≤◌, ◌^◌, ℕ, List};
+ghost use Rattle.dwarf_frame_changes.specs.Turns.{IsTurn};
+ghost use Rattle.dwarf_source_frames.specs.AddressFrames.{AreFramesOf};
+ghost use Rattle.dwarf_source_frames.specs.Frames.{FrameRecord};
+
+/// The frames stay the same up to the next turn.
+pub fn same_between_turns()
+    ensures { (image : List ℕ) (a b : ℕ) (frames : List FrameRecord) → a < b → b < 2 ^ 64
+        → ((turn : ℕ) → a < turn → turn ≤ b → IsTurn image turn → ⊥)
+        → AreFramesOf image a frames → AreFramesOf image b frames }
+{}
+
+/// Before the first turn an address has no frames.
+pub fn no_frames_before_turns()
+    ensures { (image : List ℕ) (a : ℕ) (frames : List FrameRecord) → a < 2 ^ 64
+        → ((turn : ℕ) → turn ≤ a → IsTurn image turn → ⊥) → AreFramesOf image a frames → frames ≡ [] }
+{}
+
+/// Before the first turn the empty list is that of the frames of an address.
+pub fn empty_before_turns()
+    ensures { (image : List ℕ) (a : ℕ) → a < 2 ^ 64
+        → ((turn : ℕ) → turn ≤ a → IsTurn image turn → ⊥) → AreFramesOf image a [] }
+{}

@@ -1,0 +1,202 @@
+//! The numbers that a taker gave to the paths and the links of a unit.
+
+ghost use Rattle.std.specs.Prelude.{[], ◌≡◌, ◌≢◌, ◌<◌, ◌+◌, ℕ, IfOk, OnOk, Some, None, length};
+ghost use Rattle.std.specs.Ordering.{nat_cmp};
+ghost use Rattle.std.specs.BTreeMap as tree_map;
+ghost use Rattle.dwarf_frame_changes.specs.Given.{Takes};
+ghost use Rattle.dwarf_frame_changes.specs.Taking.{StillTells};
+ghost use Rattle.dwarf_frame_changes.specs.UnitNumbers.{AreLinked, AreNameNumbers, ArePathNumbers, IsPathNumber, row_frames};
+ghost use Rattle.dwarf_functions.specs.Links.{AreCallersBefore};
+ghost use Rattle.dwarf_functions.specs.LinkViews.{links_view};
+ghost use Rattle.dwarf_functions.specs.NameNumbers.{AreNamesNumbered};
+ghost use Rattle.dwarf_source_frames.specs.FrameViews.{lines_view};
+
+use crate::names::Names;
+use crate::taker::FrameTaker;
+use dwarf_functions::{Link, Links};
+use dwarf_lines::Row;
+use dwarf_source_frames::UnitLines;
+use memory::{Heap, NoMemory};
+use std::collections::BTreeMap;
+
+/// The numbers of paths under the indexes of their files, and the last one that was asked for.
+#[derive(Drop)]
+pub(crate) struct Paths {
+    by_index: BTreeMap<u64, u32, Heap>,
+    last: Option<(u64, u32)>,
+}
+
+impl Paths {
+    /// None.
+    pub fn new(heap: Heap) -> Paths
+        ensures index { (i : ℕ) → tree_map.get nat_cmp result.by_index i ≡ None }
+        ensures last { result.last ≡ None }
+    {
+        Paths {
+            by_index: BTreeMap::new(heap),
+            last: None,
+        }
+    }
+
+    /// Keeps the number of the path of a file.
+    fn keep(&mut self, index: u64, number: u32) -> Result<(), NoMemory>
+        ensures here { OnOk result (tree_map.get nat_cmp self.new.by_index index ≡ Some number) }
+        ensures others { OnOk result ((other : ℕ) → other ≢ index →
+            tree_map.get nat_cmp self.new.by_index other ≡ tree_map.get nat_cmp self.old.by_index other) }
+        ensures last { OnOk result (self.new.last ≡ self.old.last) }
+    {
+        self.by_index.insert(index, number)?;
+        Ok(())
+    }
+
+    /// The number of the path of a file, which is kept.
+    fn find<'a, T: FrameTaker<'a>>(
+        &mut self,
+        lines: &UnitLines<'a>,
+        taker: &mut T,
+        index: u64,
+    ) -> Result<u32, NoMemory>
+        requires { ArePathNumbers (T.tells_path taker.old) (lines_view lines.now) self.old }
+        ensures is { IfOk result (λ number.
+            IsPathNumber (T.tells_path taker.new) (lines_view lines.now) (Some index) number) }
+        ensures kept { OnOk result (ArePathNumbers (T.tells_path taker.new) (lines_view lines.now) self.new) }
+        ensures names { StillTells (T.tells_name taker.old) (T.tells_name taker.new) }
+        ensures frames { StillTells (T.tells_frames taker.old) (T.tells_frames taker.new) }
+        ensures taken { Takes (T.has_taken taker.old) (T.has_taken taker.new) [] }
+    {
+        if let Some(number) = self.by_index.get(&index) {
+            return Ok(*number);
+        }
+        let number = taker.path(lines.path_in(Some(index)))?;
+        self.keep(index, number)?;
+        Ok(number)
+    }
+
+    /// The number of the path of a file, or of none.
+    pub fn number<'a, T: FrameTaker<'a>>(
+        &mut self,
+        lines: &UnitLines<'a>,
+        taker: &mut T,
+        file: Option<u64>,
+    ) -> Result<u32, NoMemory>
+        requires { ArePathNumbers (T.tells_path taker.old) (lines_view lines.now) self.old }
+        ensures is { IfOk result (λ number.
+            IsPathNumber (T.tells_path taker.new) (lines_view lines.now) file number) }
+        ensures kept { OnOk result (ArePathNumbers (T.tells_path taker.new) (lines_view lines.now) self.new) }
+        ensures names { StillTells (T.tells_name taker.old) (T.tells_name taker.new) }
+        ensures frames { StillTells (T.tells_frames taker.old) (T.tells_frames taker.new) }
+        ensures taken { Takes (T.has_taken taker.old) (T.has_taken taker.new) [] }
+    {
+        let Some(index) = file else {
+            return taker.path(None);
+        };
+        if let Some((known, number)) = self.last {
+            if known == index {
+                return Ok(number);
+            }
+        }
+        let number = self.find(lines, taker, index)?;
+        self.last = Some((index, number));
+        Ok(number)
+    }
+}
+
+/// The numbers of a link: of its name, and of the frames of those that it stands in.
+#[derive(Clone, Copy)]
+pub(crate) struct Linked {
+    pub name: u32,
+    pub callers: Option<u32>,
+}
+
+/// Adds the numbers of the next link, those of the links before it being known.
+fn push_linked<'a, T: FrameTaker<'a>>(
+    lines: &UnitLines<'a>,
+    paths: &mut Paths,
+    links: &Links<'a>,
+    names: &mut Names,
+    all: &mut Vec<Linked, Heap>,
+    taker: &mut T,
+) -> Result<(), NoMemory>
+    requires within { length all.old.items < length links.now.links.items }
+    requires callers { AreCallersBefore (links_view links.now.links.items) }
+    requires numbered { AreNamesNumbered links.now.name_count links.now.links.items }
+    requires names { AreNameNumbers (T.tells_name taker.old) links.now names.old }
+    requires paths { ArePathNumbers (T.tells_path taker.old) (lines_view lines.now) paths.old }
+    requires linked { AreLinked (T.tells_name taker.old) (T.tells_frames taker.old) (lines_view lines.now)
+        (links_view links.now.links.items) (length all.old.items) all.old.items }
+    ensures count { OnOk result (length all.new.items ≡ length all.old.items + 1) }
+    ensures linked { OnOk result (AreLinked (T.tells_name taker.new) (T.tells_frames taker.new) (lines_view lines.now)
+        (links_view links.now.links.items) (length all.new.items) all.new.items) }
+    ensures names { OnOk result (AreNameNumbers (T.tells_name taker.new) links.now names.new) }
+    ensures kept { OnOk result (ArePathNumbers (T.tells_path taker.new) (lines_view lines.now) paths.new) }
+    ensures taken { Takes (T.has_taken taker.old) (T.has_taken taker.new) [] }
+{
+    let index = all.len();
+    let link: Link<'a> = links.links[index];
+    let name = names.name_of(links, index, taker)?;
+    if link.caller == 0 {
+        let callers = taker.no_frames();
+        all.push(Linked { name, callers })?;
+        return Ok(());
+    }
+    let outer = all[link.caller - 1];
+    let path = paths.number(lines, taker, link.call.file)?;
+    let callers = taker.frames(
+        outer.name,
+        path,
+        link.call.line,
+        link.call.column,
+        outer.callers,
+    )?;
+    all.push(Linked { name, callers })?;
+    Ok(())
+}
+
+/// The numbers of all links of a unit.
+pub(crate) fn all_linked<'a, T: FrameTaker<'a>>(
+    heap: Heap,
+    lines: &UnitLines<'a>,
+    paths: &mut Paths,
+    links: &Links<'a>,
+    taker: &mut T,
+) -> Result<Vec<Linked, Heap>, NoMemory>
+    requires callers { AreCallersBefore (links_view links.now.links.items) }
+    requires numbered { AreNamesNumbered links.now.name_count links.now.links.items }
+    requires paths { ArePathNumbers (T.tells_path taker.old) (lines_view lines.now) paths.old }
+    ensures is { IfOk result (λ all. AreLinked (T.tells_name taker.new) (T.tells_frames taker.new)
+        (lines_view lines.now) (links_view links.now.links.items) (length links.now.links.items) all.items) }
+    ensures kept { OnOk result (ArePathNumbers (T.tells_path taker.new) (lines_view lines.now) paths.new) }
+    ensures taken { OnOk result (Takes (T.has_taken taker.old) (T.has_taken taker.new) []) }
+{
+    let mut names = Names::new(heap.share(), links.name_count)?;
+    let mut all: Vec<Linked, Heap> = Vec::new(heap);
+    'links: while all.len() < links.links.len() {
+        push_linked(lines, paths, links, &mut names, &mut all, taker)?;
+    }
+    Ok(all)
+}
+
+/// The number of the frames of a row alone.
+pub(crate) fn frames_of_row<'a, T: FrameTaker<'a>>(
+    lines: &UnitLines<'a>,
+    paths: &mut Paths,
+    row: Option<Row>,
+    taker: &mut T,
+) -> Result<Option<u32>, NoMemory>
+    requires { ArePathNumbers (T.tells_path taker.old) (lines_view lines.now) paths.old }
+    ensures is { IfOk result (λ found. T.tells_frames taker.new found (row_frames (lines_view lines.now) row)) }
+    ensures kept { OnOk result (ArePathNumbers (T.tells_path taker.new) (lines_view lines.now) paths.new) }
+    ensures names { StillTells (T.tells_name taker.old) (T.tells_name taker.new) }
+    ensures frames { StillTells (T.tells_frames taker.old) (T.tells_frames taker.new) }
+    ensures taken { Takes (T.has_taken taker.old) (T.has_taken taker.new) [] }
+{
+    let Some(row) = row else {
+        return Ok(taker.no_frames());
+    };
+    let place = row.registers;
+    let path = paths.number(lines, taker, Some(place.file))?;
+    let none = taker.name(None)?;
+    let callers = taker.no_frames();
+    let alone = taker.frames(none, path, place.line, place.column, callers)?;
+    Ok(alone)
+}

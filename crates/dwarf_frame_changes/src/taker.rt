@@ -1,0 +1,78 @@
+//! What takes turns with their frames.
+
+ghost use Rattle.std.specs.Prelude.{◌∷◌, [], ℕ, IfOk, List, OnOk, Option};
+ghost use Rattle.std.specs.Option.{option_map};
+ghost use Rattle.dwarf_frame_changes.specs.Given.{Takes, TurnRecord};
+ghost use Rattle.dwarf_frame_changes.specs.Taking.{StillTells};
+ghost use Rattle.dwarf_lines.specs.Paths.{PathRecord};
+ghost use Rattle.dwarf_lines.specs.PathViews.{path_view};
+ghost use Rattle.dwarf_source_frames.specs.Frames.{FrameRecord};
+
+use dwarf_lines::PathParts;
+use memory::NoMemory;
+
+/// What takes turns with their frames. It gives numbers to names, to paths and to the frames of addresses, so that each
+/// is given to it once; a number tells of the same from then on.
+pub trait FrameTaker<'a> {
+    // This is the number of a name, or of none; of a path, or of none; of frames, the innermost first.
+    ghost tells_name: { Self → ℕ → Option (List ℕ) → Type 0 };
+
+    ghost tells_path: { Self → ℕ → Option PathRecord → Type 0 };
+
+    ghost tells_frames: { Self → Option ℕ → List FrameRecord → Type 0 };
+
+    // It is as it is once it has taken these, in this order.
+    ghost has_taken: { Self → List TurnRecord → Type 0 };
+
+    /// The number of a name.
+    fn name(&mut self, name: Option<&'a [u8]>) -> Result<u32, NoMemory>
+        ensures is { IfOk result (λ number. tells_name self.new number (option_map (λ n. n.now) name.entry)) }
+        ensures names { StillTells (tells_name self.old) (tells_name self.new) }
+        ensures paths { StillTells (tells_path self.old) (tells_path self.new) }
+        ensures frames { StillTells (tells_frames self.old) (tells_frames self.new) }
+        ensures taken { Takes (has_taken self.old) (has_taken self.new) [] };
+
+    /// The number of a path.
+    fn path(&mut self, path: Option<PathParts<'a>>) -> Result<u32, NoMemory>
+        ensures is { IfOk result (λ number. tells_path self.new number (option_map path_view path.entry)) }
+        ensures names { StillTells (tells_name self.old) (tells_name self.new) }
+        ensures paths { StillTells (tells_path self.old) (tells_path self.new) }
+        ensures frames { StillTells (tells_frames self.old) (tells_frames self.new) }
+        ensures taken { Takes (has_taken self.old) (has_taken self.new) [] };
+
+    /// The number of no frames.
+    fn no_frames(&self) -> Option<u32>
+        ensures { tells_frames self.now result [] };
+
+    /// The number of a frame and of those that it is inlined into.
+    fn frames(
+        &mut self,
+        name: u32,
+        path: u32,
+        line: u64,
+        column: u64,
+        callers: Option<u32>,
+    ) -> Result<Option<u32>, NoMemory>
+        requires name { (n : Option (List ℕ)) × tells_name self.old name n }
+        requires path { (p : Option PathRecord) × tells_path self.old path p }
+        requires callers { (outer : List FrameRecord) × tells_frames self.old callers outer }
+        ensures is { IfOk result (λ number.
+            (n : Option (List ℕ)) (p : Option PathRecord) (outer : List FrameRecord) → tells_name self.old name n
+            → tells_path self.old path p → tells_frames self.old callers outer
+            → tells_frames self.new number
+            (record { name = n; path = p; line = line; column = column } ∷ outer)) }
+        ensures names { StillTells (tells_name self.old) (tells_name self.new) }
+        ensures paths { StillTells (tells_path self.old) (tells_path self.new) }
+        ensures frames { StillTells (tells_frames self.old) (tells_frames self.new) }
+        ensures taken { Takes (has_taken self.old) (has_taken self.new) [] };
+
+    /// Takes an address and the number of its frames.
+    fn take(&mut self, address: u64, number: Option<u32>) -> Result<(), NoMemory>
+        requires { (frames : List FrameRecord) × tells_frames self.old number frames }
+        ensures taken { OnOk result ((frames : List FrameRecord) → tells_frames self.old number frames
+            → Takes (has_taken self.old) (has_taken self.new)
+            (record { address = address; frames = frames } ∷ [])) }
+        ensures names { StillTells (tells_name self.old) (tells_name self.new) }
+        ensures paths { StillTells (tells_path self.old) (tells_path self.new) }
+        ensures frames { StillTells (tells_frames self.old) (tells_frames self.new) };
+}

@@ -1,0 +1,194 @@
+//! The frames at the turns of an image, unit by unit.
+
+ghost use Rattle.std.specs.Prelude.{◌≡◌, ◌↔◌, ◌<◌, ◌^◌, ℕ, IfOk, IfSome, List, OnOk, Some, map};
+ghost use Rattle.std.specs.List.{Contains};
+ghost use Rattle.std.specs.BTreeMap as tree_map;
+ghost use Rattle.dwarf_frame_changes.specs.ByProgram.{AreBoundariesBy, AreRowsOfLast, rows_at};
+ghost use Rattle.dwarf_source_frames.specs.ByUnit.{addresses_under};
+ghost use Rattle.dwarf_frame_changes.specs.Given.{AreTurnsIn, AreTurnsOf, AreTurnsWithUnits, Takes, TurnRecord, without_frames};
+ghost use Rattle.dwarf_frame_changes.specs.UnitSteps.{AreUnitSteps};
+ghost use Rattle.dwarf_source_frames.specs.ByUnit.{IsPlaced};
+ghost use Rattle.dwarf_source_frames.specs.FrameViews.{lines_view};
+ghost use Rattle.dwarf_source_frames.specs.AddressFrames.{rows_of};
+ghost use Rattle.dwarf_source_frames.specs.DebugSections.{DebugSectionsRecord};
+ghost use Rattle.dwarf_asked_addresses.specs.Rising.{AreRising};
+ghost use Rattle.dwarf_source_frames.specs.SectionsViews.{sections_view};
+
+use crate::merging::UnitParts;
+use crate::taker::FrameTaker;
+use crate::unit_steps::UnitSteps;
+use dwarf_asked_addresses::sorted_once;
+use dwarf_encoding::Units;
+use dwarf_functions::RowSteps;
+use dwarf_source_frames::{ByUnit, DebugInfo, UnitLines, take_unit};
+use macho_image::Image;
+use memory::{Heap, NoMemory};
+
+/// A unit: where its program stands, its offset, and its boundaries.
+#[derive(Drop)]
+struct UnitBoundaries {
+    program: u64,
+    place: u64,
+    boundaries: Vec<u64, Heap>,
+}
+
+/// The rows of the program that was run last.
+#[derive(Drop)]
+struct LastRows {
+    program: Option<u64>,
+    rows: RowSteps,
+}
+
+/// Gives addresses without frames.
+fn give_without<'a, T: FrameTaker<'a>>(taker: &mut T, addresses: &[u64]) -> Result<(), NoMemory>
+    ensures fits { OnOk result ((a : ℕ) → Contains addresses.now a → a < 2 ^ 64) }
+    ensures given { OnOk result (Takes (T.has_taken taker.old) (T.has_taken taker.new)
+        (map (λ a. without_frames a) addresses.now)) }
+{
+    let none = taker.no_frames();
+    for address in addresses {
+        taker.take(*address, none)?;
+    }
+    Ok(())
+}
+
+impl LastRows {
+    /// Runs the program at an offset, which a unit has, unless it was the last one.
+    fn run(
+        &mut self,
+        heap: Heap,
+        lines: &UnitLines<'_>,
+        program: Option<u64>,
+    ) -> Result<(), NoMemory>
+        requires { IfSome lines.now.program (λ p. 0 < p.header.line_range) }
+        ensures program { OnOk result (self.new.program ≡ program) }
+        ensures rows { OnOk result ((sections : DebugSectionsRecord) → AreRowsOfLast sections self.old
+            → rows_of (lines_view lines.now) ≡ rows_at sections program → AreRowsOfLast sections self.new) }
+    {
+        if self.program.is_some() && self.program == program {
+            return Ok(());
+        }
+        self.rows = RowSteps::of(heap, lines)?;
+        self.program = program;
+        Ok(())
+    }
+}
+
+/// Gives the turns whose unit is the one at an offset, with their frames. Its boundaries are given.
+fn give_unit<'a, T: FrameTaker<'a>>(
+    heap: Heap,
+    info: &DebugInfo<'a>,
+    line_units: &Units<'a>,
+    steps: &UnitSteps,
+    of: &UnitBoundaries,
+    last: &mut LastRows,
+    taker: &mut T,
+) -> Result<(), NoMemory>
+    requires lines { line_units.now ≡ info.now.sections.debug_line.now }
+    requires steps { AreUnitSteps (sections_view info.now.sections) steps.now.starts.items steps.now.places.items }
+    requires rising { AreRising of.now.boundaries.items }
+    requires boundaries { (a : ℕ) → Contains of.now.boundaries.items a
+        ↔ IsPlaced steps.now.starts.items steps.now.places.items a (Some of.now.place) }
+    requires last { AreRowsOfLast (sections_view info.now.sections) last.old }
+    ensures given { OnOk result ((given : List TurnRecord)
+        × Takes (T.has_taken taker.old) (T.has_taken taker.new) given
+        × AreTurnsIn (sections_view info.now.sections) (Some of.now.place) given) }
+    ensures last { OnOk result (AreRowsOfLast (sections_view info.now.sections) last.new) }
+{
+    let Some(unit) = info.unit_at(of.place) else {
+        give_without(taker, &of.boundaries)?;
+        return Ok(());
+    };
+    let lines = UnitLines::read(heap.share(), &info.sections, line_units, &unit)?;
+    last.run(heap.share(), &lines, unit.program_offset())?;
+    let mut parts = UnitParts::read(heap, info, &unit, &lines, taker)?;
+    parts.give_all(&lines, &last.rows, steps, &of.boundaries, taker)?;
+    Ok(())
+}
+
+/// The offset of the program of the unit at an offset; units without one come last.
+fn program_at(info: &DebugInfo<'_>, place: u64) -> u64 {
+    match info.unit_at(place) {
+        Some(unit) => unit.program_offset().unwrap_or(u64::MAX),
+        None => u64::MAX,
+    }
+}
+
+/// The units, in the order of their programs, each with its boundaries.
+fn by_program(
+    heap: Heap,
+    info: &DebugInfo<'_>,
+    mut by_unit: ByUnit,
+) -> Result<Vec<UnitBoundaries, Heap>, NoMemory>
+    ensures { IfOk result (λ all. AreBoundariesBy by_unit all.items) }
+{
+    let mut all = Vec::new(heap);
+    'units: while let Some((place, list)) = take_unit(&mut by_unit) {
+        all.push(UnitBoundaries {
+            program: program_at(info, place),
+            place,
+            boundaries: sorted_once(list.addresses),
+        })?;
+    }
+    all.sort_unstable_by_key(|unit| unit.program);
+    Ok(all)
+}
+
+/// Gives the turns that have a unit, one unit after another, with their frames. The boundaries are given.
+fn give_units<'a, T: FrameTaker<'a>>(
+    heap: Heap,
+    info: &DebugInfo<'a>,
+    line_units: &Units<'a>,
+    steps: &UnitSteps,
+    by_unit: ByUnit,
+    taker: &mut T,
+) -> Result<(), NoMemory>
+    requires lines { line_units.now ≡ info.now.sections.debug_line.now }
+    requires steps { AreUnitSteps (sections_view info.now.sections) steps.now.starts.items steps.now.places.items }
+    requires boundaries { (place a : ℕ) → Contains (addresses_under by_unit place) a
+        ↔ IsPlaced steps.now.starts.items steps.now.places.items a (Some place) }
+    ensures { OnOk result ((given : List TurnRecord)
+        × Takes (T.has_taken taker.old) (T.has_taken taker.new) given
+        × AreTurnsWithUnits (sections_view info.now.sections) given) }
+{
+    let all = by_program(heap.share(), info, by_unit)?;
+    let mut last = LastRows {
+        program: None,
+        rows: RowSteps::none(heap.share()),
+    };
+    for unit in all.iter() {
+        give_unit(
+            heap.share(),
+            info,
+            line_units,
+            steps,
+            unit,
+            &mut last,
+            taker,
+        )?;
+    }
+    Ok(())
+}
+
+/// Gives each turn of an image, once, with its frames: first those that have no unit, and so no frames, then those of
+/// one unit after another. `__debug_aranges`, the declarations and the first entries of units are read for all
+/// together. Each unit that has a turn is read once. Units come in the order of their programs, and each program is run
+/// twice, however many units have it. It takes the memory of the boundaries of units, of the links of one unit, and of
+/// the rows of one program.
+pub fn give_turns<'a, T: FrameTaker<'a>>(
+    heap: Heap,
+    image: &Image<'a>,
+    taker: &mut T,
+) -> Result<(), NoMemory>
+    ensures { OnOk result ((given : List TurnRecord)
+        × Takes (T.has_taken taker.old) (T.has_taken taker.new) given × AreTurnsOf image.now given) }
+{
+    let info = DebugInfo::read(heap.share(), image)?;
+    let line_units = Units::read(heap.share(), info.sections.debug_line)?;
+    let steps = UnitSteps::read(heap.share(), &info)?;
+    let (without, by_unit) = steps.by_unit(heap.share())?;
+    let without = sorted_once(without);
+    give_without(taker, &without)?;
+    give_units(heap, &info, &line_units, &steps, by_unit, taker)?;
+    Ok(())
+}

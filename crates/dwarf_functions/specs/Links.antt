@@ -1,0 +1,102 @@
+-- The functions of the chains of addresses, as links that addresses share.
+use Rattle.std.specs.Prelude.{ℕ, zero, suc, List, [], ◌∷◌, ◌≡◌, ◌<◌, ◌≤◌, ◌↔◌, length, flat_map, slice_get}
+use Rattle.std.specs.Prelude.{reverse, slice_index, Option, Some, None}
+use Rattle.std.specs.List.{Contains}
+use Rattle.dwarf_ranges.specs.declared.range.CodeRange.{CodeRange}
+use Rattle.dwarf_entries.specs.Entries.{EntryRecord}
+use Rattle.dwarf_functions.specs.AddressSteps.{at_step}
+use Rattle.dwarf_source_frames.specs.DebugSections.{DebugSectionsRecord}
+use Rattle.dwarf_source_frames.specs.DebugUnits.{UnitRecord}
+use Rattle.dwarf_source_frames.specs.Frames.{FrameRecord, path_in, location_of_call, location_of_row}
+use Rattle.dwarf_source_frames.specs.Names.{IsName}
+use Rattle.dwarf_asked_addresses.specs.Rising.{AreRising}
+use Rattle.dwarf_source_frames.specs.Scopes.{IsChain, ScopeRecord, scopes_of}
+use Rattle.dwarf_source_frames.specs.UnitLines.{LinesRecord}
+use Rattle.dwarf_source_frames.specs.declared.frame.SourceLocation.{SourceLocation}
+use Rattle.dwarf_lines.specs.declared.registers.Row.{Row}
+
+-- a link: the name of a function, the place of the call that it is, and the number of the link that it stands in, from
+-- 1 on, or 0
+pub record LinkRecord : Type 0 where
+  pub name : Option (List ℕ)
+  pub call : SourceLocation
+  pub caller : ℕ
+
+-- the link of a number, from 1 on
+abbrev pub link_at : List LinkRecord → ℕ → Option LinkRecord
+link_at links zero = None
+link_at links (suc index) = slice_get links index
+
+-- the number is that of entries, the innermost first, each in the next one; 0 has none
+abbrev pub AreEntriesOfLink :
+    DebugSectionsRecord → UnitRecord → List LinkRecord → ℕ → List EntryRecord → Type 0
+AreEntriesOfLink sections unit links number [] = number ≡ 0
+AreEntriesOfLink sections unit links number (e ∷ es) =
+    (link : LinkRecord) × (link_at links number ≡ Some link) × (link.caller < number)
+    × IsName sections (record { unit = unit; entry = e }) link.name × (link.call ≡ location_of_call e)
+    × AreEntriesOfLink sections unit links link.caller es
+
+-- the link of a number has the chain of an address, among some entries of a unit
+pub record IsLinkAmong (sections : DebugSectionsRecord) (unit : UnitRecord) (scopes : List ScopeRecord)
+    (links : List LinkRecord) (address number : ℕ) : Type 0 where
+  pub chain : List EntryRecord
+  pub contain : IsChain address scopes chain
+  pub are_entries : AreEntriesOfLink sections unit links number (reverse chain)
+
+-- among all entries
+abbrev pub IsLinkOf : DebugSectionsRecord → UnitRecord → List LinkRecord → ℕ → ℕ → Type 0
+IsLinkOf sections unit links address number = IsLinkAmong sections unit (scopes_of sections unit) links address number
+
+-- where ranges begin and end
+abbrev pub ends_of_ranges : List CodeRange → List ℕ
+ends_of_ranges ranges = flat_map (λ range. range.low ∷ range.high ∷ []) ranges
+
+-- each link stands in one before it, or in none
+abbrev pub AreCallersBefore : List LinkRecord → Type 0
+AreCallersBefore links = (i : ℕ) (link : LinkRecord) → slice_get links i ≡ Some link → link.caller ≤ i
+
+-- for each of some addresses the number of its link, among some entries of a unit
+pub record AreLinksAmong (sections : DebugSectionsRecord) (unit : UnitRecord) (scopes : List ScopeRecord)
+    (links : List LinkRecord) (addresses numbers : List ℕ) : Type 0 where
+  pub count : length numbers ≡ length addresses
+  pub each : (i : ℕ) → i < length addresses
+      → IsLinkAmong sections unit scopes links (slice_index addresses i) (slice_index numbers i)
+  pub callers : AreCallersBefore links
+
+-- among all entries
+abbrev pub AreLinksOf : DebugSectionsRecord → UnitRecord → List LinkRecord → List ℕ → List ℕ → Type 0
+AreLinksOf sections unit links addresses numbers =
+    AreLinksAmong sections unit (scopes_of sections unit) links addresses numbers
+
+-- a step at exactly the addresses at which the ranges of functions begin or end, ascending, each with the number of the
+-- link of the addresses from there on up to the next one
+pub record AreLinkSteps (sections : DebugSectionsRecord) (unit : UnitRecord) (links : List LinkRecord)
+    (starts numbers : List ℕ) : Type 0 where
+  pub rising : AreRising starts
+  pub same : (a : ℕ) → Contains starts a
+      ↔ Contains (flat_map (λ scope. ends_of_ranges scope.ranges) (scopes_of sections unit)) a
+  pub count : length numbers ≡ length starts
+  pub each : (a : ℕ) → IsLinkOf sections unit links a (at_step 0 starts numbers a)
+  pub callers : AreCallersBefore links
+
+-- the frame of a name at a place
+abbrev pub frame_at_place : LinesRecord → Option (List ℕ) → SourceLocation → FrameRecord
+frame_at_place lines name place =
+    record { name = name; path = path_in lines place.file; line = place.line; column = place.column }
+
+-- the frames of the link of a number, the innermost first, which is at a place; each further one is at the call that
+-- the one before it is
+abbrev pub AreFramesOfLink : LinesRecord → List LinkRecord → SourceLocation → ℕ → List FrameRecord → Type 0
+AreFramesOfLink lines links place number [] = number ≡ 0
+AreFramesOfLink lines links place number (f ∷ fs) =
+    (link : LinkRecord) × (link_at links number ≡ Some link) × (link.caller < number)
+    × (f ≡ frame_at_place lines link.name place)
+    × AreFramesOfLink lines links link.call link.caller fs
+
+-- the frames of a row and of the link of a number: without a link there is one without a name, if there is a row
+abbrev pub AreFramesOfRowAndLink : LinesRecord → List LinkRecord → Option Row → ℕ → List FrameRecord → Type 0
+AreFramesOfRowAndLink lines links None zero frames = frames ≡ []
+AreFramesOfRowAndLink lines links (Some row) zero frames =
+    frames ≡ frame_at_place lines None (location_of_row (Some row)) ∷ []
+AreFramesOfRowAndLink lines links row (suc index) frames =
+    AreFramesOfLink lines links (location_of_row row) (suc index) frames

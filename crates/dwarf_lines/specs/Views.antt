@@ -1,0 +1,19 @@
+-- What headers and programs of the code are in the definitions.
+use Rattle.dwarf_lines.specs.Header.{HeaderRecord, ProgramRecord}
+use Rattle.dwarf_lines.specs.declared.header.Header.{Header}
+use Rattle.dwarf_lines.specs.declared.header.Program.{Program}
+
+-- a header, without where its numbers lie
+abbrev pub header_view : Header → HeaderRecord
+header_view h =
+    record {
+      minimum_instruction_length = h.minimum_instruction_length;
+      line_base = h.line_base;
+      line_range = h.line_range;
+      opcode_base = h.opcode_base;
+      standard_opcode_lengths = h.standard_opcode_lengths.now;
+    }
+
+-- a program, without where its bytes lie
+abbrev pub program_view : Program → ProgramRecord
+program_view p = record { header = header_view p.header; bytes = p.bytes.now }

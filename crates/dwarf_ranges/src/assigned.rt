@@ -1,0 +1,25 @@
+//! Pending addresses in ranges.
+
+ghost use Rattle.std.specs.Prelude.{OnOk};
+ghost use Rattle.dwarf_ranges.specs.Assigned.{AssignsRanges};
+
+use crate::range_lists::Ranges;
+use dwarf_asked_addresses::assign_within;
+use memory::{Heap, NoMemory};
+use std::collections::{BTreeMap, BTreeSet};
+
+/// Gives a value to each pending address in the ranges. These are pending no longer. It takes the time of the ranges,
+/// and of finding each of these addresses.
+pub fn assign_ranges(
+    pending: &mut BTreeSet<u64, Heap>,
+    found: &mut BTreeMap<u64, u64, Heap>,
+    ranges: Ranges<'_>,
+    value: u64,
+) -> Result<(), NoMemory>
+    ensures { OnOk result (AssignsRanges ranges.entry value pending.old found.old pending.new found.new) }
+{
+    for range in ranges {
+        assign_within(pending, found, range.low, u128::from(range.high), value)?;
+    }
+    Ok(())
+}

@@ -1,0 +1,82 @@
+//! The entries of `__debug_info` by their places.
+
+ghost use Rattle.std.specs.Prelude.{◌≡◌, ◌≤◌, IfOk, IfSome};
+ghost use Rattle.std.specs.Option.{option_map};
+ghost use Rattle.dwarf_source_frames.specs.DebugSections.{debug_sections};
+ghost use Rattle.dwarf_source_frames.specs.DebugUnits.{entry_with, place_of, IsEntryAt};
+ghost use Rattle.dwarf_encoding.specs.Views.{value_view};
+ghost use Rattle.dwarf_source_frames.specs.SectionsViews.{sections_view};
+ghost use Rattle.dwarf_source_frames.specs.UnitViews.{unit_view, unit_entry_view};
+
+use crate::debug_sections::DebugSections;
+use crate::debug_unit::{DebugUnit, UnitEntry};
+use dwarf_encoding::{Units, Value};
+use dwarf_entries::{Abbreviations, entry_of};
+use macho_image::Image;
+use memory::{Heap, NoMemory};
+
+/// The DWARF of an image: its sections, with the tables of the units of `__debug_info` and of the declarations of
+/// `__debug_abbrev`.
+#[derive(Drop)]
+pub struct DebugInfo<'a> {
+    pub sections: DebugSections<'a>,
+    pub units: Units<'a>,
+    pub abbreviations: Abbreviations<'a>,
+    ghost units_are: { units ≡ sections.debug_info.now },
+    ghost abbreviations_are: { abbreviations ≡ sections.debug_abbrev.now },
+}
+
+/// The entry at a place of `__debug_info`, of the unit that has the place.
+#[tactic(auto, unfolding(crate::specs::DebugUnits::entry_with))]
+fn entry_with<'a>(
+    abbreviations: &Abbreviations<'a>,
+    place: u64,
+    found: Option<(u64, &'a [u8])>,
+) -> Option<UnitEntry<'a>>
+    requires { IfSome found (λ u. u.0 ≤ place) }
+    ensures { option_map unit_entry_view result
+        ≡ entry_with abbreviations.now place (option_map (λ u. (u.0, u.1.now)) found.entry) }
+{
+    let (offset, bytes) = found?;
+    let unit = DebugUnit::read(abbreviations, offset, bytes)?;
+    let entry = entry_of(abbreviations, &unit.header, unit.bytes, place - offset)?;
+    Some(UnitEntry { unit, entry })
+}
+
+impl<'a> DebugUnit<'a> {
+    /// The place in `__debug_info` that a reference of this unit names; `None` for a value of another class.
+    pub fn place_of(&self, value: &Value<'a>) -> Option<u64>
+        ensures { result ≡ place_of (unit_view self.now) (value_view value.now) }
+    {
+        match *value {
+            Value::UnitReference(offset) => Some(self.offset.wrapping_add(offset)),
+            Value::SectionReference(offset) => Some(offset),
+            _ => None,
+        }
+    }
+}
+
+impl<'a> DebugInfo<'a> {
+    /// The DWARF of an image. It takes the time and the memory of its units and declarations.
+    pub fn read(heap: Heap, image: &Image<'a>) -> Result<DebugInfo<'a>, NoMemory>
+        ensures { IfOk result (λ info. sections_view info.sections ≡ debug_sections image.now) }
+    {
+        let sections = DebugSections::of(image);
+        let units = Units::read(heap.share(), sections.debug_info)?;
+        let abbreviations = Abbreviations::read(heap, sections.debug_abbrev)?;
+        Ok(DebugInfo {
+            sections,
+            units,
+            abbreviations,
+        })
+    }
+
+    /// The entry at a place of `__debug_info`; `None` if no unit has the place, or the unit or the entry cannot be
+    /// read.
+    pub fn entry_at(&self, place: u64) -> Option<UnitEntry<'a>>
+        ensures { IsEntryAt (sections_view self.now.sections) place (option_map unit_entry_view result) }
+    {
+        let found = self.units.containing(place);
+        entry_with(&self.abbreviations, place, found)
+    }
+}

@@ -1,0 +1,76 @@
+//! The units that are read, and the entries at their places.
+
+ghost use Rattle.std.specs.Prelude.{◌≡◌, ◌≤◌, IfSome, length};
+ghost use Rattle.std.specs.Option.{option_map};
+ghost use Rattle.dwarf_encoding.specs.TextViews.{text_sections_view};
+ghost use Rattle.dwarf_encoding.specs.Views.{value_view};
+ghost use Rattle.dwarf_source_frames.specs.DebugUnits.{unit_of_bytes, offset_or, texts_of};
+ghost use Rattle.dwarf_source_frames.specs.SectionsViews.{sections_view};
+ghost use Rattle.dwarf_source_frames.specs.UnitViews.{unit_view};
+
+use crate::debug_sections::DebugSections;
+use dwarf_encoding::{TextSections, Value};
+use dwarf_entries::{Abbreviations, Attribute, Entry, UnitHeader, entry_of};
+
+/// A unit whose header and first entry can be read.
+#[derive(Clone, Copy)]
+pub struct DebugUnit<'a> {
+    /// Its offset in `__debug_info`.
+    pub offset: u64,
+    /// Its bytes, with its `unit_length`.
+    pub bytes: &'a [u8],
+    pub header: UnitHeader,
+    /// Its first entry, which has the attributes of the whole unit.
+    pub first: Entry<'a>,
+}
+
+/// An entry and its unit.
+#[derive(Clone, Copy)]
+pub struct UnitEntry<'a> {
+    pub unit: DebugUnit<'a>,
+    pub entry: Entry<'a>,
+}
+
+/// The offset that an attribute names, or another one.
+pub(crate) fn offset_or(value: Option<Value<'_>>, default: u64) -> u64
+    ensures { result ≡ offset_or (option_map value_view value.entry) default }
+{
+    match value {
+        Some(Value::SectionOffset(offset)) => offset,
+        _ => default,
+    }
+}
+
+impl<'a> DebugUnit<'a> {
+    /// The unit of some bytes at an offset; `None` if its header or its first entry cannot be read.
+    #[tactic(auto, unfolding(crate::specs::DebugUnits::unit_of_bytes))]
+    pub fn read(
+        abbreviations: &Abbreviations<'a>,
+        offset: u64,
+        bytes: &'a [u8],
+    ) -> Option<DebugUnit<'a>>
+        ensures value { option_map unit_view result ≡ unit_of_bytes abbreviations.now offset bytes.now }
+        ensures within { IfSome result (λ u. u.header.entries_offset ≤ length u.bytes.now) }
+    {
+        let header = UnitHeader::of(bytes)?;
+        let first = entry_of(abbreviations, &header, bytes, header.entries_offset as u64)?;
+        Some(DebugUnit {
+            offset,
+            bytes,
+            header,
+            first,
+        })
+    }
+
+    /// The sections of texts, for this unit.
+    pub fn texts(&self, sections: &DebugSections<'a>) -> TextSections<'a>
+        ensures { text_sections_view result ≡ texts_of (sections_view sections.now) (unit_view self.now) }
+    {
+        TextSections {
+            debug_str: sections.debug_str,
+            debug_line_str: sections.debug_line_str,
+            debug_str_offs: sections.debug_str_offs,
+            str_offsets_base: offset_or(self.first.attributes.get(Attribute::StrOffsetsBase), 8),
+        }
+    }
+}

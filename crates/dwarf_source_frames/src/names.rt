@@ -1,0 +1,109 @@
+//! The name of the function of an entry.
+
+ghost use Rattle.std.specs.Prelude.{◌≡◌};
+ghost use Rattle.std.specs.Option.{option_map};
+ghost use Rattle.dwarf_encoding.specs.Views.{value_view};
+ghost use Rattle.dwarf_source_frames.specs.Names.{some_text, text_in, linkage_name, origin_place, IsOrigin, IsNameWithin};
+ghost use Rattle.dwarf_source_frames.specs.Names.{IsName};
+ghost use Rattle.dwarf_source_frames.specs.SectionsViews.{sections_view};
+ghost use Rattle.dwarf_source_frames.specs.UnitViews.{unit_entry_view};
+
+use crate::debug_info::DebugInfo;
+use crate::debug_sections::DebugSections;
+use crate::debug_unit::UnitEntry;
+use dwarf_encoding::Value;
+use dwarf_entries::Attribute;
+
+/// How many entries are looked at for a name.
+const NAME_STEPS_MAX: u8 = 16;
+
+/// A text that is not empty.
+fn some_text(text: &[u8]) -> Option<&[u8]>
+    ensures { option_map (λ t. t.now) result ≡ some_text text.now }
+{
+    if text.is_empty() { None } else { Some(text) }
+}
+
+/// The text of an attribute of an entry; `None` if it is empty.
+#[tactic(auto, unfolding(crate::specs::Names::text_in))]
+fn text_in<'a>(
+    sections: &DebugSections<'a>,
+    of: &UnitEntry<'a>,
+    value: Option<Value<'a>>,
+) -> Option<&'a [u8]>
+    ensures { option_map (λ t. t.now) result
+        ≡ text_in (sections_view sections.now) (unit_entry_view of.now) (option_map value_view value.entry) }
+{
+    let value = value?;
+    let text = of.unit.texts(sections).text_of(&value)?;
+    some_text(text)
+}
+
+/// DW_AT_linkage_name, and else DW_AT_MIPS_linkage_name.
+#[tactic(auto, unfolding(crate::specs::Names::linkage_name))]
+fn linkage_name<'a>(sections: &DebugSections<'a>, of: &UnitEntry<'a>) -> Option<&'a [u8]>
+    ensures { option_map (λ t. t.now) result ≡ linkage_name (sections_view sections.now) (unit_entry_view of.now) }
+{
+    let attributes = &of.entry.attributes;
+    match text_in(sections, of, attributes.get(Attribute::LinkageName)) {
+        Some(name) => Some(name),
+        None => text_in(sections, of, attributes.get(Attribute::MipsLinkageName)),
+    }
+}
+
+/// The place that DW_AT_abstract_origin names, and else DW_AT_specification.
+#[tactic(auto, unfolding(crate::specs::Names::origin_place))]
+fn origin_place(of: &UnitEntry<'_>) -> Option<u64>
+    ensures { result ≡ origin_place (unit_entry_view of.now) }
+{
+    let attributes = &of.entry.attributes;
+    let value = attributes
+        .get(Attribute::AbstractOrigin)
+        .or(attributes.get(Attribute::Specification))?;
+    of.unit.place_of(&value)
+}
+
+impl<'a> DebugInfo<'a> {
+    /// The entry that an entry leads to.
+    fn origin(&self, of: &UnitEntry<'a>) -> Option<UnitEntry<'a>>
+        ensures { IsOrigin (sections_view self.now.sections) (unit_entry_view of.now)
+            (option_map unit_entry_view result) }
+    {
+        match origin_place(of) {
+            Some(place) => self.entry_at(place),
+            None => None,
+        }
+    }
+
+    /// The name of an entry and of at most so many that it leads to, if a name is known before.
+    fn name_within(
+        &self,
+        count: u8,
+        of: &UnitEntry<'a>,
+        before: Option<&'a [u8]>,
+    ) -> Option<&'a [u8]>
+        ensures { IsNameWithin count (sections_view self.now.sections) (unit_entry_view of.now)
+            (option_map (λ t. t.now) before.entry) (option_map (λ t. t.now) result) }
+    {
+        if count == 0 {
+            return before;
+        }
+        if let Some(linkage) = linkage_name(&self.sections, of) {
+            return Some(linkage);
+        }
+        let own = text_in(&self.sections, of, of.entry.attributes.get(Attribute::Name));
+        let name = before.or(own);
+        match self.origin(of) {
+            Some(origin) => self.name_within(count - 1, &origin, name),
+            None => name,
+        }
+    }
+
+    /// The name of an entry's function: the first linkage name on its way by DW_AT_abstract_origin and
+    /// DW_AT_specification, and else the first DW_AT_name, of 16 entries at most.
+    pub fn name_of(&self, of: &UnitEntry<'a>) -> Option<&'a [u8]>
+        ensures { IsName (sections_view self.now.sections) (unit_entry_view of.now) (option_map (λ t. t.now) result) }
+    {
+        self.name_within(NAME_STEPS_MAX, of, None)
+    }
+}

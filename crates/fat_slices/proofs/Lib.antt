@@ -1,0 +1,2 @@
+pub mod FatFaults
+pub mod SlicePlaces

@@ -1,0 +1,13 @@
+-- The slices of a universal file (mach-o/fat.h).
+use Rattle.std.specs.Prelude.{ℕ, List, map, take, drop}
+use Rattle.std.specs.List.{range_with_len}
+use Rattle.fat_slices.specs.Layout.{nfat_arch, arch_at}
+use Rattle.fat_slices.specs.declared.fat_arch.FatArch.{FatArch}
+
+-- the part of a file that an entry names: its `size` bytes from `offset` on
+abbrev pub slice_part : List ℕ → FatArch → List ℕ
+slice_part file arch = take arch.size (drop arch.offset file)
+
+-- the part that each entry names, in the order of the table; laws.slice_places says which one stands where
+unfoldable pub slices : List ℕ → List (List ℕ)
+slices file = map (λ i. slice_part file (arch_at file i)) (range_with_len 0 (nfat_arch file))

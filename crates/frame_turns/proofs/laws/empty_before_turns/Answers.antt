@@ -1,6 +1,0 @@
-use Rattle.source_frames.specs.DebugSections.{debug_sections}
-use Rattle.frame_turns.proofs.StayLemmas.{empty_before}
-use Rattle.frame_turns.proofs.laws.empty_before_turns.Goals as goal
-
-pub returns : goal.returns
-returns c = λ image a fits none. empty_before (debug_sections image) a fits none

@@ -1,6 +1,0 @@
-use Rattle.source_frames.specs.DebugSections.{debug_sections}
-use Rattle.frame_turns.proofs.StayLemmas.{no_frames_before}
-use Rattle.frame_turns.proofs.laws.no_frames_before_turns.Goals as goal
-
-pub returns : goal.returns
-returns c = λ image a frames fits none are. no_frames_before (debug_sections image) a frames fits none are

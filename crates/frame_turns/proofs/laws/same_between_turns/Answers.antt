@@ -1,6 +1,0 @@
-use Rattle.source_frames.specs.DebugSections.{debug_sections}
-use Rattle.frame_turns.proofs.StayLemmas.{frames_stay}
-use Rattle.frame_turns.proofs.laws.same_between_turns.Goals as goal
-
-pub returns : goal.returns
-returns c = λ image a b frames less fits none are. frames_stay (debug_sections image) a b fits none frames less are

@@ -1,0 +1,22 @@
+//! Why no index is made.
+
+use byte_device::WriteFault;
+use index_format::IndexingFault;
+
+/// Why no index is made of an archive.
+#[derive(Clone, Copy, Debug, PartialEq, Eq)]
+pub enum MakingFault {
+    /// The archive is refused, or it has no index.
+    Archive(IndexingFault),
+    /// The writer failed, after it had taken so many first bytes of the index.
+    Write(WriteFault),
+}
+
+/// Why the table of a record is not written.
+#[derive(Clone, Copy, Debug, PartialEq, Eq)]
+pub(crate) enum TableFault {
+    /// A growth of the memory was refused, and nothing was written.
+    OutOfMemory,
+    /// The writer failed.
+    Write(WriteFault),
+}

@@ -1,0 +1,72 @@
+//! The index of an archive, made as it comes.
+
+ghost use Rattle.std.specs.Prelude.{◌≡◌, ◌<◌, ◌^◌, IfErr, IfOk, OnOk};
+ghost use Rattle.std.specs.Io.KnownBytes.{IsAtEnd};
+ghost use Rattle.byte_device.specs.Devices.{stream};
+ghost use Rattle.archive_records.specs.Reader.{Position};
+ghost use Rattle.index_build.specs.InnerMaking.{BlamesMaking, HasPutAll, HasStoppedMaking, TellsVersionMaking};
+ghost use Rattle.index_build.specs.Making.{Makes};
+
+use crate::entries::{put_entries, sorted};
+use crate::fault::MakingFault;
+use crate::records::put_tables;
+use archive_records::Sizes;
+use byte_device::{Sink, Source, put};
+use index_format::{IndexEntry, IndexingFault, begin_archive, magic};
+use memory::Heap;
+use table_source_frames::laws::one_slice_table;
+
+/// Reads an archive of version 2 to its end, and writes the magic of its index and the tables of its records. It gives
+/// their entries, and how many bytes the index has then.
+fn put_front<R: Source, W: Sink>(
+    heap: Heap,
+    r: &mut R,
+    w: &mut W,
+) -> Result<(Vec<IndexEntry, Heap>, u128), MakingFault>
+    ensures all { IfOk result (λ put. (position : Position) × HasPutAll (R.left r.old) (R.left r.new) W.held W.failures
+        w.old w.new put.0.items position put.1) }
+    ensures at_end { OnOk result (IsAtEnd (R.left r.new)) }
+    ensures unfailed { OnOk result (R.failures r.new ≡ R.failures r.old) }
+    ensures stopped { IfErr result (HasStoppedMaking (R.left r.old) (R.left r.new) W.held W.failures w.old w.new) }
+    ensures version { IfErr result (TellsVersionMaking (R.left r.old)) }
+    ensures blames { IfErr result (BlamesMaking R.left R.failures r.old r.new) }
+    ensures short { IfOk result (λ put. put.1 < 2 ^ 80) }
+{
+    let mut reader = match begin_archive(heap.share(), r) {
+        Ok(reader) => reader,
+        Err(fault) => return Err(MakingFault::Archive(fault)),
+    };
+    let done = match put(w, 0, &magic()) {
+        Ok(done) => done,
+        Err(fault) => return Err(MakingFault::Write(fault)),
+    };
+    let put = put_tables(heap, &mut reader, r, w, done)?;
+    match reader.finish(r) {
+        Ok(()) => Ok(put),
+        Err(fault) => Err(MakingFault::Archive(IndexingFault::Archive(fault))),
+    }
+}
+
+/// Makes the index of an archive of version 2 as it comes: each table is written once its record was read and tested,
+/// and the entries last. It takes the memory of a record, of its table and of what makes the lines of that
+/// (`table_source_frames_build::line_table`), of 57 bytes for each retirement, and of the entries.
+///
+/// # Errors
+///
+/// Those of `archive_read::read_archive`, in the same order and with the same offsets; of an archive of version 1
+/// `OldArchive`, where no more than its magic was taken; `TooLong` where a record of the archive, or a table of the
+/// index, would stand after more than 2^64 - 1 bytes. `Write` where the writer failed before the archive was refused.
+pub fn index_into<R: Source, W: Sink>(
+    heap: Heap,
+    r: &mut R,
+    w: &mut W,
+) -> Result<Sizes, MakingFault>
+    ensures { Makes (stream R.left R.failures r.old r.new) (stream W.held W.failures w.old w.new) result }
+{
+    one_slice_table();
+    let (entries, done) = put_front(heap, r, w)?;
+    match put_entries(&sorted(entries), w, done) {
+        Ok(sizes) => Ok(sizes),
+        Err(fault) => Err(MakingFault::Write(fault)),
+    }
+}

@@ -1,0 +1,40 @@
+//! The end of the command: OUT, which is published, and then the report.
+ghost use Rattle.std.specs.Prelude.{◌≡◌, ℕ, List, IfOk, length, string_bytes};
+ghost use Rattle.command_common.specs.Outputs.{Publishes, Takes, out_of, outs, writer};
+ghost use Rattle.index_build.specs.Index.{index_line};
+
+use archive_records::Sizes;
+use byte_device::{Output, Sink, Target};
+use command_common::{CommandFault, Status, publish_output, publish_report};
+use memory::{Heap, NoMemory};
+
+/// The line of `index`: how many entries were written, and how many bytes.
+fn index_line(heap: Heap, sizes: Sizes) -> Result<String<Heap>, NoMemory>
+    ensures { IfOk result (λ text. string_bytes text ≡ index_line sizes) }
+{
+    let mut text = String::new(heap);
+    let entries = sizes.records;
+    let bytes = sizes.bytes;
+    writeln!(text, "index: {entries} entries, {bytes} bytes")?;
+    Ok(text)
+}
+
+/// Publishes OUT, whose draft has taken a whole index with these sizes, and then writes them to the report, which
+/// is made whole before that. What is said is of all that the draft took since it was `start`.
+pub fn publish_index<T: Target, P: Sink>(
+    heap: Heap,
+    sizes: Sizes,
+    out: &mut Output<T::Draft, T>,
+    report: &mut P,
+) -> Result<Status, CommandFault>
+    ensures { (start : T.Draft) (text : List ℕ)
+        → Takes (writer T.Draft.held T.Draft.failures start out.old.draft) text
+        → sizes.bytes ≡ length text
+        → Publishes (out_of (outs T.Draft.held T.Draft.failures T.published T.failures
+        (record { draft = start; target = out.old.target }) out.new))
+        (writer P.held P.failures report.old report.new) text (index_line sizes) result }
+{
+    let text = index_line(heap, sizes)?;
+    publish_output(out, sizes.bytes)?;
+    publish_report(Status::Done, &text, report)
+}

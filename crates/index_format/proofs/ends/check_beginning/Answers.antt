@@ -1,0 +1,19 @@
+use Rattle.std.proofs.Common.{◌≤◌, ◌∙◌, refl, sym, arith}
+use Rattle.index_format.proofs.EndLemmas.{asked, front_passes, magic_fails, room_fails}
+use Rattle.index_format.proofs.ends.check_beginning.Goals as goal
+
+pub returns-then-not-begins-clause-checked : goal.returns-then-not-begins-clause-checked
+returns-then-not-begins-clause-checked c = λ text size beginning. record {
+  fails = magic_fails text (sym (asked text c.args.beginning.now c.args.size size beginning c.requires) ∙ sym c.if-not-begins.ensures);
+  offset_is = refl;
+}
+
+pub returns-then-not-has_room-clause-checked : goal.returns-then-not-has_room-clause-checked
+returns-then-not-has_room-clause-checked c = λ text size beginning. let short : 49 ≤ c.args.size → ⊥ = λ room. cc (c.if-not-has_room.ensures.1 room) in record {
+  fails = room_fails text (sym (asked text c.args.beginning.now c.args.size size beginning c.requires) ∙ sym c.if-not-begins.ensures) (omega (arith, size, short));
+  offset_is = omega (arith, size, c.saturating_sub.ensures);
+}
+
+pub returns-clause-checked : goal.returns-clause-checked
+returns-clause-checked c = λ text size beginning.
+    front_passes text (sym (asked text c.args.beginning.now c.args.size size beginning c.requires) ∙ sym c.if-not-begins.ensures) (omega (arith, size))

@@ -1,0 +1,12 @@
+use Rattle.std.proofs.Common.{◌≡◌, length}
+use Rattle.std.specs.Vec.Iter.{into_iter_items, into_iter_len}
+use Rattle.archive_core.proofs.Taken.{IsUnderWay}
+use Rattle.index_format.proofs.parts.take_in_turn.Given as goal
+
+abbrev pub invariant-operations : goal.invariant-operations
+invariant-operations g l = record {
+  can : (goal.iterator-operations g).can_next l.operation-iterator;
+  finite : (goal.iterator-operations g).is_finite l.operation-iterator;
+  way : IsUnderWay (g.A.Join.content l.initial.part) (g.A.Join.content l.part) (into_iter_items l.initial.operation-iterator) (into_iter_items l.operation-iterator);
+  long : into_iter_len l.operation-iterator ≡ length (into_iter_items l.operation-iterator);
+}

@@ -1,0 +1,97 @@
+-- The one fault of a text that is no index.
+use Rattle.std.specs.Prelude.{◌≡◌, ◌≢◌, ℕ, ◌+◌, ◌-◌, ◌*◌, ◌≤◌, ◌⊎◌, ◌==◌, not, List, [], ◌++◌, length, take}
+use Rattle.std.specs.Prelude.{slice_index, if◌then◌else◌, min, nat_lt, Result, Ok, Err}
+use Rattle.std.specs.List.{concat}
+use Rattle.std.specs.Str.{bytes_eq}
+use Rattle.sha2.specs.Sha256.{sha256}
+use Rattle.archive_records.specs.Text.{last_of}
+use Rattle.index_format.specs.Text.{index_magic}
+use Rattle.index_format.specs.Text.{AreLaid, PassChecks, count_in, digest_in, entries_in, start_in, check_entry}
+use Rattle.index_format.specs.declared.index_fault.IndexFault.{IndexFault}
+use Rattle.index_format.specs.declared.index_fault.IndexFaultKind.{IndexFaultKind}
+use Rattle.index_format.specs.declared.index_fault.IndexFaultKind.TheVariants.{BadMagic, Truncated, BadCount, BadDigest}
+use Rattle.index_format.specs.declared.index_fault.IndexFaultKind.TheVariants.{BadPlace, Device, OutOfMemory}
+
+-- What the beginning of a text must be: the magic, and 41 bytes more for an end record.
+unfoldable pub check_beginning : List ℕ → Result (Unit {0}) IndexFaultKind
+check_beginning text = if not (bytes_eq (take 8 text) (take (min (length text) 8) index_magic)) then Err BadMagic
+    else if nat_lt (length text) 49 then Err Truncated
+    else Ok tt
+
+-- What its last 41 bytes must be: an end record, of no more entries than there is room for.
+unfoldable pub check_end : List ℕ → Result (Unit {0}) IndexFaultKind
+check_end text = if not (slice_index text (length text - 41) == 3) then Err Truncated
+    else if nat_lt (length text) (49 + 122 * count_in text) then Err BadCount
+    else Ok tt
+
+-- where a fault of the beginning is
+abbrev pub beginning_offset : List ℕ → IndexFaultKind → ℕ
+beginning_offset text BadMagic = 0
+beginning_offset text _ = length text - 41
+
+-- the beginning fails its first check
+pub record FailsInBeginning (text : List ℕ) (fault : IndexFault) : Type 0 where
+  pub fails : check_beginning text ≡ Err fault.kind
+  pub offset_is : fault.offset ≡ beginning_offset text fault.kind
+
+-- the beginning stands, and the end record fails its first check
+pub record FailsAtEnd (text : List ℕ) (fault : IndexFault) : Type 0 where
+  pub beginning : check_beginning text ≡ Ok tt
+  pub fails : check_end text ≡ Err fault.kind
+  pub offset_is : fault.offset ≡ length text - 41
+
+-- a text with the magic and an end record
+pub record HasEnds (text : List ℕ) : Type 0 where
+  pub beginning : check_beginning text ≡ Ok tt
+  pub end : check_end text ≡ Ok tt
+
+-- the entries have another SHA-256 than the end record says
+pub record FailsDigest (text : List ℕ) (fault : IndexFault) : Type 0 where
+  pub ends : HasEnds text
+  pub kind_is : fault.kind ≡ BadDigest
+  pub offset_is : fault.offset ≡ start_in text
+  pub other : sha256 (entries_in text) ≢ digest_in text
+
+-- of these bytes, which begin where the tables end, the entry after these fails its first check
+pub record FailsAfter (end : ℕ) (bytes : List ℕ) (before : List (List ℕ)) (fault : IndexFault) : Type 0 where
+  pub pass : PassChecks end [] before
+  pub rest : List ℕ
+  pub whole : bytes ≡ concat before ++ rest
+  pub long : 122 ≤ length rest
+  pub fails : check_entry end (last_of [] before) (take 122 rest) ≡ Err fault.kind
+  pub offset_is : fault.offset ≡ end + length (concat before)
+
+-- the bytes of the entries have the SHA-256 that the end record says
+pub record HasDigest (text : List ℕ) : Type 0 where
+  pub ends : HasEnds text
+  pub same : sha256 (entries_in text) ≡ digest_in text
+
+-- an entry fails its first check, and those before it pass theirs
+pub record FailsInEntries (text : List ℕ) (fault : IndexFault) : Type 0 where
+  pub digest : HasDigest text
+  pub before : List (List ℕ)
+  pub after : FailsAfter (start_in text) (entries_in text) before fault
+
+-- the entries pass their checks, but their records or tables do not follow one another
+pub record FailsInPlaces (text : List ℕ) (fault : IndexFault) : Type 0 where
+  pub digest : HasDigest text
+  pub entries : List (List ℕ)
+  pub whole : entries_in text ≡ concat entries
+  pub pass : PassChecks (start_in text) [] entries
+  pub unlaid : AreLaid (start_in text) entries → ⊥
+  pub kind_is : fault.kind ≡ BadPlace
+  pub offset_is : fault.offset ≡ start_in text
+
+-- the fault of a text that is no index
+abbrev pub IsIndexFault : List ℕ → IndexFault → Type 0
+IsIndexFault text fault =
+    FailsInBeginning text fault ⊎ FailsAtEnd text fault ⊎ FailsDigest text fault ⊎ FailsInEntries text fault
+    ⊎ FailsInPlaces text fault
+
+-- no text is at fault
+abbrev pub IsOfMachine : IndexFaultKind → Type 0
+IsOfMachine kind = (kind ≡ Device) ⊎ (kind ≡ OutOfMemory)
+
+-- where a part begins that is read: the magic, the end record, or the entries
+abbrev pub IsPartOffset : List ℕ → ℕ → Type 0
+IsPartOffset text offset = (offset ≡ 0) ⊎ (offset ≡ length text - 41) ⊎ (offset ≡ start_in text)

@@ -1,0 +1,13 @@
+pub mod Entry
+pub mod Index
+pub mod Text
+pub mod Fault
+pub mod Making
+pub mod Reading
+pub mod Places
+pub mod InnerMaking
+pub mod InnerReading
+pub mod Runs
+pub mod IndexFaultText
+pub mod Gathering
+pub mod InnerGathering

@@ -1,0 +1,77 @@
+-- What is read at the places that an index names.
+use Rattle.std.specs.Prelude.{◌≡◌, ℕ, ◌+◌, ◌^◌, ◌<◌, Bool, List, [], true, length, take, drop, filter}
+use Rattle.std.specs.Prelude.{slice_index_or, Contains, Option, Some, None}
+use Rattle.std.specs.List.{AllZip}
+use Rattle.std.specs.FinSet as set
+use Rattle.sha2.specs.Sha256.{sha256}
+use Rattle.join_core.specs.Listing.{listing}
+use Rattle.archive_core.specs.Record.{IsRecord, admission_record}
+use Rattle.archive_core.specs.Content.{Operations, is_admission, content_of}
+use Rattle.archive_core.specs.Part.{is_under}
+use Rattle.archive_core.specs.Summary.{Entries}
+use Rattle.byte_device.specs.Devices.{FailedIn}
+use Rattle.index_format.specs.Entry.{offset_in, placed_entry}
+use Rattle.index_format.specs.Index.{lengths_of}
+use Rattle.index_format.specs.declared.fault.PlaceFault.{PlaceFault}
+use Rattle.index_format.specs.declared.fault.PlaceFault.TheVariants.{Stale, Device, OutOfMemory}
+
+-- The entry is that of this record, and an admission stands at its place in the text. A retirement is in the entry
+-- whole.
+pub record IsNamedBy (text entry record_is : List ℕ) : Type 0 where
+  pub is : IsRecord record_is
+  pub offset : ℕ
+  pub fits : offset < 2 ^ 64
+  pub entry_is : entry ≡ placed_entry offset record_is
+  pub stands : is_admission record_is ≡ true → take (length record_is) (drop offset text) ≡ record_is
+
+-- the entries under a front, a UUID or a key, in their order
+abbrev pub entries_under : List ℕ → Entries → List (List ℕ)
+entries_under front entries = filter (is_under front) (listing entries)
+
+-- Each entry under the front names one of these records, in their order, and they make this content.
+pub record AreNamed (front : List ℕ) (entries : Entries) (text : List ℕ) (p : Operations) : Type 0 where
+  pub records : List (List ℕ)
+  pub named : AllZip (IsNamedBy text) (entries_under front entries) records
+  pub made : p ≡ content_of (set.from_list records)
+
+-- the text has the length that the entries tell: the magic, their records and the end record
+abbrev pub HasIndexedLength : Entries → List ℕ → Type 0
+HasIndexedLength entries text = length text ≡ 17 + lengths_of entries
+
+-- no slice of the content has the SHA-256 of a different slice among the records
+abbrev pub TellsFound : Operations → List (List ℕ) → Type 0
+TellsFound o records = (a b : List ℕ) → set.contains o (admission_record a) ≡ true
+    → Contains records (admission_record b) → sha256 a ≡ sha256 b → a ≡ b
+
+-- each entry under the front before this one names a record of the text
+abbrev pub AreNamedBefore : List ℕ → List (List ℕ) → List ℕ → ℕ → Type 0
+AreNamedBefore front entries text k =
+    (j : ℕ) → j < k → is_under front (slice_index_or entries j []) ≡ true
+    → (r : List ℕ) × IsNamedBy text (slice_index_or entries j []) r
+
+-- Why a part is not read by its places: the text has another length than the index tells, or at the place of this entry
+-- under the front, from 0 on among all, stands no record that it names, and it is the first such entry.
+abbrev pub IsStale : List ℕ → Entries → List ℕ → Option ℕ → Type 0
+IsStale front entries text None = HasIndexedLength entries text → ⊥
+IsStale front entries text (Some k) =
+    (k < set.len entries) × (is_under front (slice_index_or (listing entries) k []) ≡ true)
+    × ((r : List ℕ) → IsNamedBy text (slice_index_or (listing entries) k []) r → ⊥)
+    × AreNamedBefore front (listing entries) text k
+
+-- one of these entries that pass is that of an admission, whose record begins at this offset
+pub record IsReadAmong (passes : List ℕ → Bool) (es : List (List ℕ)) (offset : ℕ) : Type 0 where
+  pub number : ℕ
+  pub within : number < length es
+  pub passing : passes (slice_index_or es number []) ≡ true
+  pub admits : is_admission (slice_index_or es number []) ≡ true
+  pub offset_is : offset ≡ offset_in (slice_index_or es number [])
+
+-- the record of an admission whose entry is under the front begins at this offset
+abbrev pub IsReadUnder : List ℕ → Entries → ℕ → Type 0
+IsReadUnder front entries offset = IsReadAmong (is_under front) (listing entries) offset
+
+-- what a fault says of the device: it failed where something is read at such an offset, or it did not
+abbrev pub BlamesPlaced : {P : Type 0} → (ℕ → Type 0) → (P → ℕ) → P → P → PlaceFault → Type 0
+BlamesPlaced IsRead failures old new (Stale entry) = failures new ≡ failures old
+BlamesPlaced IsRead failures old new (Device offset) = FailedIn (failures old) (failures new) × IsRead offset
+BlamesPlaced IsRead failures old new OutOfMemory = failures new ≡ failures old

@@ -1,0 +1,203 @@
+//! What stands at the two ends of an index.
+
+ghost use Rattle.std.specs.Prelude.{◌≡◌, ◌≢◌, ◌↔◌, ◌+◌, ◌-◌, ◌*◌, ◌<◌, ◌≤◌, ◌^◌, ℕ, List, Ok};
+ghost use Rattle.std.specs.Prelude.{IfOk, IfErr, OnOk, MatchResult, IsTrue, length, slice_index, take, drop, min};
+ghost use Rattle.std.specs.Str.{bytes_eq};
+ghost use Rattle.index_format.specs.Text.{index_magic};
+ghost use Rattle.index_format.specs.Fault.{FailsInBeginning, FailsAtEnd, check_beginning};
+ghost use Rattle.index_format.specs.InnerReading.{AreEndsOf, FailsInEnds, HasBeginning, IsUnread};
+ghost use Rattle.index_format.specs.Reading.{IsRefused, ReadsText};
+ghost use Rattle.index_format.specs.declared.index_fault.IndexFaultKind.TheVariants.{Device};
+
+use crate::entry::ENTRY_LEN;
+use crate::{IndexFault, IndexFaultKind};
+use archive_records::number_at;
+use byte_device::{Failed, Placed, ReadFault, read_at};
+use memory::Heap;
+
+/// How many bytes the magic has.
+pub(crate) const MAGIC_LEN: u64 = archive_records::MAGIC_LEN as u64;
+
+/// How many bytes the end record has.
+const END_LEN: u64 = 41;
+
+/// The tag of the end record.
+const END: u8 = 3;
+
+/// What the end record says of the entries.
+#[derive(Clone, Copy)]
+pub(crate) struct Ends {
+    /// Where the entries begin.
+    pub start: u64,
+    /// How many there are.
+    pub count: u64,
+    /// The SHA-256 of their bytes.
+    pub digest: [u8; 32],
+}
+
+/// What an index begins with.
+pub fn magic() -> [u8; 8]
+    ensures { result ≡ index_magic }
+{
+    *b"MSYMIDX1"
+}
+
+/// How many bytes there are.
+fn read_size<P: Placed>(device: &mut P) -> Result<u64, IndexFault>
+    ensures { ReadsText P.whole P.failures device.old device.new result
+        (λ text size. size ≡ length text) (λ text fault. ⊥) }
+{
+    match device.size() {
+        Ok(size) => Ok(size),
+        Err(Failed) => Err(IndexFault {
+            kind: IndexFaultKind::Device,
+            offset: 0,
+        }),
+    }
+}
+
+/// So many bytes from an offset on.
+pub(crate) fn read_part<P: Placed>(
+    heap: Heap,
+    device: &mut P,
+    offset: u64,
+    count: u64,
+) -> Result<Vec<u8, Heap>, IndexFault>
+    requires { offset + count < 2 ^ 64 }
+    ensures long { IfOk result (λ bytes. length bytes.items ≡ count) }
+    ensures read { ReadsText P.whole P.failures device.old device.new result
+        (λ text bytes. bytes.items ≡ take count (drop offset text)) (IsUnread offset count) }
+{
+    match read_at(heap, device, offset, count) {
+        Ok(Some(bytes)) => Ok(bytes),
+        Ok(None) => Err(IndexFault {
+            kind: IndexFaultKind::Truncated,
+            offset,
+        }),
+        Err(ReadFault::Device) => Err(IndexFault {
+            kind: IndexFaultKind::Device,
+            offset,
+        }),
+        Err(ReadFault::OutOfMemory) => Err(IndexFault::out_of_memory(offset)),
+    }
+}
+
+/// Whether these bytes begin the magic.
+fn begins(beginning: &[u8]) -> bool
+    requires { length beginning.now ≤ 8 }
+    ensures { result ≡ bytes_eq beginning.now (take (length beginning.now) index_magic) }
+{
+    beginning == &magic()[..beginning.len()]
+}
+
+/// Whether so many bytes have room for the magic, an end record and so many entries.
+fn has_room(size: u64, count: u64) -> bool
+    ensures { IsTrue result ↔ (49 + 122 * count ≤ size) }
+{
+    let entries = ENTRY_LEN as u128 * u128::from(count);
+    u128::from(MAGIC_LEN + END_LEN) + entries <= u128::from(size)
+}
+
+/// Checks the beginning of a text of this size, whose first bytes these are.
+fn check_beginning(size: u64, beginning: &[u8]) -> Result<(), IndexFault>
+    requires { length beginning.now ≡ min size 8 }
+    ensures checked { (text : List ℕ) → size ≡ length text → beginning.now ≡ take 8 text
+        → MatchResult result (λ _. check_beginning text ≡ Ok tt) (FailsInBeginning text) }
+    ensures room { OnOk result (49 ≤ size) }
+    ensures faulty { IfErr result (λ fault. fault.kind ≢ Device) }
+{
+    if !begins(beginning) {
+        return Err(IndexFault {
+            kind: IndexFaultKind::BadMagic,
+            offset: 0,
+        });
+    }
+    if !has_room(size, 0) {
+        return Err(IndexFault {
+            kind: IndexFaultKind::Truncated,
+            offset: size.saturating_sub(END_LEN),
+        });
+    }
+    Ok(())
+}
+
+/// Reads the magic, and says how many bytes there are: room for an end record at least.
+fn read_beginning<P: Placed>(heap: Heap, device: &mut P) -> Result<u64, IndexFault>
+    ensures room { IfOk result (λ size. 49 ≤ size) }
+    ensures read { ReadsText P.whole P.failures device.old device.new result
+        HasBeginning FailsInBeginning }
+{
+    let size = read_size(device)?;
+    let beginning = read_part(heap, device, 0, size.min(MAGIC_LEN))?;
+    check_beginning(size, &beginning)?;
+    Ok(size)
+}
+
+/// Whether an end record begins here.
+fn is_end(bytes: &[u8]) -> bool
+    requires { 0 < length bytes.now }
+    ensures { IsTrue result ↔ (slice_index bytes.now 0 ≡ 3) }
+{
+    bytes[0] == END
+}
+
+/// The SHA-256 in an end record.
+fn digest_in(end: &[u8]) -> [u8; 32]
+    requires { length end.now ≡ 41 }
+    ensures { result ≡ drop 9 end.now }
+{
+    let mut digest = [0; 32];
+    digest.copy_from_slice(&end[9..]);
+    digest
+}
+
+/// What an end record says that these bytes are, at the end of a text of this size.
+fn ends_in(size: u64, end: &[u8]) -> Result<Ends, IndexFault>
+    requires room { 49 ≤ size }
+    requires long { length end.now ≡ 41 }
+    ensures checked { (text : List ℕ) → HasBeginning text size → end.now ≡ drop (length text - 41) text
+        → MatchResult result (AreEndsOf text) (FailsAtEnd text) }
+    ensures faulty { IfErr result (λ fault. fault.kind ≢ Device) }
+    ensures fits { IfOk result (λ ends. ends.start + 122 * ends.count + 41 ≡ size) }
+{
+    let offset = size - END_LEN;
+    if !is_end(end) {
+        return Err(IndexFault {
+            kind: IndexFaultKind::Truncated,
+            offset,
+        });
+    }
+    let count = number_at(end, 1);
+    if !has_room(size, count) {
+        return Err(IndexFault {
+            kind: IndexFaultKind::BadCount,
+            offset,
+        });
+    }
+    Ok(Ends {
+        start: offset - ENTRY_LEN as u64 * count,
+        count,
+        digest: digest_in(end),
+    })
+}
+
+/// Reads the end record of a text of this size.
+fn read_end<P: Placed>(heap: Heap, device: &mut P, size: u64) -> Result<Ends, IndexFault>
+    requires { 49 ≤ size }
+    ensures fits { IfOk result (λ ends. ends.start + 122 * ends.count + 41 ≡ size) }
+    ensures read { ReadsText P.whole P.failures device.old device.new result
+        (λ text ends. HasBeginning text size → AreEndsOf text ends)
+        (λ text fault. HasBeginning text size → IsRefused FailsAtEnd text fault) }
+{
+    let end = read_part(heap, device, size - END_LEN, END_LEN)?;
+    ends_in(size, &end)
+}
+
+/// Reads the magic and the end record.
+pub(crate) fn read_ends<P: Placed>(heap: Heap, device: &mut P) -> Result<Ends, IndexFault>
+    ensures fits { IfOk result (λ ends. ends.start + 122 * ends.count + 41 < 2 ^ 64) }
+    ensures read { ReadsText P.whole P.failures device.old device.new result AreEndsOf FailsInEnds }
+{
+    let size = read_beginning(heap.share(), device)?;
+    read_end(heap, device, size)
+}

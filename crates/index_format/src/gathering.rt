@@ -1,0 +1,120 @@
+//! The operations that the entries under a prefix name.
+
+ghost use Rattle.std.specs.Prelude.{◌≤◌, length, map};
+ghost use Rattle.archive_core.specs.Part.{is_under};
+ghost use Rattle.archive_core.specs.Record.{record_bytes};
+ghost use Rattle.byte_device.specs.Places.{HasSize};
+ghost use Rattle.index_format.specs.Entry.{IsPlacedEntry, placed_bytes};
+ghost use Rattle.index_format.specs.Index.{AreIndexed};
+ghost use Rattle.index_format.specs.Places.{IsReadAmong, IsReadUnder};
+ghost use Rattle.index_format.specs.InnerGathering.{AreGathered, IsGathered, IsReadOf, IsStaleAmong, IsUnnamed};
+ghost use Rattle.index_format.specs.Runs.{is_tagged};
+ghost use Rattle.index_format.specs.Gathering.{AreGatheredUnder, IsEntryFault, ReadsPlaces};
+ghost use Rattle.index_format.specs.Text.{placed_of};
+
+use crate::records::operation_at;
+use crate::runs::run_under;
+use crate::{Index, IndexEntry, PlaceFault};
+use archive_core::Operation;
+use archive_records::{ADMISSION, RETIREMENT};
+use byte_device::Placed;
+use memory::Heap;
+
+/// Puts the operation that the entry with this number names after those that were gathered.
+fn gather_entry<P: Placed>(
+    heap: &Heap,
+    gathered: &mut Vec<Operation, Heap>,
+    number: u64,
+    entry: &IndexEntry,
+    archive: &mut P,
+    size: u64,
+) -> Result<(), PlaceFault>
+    requires size { HasSize (P.whole archive.old) size }
+    requires entry { IsPlacedEntry (placed_bytes entry.now) }
+    ensures { ReadsPlaces P.whole P.failures archive.old archive.new result
+        (λ _. IsGathered (P.whole archive.old) (placed_bytes entry.now) (map record_bytes gathered.old.items)
+        (map record_bytes gathered.new.items)) (IsUnnamed number (placed_bytes entry.now))
+        (IsReadOf (placed_bytes entry.now)) }
+{
+    let operation = operation_at(heap, archive, size, number, entry)?;
+    let Ok(()) = gathered.push(operation) else {
+        return Err(PlaceFault::OutOfMemory);
+    };
+    Ok(())
+}
+
+/// Gathers the operations that the entries of a tag under a prefix name. None of the other entries is looked at.
+fn gather_run<P: Placed>(
+    heap: &Heap,
+    gathered: &mut Vec<Operation, Heap>,
+    tag: u8,
+    prefix: &[u8],
+    entries: &[IndexEntry],
+    archive: &mut P,
+    size: u64,
+) -> Result<(), PlaceFault>
+    requires size { HasSize (P.whole archive.old) size }
+    requires indexed { AreIndexed (map placed_bytes entries.now) }
+    requires short { length prefix.now ≤ 24 }
+    ensures { ReadsPlaces P.whole P.failures archive.old archive.new result
+        (λ _. AreGathered (P.whole archive.old) (is_tagged tag prefix.now) (map placed_bytes entries.now)
+        (length entries.now) (map record_bytes gathered.old.items) (map record_bytes gathered.new.items))
+        (IsStaleAmong (is_tagged tag prefix.now) (map placed_bytes entries.now))
+        (IsReadAmong (is_tagged tag prefix.now) (map placed_bytes entries.now)) }
+{
+    let (start, stop) = run_under(entries, tag, prefix);
+    let run = &entries[start..stop];
+    'run: for (index, entry) in run.iter().enumerate() {
+        gather_entry(heap, gathered, (start + index) as u64, entry, archive, size)?;
+    }
+    Ok(())
+}
+
+/// Gathers the operations that the entries under a prefix name, in the order of these: the retirements, then the
+/// admissions.
+fn gather_under<P: Placed>(
+    heap: &Heap,
+    gathered: &mut Vec<Operation, Heap>,
+    prefix: &[u8],
+    entries: &[IndexEntry],
+    archive: &mut P,
+    size: u64,
+) -> Result<(), PlaceFault>
+    requires size { HasSize (P.whole archive.old) size }
+    requires indexed { AreIndexed (map placed_bytes entries.now) }
+    requires short { length prefix.now ≤ 24 }
+    ensures { ReadsPlaces P.whole P.failures archive.old archive.new result
+        (λ _. AreGathered (P.whole archive.old) (is_under prefix.now) (map placed_bytes entries.now)
+        (length entries.now) (map record_bytes gathered.old.items) (map record_bytes gathered.new.items))
+        (IsStaleAmong (is_under prefix.now) (map placed_bytes entries.now))
+        (IsReadAmong (is_under prefix.now) (map placed_bytes entries.now)) }
+{
+    gather_run(heap, gathered, RETIREMENT, prefix, entries, archive, size)?;
+    gather_run(heap, gathered, ADMISSION, prefix, entries, archive, size)
+}
+
+/// Gathers the records under a UUID or a key at the places that an index names, after those that were gathered: each
+/// admission is tested as a record of an archive is, and its slice hashed and compared with its entry. The entries are
+/// found by halving, and no other is looked at. Where it fails, some of the records may have been gathered.
+///
+/// # Errors
+///
+/// `Stale` at the first entry at whose place stands no record that it names; `Device` at the record that was being
+/// read; `OutOfMemory`.
+pub fn gather_at<P: Placed>(
+    heap: &Heap,
+    gathered: &mut Vec<Operation, Heap>,
+    prefix: &[u8],
+    index: &Index,
+    archive: &mut P,
+    size: u64,
+) -> Result<(), PlaceFault>
+    requires prefix { length prefix.now ≤ 24 }
+    requires size { HasSize (P.whole archive.old) size }
+    ensures { ReadsPlaces P.whole P.failures archive.old archive.new result
+        (λ _. AreGatheredUnder (P.whole archive.old) prefix.now (placed_of index.now) (map record_bytes gathered.old.items)
+        (map record_bytes gathered.new.items)) (IsEntryFault prefix.now (placed_of index.now))
+        (IsReadUnder prefix.now (placed_of index.now)) }
+{
+    gather_under(heap, gathered, prefix, index.entries(), archive, size)
+}

@@ -1,0 +1,77 @@
+//! The entries of an index that was read.
+
+ghost use Rattle.std.specs.Prelude.{◌≡◌, ◌+◌, All, length, map};
+ghost use Rattle.std.specs.List.{sum_by};
+ghost use Rattle.join_core.specs.Listing.{listing};
+ghost use Rattle.index_format.specs.Entry.{AreOrderedEntries, HasItsFields, entry_bytes, length_in, placed_bytes};
+ghost use Rattle.index_format.specs.Index.{AreIndexEntries, AreIndexed, lengths_of};
+ghost use Rattle.index_format.specs.Text.{placed_of};
+
+use crate::IndexEntry;
+use archive_records::{END_LEN, MAGIC_LEN};
+use memory::Heap;
+use std::marker::Model;
+
+/// The entries of an index, in ascending byte order. A contract sees it as the list of their bytes.
+#[derive(Drop)]
+pub struct Index {
+    entries: Vec<IndexEntry, Heap>,
+}
+
+impl Model for Index {
+    ghost use Rattle.std.specs.Prelude.{ℕ, List, map};
+    ghost use Rattle.index_format.specs.Entry.{AreOrderedEntries, entry_bytes};
+
+    ghost Value = { List (List ℕ) };
+
+    ghost view = { λ index. map entry_bytes index.entries.items };
+
+    ghost invariant = { λ index. AreOrderedEntries index.entries.items };
+}
+
+/// How many bytes the magic, the records that entries name and the end record have together.
+fn framed_size(entries: &[IndexEntry]) -> u128
+    requires { All HasItsFields entries.now }
+    ensures { result ≡ 17 + sum_by length_in (map entry_bytes entries.now) }
+{
+    let mut size = MAGIC_LEN + END_LEN as u128;
+    'adding: for entry in entries {
+        size += u128::from(entry.length);
+    }
+    size
+}
+
+impl Index {
+    /// The index of these entries.
+    pub(crate) fn of_entries(entries: Vec<IndexEntry, Heap>) -> Index
+        requires { AreOrderedEntries entries.items }
+        ensures { result ≡ map entry_bytes entries.items }
+    {
+        Index { entries }
+    }
+
+    /// The number of entries.
+    pub fn len(&self) -> u64
+        ensures len { result ≡ length self.now }
+        ensures entries { AreIndexEntries (placed_of self.now) }
+    {
+        self.entries.len() as u64
+    }
+
+    /// The entries in their order.
+    pub fn entries(&self) -> &[IndexEntry]
+        ensures bytes { map entry_bytes result.now ≡ self.now }
+        ensures fields { All HasItsFields result.now }
+        ensures placed { map placed_bytes result.now ≡ listing (placed_of self.now) }
+        ensures indexed { AreIndexed (map placed_bytes result.now) }
+    {
+        &self.entries
+    }
+
+    /// How many bytes an archive has whose records the entries name: the magic, the records and the end record.
+    pub(crate) fn archive_size(&self) -> u128
+        ensures { result ≡ 17 + lengths_of (placed_of self.now) }
+    {
+        framed_size(&self.entries)
+    }
+}

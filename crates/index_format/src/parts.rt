@@ -1,0 +1,81 @@
+//! The records under a UUID or a key.
+
+ghost use Rattle.std.specs.Prelude.{◌≡◌, ◌<◌, length, map, IfOk, IfSome, OnOk};
+ghost use Rattle.std.specs.FinSet as set;
+ghost use Rattle.archive_core.specs.Content.{content_of, with_records};
+ghost use Rattle.archive_core.specs.Part.{is_under};
+ghost use Rattle.archive_core.specs.Record.{record_bytes};
+ghost use Rattle.byte_device.specs.Places.{HasSize};
+ghost use Rattle.index_format.specs.Entry.{placed_bytes};
+ghost use Rattle.index_format.specs.Places.{HasIndexedLength};
+ghost use Rattle.index_format.specs.Gathering.{IsLengthFault, ReadsPlaces};
+ghost use Rattle.index_format.specs.Text.{placed_of};
+
+use crate::{Index, IndexEntry, PlaceFault};
+use archive_core::{Archive, Operation};
+use byte_device::Placed;
+use memory::{Heap, NoMemory};
+
+/// Whether the key of an entry begins with these bytes.
+pub fn is_under(prefix: &[u8], entry: &IndexEntry) -> bool
+    ensures { result ≡ is_under prefix.now (placed_bytes entry.now) }
+{
+    begins(&entry.placed_bytes(), prefix)
+}
+
+/// Whether bytes after a tag begin with these.
+fn begins(bytes: &[u8], prefix: &[u8]) -> bool
+    requires { 0 < length bytes.now }
+    ensures { result ≡ is_under prefix.now bytes.now }
+{
+    bytes[1..].starts_with(prefix)
+}
+
+/// The size of an archive, where it is the length that the index tells. No byte of it is read.
+///
+/// # Errors
+///
+/// `Stale` where the archive has another length; `Device` at 0.
+pub fn indexed_size<P: Placed>(index: &Index, archive: &mut P) -> Result<u64, PlaceFault>
+    ensures { ReadsPlaces P.whole P.failures archive.old archive.new result
+        (λ size. HasSize (P.whole archive.old) size
+        × IfSome (P.whole archive.old) (HasIndexedLength (placed_of index.now)))
+        (IsLengthFault (placed_of index.now)) (λ offset. offset ≡ 0) }
+{
+    let told = index.archive_size();
+    let Ok(size) = archive.size() else {
+        return Err(PlaceFault::Device(0));
+    };
+    if u128::from(size) == told {
+        Ok(size)
+    } else {
+        Err(PlaceFault::Stale(None))
+    }
+}
+
+/// Takes operations one after another.
+fn take_in_turn<A: Archive>(part: &mut A, operations: Vec<Operation, Heap>) -> Result<(), NoMemory>
+    ensures { OnOk result
+        (A.content part.new ≡ with_records (A.content part.old) (map record_bytes operations.items)) }
+{
+    'operations: for operation in operations {
+        part.take(operation)?;
+    }
+    Ok(())
+}
+
+/// An archive of these operations, in whatever order they come. They are sorted first: so none shifts another, and each
+/// slice comes after the retirements of its key. Refused for want of memory alone.
+pub fn archive_of<A: Archive + Drop>(
+    heap: Heap,
+    operations: Vec<Operation, Heap>,
+) -> Result<A, NoMemory>
+    ensures { IfOk result (λ made.
+        A.content made ≡ content_of (set.from_list (map record_bytes operations.items))) }
+{
+    let mut sorted = operations;
+    sorted.sort_unstable_by(|a, b| a.compare(b));
+    let mut made = A::empty(heap);
+    take_in_turn(&mut made, sorted)?;
+    Ok(made)
+}

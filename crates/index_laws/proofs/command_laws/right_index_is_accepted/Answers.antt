@@ -1,5 +1,0 @@
-use Rattle.index_laws.proofs.Accepted.{by_device, together_by_device}
-use Rattle.index_laws.proofs.command_laws.right_index_is_accepted.Goals as goal
-
-pub returns : goal.returns
-returns g c = record { alone = by_device; together = together_by_device }

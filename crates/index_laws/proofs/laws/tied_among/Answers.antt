@@ -1,5 +1,0 @@
-use Rattle.index_laws.proofs.Right.{tied}
-use Rattle.index_laws.proofs.laws.tied_among.Goals as goal
-
-pub returns : goal.returns
-returns c os texts indexes key all is_key t = tied os texts indexes all key is_key t

@@ -1,0 +1,57 @@
+use Rattle.std.proofs.Common.{sym, subst, ◌∙◌}
+use Rattle.table_checked_pages.specs.Pages.{AreStored}
+use Rattle.table_checked_pages.specs.Views.{claim_view}
+use Rattle.table_checked_pages.proofs.ReadLemmas.{after_ok, passed_on}
+use Rattle.table_checked_pages.proofs.PageLemmas.{may_be}
+use Rattle.table_source_frames.specs.LineTable.{IsLineTable}
+use Rattle.table_source_frames.proofs.OpeningLemmas.{found_none, found_some}
+use Rattle.index_lookup.proofs.Columns.{zip_as}
+use Rattle.index_lookup.proofs.OpenedLines.{lines_here}
+use Rattle.index_lookup.proofs.lines.frames_by_table.Goals as goal
+
+pub returns-in_err-lines : goal.returns-in_err-lines
+returns-in_err-lines g c =
+    let claim = claim_view c.args.table.pages.claim in
+    passed_on _ _ _ _ _ _ _ _ _ _ _ c.in_err-lines.was c.from_residual.ensures.1
+    (λ text known absent opened slice all is stored.
+    let here = lines_here c.args.table c.into_lines-pages.result.0 c.into_lines-pages.result.1 claim text slice all is c.into_lines-pages.ensures.lines opened (may_be text all claim stored) in
+    absent slice all is.lines (subst (λ fields. AreStored text (claim_view fields) all) (sym c.into_lines-pages.ensures.claim) stored) here.0 here.1 is.are_lines)
+    c.open.ensures.read
+
+pub returns-in_default : goal.returns-in_default
+returns-in_default g c =
+    let claim = claim_view c.args.table.pages.claim in
+    let lines = c.in_ok-lines.ensures.read in
+    record {
+      says = λ text known opened slice all bytes is may.
+          let here = lines_here c.args.table c.into_lines-pages.result.0 c.into_lines-pages.result.1 claim text slice all is c.into_lines-pages.ensures.lines opened may in
+          subst (IsLineTable slice) (found_none slice all is.lines text c.open.new.pages _ c.in_default.is (lines.says text known slice all is.lines here.0 here.1 is.are_lines)) is.are_lines;
+      keeps = lines.keeps;
+      counts = lines.counts;
+    }
+
+pub returns-in_err-lists : goal.returns-in_err-lists
+returns-in_err-lists g c =
+    let claim = claim_view c.args.table.pages.claim in
+    let lines = c.in_ok-lines.ensures.read in
+    passed_on _ _ _ _ _ _ _ _ _ _ _ c.in_err-lists.was c.from_residual-in_err-lists.ensures.1
+    (λ text known absent opened slice all is stored.
+    let here = lines_here c.args.table c.into_lines-pages.result.0 c.into_lines-pages.result.1 claim text slice all is c.into_lines-pages.ensures.lines opened (may_be text all claim stored) in
+    let found = found_some slice all is.lines text c.open.new.pages _ c.in-Some.lines c.in-Some.is (lines.says text known slice all is.lines here.0 here.1 is.are_lines) in
+    absent slice all found.0 (subst (λ fields. AreStored text (claim_view fields) all) (sym (c.in_ok-lines.ensures.claim ∙ c.into_lines-pages.ensures.claim)) stored) found.1 found.2)
+    (after_ok _ _ _ _ _ _ _ _ lines.keeps lines.counts c.frames_of_each.ensures)
+
+pub returns : goal.returns
+returns g c =
+    let claim = claim_view c.args.table.pages.claim in
+    let lines = c.in_ok-lines.ensures.read in
+    let lists = after_ok _ _ _ _ _ _ _ _ lines.keeps lines.counts c.in_ok-lists.ensures in
+    record {
+      says = λ text known opened.
+          zip_as _ _ c.args.asked.now _ (λ place frames told slice all bytes base is may.
+          let here = lines_here c.args.table c.into_lines-pages.result.0 c.into_lines-pages.result.1 claim text slice all is c.into_lines-pages.ensures.lines opened may in
+          let found = found_some slice all is.lines text c.open.new.pages _ c.in-Some.lines c.in-Some.is (lines.says text known slice all is.lines here.0 here.1 is.are_lines) in
+          told slice all found.0 found.1 base found.2) (lists.says text known);
+      keeps = lists.keeps;
+      counts = lists.counts;
+    }

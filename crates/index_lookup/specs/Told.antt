@@ -1,0 +1,42 @@
+-- What the entries of an index say, and what the tables tell that may be stored where they say.
+use Rattle.std.specs.Prelude.{◌≡◌, ◌&&◌, ◌==◌, ℕ, Bool, List, [], slice_index, Option, MatchOption}
+use Rattle.macho_symbols.specs.Found.{FoundRecord}
+use Rattle.table_checked_pages.specs.Pages.{Claim, MayBeStored}
+use Rattle.table_symbols.specs.Steps.{AreBytes}
+use Rattle.dwarf_source_frames.specs.AddressFrames.{AreFramesOf}
+use Rattle.dwarf_source_frames.specs.Frames.{FrameRecord}
+use Rattle.table_source_frames.specs.SliceTable.{HasNoLines, IsSliceTable}
+use Rattle.archive_core.specs.Content.{is_admission}
+use Rattle.archive_core.specs.Lookup.{IsOwn, file_address}
+use Rattle.archive_core.specs.Part.{is_under}
+use Rattle.archive_core.specs.declared.lookup.Where.{Where}
+
+-- an entry is that of an admission, and its key begins with these bytes
+abbrev pub admits_under : List ℕ → List ℕ → Bool
+admits_under prefix e = is_admission e && is_under prefix e
+
+-- an entry is that of a companion
+abbrev pub is_companion : List ℕ → Bool
+is_companion e = slice_index e 57 == 1
+
+-- What a table tells of a place, over any bytes of the index: what each slice tells whose table may be stored where the
+-- claim says.
+abbrev pub IsToldBy : List ℕ → Claim → Where → Option FoundRecord → Type 0
+IsToldBy text claim asked own = (slice table : List ℕ) → AreBytes slice → IsSliceTable slice table
+    → MayBeStored text claim table → IsOwn slice asked own
+
+-- the frames of a place in a slice: those of the address that it stands for, or none where it stands for no address
+abbrev pub AreFramesOfPlace : Where → List ℕ → List FrameRecord → Type 0
+AreFramesOfPlace asked slice frames =
+    MatchOption (file_address slice asked) (frames ≡ []) (λ address. AreFramesOf slice address frames)
+
+-- The frames that a table has of a place, over any bytes of the index: those of the place in each slice whose table may
+-- be stored where the claim says.
+abbrev pub AreFramesToldBy : List ℕ → Claim → Where → List FrameRecord → Type 0
+AreFramesToldBy text claim asked frames = (slice table : List ℕ) → AreBytes slice → IsSliceTable slice table
+    → MayBeStored text claim table → AreFramesOfPlace asked slice frames
+
+-- A table has no lines, over any bytes of the index: no slice has some whose table may be stored where the claim says.
+abbrev pub HasNoLinesBy : List ℕ → Claim → Type 0
+HasNoLinesBy text claim = (slice table : List ℕ) → AreBytes slice → IsSliceTable slice table
+    → MayBeStored text claim table → HasNoLines slice

@@ -1,0 +1,126 @@
+//! The slices that entries name, and where their records stand.
+
+ghost use Rattle.std.specs.Prelude.{◌≡◌, ◌≢◌, Contains, IfOk, MatchOption, drop, map, take};
+ghost use Rattle.std.specs.List.{AllZip};
+ghost use Rattle.archive_core.specs.Key.{key_bytes};
+ghost use Rattle.index_lookup.specs.Among.{AreTied, EntryAt};
+ghost use Rattle.index_lookup.specs.InnerAnswering.{entry_at};
+ghost use Rattle.index_lookup.specs.Named.{LivesAmong, Names, NamesAmong, digest_at, state_at};
+
+use crate::answering::answering_among;
+use crate::live::live_under;
+use crate::numbered::{Numbered, is_companion};
+use archive_core::{Digest, FindRow, FindState, SliceKey, key_prefix};
+use archive_records::{ADMISSION_HEAD_LEN, digest_in, key_in};
+use index_format::Index;
+use memory::{Heap, NoMemory};
+
+/// A slice that an entry of one of several indexes names.
+#[derive(Clone, Copy)]
+pub struct NamedSlice {
+    /// The number of the index, and of its archive, from 0 on.
+    pub input: u64,
+    /// The number of the entry among those of the index, from 0 on.
+    pub number: u64,
+    /// The row that a list of the archive has for it.
+    pub row: FindRow,
+    /// How many bytes of the archive's text stand before the record.
+    pub offset: u64,
+    /// How many bytes the slice has.
+    pub size: u64,
+}
+
+/// What an entry says of its slice.
+fn row_of(numbered: &Numbered) -> FindRow
+    ensures key { key_bytes result.key ≡ take 24 (drop 1 (entry_at numbered.now).entry) }
+    ensures digest { result.digest.0 ≡ digest_at (entry_at numbered.now) }
+    ensures state { result.state ≡ state_at (entry_at numbered.now) }
+{
+    let bytes = numbered.entry.bytes();
+    FindRow {
+        key: key_in(&bytes),
+        digest: digest_in(&bytes),
+        state: if is_companion(&numbered.entry) {
+            FindState::Dsym
+        } else {
+            FindState::Image
+        },
+    }
+}
+
+/// The slice that an entry names.
+fn named_by(numbered: &Numbered) -> NamedSlice
+    ensures { Names (entry_at numbered.now) result }
+{
+    let entry = &numbered.entry;
+    NamedSlice {
+        input: numbered.input,
+        number: numbered.number,
+        row: row_of(numbered),
+        offset: entry.offset,
+        size: entry.length.saturating_sub(ADMISSION_HEAD_LEN as u64),
+    }
+}
+
+/// The slices that entries name, in their order.
+fn named_by_each(heap: Heap, entries: &[Numbered]) -> Result<Vec<NamedSlice, Heap>, NoMemory>
+    ensures { IfOk result (λ named. AllZip Names (map entry_at entries.now) named.items) }
+{
+    let mut named = Vec::new(heap);
+    'entries: for numbered in entries {
+        named.push(named_by(numbered))?;
+    }
+    Ok(named)
+}
+
+/// The slices that answer under a key, as the entries of these indexes name them, in the order of their records.
+///
+/// `None` where [`answering_among`] says it. Refused for want of memory alone.
+pub fn named_among(
+    heap: &Heap,
+    key: &SliceKey,
+    indexes: &[Index],
+) -> Result<Option<Vec<NamedSlice, Heap>>, NoMemory>
+    ensures { IfOk result (λ found. MatchOption found (AreTied (key_bytes key.now) indexes.now)
+        (λ named. NamesAmong (key_bytes key.now) indexes.now named.items)) }
+{
+    match answering_among(heap, key, indexes)? {
+        Some(answering) => {
+            let named = named_by_each(heap.share(), answering.entries())?;
+            Ok(Some(named))
+        }
+        None => Ok(None),
+    }
+}
+
+/// The first of these entries that has the digest.
+fn first_with(live: &[Numbered], digest: &Digest) -> Option<NamedSlice>
+    ensures { MatchOption result
+        ((x : EntryAt) → Contains (map entry_at live.now) x → digest_at x ≢ digest.now.0)
+        (λ named. (x : EntryAt) × Contains (map entry_at live.now) x × (digest_at x ≡ digest.now.0)
+        × Names x named) }
+{
+    'live: for numbered in live {
+        let named = named_by(numbered);
+        if named.row.digest == *digest {
+            return Some(named);
+        }
+    }
+    None
+}
+
+/// A slice that lives under a key and has the digest, also if it does not answer, as an entry of these indexes names it:
+/// the first that does. Refused for want of memory alone.
+pub fn named_with(
+    heap: &Heap,
+    key: &SliceKey,
+    digest: &Digest,
+    indexes: &[Index],
+) -> Result<Option<NamedSlice>, NoMemory>
+    ensures { IfOk result (λ found. MatchOption found
+        ((x : EntryAt) → LivesAmong (key_bytes key.now) digest.now.0 indexes.now x → ⊥)
+        (λ named. (x : EntryAt) × LivesAmong (key_bytes key.now) digest.now.0 indexes.now x × Names x named)) }
+{
+    let live = live_under(heap, &key_prefix(key), indexes)?;
+    Ok(first_with(&live, digest))
+}

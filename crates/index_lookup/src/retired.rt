@@ -1,0 +1,75 @@
+//! What the retirements under a key are of.
+
+ghost use Rattle.std.specs.Prelude.{◌≡◌, ◌++◌, IfOk, OnOk, length};
+ghost use Rattle.std.specs.List.Sorted.{IsSortedByKey};
+ghost use Rattle.std.specs.Ordering.{nat_cmp};
+ghost use Rattle.std.specs.Cmp.Lexicographic.{slice_cmp};
+ghost use Rattle.index_format.specs.Entry.{entry_bytes};
+ghost use Rattle.index_lookup.specs.Among.{all_of};
+ghost use Rattle.index_lookup.specs.InnerAnswering.{is_retired, retired_of};
+
+use crate::numbered::subject_of;
+use archive_records::RETIREMENT;
+use index_format::{Index, IndexEntry, run_under};
+use memory::{Heap, NoMemory};
+use std::cmp::Ordering;
+
+/// Compares two keys with their digests.
+fn compare(subject: &[u8; 56], other: &[u8; 56]) -> Ordering
+    ensures { result ≡ slice_cmp nat_cmp subject.now other.now }
+{
+    subject[..].cmp(&other[..])
+}
+
+/// Adds what the retirements of an index under these bytes are of. None of its other entries is looked at.
+fn gather(prefix: &[u8], index: &Index, retired: &mut Vec<[u8; 56], Heap>) -> Result<(), NoMemory>
+    requires { length prefix.now ≡ 24 }
+    ensures { OnOk result (retired.new.items ≡ retired.old.items ++ retired_of prefix.now index.now) }
+{
+    let entries = index.entries();
+    let (start, stop) = run_under(entries, RETIREMENT, prefix);
+    let run = &entries[start..stop];
+    'run: for entry in run {
+        retired.push(subject_of(entry))?;
+    }
+    Ok(())
+}
+
+/// What the retirements of several indexes under these bytes are of, in the order of their entries.
+fn gathered(heap: Heap, prefix: &[u8], indexes: &[Index]) -> Result<Vec<[u8; 56], Heap>, NoMemory>
+    requires { length prefix.now ≡ 24 }
+    ensures { IfOk result (λ retired. retired.items ≡ retired_of prefix.now (all_of indexes.now)) }
+{
+    let mut retired = Vec::new(heap);
+    'indexes: for index in indexes {
+        gather(prefix, index, &mut retired)?;
+    }
+    Ok(retired)
+}
+
+/// What the retirements of several indexes under these bytes are of, in the order of its bytes.
+pub(crate) fn retired_under(
+    heap: Heap,
+    prefix: &[u8],
+    indexes: &[Index],
+) -> Result<Vec<[u8; 56], Heap>, NoMemory>
+    requires { length prefix.now ≡ 24 }
+    ensures same { IfOk result (λ retired.
+        is_retired retired.items ≡ is_retired (retired_of prefix.now (all_of indexes.now))) }
+    ensures sorted { IfOk result (λ retired. IsSortedByKey (λ subject. subject) (slice_cmp nat_cmp) retired.items) }
+{
+    let mut retired = gathered(heap, prefix, indexes)?;
+    retired.sort_unstable_by(|a, b| compare(a, b));
+    Ok(retired)
+}
+
+/// Whether what an entry is of is among these. It is found by halving.
+pub(crate) fn is_retired(retired: &[[u8; 56]], entry: &IndexEntry) -> bool
+    requires { IsSortedByKey (λ subject. subject) (slice_cmp nat_cmp) retired.now }
+    ensures { result ≡ is_retired retired.now (entry_bytes entry.now) }
+{
+    let sought = subject_of(entry);
+    retired
+        .binary_search_by(|subject| compare(subject, &sought))
+        .is_ok()
+}

@@ -1,5 +1,0 @@
-use Rattle.index_writing.proofs.Contents.{one_of_content}
-use Rattle.index_writing.proofs.laws.one_index.Goals as goal
-
-pub returns : goal.returns
-returns c = one_of_content c.one_slice_table.ensures

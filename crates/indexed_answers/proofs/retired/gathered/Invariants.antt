@@ -1,7 +1,0 @@
-use Rattle.std.proofs.Common.{◌≡◌, take}
-use Rattle.indexed_answers.specs.Among.{all_of}
-use Rattle.indexed_answers.specs.InnerAnswering.{retired_of}
-use Rattle.indexed_answers.proofs.retired.gathered.Given as goal
-
-abbrev pub invariant-indexes : goal.invariant-indexes
-invariant-indexes l = l.retired.items ≡ retired_of l.prefix (all_of (take l.index-index l.indexes))

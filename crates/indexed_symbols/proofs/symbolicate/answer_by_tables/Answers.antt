@@ -1,7 +1,0 @@
-use Rattle.std.proofs.Common.{get_or, refl, arith}
-use Rattle.indexed_symbols.proofs.Shown.{more_addresses}
-use Rattle.indexed_symbols.proofs.symbolicate.answer_by_tables.Goals as goal
-
-pub addresses-preserved : goal.addresses-preserved
-addresses-preserved c =
-    more_addresses _ c.args.lines c.args.addresses.now c.addresses.number (get_or c.args.addresses.now c.addresses.number 0) _ _ _ _ c.in_ok-answer.answer (omega arith) refl c.addresses.invariant c.in_ok-answer.ensures c.status_behind-status.ensures c.in_ok-push_told.ensures

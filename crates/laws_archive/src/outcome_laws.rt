@@ -1,0 +1,271 @@
+//! What the definitions of the commands that write OUT say in the words of their user. Each law is the contract of a
+//! function that does nothing but call other laws.
+ghost use Rattle.std.specs.Prelude.{ℕ, List, ◌≡◌, ◌↔◌, ◌+◌, ◌++◌, Some, Contains, drop, map, take, slice_get, ◌≢◌, ◌∷◌};
+ghost use Rattle.std.specs.Prelude.{[], Ok, Err};
+ghost use Rattle.std.specs.List.{AllByRecursion, AllZip};
+ghost use Rattle.archive_core.specs.Content.{Operations, IsContent, IsMade, content_of, joined, IsBelow, with_records};
+ghost use Rattle.archive_core.specs.declared.keys.Digest.{Digest};
+ghost use Rattle.archive_core.specs.declared.keys.SliceKey.{SliceKey};
+ghost use Rattle.archive_core.specs.declared.operations.Operation.{Operation};
+ghost use Rattle.archive_core.specs.Summary.{Entries};
+ghost use Rattle.archive_records.specs.Entry.{AreEntries};
+ghost use Rattle.archive_records.specs.Text.{IsOperationsText, summary_text, AreOperations, old_written, written};
+ghost use Rattle.archive_admission.specs.File.{IsAcceptedFile, parts};
+ghost use Rattle.command_write.specs.Admit.{admit, admit_rows, file_rows, images_of};
+ghost use Rattle.command_write.specs.Apply.{apply};
+ghost use Rattle.command_write.specs.Delta.{delta};
+ghost use Rattle.command_common.specs.Ends.{MakeOne, Ends, EndsStreamed};
+ghost use Rattle.command_common.specs.Inputs.{IsGiven, IsGivenArchive, Reader, RefusesDevicesAlone, IsDeviceFault};
+ghost use Rattle.command_write.specs.Merge.{merge, operations_of, MakesMerged};
+ghost use Rattle.command_write.specs.Migrate.{migrate, MakesMigrated};
+ghost use Rattle.command_write.specs.Retire.{retire};
+ghost use Rattle.command_write.specs.Summary.{summary};
+ghost use Rattle.laws_archive.specs.Joins.{AreDevicesAlone};
+ghost use Rattle.std.specs.FinSet as set;
+ghost use Rattle.archive_core.specs.Record.{admission_record, record_bytes};
+ghost use Rattle.archive_admission.specs.Take.{admitted, taken_rows};
+ghost use Rattle.command_common.specs.declared.faults.InputName.{InputName};
+ghost use Rattle.command_common.specs.declared.faults.Why.{Why};
+ghost use Rattle.command_common.specs.declared.faults.CommandFault.{CommandFault};
+ghost use Rattle.command_common.specs.declared.faults.CommandFault.TheVariants.{Input, Report};
+ghost use Rattle.command_common.specs.declared.faults.Status.{Status};
+ghost use Rattle.command_write.specs.MergeStreams.{merge_of_one};
+ghost use Rattle.command_common.specs.Outputs.{Outs, Writer, draft_of, out_of, Out, Publishes, report_of};
+ghost use Rattle.command_common.specs.Archives.{merged};
+
+use crate::content_laws::{contents_join, migrate_joins, takes_in_any_order};
+use crate::text_laws::{one_list_of_operations, one_summary};
+use archive_admission::laws::one_take_fault;
+use byte_device::{Sink, Source, Target};
+
+/// Where archives of one content, of whichever version, and files of the same bytes are given, a command makes one OUT
+/// and one report of them, wherever they come from.
+pub fn one_outcome<Q: Source, R: Source, S: Source, T: Source>()
+    ensures admit { (input : Reader Q) (other : Reader R) (files : List (Reader S)) (others : List (Reader T))
+        (o : Operations) (texts : List (List ℕ))
+        → IsContent o
+        → IsGivenArchive input o
+        → IsGivenArchive other o
+        → AllZip IsGiven files texts
+        → AllZip IsGiven others texts
+        → MakeOne (admit input files).Makes (admit other others).Makes }
+    ensures retire { (input : Reader Q) (other : Reader R) (key : SliceKey) (digest : Digest) (o : Operations)
+        → IsContent o
+        → IsGivenArchive input o
+        → IsGivenArchive other o
+        → MakeOne (retire input key digest).Makes (retire other key digest).Makes }
+    ensures merge { (input : Reader Q) (other : Reader R) (files : List (Reader S)) (others : List (Reader T))
+        (o : Operations) (contents : List Operations)
+        → IsContent o
+        → AllByRecursion IsContent contents
+        → IsGivenArchive input o
+        → IsGivenArchive other o
+        → AllZip IsGivenArchive files contents
+        → AllZip IsGivenArchive others contents
+        → MakeOne (merge input files).Makes (merge other others).Makes }
+    ensures migrate { (input : Reader Q) (other : Reader R) (o : Operations)
+        → IsContent o
+        → IsGivenArchive input o
+        → IsGivenArchive other o
+        → MakeOne (migrate input).Makes (migrate other).Makes }
+    ensures apply { (input : Reader Q) (other : Reader R) (ops : Reader S) (others : Reader T) (o : Operations)
+        (text : List ℕ)
+        → IsContent o
+        → IsGivenArchive input o
+        → IsGivenArchive other o
+        → IsGiven ops text
+        → IsGiven others text
+        → MakeOne (apply input ops).Makes (apply other others).Makes }
+    ensures summary { (archive : Reader Q) (other : Reader R) (o : Operations)
+        → IsContent o
+        → IsGivenArchive archive o
+        → IsGivenArchive other o
+        → MakeOne (summary archive).Makes (summary other).Makes }
+    ensures delta { (archive : Reader Q) (other : Reader R) (named : Reader S) (others : Reader T) (o : Operations)
+        (text : List ℕ)
+        → IsContent o
+        → IsGivenArchive archive o
+        → IsGivenArchive other o
+        → IsGiven named text
+        → IsGiven others text
+        → MakeOne (delta archive named).Makes (delta other others).Makes }
+{
+    one_list_of_operations();
+    one_summary();
+}
+
+/// Where the archives are the texts of contents, the FILEs of `admit` accepted, OPS the text of operations and SUMMARY
+/// that of entries, no input is refused but for its device.
+pub fn accepted_inputs_are_not_refused<R: Source, S: Source>()
+    ensures admit { (input : Reader R) (files : List (Reader S)) (o : Operations) (texts : List (List ℕ))
+        → IsContent o
+        → IsGivenArchive input o
+        → AllZip IsGiven files texts
+        → AllByRecursion IsAcceptedFile texts
+        → AreDevicesAlone (admit input files).Refuses }
+    ensures retire { (key : SliceKey) (digest : Digest)
+        → RefusesDevicesAlone {R = R} (λ input. (retire input key digest).Refuses) }
+    ensures merge { (input : Reader R) (files : List (Reader S)) (o : Operations) (contents : List Operations)
+        → IsContent o
+        → AllByRecursion IsContent contents
+        → IsGivenArchive input o
+        → AllZip IsGivenArchive files contents
+        → AreDevicesAlone (merge input files).Refuses }
+    ensures migrate { RefusesDevicesAlone {R = R} (λ input. (migrate input).Refuses) }
+    ensures apply { (input : Reader R) (ops : Reader S) (o : Operations) (text : List ℕ) (operations : List Operation)
+        → IsContent o
+        → IsGivenArchive input o
+        → IsGiven ops text
+        → IsOperationsText text operations
+        → AreDevicesAlone (apply input ops).Refuses }
+    ensures summary { RefusesDevicesAlone {R = R} (λ archive. (summary archive).Refuses) }
+    ensures delta { (archive : Reader R) (named : Reader S) (o : Operations) (entries : Entries)
+        → IsContent o
+        → AreEntries entries
+        → IsGivenArchive archive o
+        → IsGiven named (summary_text entries)
+        → AreDevicesAlone (delta archive named).Refuses }
+{
+    one_take_fault();
+}
+
+/// The content that `admit` makes is IN's with the admissions of the files' images, in whatever order and however often
+/// the files stand among the words.
+pub fn admitted_in_any_order()
+    ensures content { (o : Operations) (files : List (List ℕ)) → IsMade o
+        → admitted o (images_of files)
+        ≡ joined o (content_of (set.from_list (map admission_record (images_of files)))) }
+    ensures order { (o : Operations) (files others : List (List ℕ)) → IsMade o
+        → ((file : List ℕ) → Contains files file ↔ Contains others file)
+        → admitted o (images_of files) ≡ admitted o (images_of others) }
+{}
+
+/// The rows of a file stand after those of the files before it, and say what became of its slices over IN with the
+/// images of these.
+pub fn rows_in_order()
+    ensures { (o : Operations) (files : List (List ℕ)) (index : ℕ) (file : List ℕ) → slice_get files index ≡ Some file
+        → admit_rows o 0 files ≡ admit_rows o 0 (take index files)
+        ++ (file_rows index 0 (taken_rows (admitted o (images_of (take index files))) (parts file))
+        ++ admit_rows (admitted o (images_of (take (index + 1) files))) (index + 1) (drop (index + 1) files)) }
+{}
+
+/// What `merge` makes is the least content above IN and above each FILE: it holds what they hold, and nothing else.
+pub fn merged_is_least()
+    ensures content { (o : Operations) (contents : List Operations) → IsContent o → AllByRecursion IsContent contents
+        → IsContent (merged o contents) }
+    ensures input { (o : Operations) (contents : List Operations) → IsContent o → AllByRecursion IsContent contents
+        → IsBelow o (merged o contents) }
+    ensures each { (o : Operations) (contents : List Operations) (p : Operations) → IsContent o
+        → AllByRecursion IsContent contents → Contains contents p → IsBelow p (merged o contents) }
+    ensures least { (o : Operations) (contents : List Operations) (q : Operations) → IsContent o
+        → AllByRecursion IsContent contents → IsContent q
+        → IsBelow o q
+        → ((p : Operations) → Contains contents p → IsBelow p q)
+        → IsBelow (merged o contents) q }
+{}
+
+/// What `merge` makes does not rest on the order of the FILEs, on one that is named twice, on which of the archives is
+/// IN, nor on FILEs that were merged among themselves before: it is what the operations of all of them make.
+pub fn merged_in_any_order()
+    ensures order { (o : Operations) (contents others : List Operations) → IsContent o
+        → AllByRecursion IsContent contents → AllByRecursion IsContent others
+        → ((p : Operations) → Contains contents p ↔ Contains others p)
+        → merged o contents ≡ merged o others }
+    ensures input { (o p : Operations) (contents : List Operations) → IsContent o → IsContent p
+        → merged o (p ∷ contents) ≡ merged p (o ∷ contents) }
+    ensures grouping { (o p : Operations) (contents others : List Operations) → IsContent o → IsContent p
+        → AllByRecursion IsContent contents → AllByRecursion IsContent others
+        → merged o (contents ++ merged p others ∷ []) ≡ merged o (contents ++ p ∷ others) }
+    ensures union { (o : Operations) (contents : List Operations) → IsContent o → AllByRecursion IsContent contents
+        → merged o contents ≡ joined o (content_of (operations_of contents)) }
+{
+    contents_join();
+}
+
+/// With one FILE `merge` writes and reports the same, where it is not stopped, as if it had read both archives first.
+pub fn both_ways_write_the_same<R: Source, S: Source, D: Sink, T: Target>()
+    ensures done { (input : Reader R) (file : Reader S) (out : Outs D T) (report : Writer) (status : Status)
+        → EndsStreamed (merge_of_one input file (draft_of out)) (out_of out) report (Ok status)
+        → Ends (merge input (file ∷ [])) (out_of out) report (Ok status) }
+    ensures report { (input : Reader R) (file : Reader S) (out : Outs D T) (report : Writer) (n : ℕ)
+        → EndsStreamed (merge_of_one input file (draft_of out)) (out_of out) report (Err (Report n))
+        → Ends (merge input (file ∷ [])) (out_of out) report (Err (Report n)) }
+{}
+
+/// With one FILE, too, nothing is in place where an input is refused, OUT fails or memory is wanting.
+pub fn merge_of_one_keeps_out<R: Source, S: Source, D: Sink, T: Target>()
+    ensures { (input : Reader R) (file : Reader S) (out : Outs D T) (report : Writer) (fault : CommandFault)
+        → ((n : ℕ) → fault ≢ Report n)
+        → EndsStreamed (merge_of_one input file (draft_of out)) (out_of out) report (Err fault)
+        → out.published out.new.target ≡ out.published out.old.target }
+{}
+
+/// Where IN and the one FILE are the texts of contents, neither is refused but for its device.
+pub fn two_accepted_archives_are_not_refused<R: Source, S: Source, D: Sink, T: Target>()
+    ensures { (input : Reader R) (file : Reader S) (out : Outs D T) (report : Writer) (o p : Operations)
+        (name : InputName) (why : Why)
+        → IsContent o
+        → IsContent p
+        → IsGivenArchive input o
+        → IsGivenArchive file p
+        → EndsStreamed (merge_of_one input file (draft_of out)) (out_of out) report (Err (Input name why))
+        → IsDeviceFault why }
+{}
+
+/// What version 1 wrote of operations becomes the content that they make, and what version 2 wrote of a content stays
+/// that content, so that OUT has the bytes of IN.
+pub fn migrated<R: Source>()
+    ensures old { (input : Reader R) (p content : Operations) (lines : List ℕ) → AreOperations p
+        → IsGiven input (old_written p) → MakesMigrated input content lines → content ≡ content_of p }
+    ensures new { (input : Reader R) (o content : Operations) (lines : List ℕ) → IsContent o
+        → IsGiven input (written o) → MakesMigrated input content lines → content ≡ o }
+{}
+
+/// A merge makes the same of what version 1 wrote of two sets of operations as of what `migrate` makes of either, or of
+/// both: the content that all these operations make. So it does not matter which is done first.
+pub fn migrated_before_or_after<R: Source, S: Source>()
+    ensures merged { (input : Reader R) (file : Reader S) (p q content : Operations) (lines : List ℕ) → AreOperations p
+        → AreOperations q → IsGiven input (old_written p) → IsGiven file (old_written q)
+        → MakesMerged input (file ∷ []) content lines → content ≡ content_of (set.union p q) }
+    ensures before { (input : Reader R) (file : Reader S) (p q content : Operations) (lines : List ℕ) → AreOperations p
+        → AreOperations q → IsGiven input (written (content_of p)) → IsGiven file (old_written q)
+        → MakesMerged input (file ∷ []) content lines → content ≡ content_of (set.union p q) }
+    ensures file { (input : Reader R) (file : Reader S) (p q content : Operations) (lines : List ℕ) → AreOperations p
+        → AreOperations q → IsGiven input (old_written p) → IsGiven file (written (content_of q))
+        → MakesMerged input (file ∷ []) content lines → content ≡ content_of (set.union p q) }
+    ensures both { (input : Reader R) (file : Reader S) (p q content : Operations) (lines : List ℕ) → AreOperations p
+        → AreOperations q → IsGiven input (written (content_of p)) → IsGiven file (written (content_of q))
+        → MakesMerged input (file ∷ []) content lines → content ≡ content_of (set.union p q) }
+{
+    migrate_joins();
+}
+
+/// The content that `apply` makes is IN's with what the operations make, in whatever order and however often they
+/// stand in the file; so two files with the same operations leave one text in OUT.
+pub fn applied_in_any_order()
+    ensures content { (o : Operations) (operations : List Operation) → IsMade o
+        → with_records o (map record_bytes operations)
+        ≡ joined o (content_of (set.from_list (map record_bytes operations))) }
+    ensures order { (o : Operations) (operations others : List Operation) → IsMade o
+        → ((operation : Operation) → Contains operations operation ↔ Contains others operation)
+        → with_records o (map record_bytes operations) ≡ with_records o (map record_bytes others) }
+    ensures text { (o : Operations) (operations others : List Operation) → IsMade o
+        → ((operation : Operation) → Contains operations operation ↔ Contains others operation)
+        → written (with_records o (map record_bytes operations)) ≡ written (with_records o (map record_bytes others)) }
+{
+    takes_in_any_order();
+}
+
+/// `new` has no input, and is refused for none: where it fails OUT or the report did, or memory was wanting.
+pub fn refused_for_no_input()
+    ensures { (out : Out) (report : Writer) (name : InputName) (why : Why)
+        → ¬ Publishes out report (written set.empty) (report_of set.empty []) (Err (Input name why)) }
+{}
+
+/// What it writes is the least archive: it has nothing, and merged with another one, before it or after it, gives that.
+pub fn least_archive()
+    ensures content { IsContent set.empty }
+    ensures least { (o : Operations) → IsBelow set.empty o }
+    ensures before { (o : Operations) → IsContent o → merged set.empty (o ∷ []) ≡ o }
+    ensures after { (o : Operations) → IsContent o → merged o (set.empty ∷ []) ≡ o }
+{}

@@ -1,0 +1,209 @@
+//! What the definitions of the commands that only report say in the words of their user. Each law is the contract of a
+//! function that does nothing but call other laws.
+ghost use Rattle.std.specs.Prelude.{◌≡◌, ◌≤◌, ◌↔◌, ℕ, List, [], Bool, true, false, Ok, Option, length, map};
+ghost use Rattle.std.specs.List.{AllByRecursion, flat_map};
+ghost use Rattle.archive_core.specs.Content.{IsContent, Operations, joined, content_of};
+ghost use Rattle.archive_core.specs.Part.{AreAlikeUnder, is_under, part};
+ghost use Rattle.archive_core.specs.declared.keys.SliceKey.{SliceKey};
+ghost use Rattle.text_inputs.specs.Events.{Act};
+ghost use Rattle.text_inputs.specs.Script.{script_of};
+ghost use Rattle.text_inputs.specs.Frames.{frames_of};
+ghost use Rattle.text_inputs.specs.declared.frame.Frame.{Frame};
+ghost use Rattle.text_reports.specs.Answers.{answer_lines};
+ghost use Rattle.command_common.specs.declared.faults.InputName.{InputName};
+ghost use Rattle.command_common.specs.declared.faults.Status.{Status};
+ghost use Rattle.command_common.specs.declared.faults.Why.{Why};
+ghost use Rattle.command_common.specs.Archives.{AreRefused, AreUnfailed, merged};
+ghost use Rattle.command_common.specs.Found.{TellsFound};
+ghost use Rattle.command_common.specs.Inputs.{Gives, HoldsContent, IsGiven, IsGivenArchive, IsRefusedArchive, Reader};
+ghost use Rattle.command_common.specs.Inputs.{RefusesDevicesAlone, Unfailed};
+ghost use Rattle.command_queries.specs.Find.{MakesFound, find};
+ghost use Rattle.command_queries.specs.Frames.{MakesFramed, SymbolicatesEach, TellsFrames, frames};
+ghost use Rattle.command_queries.specs.List.{MakesListed, list};
+ghost use Rattle.command_queries.specs.Name.{MakesNamed, TellsNamed, name};
+ghost use Rattle.command_queries.specs.Symbolicate.{MakesAnswered, TellsAddresses, symbolicate};
+ghost use Rattle.archive_exchange.specs.Rehearse.{MakesRehearsed, rehearse, held_line};
+ghost use Rattle.laws_archive.specs.Joins.{AreDevicesAlone, IsGivenJoin, IsMergedFile, TellAlike, TellOne};
+ghost use Rattle.archive_exchange.specs.Reached.{reached};
+ghost use Rattle.archive_exchange.specs.World.{state};
+ghost use Rattle.archive_exchange.specs.ModelEvent.{ModelEvent};
+
+use crate::content_laws::{one_answer, one_find, one_find_name, one_list};
+use archive_admission::TakeFault;
+use archive_exchange::laws::one_meaning;
+use archive_exchange::model_laws::same_reached;
+use byte_device::Source;
+use dwarf_source_frames::laws::one_list_of_frames;
+
+/// Where the archives are the texts of contents, FRAMES says frames and SCRIPT a script, whatever its events are, no
+/// input is refused but for its device.
+pub fn accepted_inputs_are_not_refused<Q: Source, R: Source, S: Source>()
+    ensures find { (archive : Reader R) (others : List (Reader S)) (o : Operations) (uuid : List ℕ)
+        → IsGivenJoin archive others o
+        → AreDevicesAlone (find archive others uuid).Refuses }
+    ensures list { RefusesDevicesAlone {R = R} (λ archive. (list archive).Refuses) }
+    ensures name { (archive : Reader R) (others : List (Reader S)) (o : Operations) (sought : List ℕ)
+        → IsGivenJoin archive others o
+        → AreDevicesAlone (name archive others sought).Refuses }
+    ensures symbolicate { (archive : Reader R) (others : List (Reader S)) (o : Operations) (key : SliceKey)
+        (load : Option ℕ) (lines : Bool) (addresses : List ℕ)
+        → IsGivenJoin archive others o
+        → AreDevicesAlone (symbolicate archive others key load lines addresses).Refuses }
+    ensures frames { (lines : Bool) (input : Reader Q) (archive : Reader R) (others : List (Reader S))
+        (bytes : List ℕ) (listed : List Frame) (o : Operations)
+        → IsGiven input bytes
+        → frames_of bytes ≡ Ok listed
+        → IsGivenJoin archive others o
+        → AreDevicesAlone (frames lines input archive others).Refuses }
+    ensures rehearse { (script : Reader Q) (bytes : List ℕ) (sites : ℕ) (events : List Act)
+        → IsGiven script bytes
+        → script_of bytes ≡ Ok (sites, events)
+        → AreDevicesAlone (rehearse script).Refuses }
+{}
+
+/// A content tells one status and one text of a UUID, of a name and of addresses, whatever archive keeps it.
+pub fn one_telling()
+    ensures find { (o : Operations) (uuid : List ℕ) → TellOne (TellsFound o uuid) (TellsFound o uuid) }
+    ensures name { (o : Operations) (sought : List ℕ) → TellOne (TellsNamed o sought) (TellsNamed o sought) }
+    ensures symbolicate { (o : Operations) (key : SliceKey) (load : Option ℕ) (lines : Bool) (addresses : List ℕ)
+        → TellOne (TellsAddresses o key load lines addresses) (TellsAddresses o key load lines addresses) }
+{
+    one_answer();
+    one_find();
+    one_find_name();
+    one_list_of_frames();
+}
+
+/// Two calls whose archives hold one content together, and whose FRAMES or SCRIPT hold the same bytes, give the same
+/// status and the same report, however many archives there are.
+pub fn one_report<Q: Source, R: Source, S: Source, T: Source, U: Source, V: Source>()
+    ensures find { (archive : Reader R) (others : List (Reader S)) (also : Reader T) (more : List (Reader U))
+        (o : Operations) (uuid : List ℕ)
+        → IsGivenJoin archive others o
+        → IsGivenJoin also more o
+        → TellOne (MakesFound archive others uuid) (MakesFound also more uuid) }
+    ensures list { (archive : Reader R) (other : Reader S) (o : Operations)
+        → IsContent o
+        → IsGivenArchive archive o
+        → IsGivenArchive other o
+        → TellOne (MakesListed archive) (MakesListed other) }
+    ensures name { (archive : Reader R) (others : List (Reader S)) (also : Reader T) (more : List (Reader U))
+        (o : Operations) (sought : List ℕ)
+        → IsGivenJoin archive others o
+        → IsGivenJoin also more o
+        → TellOne (MakesNamed archive others sought) (MakesNamed also more sought) }
+    ensures symbolicate { (archive : Reader R) (others : List (Reader S)) (also : Reader T) (more : List (Reader U))
+        (o : Operations) (key : SliceKey) (load : Option ℕ) (lines : Bool) (addresses : List ℕ)
+        → IsGivenJoin archive others o
+        → IsGivenJoin also more o
+        → TellOne (MakesAnswered archive others key load lines addresses)
+        (MakesAnswered also more key load lines addresses) }
+    ensures frames { (lines : Bool) (input : Reader Q) (archive : Reader R) (others : List (Reader S))
+        (also : Reader T) (other : Reader U) (more : List (Reader V)) (bytes : List ℕ) (o : Operations)
+        → IsGiven input bytes
+        → IsGiven also bytes
+        → IsGivenJoin archive others o
+        → IsGivenJoin other more o
+        → TellOne (MakesFramed lines input archive others) (MakesFramed lines also other more) }
+    ensures rehearse { (script : Reader Q) (other : Reader R) (bytes : List ℕ)
+        → IsGiven script bytes
+        → IsGiven other bytes
+        → TellOne (MakesRehearsed script) (MakesRehearsed other) }
+{
+    one_answer();
+    one_list();
+    one_list_of_frames();
+    one_meaning();
+    one_telling();
+}
+
+/// What is told of several archives is what is told of the one archive that `merge` of them writes, with the same
+/// status.
+pub fn asked_together<Q: Source, R: Source, S: Source, T: Source>()
+    ensures find { (archive : Reader R) (others : List (Reader S)) (file : Reader T) (uuid : List ℕ)
+        → IsMergedFile archive others file
+        → TellAlike (MakesFound archive others uuid) (MakesFound {S = S} file [] uuid) }
+    ensures name { (archive : Reader R) (others : List (Reader S)) (file : Reader T) (sought : List ℕ)
+        → IsMergedFile archive others file
+        → TellAlike (MakesNamed archive others sought) (MakesNamed {S = S} file [] sought) }
+    ensures symbolicate { (archive : Reader R) (others : List (Reader S)) (file : Reader T) (key : SliceKey)
+        (load : Option ℕ) (lines : Bool) (addresses : List ℕ)
+        → IsMergedFile archive others file
+        → TellAlike (MakesAnswered archive others key load lines addresses)
+        (MakesAnswered {S = S} file [] key load lines addresses) }
+    ensures frames { (lines : Bool) (input : Reader Q) (archive : Reader R) (others : List (Reader S)) (file : Reader T)
+        → IsMergedFile archive others file
+        → TellAlike (MakesFramed lines input archive others) (MakesFramed {T = S} lines input file []) }
+{}
+
+/// What is told of one archive is what its content tells.
+pub fn one_archive<Q: Source, R: Source, S: Source>()
+    ensures find { (archive : Reader R) (uuid : List ℕ)
+        → TellAlike (MakesFound {S = S} archive [] uuid)
+        (λ status text. HoldsContent archive (λ o. TellsFound o uuid status text)) }
+    ensures name { (archive : Reader R) (sought : List ℕ)
+        → TellAlike (MakesNamed {S = S} archive [] sought)
+        (λ status text. HoldsContent archive (λ o. TellsNamed o sought status text)) }
+    ensures symbolicate { (archive : Reader R) (key : SliceKey) (load : Option ℕ) (lines : Bool) (addresses : List ℕ)
+        → TellAlike (MakesAnswered {S = S} archive [] key load lines addresses)
+        (λ status text. HoldsContent archive (λ o. TellsAddresses o key load lines addresses status text)) }
+    ensures frames { (lines : Bool) (input : Reader Q) (archive : Reader R)
+        → TellAlike (MakesFramed {T = S} lines input archive [])
+        (λ status text. (listed : List Frame) × Gives input (λ bytes. frames_of bytes ≡ Ok listed)
+        × HoldsContent archive (λ o. TellsFrames lines o listed status text)) }
+{}
+
+/// One archive is refused, or its reader does not fail, as where there is no list of others.
+pub fn no_others<R: Source, S: Source>()
+    ensures refused { (archive : Reader R) (at : InputName) (why : Why)
+        → AreRefused {S = S} archive [] at why ↔ IsRefusedArchive 0 archive at why }
+    ensures unfailed { (archive : Reader R) → AreUnfailed {S = S} archive [] ↔ Unfailed archive }
+{}
+
+/// Under a prefix of a key, or the whole of it, the join of parts has what the join of the contents has, where the
+/// parts have all records under it.
+pub fn joins_of_parts()
+    ensures two { (o p : Operations) (picks : List ℕ → Bool) (prefix : List ℕ)
+        → IsContent o
+        → IsContent p
+        → length prefix ≤ 24
+        → ((r : List ℕ) → is_under prefix r ≡ true → picks r ≡ true)
+        → AreAlikeUnder prefix (joined (part o picks) (part p picks)) (joined o p) }
+    ensures several { (o : Operations) (contents : List Operations) (picks : List ℕ → Bool) (prefix : List ℕ)
+        → IsContent o
+        → AllByRecursion IsContent contents
+        → length prefix ≤ 24
+        → ((r : List ℕ) → is_under prefix r ≡ true → picks r ≡ true)
+        → AreAlikeUnder prefix (merged (part o picks) (map (λ p. part p picks) contents)) (merged o contents) }
+{}
+
+/// Without lines `symbolicate` tells the same answers, with the same status and none of their frames.
+pub fn told_without_lines()
+    ensures { (content : Operations) (key : SliceKey) (load : Option ℕ) (addresses : List ℕ) (status : Status)
+        (text : List ℕ)
+        → (told : TellsAddresses content key load true addresses status text)
+        → TellsAddresses content key load false addresses status
+        (flat_map (λ row. answer_lines row.address row.answer []) told.rows) }
+{}
+
+/// The lines of a frame are those of `symbolicate` for it: `frames` ends so and writes this text if and only if these
+/// are the status and the text of `symbolicate` over the same archives, asked once for each frame of FRAMES.
+pub fn each_is_symbolicated<R: Source, S: Source, T: Source>()
+    ensures { (lines : Bool) (input : Reader R) (archive : Reader S) (others : List (Reader T)) (bytes : List ℕ)
+        (listed : List Frame) (o : Operations)
+        → IsGiven input bytes
+        → frames_of bytes ≡ Ok listed
+        → IsGivenJoin archive others o
+        → TellAlike (MakesFramed lines input archive others) (SymbolicatesEach lines archive others listed) }
+{}
+
+/// Sites that the same operations reached, in one rehearsal or in two, have lines that are the same after their
+/// numbers: as many records and bytes, and one digest.
+pub fn same_operations_same_line()
+    ensures { (sites others : ℕ) (seen later : List ModelEvent) (i j number : ℕ)
+        → content_of (reached sites seen i) ≡ content_of (reached others later j)
+        → held_line number ((state sites seen (length seen)).held i)
+        ≡ held_line number ((state others later (length later)).held j) }
+{
+    same_reached::<TakeFault>();
+}

@@ -1,0 +1,12 @@
+use Rattle.std.proofs.Common.{[], subst}
+use Rattle.archive_core.specs.Summary.{Entries}
+use Rattle.command_index_queries.specs.Rows.{AreIndexRows}
+use Rattle.laws_index.proofs.Accepted.{entries_are, have_keys}
+use Rattle.laws_index.proofs.IndexRows.{list_of_index}
+use Rattle.laws_index.proofs.command_laws.listed_by_index.Goals as goal
+
+pub returns : goal.returns
+returns g c = λ input archive o status text (index, given, file) makes.
+    let told = makes.tells in
+    let is = entries_are input o makes.entries (index, given, file) makes.index_of.index_is in
+    (told.rows, list_of_index o told.rows file.content (have_keys o index file) file.archive_fits (subst (λ (s : Entries). AreIndexRows [] s told.rows) is told.are_rows), told.status_is, told.text_is)

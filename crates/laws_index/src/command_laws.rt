@@ -1,0 +1,205 @@
+//! What the commands tell by the indexes of contents. Each law is a function with an empty body, and its contract the
+//! law.
+
+ghost use Rattle.std.specs.Prelude.{◌≡◌, ◌≤◌, ◌<◌, ◌^◌, ◌⊎◌, ◌∷◌, [], ℕ, List, Bool, Option, Contains, Ok, length};
+ghost use Rattle.std.specs.Prelude.{Some};
+ghost use Rattle.std.specs.List.{AllByRecursion};
+ghost use Rattle.archive_core.specs.Content.{IsContent, Operations};
+ghost use Rattle.archive_core.specs.Key.{IsKey, key_bytes};
+ghost use Rattle.archive_core.specs.Lists.{IsList};
+ghost use Rattle.archive_core.specs.Part.{AreAlikeUnder, is_under, part};
+ghost use Rattle.archive_core.specs.Summary.{summary};
+ghost use Rattle.archive_core.specs.declared.find.FindRow.{FindRow};
+ghost use Rattle.archive_core.specs.declared.keys.Digest.{Digest};
+ghost use Rattle.archive_core.specs.declared.keys.SliceKey.{SliceKey};
+ghost use Rattle.archive_records.specs.Text.{summary_text, written};
+ghost use Rattle.index_format.specs.Index.{index};
+ghost use Rattle.command_common.specs.Found.{TellsFound, found_status};
+ghost use Rattle.command_queries.specs.Frames.{TellsFrames};
+ghost use Rattle.command_queries.specs.Symbolicate.{TellsAddresses};
+ghost use Rattle.text_inputs.specs.Frames.{frames_of};
+ghost use Rattle.text_inputs.specs.declared.frame.Frame.{Frame};
+ghost use Rattle.command_common.specs.Inputs.{IsDeviceFault, IsGiven, Reader};
+ghost use Rattle.command_common.specs.Outputs.{Writer, summary_report_of};
+ghost use Rattle.command_common.specs.declared.faults.InputName.{InputName};
+ghost use Rattle.command_common.specs.declared.faults.Status.{Status};
+ghost use Rattle.command_common.specs.declared.faults.Why.{Why};
+ghost use Rattle.text_reports.specs.Finds.{list_lines};
+ghost use Rattle.laws_index.specs.Indexes.{DigestsTell, IsIndexFile, all_joined};
+ghost use Rattle.command_index_queries.specs.Find.{MakesFoundAt};
+ghost use Rattle.command_index_queries.specs.Indexes.{IsRefusedByIndex};
+ghost use Rattle.command_index_queries.specs.List.{MakesListedAt};
+ghost use Rattle.command_index_queries.specs.Rows.{AreIndexRows};
+ghost use Rattle.command_index_queries.specs.Several.{AreRefusedTogether, HoldTogether, MakesTogether};
+ghost use Rattle.command_index_queries.specs.Summary.{MakesSummaryAt};
+ghost use Rattle.command_index_frames.specs.Asking.{AreRefusedAsking, AreUntold};
+ghost use Rattle.command_index_frames.specs.Frames.{AreToldAt, TellsFramesBySlices, TellsFramesByTables, keys_of};
+ghost use Rattle.command_index_frames.specs.Symbolicate.{TellsBySlices, TellsByTables, symbolicate_at};
+ghost use Rattle.command_extract.specs.Indexed.{LacksEntry, MakesEntry, extract_at};
+ghost use Rattle.command_extract.specs.Wanted.{AreUndecided, IsWanted, slice_line, slices_text};
+ghost use Rattle.laws_index.specs.Contents.{AreIndexed, AreIndexesGiven, AreOwnIndexes, HaveKeys, IsIndexGiven};
+ghost use Rattle.laws_index.specs.Contents.{IsForLines, IsOwnIndex};
+ghost use Rattle.laws_index.specs.Undecided.{TellsUndecided};
+
+use byte_device::Placed;
+
+/// The rows of the index of a content, under a prefix, are the list of what the content has there. Nothing is supposed
+/// of SHA-256, and no archive is read. A content that has an index file has such keys as this asks.
+pub fn rows_of_index()
+    ensures rows { (prefix : List ℕ) (o : Operations) (rows : List FindRow) → length prefix ≤ 24 → IsContent o
+        → HaveKeys o → length (written o) < 2 ^ 64 → AreIndexRows prefix (index o) rows
+        → IsList (part o (is_under prefix)) rows }
+    ensures keys { (o : Operations) (text : List ℕ) → IsIndexFile o text → HaveKeys o }
+{}
+
+/// If INDEX is that of a content, `find` tells what it tells of that content, whatever bytes ARCHIVE has.
+pub fn found_by_index<I: Placed, P: Placed>()
+    ensures { (input : Reader I) (archive : Reader P) (o : Operations) (uuid : List ℕ) (status : Status)
+        (text : List ℕ) → length uuid ≡ 16 → IsIndexGiven input o → MakesFoundAt input archive uuid status text
+        → TellsFound o uuid status text }
+{}
+
+/// If INDEX is that of a content, `list` tells what it tells of that content, whatever bytes ARCHIVE has.
+pub fn listed_by_index<I: Placed, P: Placed>()
+    ensures { (input : Reader I) (archive : Reader P) (o : Operations) (status : Status) (text : List ℕ)
+        → IsIndexGiven input o → MakesListedAt input archive status text
+        → (rows : List FindRow) × IsList o rows × (status ≡ found_status rows) × (text ≡ list_lines rows) }
+{}
+
+/// If INDEX is that of a content, `summary` makes the summary of that content, whatever bytes ARCHIVE has.
+pub fn summarized_by_index<I: Placed, P: Placed>()
+    ensures { (input : Reader I) (archive : Reader P) (o : Operations) (text told : List ℕ) → IsIndexGiven input o
+        → MakesSummaryAt input archive text told
+        → (text ≡ summary_text (summary o)) × (told ≡ summary_report_of (summary o)) }
+{}
+
+/// With the indexes of these very archives a command is refused for a device alone: no index of its own content is
+/// stale.
+pub fn right_index_is_accepted<I: Placed, P: Placed>()
+    ensures alone { (number : ℕ) (input : Reader I) (archive : Reader P) (o : Operations) (at : InputName) (why : Why)
+        → IsIndexGiven input o → IsGiven archive (written o) → IsRefusedByIndex number input archive at why
+        → IsDeviceFault why }
+    ensures together { (prefixes : List (List ℕ)) (inputs : List (Reader I)) (archives : List (Reader P))
+        (os : List Operations) (at : InputName) (why : Why) → AreOwnIndexes inputs archives os
+        → AreRefusedTogether prefixes inputs archives at why → IsDeviceFault why }
+{}
+
+/// If each INDEX is that of a content, what is held under prefixes of keys has what the join of these contents has
+/// there. Its archive is the text of the content, and nothing is supposed of SHA-256; or it has any bytes, and no slice
+/// of the content has the SHA-256 of a different slice in these.
+pub fn held_by_indexes<I: Placed, P: Placed>()
+    ensures { (prefixes : List (List ℕ)) (inputs : List (Reader I)) (archives : List (Reader P)) (os : List Operations)
+        (p : Operations) → AllByRecursion (λ prefix. length prefix ≤ 24) prefixes → AreIndexed inputs archives os
+        → HoldTogether prefixes inputs archives p → (prefix : List ℕ) → Contains prefixes prefix
+        → AreAlikeUnder prefix p (all_joined os) }
+{}
+
+/// So `find` tells of several archives what the join of the contents tells.
+pub fn found_by_indexes<I: Placed, P: Placed>()
+    ensures { (inputs : List (Reader I)) (archives : List (Reader P)) (os : List Operations) (uuid : List ℕ)
+        (status : Status) (text : List ℕ) → length uuid ≡ 16 → AreIndexed inputs archives os
+        → MakesTogether (uuid ∷ []) inputs archives (λ o s t. TellsFound o uuid s t) status text
+        → TellsFound (all_joined os) uuid status text }
+{}
+
+/// So does `symbolicate`, with lines and without: by tables whatever bytes the archives have, if no two different
+/// slices of several contents have one SHA-256; and by slices, where two are tied.
+pub fn answered_by_indexes<I: Placed, P: Placed>()
+    ensures tables { (inputs : List (Reader I)) (archives : List (Reader P)) (os : List Operations) (key : SliceKey)
+        (load : Option ℕ) (lines : Bool) (addresses : List ℕ) (status : Status) (text : List ℕ)
+        → AreIndexesGiven inputs os → DigestsTell os → IsKey key
+        → TellsByTables inputs archives key load lines addresses status text
+        → TellsAddresses (all_joined os) key load lines addresses status text }
+    ensures alone { (input : Reader I) (archive : Reader P) (o : Operations) (key : SliceKey) (load : Option ℕ)
+        (lines : Bool) (addresses : List ℕ) (status : Status) (text : List ℕ) → IsIndexGiven input o → IsKey key
+        → TellsByTables (input ∷ []) (archive ∷ []) key load lines addresses status text
+        → TellsAddresses o key load lines addresses status text }
+    ensures slices { (inputs : List (Reader I)) (archives : List (Reader P)) (os : List Operations) (key : SliceKey)
+        (load : Option ℕ) (lines : Bool) (addresses : List ℕ) (status : Status) (text : List ℕ)
+        → length (key_bytes key) ≤ 24 → AreIndexed inputs archives os
+        → TellsBySlices inputs archives key load lines addresses status text
+        → TellsAddresses (all_joined os) key load lines addresses status text }
+    ensures either { (inputs : List (Reader I)) (archives : List (Reader P)) (os : List Operations) (key : SliceKey)
+        (load : Option ℕ) (lines : Bool) (addresses : List ℕ) (status : Status) (text : List ℕ)
+        → AreIndexed inputs archives os → DigestsTell os → IsKey key
+        → (symbolicate_at inputs archives key load lines addresses).Makes status text
+        → TellsAddresses (all_joined os) key load lines addresses status text }
+{}
+
+/// So does `frames`. The frames that a text says have such keys as this asks.
+pub fn framed_by_indexes<I: Placed, P: Placed>()
+    ensures tables { (inputs : List (Reader I)) (archives : List (Reader P)) (os : List Operations) (lines : Bool)
+        (listed : List Frame) (status : Status) (text : List ℕ) → AreIndexesGiven inputs os → DigestsTell os
+        → ((frame : Frame) → Contains listed frame → IsKey frame.key)
+        → TellsFramesByTables lines inputs archives listed status text
+        → TellsFrames lines (all_joined os) listed status text }
+    ensures alone { (input : Reader I) (archive : Reader P) (o : Operations) (lines : Bool) (listed : List Frame)
+        (status : Status) (text : List ℕ) → IsIndexGiven input o
+        → ((frame : Frame) → Contains listed frame → IsKey frame.key)
+        → TellsFramesByTables lines (input ∷ []) (archive ∷ []) listed status text
+        → TellsFrames lines o listed status text }
+    ensures slices { (inputs : List (Reader I)) (archives : List (Reader P)) (os : List Operations) (lines : Bool)
+        (listed : List Frame) (status : Status) (text : List ℕ)
+        → ((key : List ℕ) → Contains (keys_of listed) key → length key ≤ 24) → AreIndexed inputs archives os
+        → TellsFramesBySlices lines inputs archives listed status text
+        → TellsFrames lines (all_joined os) listed status text }
+    ensures either { (inputs : List (Reader I)) (archives : List (Reader P)) (os : List Operations) (lines : Bool)
+        (listed : List Frame) (status : Status) (text : List ℕ) → AreIndexed inputs archives os → DigestsTell os
+        → ((frame : Frame) → Contains listed frame → IsKey frame.key)
+        → AreToldAt lines inputs archives listed status text → TellsFrames lines (all_joined os) listed status text }
+    ensures keys { (bytes : List ℕ) (listed : List Frame) (frame : Frame) → frames_of bytes ≡ Ok listed
+        → Contains listed frame → IsKey frame.key }
+{}
+
+/// What `extract` writes by the indexes of these very archives is the wanted slice of the join of the contents, if no
+/// two different slices of several contents have one SHA-256. By the index of one archive it is that of its content,
+/// and nothing is supposed of SHA-256.
+pub fn extracted_by_indexes<I: Placed, P: Placed>()
+    ensures entry { (inputs : List (Reader I)) (archives : List (Reader P)) (os : List Operations) (key : SliceKey)
+        (digest : Option Digest) (slice told : List ℕ) → AreOwnIndexes inputs archives os → DigestsTell os
+        → IsKey key → MakesEntry inputs archives key digest slice told
+        → IsWanted (all_joined os) key digest slice × (told ≡ slice_line slice) }
+    ensures alone { (input : Reader I) (archive : Reader P) (o : Operations) (key : SliceKey) (digest : Option Digest)
+        (slice told : List ℕ) → IsOwnIndex input archive o → IsKey key
+        → MakesEntry (input ∷ []) (archive ∷ []) key digest slice told
+        → IsWanted o key digest slice × (told ≡ slice_line slice) }
+    ensures either { (inputs : List (Reader I)) (archives : List (Reader P)) (os : List Operations) (key : SliceKey)
+        (digest : Option Digest) (draft : Writer) (slice told : List ℕ) → AreOwnIndexes inputs archives os
+        → DigestsTell os → IsKey key → (extract_at inputs archives key digest draft).writes.Makes slice told
+        → IsWanted (all_joined os) key digest slice × (told ≡ slice_line slice) }
+{}
+
+/// If no entry is wanted by the indexes of contents, whatever bytes the archives have, no slice of the join of the
+/// contents is. With a digest no slice that is held has it, nothing is told, and nothing is supposed of SHA-256.
+/// Without one the rows that are told are those of the slices that answer, in their order, if no two different slices
+/// of several contents have one SHA-256. Their lines are pinned where the keys of the rows have their widths.
+pub fn undecided_by_indexes<I: Placed, P: Placed>()
+    ensures digest { (inputs : List (Reader I)) (archives : List (Reader P)) (os : List Operations) (key : SliceKey)
+        (digest : Digest) (told : List ℕ) → AreIndexesGiven inputs os → IsKey key
+        → LacksEntry inputs archives key (Some digest) told
+        → AreUndecided (all_joined os) key (Some digest) [] × (told ≡ slices_text []) }
+    ensures entry { (inputs : List (Reader I)) (archives : List (Reader P)) (os : List Operations) (key : SliceKey)
+        (digest : Option Digest) (told : List ℕ) → AreIndexesGiven inputs os → DigestsTell os → IsKey key
+        → LacksEntry inputs archives key digest told → TellsUndecided (all_joined os) key digest told }
+    ensures alone { (input : Reader I) (archive : Reader P) (o : Operations) (key : SliceKey) (digest : Option Digest)
+        (told : List ℕ) → IsIndexGiven input o → IsKey key → LacksEntry (input ∷ []) (archive ∷ []) key digest told
+        → TellsUndecided o key digest told }
+    ensures either { (inputs : List (Reader I)) (archives : List (Reader P)) (os : List Operations) (key : SliceKey)
+        (digest : Option Digest) (draft : Writer) (told : List ℕ) → AreOwnIndexes inputs archives os → DigestsTell os
+        → IsKey key → (extract_at inputs archives key digest draft).Lacks told
+        → TellsUndecided (all_joined os) key digest told }
+    ensures lines { (o : Operations) (key : SliceKey) (digest : Option Digest) (told : List ℕ)
+        (tells : TellsUndecided o key digest told) → IsKey key
+        → ((row : FindRow) → Contains tells.rows row → IsKey row.key) → told ≡ slices_text tells.slices }
+{}
+
+/// By the indexes of contents a table is refused for a device alone, or if lines are wanted for a slice that answers
+/// and has none, whatever bytes the archives have. By the indexes of these very archives all that is refused is so.
+pub fn undamaged_by_indexes<I: Placed, P: Placed>()
+    ensures tables { (lines : Bool) (keys : List (List ℕ)) (inputs : List (Reader I)) (archives : List (Reader P))
+        (os : List Operations) (at : InputName) (why : Why) → AreIndexesGiven inputs os
+        → AreUntold lines keys inputs archives at why → IsDeviceFault why ⊎ IsForLines lines os keys why }
+    ensures asked { (lines : Bool) (keys : List (List ℕ)) (inputs : List (Reader I)) (archives : List (Reader P))
+        (os : List Operations) (at : InputName) (why : Why) → AreOwnIndexes inputs archives os
+        → AreRefusedAsking lines keys inputs archives at why → IsDeviceFault why ⊎ IsForLines lines os keys why }
+{}

@@ -1,0 +1,58 @@
+//! What indexes tell together is what the contents tell as one that they were made of. Each law is the contract of a
+//! function that does nothing.
+
+ghost use Rattle.std.specs.Prelude.{◌≡◌, ℕ, Bool, List, [], ◌∷◌, Some, slice_get, true};
+ghost use Rattle.archive_core.specs.Content.{Operations};
+ghost use Rattle.archive_core.specs.Key.{IsKey, key_bytes};
+ghost use Rattle.archive_core.specs.Lookup.{AnswerRecord};
+ghost use Rattle.archive_core.specs.declared.keys.SliceKey.{SliceKey};
+ghost use Rattle.archive_core.specs.declared.lookup.Where.{Where};
+ghost use Rattle.dwarf_source_frames.specs.Frames.{FrameRecord};
+ghost use Rattle.table_source_frames.specs.SliceTable.{HasNoLines};
+ghost use Rattle.index_format.specs.Text.{IsIndexText};
+ghost use Rattle.command_queries.specs.Sources.{IsSourced};
+ghost use Rattle.index_lookup.specs.Among.{AreAnsweringAmong, AreTied, EntryAt, IsAmong, all_of, answers_among};
+ghost use Rattle.index_lookup.specs.AmongTold.{IsAnswerAmong};
+ghost use Rattle.index_lookup.specs.AmongAsked.{HasNoTable, IsUntoldAmong};
+ghost use Rattle.index_lookup.specs.declared.fault.AnswerFault.TheVariants.{Damaged, NoLines};
+ghost use Rattle.laws_index.specs.Indexes.{AnswersUnder, AreIndexes, AreTiedSlices, DigestsTell, IsIndexFile};
+ghost use Rattle.laws_index.specs.Indexes.{all_joined};
+
+/// The answer of several indexes under a key is that of the content that their contents make together, with the frames
+/// that are shown, if no two different slices of these have one SHA-256. The answer of one index is that of its
+/// content, and nothing is supposed of SHA-256.
+pub fn right_among()
+    ensures several { (os : List Operations) (texts : List (List ℕ)) (indexes : List (List (List ℕ))) (key : SliceKey)
+        (lines : Bool) (asked : Where) (answer : AnswerRecord) (frames : List (List FrameRecord))
+        → AreIndexes os texts indexes → DigestsTell os → IsKey key
+        → IsAnswerAmong texts indexes (key_bytes key) lines asked answer frames
+        → IsSourced (all_joined os) key lines asked answer frames }
+    ensures alone { (o : Operations) (text : List ℕ) (entries : List (List ℕ)) (key : SliceKey) (lines : Bool)
+        (asked : Where) (answer : AnswerRecord) (frames : List (List FrameRecord)) → IsIndexFile o text
+        → IsIndexText text entries → IsKey key
+        → IsAnswerAmong (text ∷ []) (entries ∷ []) (key_bytes key) lines asked answer frames
+        → IsSourced o key lines asked answer frames }
+{}
+
+/// No entry that answers is damaged: its table is stored where it says. One whose table has no lines is that of a slice
+/// that answers and has none. Nothing is supposed of SHA-256.
+pub fn undamaged_among()
+    ensures entry { (os : List Operations) (texts : List (List ℕ)) (indexes : List (List (List ℕ)))
+        (prefix text : List ℕ) (x : EntryAt) → AreIndexes os texts indexes → IsAmong indexes x
+        → answers_among prefix (all_of indexes) x.entry ≡ true → slice_get texts x.input ≡ Some text
+        → HasNoTable text x.entry → ⊥ }
+    ensures told { (os : List Operations) (texts : List (List ℕ)) (indexes : List (List (List ℕ))) (prefix : List ℕ)
+        (answering : List EntryAt) (input number : ℕ) → AreIndexes os texts indexes
+        → AreAnsweringAmong prefix indexes answering → IsUntoldAmong texts answering (Damaged input number) → ⊥ }
+    ensures lineless { (os : List Operations) (texts : List (List ℕ)) (indexes : List (List (List ℕ)))
+        (prefix : List ℕ) (answering : List EntryAt) (input number : ℕ) → AreIndexes os texts indexes
+        → AreAnsweringAmong prefix indexes answering → IsUntoldAmong texts answering (NoLines input number)
+        → (slice : List ℕ) × AnswersUnder os prefix slice × HasNoLines slice }
+{}
+
+/// Entries that are tied are those of two different slices of one length that answer under the key, of two contents.
+/// Nothing is supposed of SHA-256.
+pub fn tied_among()
+    ensures { (os : List Operations) (texts : List (List ℕ)) (indexes : List (List (List ℕ))) (key : SliceKey)
+        → AreIndexes os texts indexes → IsKey key → AreTied (key_bytes key) indexes → AreTiedSlices os key }
+{}

@@ -1,7 +1,0 @@
--- What the parts of a path of the code are in the definitions.
-use Rattle.line_programs.specs.Paths.{PathRecord}
-use Rattle.line_programs.specs.declared.path.PathParts.{PathParts}
-
--- the parts, without where they lie
-abbrev pub path_view : PathParts → PathRecord
-path_view p = record { base = p.base.now; directory = p.directory.now; name = p.name.now }

@@ -1,6 +1,0 @@
-use Rattle.std.proofs.Common.{◌≡◌, ◌++◌, drop}
-use Rattle.line_writing.specs.StepViews.{changed_after}
-use Rattle.line_writing.proofs.changes.changed_steps.Given as goal
-
-abbrev pub invariant-loop-step : goal.invariant-loop-step
-invariant-loop-step l = l.changed.items ++ changed_after l.before (drop l.step-index l.steps) ≡ changed_after 0 l.steps

@@ -1,6 +1,0 @@
-use Rattle.std.proofs.Common.{◌≡◌, take}
-use Rattle.line_writing.specs.Marks.{mark_of}
-use Rattle.line_writing.proofs.keys.mark_of.Given as goal
-
-abbrev pub invariant-loop-byte : goal.invariant-loop-byte
-invariant-loop-byte l = l.mark ≡ mark_of (take l.byte-index l.text)

@@ -1,5 +1,0 @@
-use Rattle.line_writing.proofs.TurnLemmas.{stays}
-use Rattle.line_writing.proofs.laws.frames_stay_between_turns.Goals as goal
-
-pub returns : goal.returns
-returns c = λ image turns a are fits none. stays image (c.same_between_turns.ensures image) (c.empty_before_turns.ensures image) turns are a fits none

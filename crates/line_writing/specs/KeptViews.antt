@@ -1,7 +1,0 @@
--- What is kept, without where texts lie.
-use Rattle.std.specs.Prelude.{map}
-use Rattle.line_writing.specs.Kept.{KeptRecord}
-use Rattle.line_writing.specs.declared.kept.Kept.{Kept}
-
-abbrev pub kept_view : Kept → KeptRecord
-kept_view k = record { texts = map (λ t. t.text.now) k.texts; files = k.files; locations = k.locations }

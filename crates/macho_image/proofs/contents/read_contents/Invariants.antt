@@ -1,5 +1,0 @@
-use Rattle.macho_image.proofs.Walk.{Reached}
-use Rattle.macho_image.proofs.contents.read_contents.Given as goal
-
-abbrev pub invariant-loop-number : goal.invariant-loop-number
-invariant-loop-number l = Reached l.area l.number l.rest l.contents.uuid l.contents.symtab

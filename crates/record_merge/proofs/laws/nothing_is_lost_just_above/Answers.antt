@@ -1,5 +1,0 @@
-use Rattle.record_merge.proofs.Rises.{rises}
-use Rattle.record_merge.proofs.laws.nothing_is_lost_just_above.Goals as goal
-
-pub returns : goal.returns
-returns c = rises

@@ -1,7 +1,0 @@
-use Rattle.std.proofs.Common.{take}
-use Rattle.sorted_archive.specs.InnerScan.{held_among, IsAnsweringOf}
-use Rattle.sorted_archive.proofs.plain.PlainArchive.answering.Given as goal
-
--- what is kept of the live slices among the operations so far
-abbrev pub invariant-operations : goal.invariant-operations
-invariant-operations l = IsAnsweringOf l.answering (held_among l.key l.dsym (take l.operation-index l.operations))

@@ -1,6 +1,0 @@
-use Rattle.std.proofs.Common.{◌≡◌}
-use Rattle.sorted_archive.proofs.plain.PlainArchive.keep_digests_of.Given as goal
-
--- the content is as it was
-abbrev pub invariant-keys : goal.invariant-keys
-invariant-keys l = l.self ≡ l.initial.self

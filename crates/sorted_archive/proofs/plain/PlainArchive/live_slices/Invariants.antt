@@ -1,7 +1,0 @@
-use Rattle.std.proofs.Common.{◌≡◌, map, take}
-use Rattle.sorted_archive.specs.InnerScan.{held_among}
-use Rattle.sorted_archive.proofs.plain.PlainArchive.live_slices.Given as goal
-
--- the live slices among the operations so far
-abbrev pub invariant-operations : goal.invariant-operations
-invariant-operations l = map (λ slice. slice.now) l.slices.items ≡ held_among l.key l.dsym (take l.operation-index l.operations)

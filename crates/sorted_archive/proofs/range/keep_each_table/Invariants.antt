@@ -1,6 +1,0 @@
-use Rattle.std.proofs.Common.{◌≡◌}
-use Rattle.sorted_archive.proofs.range.keep_each_table.Given as goal
-
--- the operations are as they were
-abbrev pub invariant-operations : goal.invariant-operations
-invariant-operations l = l.operation-items ≡ l.fn.operations

@@ -1,4 +1,0 @@
-use Rattle.source_frames.proofs.debug_sections.DebugSections.of.Goals as goal
-
-pub returns : goal.returns
-returns c = cc

@@ -1,6 +1,0 @@
-use Rattle.source_frames.specs.DebugSections.{debug_sections}
-use Rattle.source_frames.proofs.LawLemmas.{one_by}
-use Rattle.source_frames.proofs.laws.one_list_of_frames.Goals as goal
-
-pub returns : goal.returns
-returns c = λ image a one other p q. one_by (debug_sections image) a one other p q

@@ -1,5 +1,0 @@
-use Rattle.source_frames.proofs.UnitAddressLemmas.{one_place}
-use Rattle.source_frames.proofs.laws.one_unit.Goals as goal
-
-pub returns : goal.returns
-returns c = one_place

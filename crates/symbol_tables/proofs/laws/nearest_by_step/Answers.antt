@@ -1,5 +1,0 @@
-use Rattle.macho_symbols.proofs.StepLemmas.{by_step}
-use Rattle.symbol_tables.proofs.laws.nearest_by_step.Goals as goal
-
-pub returns : goal.returns
-returns c = by_step

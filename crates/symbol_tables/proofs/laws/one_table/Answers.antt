@@ -1,5 +1,0 @@
-use Rattle.symbol_tables.proofs.RowLemmas.{only_rows}
-use Rattle.symbol_tables.proofs.laws.one_table.Goals as goal
-
-pub returns : goal.returns
-returns c = λ rows others are others_are same. only_rows rows others are.each others_are.each same

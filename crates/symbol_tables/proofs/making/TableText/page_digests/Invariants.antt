@@ -1,6 +1,0 @@
-use Rattle.std.proofs.Common.{◌≡◌}
-use Rattle.checked_pages.specs.Pages.{digests_from}
-use Rattle.symbol_tables.proofs.making.TableText.page_digests.Given as goal
-
-abbrev pub invariant-pages : goal.invariant-pages
-invariant-pages l = l.digests.items ≡ digests_from l.index 0 l.self

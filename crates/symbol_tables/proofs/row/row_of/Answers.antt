@@ -1,6 +1,0 @@
-use Rattle.std.proofs.Common.{refl}
-use Rattle.symbol_tables.proofs.RowLemmas.{read_row}
-use Rattle.symbol_tables.proofs.row.row_of.Goals as goal
-
-pub returns : goal.returns
-returns c = λ r is e. read_row c.args.bytes.now _ _ _ _ r is e c.u64_be_at.ensures c.u64_be_at-2.ensures c.u32_be_at.ensures refl

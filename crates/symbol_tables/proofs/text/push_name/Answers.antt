@@ -1,8 +1,0 @@
-use Rattle.std.proofs.Common.{arith}
-use Rattle.symbol_tables.proofs.TextLemmas.{padded_pushed, zeros_after}
-use Rattle.symbol_tables.proofs.text.push_name.Goals as goal
-
-pub returns : goal.returns
-returns c =
-    padded_pushed c.args.text.now.items c.args.name.now _ _ _ c.in_ok-extend_from_slice.ensures.items c.in_ok-extend_from_slice-2.ensures.items
-    (zeros_after c.args.name.now c.min.result (omega (arith, c.min.ensures)))

@@ -1,0 +1,79 @@
+//! Which of some places in stored pages are below what is sought, found by halving.
+
+ghost use Rattle.std.specs.Prelude.{◌≡◌, ◌≤◌, ◌<◌, ℕ, List, Decides, IfOk};
+ghost use Rattle.table_checked_pages.specs.Halving.{IsEdge};
+ghost use Rattle.table_checked_pages.specs.Pages.{AreStored};
+ghost use Rattle.table_checked_pages.specs.Reading.{ReadsStored};
+ghost use Rattle.table_checked_pages.specs.Views.{ArePagesOf, KeepsPages, claim_view};
+
+use crate::fault::CheckFault;
+use crate::pages::Pages;
+use byte_device::Placed;
+
+/// What is sought among rows that stand in pages by place.
+pub trait Sought {
+    // What the rows are.
+    ghost Rows: { Type 0 };
+
+    // These rows stand in all bytes of the pages.
+    ghost stand: { Self → Rows → List ℕ → Type 0 };
+
+    // All that may be asked for is held in all bytes of the pages.
+    ghost is_held: { Self → List ℕ → Type 0 };
+
+    // The row of a place is below what is sought.
+    ghost is_below: { Self → Rows → ℕ → Type 0 };
+
+    // How many rows may be asked for.
+    ghost count: { Self → ℕ };
+
+    /// Whether the row of a place is below what is sought.
+    fn is_below<P: Placed>(
+        &self,
+        device: &mut P,
+        pages: &mut Pages,
+        place: u64,
+    ) -> Result<bool, CheckFault>
+        requires { place < count self.now }
+        ensures claim { pages.new.claim ≡ pages.old.claim }
+        ensures keeps { KeepsPages P.whole device.old pages.old pages.new }
+        ensures read { ReadsStored P.whole P.failures device.old device.new result
+            (λ text below. (all : List ℕ) (rows : Rows) → ArePagesOf pages.old text all → stand self.now rows all
+            → Decides below (is_below self.now rows place))
+            (λ text. (all : List ℕ) → AreStored text (claim_view pages.old.claim) all → ArePagesOf pages.old text all
+            → is_held self.now all → ⊥) };
+}
+
+/// A place from `from` to `to`: the row before it is below what is sought, and its own is not. One row is read for each
+/// halving. Where rows ascend, those before it are all that are below.
+pub fn partition_point<P: Placed, S: Sought>(
+    device: &mut P,
+    pages: &mut Pages,
+    sought: &S,
+    from: u64,
+    to: u64,
+) -> Result<u64, CheckFault>
+    requires from { from ≤ S.count sought.now }
+    requires to { to ≤ S.count sought.now }
+    ensures claim { pages.new.claim ≡ pages.old.claim }
+    ensures keeps { KeepsPages P.whole device.old pages.old pages.new }
+    ensures within { IfOk result (λ place. (from ≤ place) × (place ≤ S.count sought.now)) }
+    ensures read { ReadsStored P.whole P.failures device.old device.new result
+        (λ text place. (all : List ℕ) (rows : S.Rows) → ArePagesOf pages.old text all → S.stand sought.now rows all
+        → IsEdge (S.is_below sought.now rows) from to place)
+        (λ text. (all : List ℕ) → AreStored text (claim_view pages.old.claim) all → ArePagesOf pages.old text all
+        → S.is_held sought.now all → ⊥) }
+{
+    let mut low = from;
+    let mut high = to;
+    'halving: while low < high {
+        let middle = low + (high - low) / 2;
+        let below = sought.is_below(device, pages, middle)?;
+        if below {
+            low = middle + 1;
+        } else {
+            high = middle;
+        }
+    }
+    Ok(low)
+}

@@ -1,0 +1,91 @@
+use Rattle.std.proofs.Common.{refl, sym, subst, ◌∙◌, arith}
+use Rattle.table_checked_pages.specs.Pages.{AreStored}
+use Rattle.table_checked_pages.specs.Views.{claim_view}
+use Rattle.table_checked_pages.proofs.ReadLemmas.{after_ok, passed_on}
+use Rattle.table_source_frames.specs.LineText.{parts_of}
+use Rattle.table_source_frames.proofs.OpenedLemmas.{kept}
+use Rattle.table_source_frames.proofs.SearchLemmas.{all_told, maybe_cons, maybe_nil, none_yet, pushed, too_long}
+use Rattle.table_source_frames.proofs.table.LineTable.frames_from.Goals as goal
+
+pub callers-init : goal.callers-init
+callers-init g c = record {
+  claim = refl;
+  whole = refl;
+  unfailed = refl;
+  keeps = λ text all known pages. pages;
+  told = λ text all steps chain known opened is few. (chain, is, none_yet c.new-frames.result.items chain c.new-frames.ensures.items);
+}
+
+pub returns-then-len-eq-MOST_FRAMES-clause-read : goal.returns-then-len-eq-MOST_FRAMES-clause-read
+returns-then-len-eq-MOST_FRAMES-clause-read g c = record {
+  says = λ text known all steps chain stored opened is few.
+      let told = c.callers.invariant.told text all steps chain known opened is few in
+      let next = maybe_cons (parts_of steps) c.callers.number told.0 c.callers-test.true told.1 in
+      too_long c.callers.frames.items next.0 next.1 told.0 chain (omega (arith, c.if-len-eq-MOST_FRAMES.true, c.len.ensures)) next.2 told.2 few;
+  keeps = c.callers.invariant.whole;
+  counts = c.callers.invariant.unfailed;
+}
+
+pub returns-in_err-row-clause-read : goal.returns-in_err-row-clause-read
+returns-in_err-row-clause-read g c =
+    passed_on _ _ _ _ _ _ _ _ _ _ _ c.in_err-row.was c.from_residual.ensures.1
+    (λ text known absent all steps chain stored opened is few.
+    let told = c.callers.invariant.told text all steps chain known opened is few in
+    let next = maybe_cons (parts_of steps) c.callers.number told.0 c.callers-test.true told.1 in
+    absent all steps next.0 next.1 (subst (λ claim. AreStored text (claim_view claim) all) (sym c.callers.invariant.claim) stored)
+    (kept _ _ _ _ _ _ opened (c.callers.invariant.keeps text all known opened.are_pages)) next.3)
+    (after_ok _ _ _ _ _ _ _ _ c.callers.invariant.whole c.callers.invariant.unfailed c.location.ensures.read)
+
+pub returns-then-row-number-clause-read : goal.returns-then-row-number-clause-read
+returns-then-row-number-clause-read g c =
+    let row = after_ok _ _ _ _ _ _ _ _ c.callers.invariant.whole c.callers.invariant.unfailed c.in_ok-row.ensures.read in
+    record {
+      says = λ text known all steps chain stored opened is few.
+          let told = c.callers.invariant.told text all steps chain known opened is few in
+          let next = maybe_cons (parts_of steps) c.callers.number told.0 c.callers-test.true told.1 in
+          let here = row.says text known all steps next.0 next.1 (kept _ _ _ _ _ _ opened (c.callers.invariant.keeps text all known opened.are_pages)) next.3 in
+          omega (arith, here.1, c.if-row-number.true);
+      keeps = row.keeps;
+      counts = row.counts;
+    }
+
+pub returns-in_err-frame-clause-read : goal.returns-in_err-frame-clause-read
+returns-in_err-frame-clause-read g c =
+    let row = after_ok _ _ _ _ _ _ _ _ c.callers.invariant.whole c.callers.invariant.unfailed c.in_ok-row.ensures.read in
+    passed_on _ _ _ _ _ _ _ _ _ _ _ c.in_err-frame.was c.from_residual-in_err-frame.ensures.1
+    (λ text known absent all steps chain stored opened is few.
+    let told = c.callers.invariant.told text all steps chain known opened is few in
+    let next = maybe_cons (parts_of steps) c.callers.number told.0 c.callers-test.true told.1 in
+    let mid = kept _ _ _ _ _ _ opened (c.callers.invariant.keeps text all known opened.are_pages) in
+    let here = row.says text known all steps next.0 next.1 mid next.3 in
+    absent all steps next.0 next.1 (subst (λ claim. AreStored text (claim_view claim) all) (sym (c.in_ok-row.ensures.claim ∙ c.callers.invariant.claim)) stored)
+    (kept _ _ _ _ _ _ mid (c.in_ok-row.ensures.keeps text all (c.callers.invariant.whole ∙ known) mid.are_pages)) here.0)
+    (after_ok _ _ _ _ _ _ _ _ row.keeps row.counts c.frame.ensures.read)
+
+pub callers-preserved : goal.callers-preserved
+callers-preserved g c =
+    let row = after_ok _ _ _ _ _ _ _ _ c.callers.invariant.whole c.callers.invariant.unfailed c.in_ok-row.ensures.read in
+    let frame = after_ok _ _ _ _ _ _ _ _ row.keeps row.counts c.in_ok-frame.ensures.read in
+    record {
+      claim = c.in_ok-frame.ensures.claim ∙ c.in_ok-row.ensures.claim ∙ c.callers.invariant.claim;
+      whole = frame.keeps;
+      unfailed = frame.counts;
+      keeps = λ text all known pages.
+          c.in_ok-frame.ensures.keeps text all (row.keeps ∙ known) (c.in_ok-row.ensures.keeps text all (c.callers.invariant.whole ∙ known) (c.callers.invariant.keeps text all known pages));
+      told = λ text all steps chain known opened is few.
+          let told = c.callers.invariant.told text all steps chain known opened is few in
+          let next = maybe_cons (parts_of steps) c.callers.number told.0 c.callers-test.true told.1 in
+          let mid = kept _ _ _ _ _ _ opened (c.callers.invariant.keeps text all known opened.are_pages) in
+          let here = row.says text known all steps next.0 next.1 mid next.3 in
+          let view = frame.says text known all steps next.0 next.1 (kept _ _ _ _ _ _ mid (c.in_ok-row.ensures.keeps text all (c.callers.invariant.whole ∙ known) mid.are_pages)) here.0 in
+          (next.1, here.0.caller, pushed c.callers.frames.items _ c.in_ok-frame.frame next.0 next.1 told.0 chain c.in_ok-push.ensures.pushed view next.2 told.2);
+    }
+
+pub returns-clause-read : goal.returns-clause-read
+returns-clause-read g c = record {
+  says = λ text known all steps chain opened is few.
+      let told = c.callers.invariant.told text all steps chain known opened is few in
+      all_told c.callers.frames.items told.0 chain (maybe_nil (parts_of steps) c.callers.number told.0 c.callers-test.false told.1) told.2;
+  keeps = c.callers.invariant.whole;
+  counts = c.callers.invariant.unfailed;
+}

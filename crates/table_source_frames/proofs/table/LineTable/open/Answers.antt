@@ -1,0 +1,47 @@
+use Rattle.std.proofs.Common.{length, ap, sym, ◌∙◌, arith, length-drop}
+use Rattle.table_checked_pages.proofs.ReadLemmas.{passed_on}
+use Rattle.table_source_frames.proofs.OpeningLemmas.{head_read, opens_none, opens_not, opens_some, table_long}
+use Rattle.table_source_frames.proofs.table.LineTable.open.Goals as goal
+
+pub returns-in_err-read-clause-read : goal.returns-in_err-read-clause-read
+returns-in_err-read-clause-read g c =
+    passed_on _ _ _ _ _ _ _ _ _ _ _ c.in_err-read.was c.from_residual.ensures.1
+    (λ text known absent image all bytes stored pages stands is.
+    absent all stored pages (omega (arith, stands.0, ap length stands.1, length-drop c.args.offset all, table_long image bytes is, c.read.auto.buf)))
+    c.read.ensures.read
+
+pub returns-then-head-eq0-clause-read : goal.returns-then-head-eq0-clause-read
+returns-then-head-eq0-clause-read g c = record {
+  says = λ text known image all bytes pages stands is.
+      let e = c.head_of-head.ensures in
+      let head = head_read all bytes c.read.new.buf _ c.args.offset c.head_of-head.result stands c.read.auto.buf (c.in_ok-read.ensures.read.says text known all pages)
+      (record { lines = e.lines; runs = e.runs; steps = e.steps; locations = e.locations; files = e.files; texts = e.texts; bytes_of = e.bytes }) in
+      opens_none image bytes c.head_of-head.result is head c.if-head-eq0.true;
+  keeps = c.in_ok-read.ensures.read.keeps;
+  counts = c.in_ok-read.ensures.read.counts;
+}
+
+pub returns-in_default-clause-read : goal.returns-in_default-clause-read
+returns-in_default-clause-read g c = record {
+  says = λ text known image all bytes stored pages stands is.
+      let e = c.head_of-head.ensures in
+      let head = head_read all bytes c.read.new.buf _ c.args.offset c.head_of-head.result stands c.read.auto.buf (c.in_ok-read.ensures.read.says text known all pages)
+      (record { lines = e.lines; runs = e.runs; steps = e.steps; locations = e.locations; files = e.files; texts = e.texts; bytes_of = e.bytes }) in
+      opens_not image all bytes c.args.offset c.size.result c.head_of-head.result stands is head c.if-head-eq0.false
+      (stored.size ∙ ap (λ claim. claim.size) (sym c.in_ok-read.ensures.claim) ∙ sym c.size.ensures) (c.table.ensures.none c.in_default.is);
+  keeps = c.in_ok-read.ensures.read.keeps;
+  counts = c.in_ok-read.ensures.read.counts;
+}
+
+pub returns-clause-read : goal.returns-clause-read
+returns-clause-read g c = record {
+  says = λ text known image all bytes pages stands is.
+      let e = c.head_of-head.ensures in
+      let head = head_read all bytes c.read.new.buf _ c.args.offset c.head_of-head.result stands c.read.auto.buf (c.in_ok-read.ensures.read.says text known all pages)
+      (record { lines = e.lines; runs = e.runs; steps = e.steps; locations = e.locations; files = e.files; texts = e.texts; bytes_of = e.bytes }) in
+      let made = c.in-Some.ensures in
+      opens_some image all bytes text _ c.args.offset c.head_of-head.result c.in-Some.table (c.in_ok-read.ensures.keeps text all known pages) stands is head c.if-head-eq0.false
+      (record { offset_is = made.offset; runs = made.runs; steps = made.steps; locations = made.locations; files = made.files; texts = made.texts; bytes = made.bytes });
+  keeps = c.in_ok-read.ensures.read.keeps;
+  counts = c.in_ok-read.ensures.read.counts;
+}

@@ -1,0 +1,86 @@
+-- What single rows say: the words of inner functions. No contract of a public one has them.
+use Rattle.std.specs.Prelude.{◌≡◌, ◌<◌, ◌≤◌, ℕ, List, [], ◌∷◌, Option, Some, None, length, map, slice_index}
+use Rattle.std.specs.Prelude.{slice_index_or, take}
+use Rattle.std.specs.List.{concat}
+use Rattle.dwarf_lines.specs.Paths.{PathRecord}
+use Rattle.dwarf_source_frames.specs.Frames.{FrameRecord}
+use Rattle.table_source_frames.specs.LineText.{LineParts, parts_of}
+use Rattle.table_source_frames.specs.Numbering.{number_in, same_chain, same_path, same_text}
+use Rattle.table_source_frames.specs.Runs.{RunRecord, lower_half, runs_of, upper_half}
+use Rattle.table_source_frames.specs.Steps.{StepRecord, starts_of}
+use Rattle.table_source_frames.specs.declared.row.File.{File}
+use Rattle.table_source_frames.specs.declared.row.Location.{Location}
+use Rattle.table_source_frames.specs.declared.row.Run.{Run}
+use Rattle.table_source_frames.specs.declared.row.Step.{Step}
+use Rattle.table_source_frames.specs.declared.row.Text.{Text}
+
+-- this is the number of one of some texts
+pub record IsTextNumber (parts : LineParts) (number : ℕ) (text : List ℕ) : Type 0 where
+  pub is : number ≡ number_in same_text parts.texts text
+  pub some : 0 < number
+
+-- this is the number of one of some files
+pub record IsFileNumber (parts : LineParts) (number : ℕ) (path : PathRecord) : Type 0 where
+  pub is : number ≡ number_in same_path parts.files path
+  pub some : 0 < number
+
+-- this is the number of a chain
+pub record IsChainNumber (parts : LineParts) (number : ℕ) (chain : List FrameRecord) : Type 0 where
+  pub is : number ≡ number_in same_chain parts.chains chain
+  pub some : 0 < number
+
+-- a number of what may be there
+abbrev pub IsMaybeText : LineParts → ℕ → Option (List ℕ) → Type 0
+IsMaybeText parts number None = number ≡ 0
+IsMaybeText parts number (Some text) = IsTextNumber parts number text
+
+abbrev pub IsMaybeFile : LineParts → ℕ → Option PathRecord → Type 0
+IsMaybeFile parts number None = number ≡ 0
+IsMaybeFile parts number (Some path) = IsFileNumber parts number path
+
+abbrev pub IsMaybeChain : LineParts → ℕ → List FrameRecord → Type 0
+IsMaybeChain parts number [] = number ≡ 0
+IsMaybeChain parts number (frame ∷ callers) = IsChainNumber parts number (frame ∷ callers)
+
+-- a row is that of a chain
+pub record IsLocation (parts : LineParts) (row : Location) (frame : FrameRecord) (callers : List FrameRecord)
+    : Type 0 where
+  pub name : IsMaybeText parts row.name frame.name
+  pub file : IsMaybeFile parts row.file frame.path
+  pub line : row.line ≡ frame.line
+  pub column : row.column ≡ frame.column
+  pub caller : IsMaybeChain parts row.caller callers
+
+-- those of some numbers that are below a limit are the first ones, and so many
+pub record AreBelow (all : List ℕ) (limit count : ℕ) : Type 0 where
+  pub within : count ≤ length all
+  pub below : (j : ℕ) → j < count → slice_index all j < limit
+  pub others : (j : ℕ) → count ≤ j → j < length all → limit ≤ slice_index all j
+
+-- the upper halves of runs, and of the starts of steps
+abbrev pub run_halves : List StepRecord → List ℕ
+run_halves steps = map (λ r. r.upper) (runs_of steps)
+
+abbrev pub step_halves : List StepRecord → List ℕ
+step_halves steps = map upper_half (starts_of steps)
+
+-- a row is that of the run of an index
+pub record IsRunRow (steps : List StepRecord) (index : ℕ) (row : Run) : Type 0 where
+  pub upper : (d : RunRecord) → row.upper ≡ (slice_index_or (runs_of steps) index d).upper
+  pub count : (d : RunRecord) → row.steps ≡ (slice_index_or (runs_of steps) index d).steps
+
+-- a row is that of the step of an index
+pub record IsStepRow (steps : List StepRecord) (index : ℕ) (row : Step) : Type 0 where
+  pub lower : (d : StepRecord) → row.lower ≡ lower_half (slice_index_or steps index d).start
+  pub location : (d : StepRecord) → IsMaybeChain (parts_of steps) row.location (slice_index_or steps index d).frames
+
+-- a row is that of a file
+pub record IsFileRow (parts : LineParts) (row : File) (path : PathRecord) : Type 0 where
+  pub base : IsTextNumber parts row.base path.base
+  pub directory : IsTextNumber parts row.directory path.directory
+  pub name : IsTextNumber parts row.name path.name
+
+-- a row is that of the text of an index: its length, and how many bytes the texts before it have
+pub record IsTextRow (parts : LineParts) (index : ℕ) (row : Text) : Type 0 where
+  pub place : row.place ≡ length (concat (take index parts.texts))
+  pub long : row.length ≡ length (slice_index_or parts.texts index [])

@@ -1,0 +1,46 @@
+-- The line table of an image.
+use Rattle.std.specs.Prelude.{◌≡◌, ◌<◌, ◌≤◌, ◌*◌, ◌^◌, ◌⊎◌, ℕ, List, ◌++◌, All, length, max}
+use Rattle.std.specs.Int.{w64, to_be_bytes}
+use Rattle.std.specs.List.{concat}
+use Rattle.table_source_frames.specs.LineText.{LineParts, line_text, parts_of}
+use Rattle.table_source_frames.specs.Steps.{AreFrameSteps, StepRecord}
+
+-- lines and columns of frames have four bytes
+abbrev pub HaveFewLines : List StepRecord → Type 0
+HaveFewLines steps = All (λ s. All (λ f. (f.line < 2 ^ 32) × (f.column < 2 ^ 32)) s.frames) steps
+
+-- the counts of parts have four bytes, and so have the places and lengths of texts
+pub record AreFew (parts : LineParts) : Type 0 where
+  pub steps : length parts.steps < 2 ^ 32
+  pub chains : length parts.chains < 2 ^ 32
+  pub files : length parts.files < 2 ^ 32
+  pub texts : length parts.texts < 2 ^ 32
+  pub bytes : length (concat parts.texts) < 2 ^ 32
+
+-- the table of some steps fits into so many bytes, and each of its numbers into its own
+pub record FitsLines (room : ℕ) (steps : List StepRecord) : Type 0 where
+  pub lines : HaveFewLines steps
+  pub few : AreFew (parts_of steps)
+  pub size : length (line_text steps) ≤ room
+
+-- the bytes of a table that has no lines: a head of zeros
+unfoldable pub no_lines : List ℕ
+no_lines =
+    to_be_bytes w64 0 ++ (to_be_bytes w64 0 ++ (to_be_bytes w64 0 ++ (to_be_bytes w64 0
+    ++ (to_be_bytes w64 0 ++ (to_be_bytes w64 0 ++ to_be_bytes w64 0)))))
+
+-- the table of some steps where so many bytes are allowed: that of all of them where it fits, and else one that has no
+-- lines
+abbrev pub IsLineTextWithin : ℕ → List StepRecord → List ℕ → Type 0
+IsLineTextWithin room steps bytes =
+    (FitsLines room steps × (bytes ≡ line_text steps)) ⊎ ((FitsLines room steps → ⊥) × (bytes ≡ no_lines))
+
+-- how many bytes are allowed for the table of an image: four times its own, and always those of a head
+abbrev pub room_of : List ℕ → ℕ
+room_of image = max 56 (4 * length image)
+
+-- these bytes are the line table of an image
+pub record IsLineTable (image bytes : List ℕ) : Type 0 where
+  pub steps : List StepRecord
+  pub are_steps : AreFrameSteps image steps
+  pub is_text : IsLineTextWithin (room_of image) steps bytes

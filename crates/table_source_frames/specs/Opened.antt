@@ -1,0 +1,64 @@
+-- A line table that was opened, among the bytes of stored pages.
+use Rattle.std.specs.Prelude.{◌≡◌, ◌<◌, ◌^◌, ℕ, List, Option, Result, All, length}
+use Rattle.std.specs.List.{concat}
+use Rattle.table_checked_pages.specs.Pages.{AreStored}
+use Rattle.table_checked_pages.specs.Reading.{ReadsStored}
+use Rattle.table_checked_pages.specs.Standing.{IsRestFrom}
+use Rattle.table_checked_pages.specs.Views.{ArePagesOf, claim_view}
+use Rattle.table_checked_pages.specs.declared.fault.CheckFault.{CheckFault}
+use Rattle.table_checked_pages.specs.declared.pages.Pages.{Pages}
+use Rattle.table_source_frames.specs.LineTable.{AreFew, HaveFewLines}
+use Rattle.table_source_frames.specs.LineText.{LineParts, line_text, parts_of}
+use Rattle.table_source_frames.specs.Runs.{runs_of}
+use Rattle.table_source_frames.specs.Steps.{StepRecord}
+use Rattle.table_source_frames.specs.declared.table.LineTable.{LineTable}
+
+-- the numbers of a head are those of the parts of a table
+pub record IsHeadOf (table : LineTable) (parts : LineParts) : Type 0 where
+  pub runs : table.runs ≡ length (runs_of parts.steps)
+  pub steps : table.steps ≡ length parts.steps
+  pub locations : table.locations ≡ length parts.chains
+  pub files : table.files ≡ length parts.files
+  pub texts : table.texts ≡ length parts.texts
+  pub bytes : table.bytes ≡ length (concat parts.texts)
+
+-- each number of the table of some steps fits into its bytes
+pub record HaveWidths (steps : List StepRecord) : Type 0 where
+  pub starts : All (λ s. s.start < 2 ^ 64) steps
+  pub lines : HaveFewLines steps
+  pub few : AreFew (parts_of steps)
+
+-- these bytes end with the table of these steps, whose head was read
+pub record IsTextOf (table : LineTable) (all : List ℕ) (steps : List StepRecord) : Type 0 where
+  pub stands : IsRestFrom all table.offset (line_text steps)
+  pub widths : HaveWidths steps
+  pub head : IsHeadOf table (parts_of steps)
+
+-- The bytes of these pages end with the table of these steps, which was opened.
+pub record IsOpened (table : LineTable) (pages : Pages) (text all : List ℕ) (steps : List StepRecord) : Type 0 where
+  pub are_pages : ArePagesOf pages text all
+  pub stands : IsRestFrom all table.offset (line_text steps)
+  pub widths : HaveWidths steps
+  pub head : IsHeadOf table (parts_of steps)
+
+-- no table that was opened is stored there
+abbrev pub IsUnstored : LineTable → Pages → List ℕ → Type 0
+IsUnstored table pages text = (all : List ℕ) (steps : List StepRecord) → AreStored text (claim_view pages.claim) all
+    → IsOpened table pages text all steps → ⊥
+
+-- A call reads of a table that was opened: what it gives is true of the steps of that table, and it is refused as changed
+-- only if no such table is stored there.
+abbrev pub ReadsTable : {D T : Type 0} → (D → Option (List ℕ)) → (D → ℕ) → D → D → Result T CheckFault → LineTable → Pages
+    → (List StepRecord → T → Type 0) → Type 0
+ReadsTable whole failures old new result table pages IsTrue = ReadsStored whole failures old new result
+    (λ text given. (all : List ℕ) (steps : List StepRecord) → IsOpened table pages text all steps → IsTrue steps given)
+    (IsUnstored table pages)
+
+-- The same of a part of that table which it is asked for: whatever that is, what the call gives is true of it.
+abbrev pub ReadsPart : {D T : Type 0} (A : Type 0) → (D → Option (List ℕ)) → (D → ℕ) → D → D → Result T CheckFault → LineTable
+    → Pages → (List StepRecord → A → Type 0) → (List StepRecord → A → T → Type 0) → Type 0
+ReadsPart A whole failures old new result table pages IsPart IsTrue = ReadsStored whole failures old new result
+    (λ text given. (all : List ℕ) (steps : List StepRecord) (part : A) → IsOpened table pages text all steps
+    → IsPart steps part → IsTrue steps part given)
+    (λ text. (all : List ℕ) (steps : List StepRecord) (part : A) → AreStored text (claim_view pages.claim) all
+    → IsOpened table pages text all steps → IsPart steps part → ⊥)

@@ -1,0 +1,65 @@
+-- The frames of each address of an image, step by step.
+use Rattle.std.specs.Prelude.{◌≡◌, ◌≢◌, ◌<◌, ◌≤◌, ◌^◌, ℕ, zero, suc, List, [], length, map, slice_get, slice_index}
+use Rattle.std.specs.Prelude.{All, Contains, Option, Some, None, MatchOption}
+use Rattle.std.specs.Option.{option_map_or}
+use Rattle.dwarf_source_frames.specs.AddressFrames.{AreFramesOf}
+use Rattle.dwarf_source_frames.specs.Frames.{FrameRecord}
+
+-- from an address on, up to the next one, these are the frames, the innermost first
+pub record StepRecord : Type 0 where
+  pub start : ℕ
+  pub frames : List FrameRecord
+
+-- the addresses at which steps stand
+abbrev pub starts_of : List StepRecord → List ℕ
+starts_of steps = map (λ s. s.start) steps
+
+-- numbers ascend
+abbrev pub AreAscending : List ℕ → Type 0
+AreAscending all = (i j : ℕ) → i < j → j < length all → slice_index all i < slice_index all j
+
+-- the frames of the address before: before address 0 there are none
+abbrev pub AreFramesBefore : List ℕ → ℕ → List FrameRecord → Type 0
+AreFramesBefore image zero frames = frames ≡ []
+AreFramesBefore image (suc before) frames = AreFramesOf image before frames
+
+-- the frames of an address are others than those of the address before
+pub record Changes (image : List ℕ) (address : ℕ) : Type 0 where
+  pub before : List FrameRecord
+  pub frames : List FrameRecord
+  pub are_before : AreFramesBefore image address before
+  pub are_frames : AreFramesOf image address frames
+  pub differ : frames ≢ before
+
+-- the frames of an address are those of the address before
+pub record Stays (image : List ℕ) (address : ℕ) : Type 0 where
+  pub frames : List FrameRecord
+  pub are_before : AreFramesBefore image address frames
+  pub are_frames : AreFramesOf image address frames
+
+-- the steps of an image: one at exactly the addresses at which the frames change, ascending, with the frames there
+pub record AreFrameSteps (image : List ℕ) (steps : List StepRecord) : Type 0 where
+  pub rising : AreAscending (starts_of steps)
+  pub below : All (λ s. s.start < 2 ^ 64) steps
+  pub each : All (λ s. AreFramesOf image s.start s.frames) steps
+  pub changes : (a : ℕ) → Contains (starts_of steps) a → Changes image a
+  pub stays : (a : ℕ) → a < 2 ^ 64 → (Contains (starts_of steps) a → ⊥) → Stays image a
+
+-- the last of some numbers that is not above an address stands at this index
+pub record IsLastNotAbove (starts : List ℕ) (address index : ℕ) : Type 0 where
+  pub stands : index < length starts
+  pub not_above : slice_index starts index ≤ address
+  pub others : (j : ℕ) → index < j → j < length starts → address < slice_index starts j
+
+-- each of some numbers is above an address
+abbrev pub AreAbove : List ℕ → ℕ → Type 0
+AreAbove starts address = (j : ℕ) → j < length starts → address < slice_index starts j
+
+-- the index of the step that an address belongs to, by where steps start, or none
+abbrev pub IsStepFor : List ℕ → ℕ → Option ℕ → Type 0
+IsStepFor starts address found = MatchOption found (AreAbove starts address) (IsLastNotAbove starts address)
+
+-- the frames of the step of an index; where there is none there are none
+abbrev pub frames_at : List StepRecord → Option ℕ → List FrameRecord
+frames_at steps None = []
+frames_at steps (Some index) = option_map_or (λ s. s.frames) (slice_get steps index) []

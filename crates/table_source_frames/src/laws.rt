@@ -1,0 +1,61 @@
+//! What the definitions say of each other. Each law is the contract of a function that does nothing.
+
+ghost use Rattle.std.specs.Prelude.{◌≡◌, ◌<◌, ◌^◌, ℕ, List, Option};
+ghost use Rattle.dwarf_source_frames.specs.AddressFrames.{AreFramesOf};
+ghost use Rattle.table_source_frames.specs.LineTable.{IsLineTable, IsLineTextWithin};
+ghost use Rattle.table_source_frames.specs.SliceTable.{IsSliceTable};
+ghost use Rattle.table_source_frames.specs.Steps.{AreFrameSteps, IsStepFor, StepRecord, frames_at, starts_of};
+ghost use Rattle.table_symbols.specs.Table.{IsTableText};
+
+use dwarf_source_frames::laws::one_list_of_frames;
+
+/// An address belongs to one step or to none.
+pub fn one_step()
+    ensures { (starts : List ℕ) (address : ℕ) (found other : Option ℕ) → IsStepFor starts address found
+        → IsStepFor starts address other → found ≡ other }
+{}
+
+/// The frames of an address are those of the last step that begins at it or below it; where there is none it has none.
+pub fn frames_by_step()
+    ensures { (image : List ℕ) (steps : List StepRecord) (address : ℕ) (found : Option ℕ) → address < 2 ^ 64
+        → AreFrameSteps image steps → IsStepFor (starts_of steps) address found
+        → AreFramesOf image address (frames_at steps found) }
+{
+    one_list_of_frames();
+    one_step();
+}
+
+/// An image has one list of steps.
+pub fn one_list_of_steps()
+    ensures { (image : List ℕ) (steps others : List StepRecord) → AreFrameSteps image steps
+        → AreFrameSteps image others → steps ≡ others }
+{
+    one_list_of_frames();
+}
+
+/// Steps have one text within so many bytes.
+pub fn one_text()
+    ensures { (room : ℕ) (steps : List StepRecord) (bytes others : List ℕ) → IsLineTextWithin room steps bytes
+        → IsLineTextWithin room steps others → bytes ≡ others }
+{}
+
+/// An image has one line table.
+pub fn one_line_table()
+    ensures { (image bytes others : List ℕ) → IsLineTable image bytes → IsLineTable image others → bytes ≡ others }
+{
+    one_list_of_steps();
+    one_text();
+}
+
+/// A slice has one table.
+pub fn one_slice_table()
+    ensures { (image bytes others : List ℕ) → IsSliceTable image bytes → IsSliceTable image others → bytes ≡ others }
+{
+    one_line_table();
+    table_symbols::laws::one_text();
+}
+
+/// The table of a slice is a table of its symbols: what is asked of these by such a one is asked of it too.
+pub fn has_symbols()
+    ensures { (image bytes : List ℕ) → IsSliceTable image bytes → IsTableText image bytes }
+{}

@@ -1,0 +1,120 @@
+//! The head of a line table.
+
+ghost use Rattle.std.specs.Prelude.{◌≡◌, ◌+◌, ◌*◌, ℕ, List, IfSome, MatchOption, None, Some, length, take, drop};
+ghost use Rattle.std.specs.Int.{w64, from_be_bytes};
+ghost use Rattle.table_checked_pages.specs.Pages.{AreStored};
+ghost use Rattle.table_checked_pages.specs.Standing.{IsRestFrom};
+ghost use Rattle.table_checked_pages.specs.Views.{ArePagesOf, KeepsPages, claim_view};
+ghost use Rattle.table_checked_pages.specs.Reading.{ReadsStored};
+ghost use Rattle.table_source_frames.specs.LineTable.{IsLineTable, no_lines};
+ghost use Rattle.table_source_frames.specs.Opened.{IsOpened};
+ghost use Rattle.table_source_frames.specs.Steps.{AreFrameSteps, StepRecord};
+
+use crate::row::{FILE_LEN, LOCATION_LEN, RUN_LEN, STEP_LEN, TEXT_LEN};
+use crate::table::{HEAD_LEN, LineTable};
+use byte_device::Placed;
+use table_checked_pages::{CheckFault, Pages, u64_be_at};
+
+/// What a head says: whether there are lines, and how many there are of each part.
+#[derive(Clone, Copy)]
+struct Head {
+    lines: u64,
+    runs: u64,
+    steps: u64,
+    locations: u64,
+    files: u64,
+    texts: u64,
+    bytes: u64,
+}
+
+/// The head that these bytes are.
+fn head_of(bytes: &[u8]) -> Head
+    requires { length bytes.now ≡ 56 }
+    ensures lines { result.lines ≡ from_be_bytes w64 (take 8 (drop 0 bytes.now)) }
+    ensures runs { result.runs ≡ from_be_bytes w64 (take 8 (drop 8 bytes.now)) }
+    ensures steps { result.steps ≡ from_be_bytes w64 (take 8 (drop 16 bytes.now)) }
+    ensures locations { result.locations ≡ from_be_bytes w64 (take 8 (drop 24 bytes.now)) }
+    ensures files { result.files ≡ from_be_bytes w64 (take 8 (drop 32 bytes.now)) }
+    ensures texts { result.texts ≡ from_be_bytes w64 (take 8 (drop 40 bytes.now)) }
+    ensures bytes { result.bytes ≡ from_be_bytes w64 (take 8 (drop 48 bytes.now)) }
+{
+    Head {
+        lines: u64_be_at(bytes, 0),
+        runs: u64_be_at(bytes, 8),
+        steps: u64_be_at(bytes, 16),
+        locations: u64_be_at(bytes, 24),
+        files: u64_be_at(bytes, 32),
+        texts: u64_be_at(bytes, 40),
+        bytes: u64_be_at(bytes, 48),
+    }
+}
+
+impl Head {
+    /// How many bytes a table with this head has.
+    fn len(&self) -> u128
+        ensures { result ≡ 56 + 8 * self.now.runs + 8 * self.now.steps + 20 * self.now.locations
+            + 12 * self.now.files + 8 * self.now.texts + self.now.bytes }
+    {
+        let runs = RUN_LEN as u128 * u128::from(self.runs);
+        let steps = STEP_LEN as u128 * u128::from(self.steps);
+        let locations = LOCATION_LEN as u128 * u128::from(self.locations);
+        let files = FILE_LEN as u128 * u128::from(self.files);
+        let texts = TEXT_LEN as u128 * u128::from(self.texts);
+        HEAD_LEN as u128 + runs + steps + locations + files + texts + u128::from(self.bytes)
+    }
+
+    /// The table with this head from an offset on, where it ends with so many bytes.
+    fn table(&self, offset: u64, size: u64) -> Option<LineTable>
+        ensures offset { IfSome result (λ table. table.offset ≡ offset) }
+        ensures runs { IfSome result (λ table. table.runs ≡ self.now.runs) }
+        ensures steps { IfSome result (λ table. table.steps ≡ self.now.steps) }
+        ensures locations { IfSome result (λ table. table.locations ≡ self.now.locations) }
+        ensures files { IfSome result (λ table. table.files ≡ self.now.files) }
+        ensures texts { IfSome result (λ table. table.texts ≡ self.now.texts) }
+        ensures bytes { IfSome result (λ table. table.bytes ≡ self.now.bytes) }
+        ensures none { result ≡ None → offset + 56 + 8 * self.now.runs + 8 * self.now.steps + 20 * self.now.locations
+            + 12 * self.now.files + 8 * self.now.texts + self.now.bytes ≡ size → ⊥ }
+    {
+        if u128::from(offset) + self.len() != u128::from(size) {
+            return None;
+        }
+        Some(LineTable {
+            offset,
+            runs: self.runs,
+            steps: self.steps,
+            locations: self.locations,
+            files: self.files,
+            texts: self.texts,
+            bytes: self.bytes,
+        })
+    }
+}
+
+impl LineTable {
+    /// The line table that stands among stored bytes from an offset on, and ends them; none where it has no lines.
+    pub fn open<P: Placed>(
+        device: &mut P,
+        pages: &mut Pages,
+        offset: u64,
+    ) -> Result<Option<LineTable>, CheckFault>
+        ensures claim { pages.new.claim ≡ pages.old.claim }
+        ensures keeps { KeepsPages P.whole device.old pages.old pages.new }
+        ensures read { ReadsStored P.whole P.failures device.old device.new result
+            (λ text found. (image all bytes : List ℕ) → ArePagesOf pages.old text all → IsRestFrom all offset bytes
+            → IsLineTable image bytes → MatchOption found (bytes ≡ no_lines)
+            (λ table. (steps : List StepRecord) × AreFrameSteps image steps × IsOpened table pages.new text all steps))
+            (λ text. (image all bytes : List ℕ) → AreStored text (claim_view pages.old.claim) all
+            → ArePagesOf pages.old text all → IsRestFrom all offset bytes → IsLineTable image bytes → ⊥) }
+    {
+        let mut bytes = [0; HEAD_LEN];
+        pages.read(device, offset, &mut bytes)?;
+        let head = head_of(&bytes);
+        if head.lines == 0 {
+            return Ok(None);
+        }
+        let Some(table) = head.table(offset, pages.size()) else {
+            return Err(CheckFault::Changed);
+        };
+        Ok(Some(table))
+    }
+}

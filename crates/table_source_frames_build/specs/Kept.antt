@@ -1,0 +1,145 @@
+-- What frames have, each thing once and told by number, from 1 on.
+use Rattle.std.specs.Prelude.{ℕ, zero, suc, List, [], ◌∷◌, ◌++◌, ◌≡◌, ◌<◌, ◌≤◌, ◌^◌, ◌⊎◌, length, slice_index_or}
+use Rattle.std.specs.Prelude.{Option, Some, None}
+use Rattle.dwarf_lines.specs.Paths.{PathRecord}
+use Rattle.dwarf_source_frames.specs.Frames.{FrameRecord}
+use Rattle.table_source_frames_build.specs.Numbering.{IsNumber}
+use Rattle.table_source_frames_build.specs.declared.keys.FileKey.{FileKey}
+use Rattle.table_source_frames_build.specs.declared.keys.LocationKey.{LocationKey}
+
+-- texts, and files and locations by the numbers of what they have
+pub record KeptRecord : Type 0 where
+  pub texts : List (List ℕ)
+  pub files : List FileKey
+  pub locations : List LocationKey
+
+-- the one of a number, or another one
+abbrev pub numbered_or : {A : Type 0} → List A → A → ℕ → A
+numbered_or all other zero = other
+numbered_or all other (suc index) = slice_index_or all index other
+
+-- what a number tells of, by this; 0 tells of nothing
+abbrev pub at_number : {A : Type 0} → (ℕ → A) → ℕ → Option A
+at_number told zero = None
+at_number told (suc index) = Some (told (suc index))
+
+-- the text of a number
+abbrev pub text_at : KeptRecord → ℕ → List ℕ
+text_at k number = numbered_or k.texts [] number
+
+-- what is kept of the file of a number
+abbrev pub file_key_at : KeptRecord → ℕ → FileKey
+file_key_at k number = numbered_or k.files (record { base = 0; directory = 0; name = 0 }) number
+
+-- the path that a key tells of
+abbrev pub path_of_key : KeptRecord → FileKey → PathRecord
+path_of_key k key = record { base = text_at k key.base; directory = text_at k key.directory; name = text_at k key.name }
+
+-- the path of the file of a number
+abbrev pub file_at : KeptRecord → ℕ → PathRecord
+file_at k number = path_of_key k (file_key_at k number)
+
+-- what is kept of the location of a number
+abbrev pub location_key_at : KeptRecord → ℕ → LocationKey
+location_key_at k number =
+    numbered_or k.locations (record { name = 0; file = 0; line = 0; column = 0; caller = 0 }) number
+
+-- the frame that a key tells of
+abbrev pub frame_of_key : KeptRecord → LocationKey → FrameRecord
+frame_of_key k key =
+    record {
+      name = at_number (text_at k) key.name;
+      path = at_number (file_at k) key.file;
+      line = key.line;
+      column = key.column;
+    }
+
+-- the first so many numbers of a location and of those that it is inlined into, one into the next
+unfoldable pub callers_within : KeptRecord → ℕ → ℕ → List ℕ
+callers_within k zero number = []
+callers_within k (suc room) zero = []
+callers_within k (suc room) (suc index) = suc index ∷ callers_within k room (location_key_at k (suc index)).caller
+
+-- the numbers of a location and of those that it is inlined into, the innermost first
+unfoldable pub callers_of : KeptRecord → ℕ → List ℕ
+callers_of k number = callers_within k number number
+
+-- the first so many frames of a location, the innermost first
+unfoldable pub chain_within : KeptRecord → ℕ → ℕ → List FrameRecord
+chain_within k zero number = []
+chain_within k (suc room) zero = []
+chain_within k (suc room) (suc index) =
+    frame_of_key k (location_key_at k (suc index))
+    ∷ chain_within k room (location_key_at k (suc index)).caller
+
+-- the frames of a location, the innermost first; 0 has none
+unfoldable pub chain_at : KeptRecord → ℕ → List FrameRecord
+chain_at k number = chain_within k number number
+
+-- a key of a file has numbers of texts
+pub record IsFileKey (k : KeptRecord) (key : FileKey) : Type 0 where
+  pub base : IsNumber (length k.texts) key.base
+  pub directory : IsNumber (length k.texts) key.directory
+  pub name : IsNumber (length k.texts) key.name
+
+-- a key of the location of a number has numbers of what is there, or none
+pub record IsLocationKey (k : KeptRecord) (number : ℕ) (key : LocationKey) : Type 0 where
+  pub name : key.name ≤ length k.texts
+  pub file : key.file ≤ length k.files
+  pub caller : key.caller < number
+  pub line : key.line < 2 ^ 32
+  pub column : key.column < 2 ^ 32
+
+-- each thing is kept once, and each number tells of something
+pub record IsKept (k : KeptRecord) : Type 0 where
+  pub texts : (m n : ℕ) → IsNumber (length k.texts) m → IsNumber (length k.texts) n
+      → text_at k m ≡ text_at k n → m ≡ n
+  pub files : (m n : ℕ) → IsNumber (length k.files) m → IsNumber (length k.files) n
+      → file_key_at k m ≡ file_key_at k n → m ≡ n
+  pub locations : (m n : ℕ) → IsNumber (length k.locations) m → IsNumber (length k.locations) n
+      → location_key_at k m ≡ location_key_at k n → m ≡ n
+  pub each_file : (n : ℕ) → IsNumber (length k.files) n → IsFileKey k (file_key_at k n)
+  pub each_location : (n : ℕ) → IsNumber (length k.locations) n → IsLocationKey k n (location_key_at k n)
+
+-- an element has this number in the new list, which is the old one, or this and the element, if it was not there
+pub record IsNumberedIn {A : Type 0} (other : A) (old : List A) (x : A) (number : ℕ) (new : List A) : Type 0 where
+  pub is_number : IsNumber (length new) number
+  pub is : numbered_or new other number ≡ x
+  pub kept : (new ≡ old)
+      ⊎ ((new ≡ old ++ x ∷ []) × ((n : ℕ) → IsNumber (length old) n → numbered_or old other n ≡ x → ⊥))
+
+-- a list goes on as another one
+pub record GoesOn {A : Type 0} (old new : List A) : Type 0 where
+  pub more : List A
+  pub is : new ≡ old ++ more
+
+-- something is added, or nothing
+pub record Grows (old new : KeptRecord) : Type 0 where
+  pub texts : GoesOn old.texts new.texts
+  pub files : GoesOn old.files new.files
+  pub locations : GoesOn old.locations new.locations
+
+-- the number of a text
+pub record IsText (k : KeptRecord) (number : ℕ) (text : List ℕ) : Type 0 where
+  pub is_number : IsNumber (length k.texts) number
+  pub is : text_at k number ≡ text
+
+-- the number of a name, or 0
+pub record IsName (k : KeptRecord) (number : ℕ) (name : Option (List ℕ)) : Type 0 where
+  pub within : number ≤ length k.texts
+  pub is : at_number (text_at k) number ≡ name
+
+-- the key of a path
+pub record IsKeyOf (k : KeptRecord) (key : FileKey) (path : PathRecord) : Type 0 where
+  pub is_key : IsFileKey k key
+  pub is : path_of_key k key ≡ path
+
+-- the number of a file, or 0
+pub record IsFile (k : KeptRecord) (number : ℕ) (path : Option PathRecord) : Type 0 where
+  pub within : number ≤ length k.files
+  pub is : at_number (file_at k) number ≡ path
+
+-- the number of a location, of which these are the frames
+pub record IsLocation (k : KeptRecord) (number : ℕ) (frames : List FrameRecord) : Type 0 where
+  pub within : number ≤ length k.locations
+  pub is : chain_at k number ≡ frames

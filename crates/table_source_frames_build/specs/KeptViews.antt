@@ -1,0 +1,7 @@
+-- What is kept, without where texts lie.
+use Rattle.std.specs.Prelude.{map}
+use Rattle.table_source_frames_build.specs.Kept.{KeptRecord}
+use Rattle.table_source_frames_build.specs.declared.kept.Kept.{Kept}
+
+abbrev pub kept_view : Kept → KeptRecord
+kept_view k = record { texts = map (λ t. t.text.now) k.texts; files = k.files; locations = k.locations }

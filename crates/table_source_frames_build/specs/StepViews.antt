@@ -1,0 +1,24 @@
+-- What steps of the code are in the definitions.
+use Rattle.std.specs.Prelude.{ℕ, List, [], ◌∷◌, ◌==◌, ◌≤◌, All, if◌then◌else◌, length, map}
+use Rattle.table_source_frames.specs.Steps.{StepRecord}
+use Rattle.table_source_frames_build.specs.Kept.{KeptRecord, chain_at}
+use Rattle.table_source_frames_build.specs.declared.step.Step.{Step}
+
+-- a step with its frames
+abbrev pub step_of : KeptRecord → Step → StepRecord
+step_of k step = record { start = step.start; frames = chain_at k step.location }
+
+-- the addresses at which steps stand
+abbrev pub step_starts : List Step → List ℕ
+step_starts steps = map (λ (s : Step). s.start) steps
+
+-- the locations of steps are there, or 0
+abbrev pub HaveLocations : KeptRecord → List Step → Type 0
+HaveLocations k steps = All (λ (s : Step). s.location ≤ length k.locations) steps
+
+-- steps, after this location, without those whose location is that of the one before
+unfoldable pub changed_after : ℕ → List Step → List Step
+changed_after before [] = []
+changed_after before (step ∷ steps) =
+    if step.location == before then changed_after before steps
+    else step ∷ changed_after step.location steps

@@ -1,0 +1,58 @@
+//! What is kept of a text, of a file and of a location.
+
+ghost use Rattle.std.specs.Prelude.{◌≡◌};
+ghost use Rattle.table_source_frames_build.specs.Marks.{mark_of};
+
+/// A text, after a mark of it: most texts differ in it, and so are told apart by one number.
+#[derive(Clone, Copy, PartialEq, Eq, PartialOrd, Ord)]
+pub(crate) struct TextKey<'a> {
+    pub mark: u64,
+    pub text: &'a [u8],
+    ghost marked: { mark ≡ mark_of text.now },
+}
+
+/// The mark of a text.
+#[tactic(auto, unfolding(crate::specs::Marks::mark_of))]
+fn mark_of(text: &[u8]) -> u64
+    ensures { result ≡ mark_of text.now }
+{
+    let mut mark = 0u64;
+    for byte in text {
+        mark = mark
+            .wrapping_mul(0x100_0000_01b3)
+            .wrapping_add(u64::from(*byte));
+    }
+    mark
+}
+
+impl<'a> TextKey<'a> {
+    /// The key of a text.
+    pub fn of(text: &'a [u8]) -> TextKey<'a>
+        ensures { result.text.now ≡ text.now }
+    {
+        TextKey {
+            mark: mark_of(text),
+            text,
+        }
+    }
+}
+
+/// The numbers of the texts of the path of a file.
+#[derive(Clone, Copy, PartialEq, Eq, PartialOrd, Ord)]
+pub(crate) struct FileKey {
+    pub base: u32,
+    pub directory: u32,
+    pub name: u32,
+}
+
+/// A location: the number of the location that it is inlined into (0: none), which is smaller than its own, the number
+/// of the name of its function (0: none), its line and column, and the number of its file (0: none). Its caller comes
+/// first, so that locations which come one after another are near each other in order.
+#[derive(Clone, Copy, PartialEq, Eq, PartialOrd, Ord)]
+pub(crate) struct LocationKey {
+    pub caller: u32,
+    pub name: u32,
+    pub line: u32,
+    pub column: u32,
+    pub file: u32,
+}

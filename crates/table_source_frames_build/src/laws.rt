@@ -1,0 +1,57 @@
+//! What the definitions say of each other, and why it is enough to take the turns of an image.
+
+ghost use Rattle.std.specs.Prelude.{◌<◌, ◌^◌, ℕ, List, [], All, Contains, Some};
+ghost use Rattle.dwarf_source_frames.specs.AddressFrames.{AreFramesOf};
+ghost use Rattle.dwarf_frame_changes.specs.Given.{AreTurnsOf, TurnRecord};
+ghost use Rattle.dwarf_frame_changes.specs.Turns.{IsTurn};
+ghost use Rattle.table_source_frames.specs.LineTable.{IsLineTable, room_of};
+ghost use Rattle.table_source_frames.specs.Steps.{AreFrameSteps, Stays, StepRecord, starts_of};
+ghost use Rattle.table_source_frames_build.specs.Lines.{AreLeastSteps, IsWritten, after_steps};
+ghost use Rattle.table_source_frames_build.specs.TurnSteps.{steps_of_turns};
+
+use dwarf_frame_changes::laws::{empty_before_turns, same_between_turns};
+use dwarf_source_frames::laws::one_list_of_frames;
+
+/// Where the frames of addresses were taken, and those of an image change at no other address, the least steps are
+/// those of the image.
+pub fn least_steps_are_frame_steps()
+    ensures { (image : List ℕ) (added steps : List StepRecord) → AreLeastSteps added steps
+        → All (λ s. s.start < 2 ^ 64) added → All (λ s. AreFramesOf image s.start s.frames) added
+        → ((a : ℕ) → a < 2 ^ 64 → (Contains (starts_of added) a → ⊥) → Stays image a)
+        → AreFrameSteps image steps }
+{
+    one_list_of_frames();
+}
+
+/// What a store writes that took the frames of some addresses is the table of all of them, also if it gave up.
+pub fn table_of_all()
+    ensures { (room : ℕ) (added : List StepRecord) (bytes : List ℕ) →
+        IsWritten room (after_steps (Some []) added) bytes → IsWritten room (Some added) bytes }
+{}
+
+/// Where the frames at all turns are known, those of an address that is no turn are those of the address before.
+pub fn frames_stay_between_turns()
+    ensures { (image : List ℕ) (turns : List TurnRecord) (a : ℕ) → AreTurnsOf image turns → a < 2 ^ 64
+        → (IsTurn image a → ⊥) → Stays image a }
+{
+    same_between_turns();
+    empty_before_turns();
+}
+
+/// The least steps that tell the frames at the turns of an image are the steps of the image.
+pub fn steps_by_turns()
+    ensures { (image : List ℕ) (turns : List TurnRecord) (steps : List StepRecord) → AreTurnsOf image turns
+        → AreLeastSteps (steps_of_turns turns) steps → AreFrameSteps image steps }
+{
+    frames_stay_between_turns();
+    least_steps_are_frame_steps();
+}
+
+/// What a store writes that took the turns of an image is the line table of the image.
+pub fn table_by_turns()
+    ensures { (image : List ℕ) (turns : List TurnRecord) (bytes : List ℕ) → AreTurnsOf image turns
+        → IsWritten (room_of image) (after_steps (Some []) (steps_of_turns turns)) bytes → IsLineTable image bytes }
+{
+    table_of_all();
+    steps_by_turns();
+}

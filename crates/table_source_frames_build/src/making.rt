@@ -1,0 +1,34 @@
+//! The line table of an image.
+
+ghost use Rattle.std.specs.Prelude.{◌≡◌, IfOk};
+ghost use Rattle.table_source_frames.specs.LineTable.{IsLineTable, room_of};
+
+use crate::laws::table_by_turns;
+use crate::store::LineStore;
+use crate::taker::StoreTaker;
+use dwarf_frame_changes::give_turns;
+use macho_image::Image;
+use memory::{Heap, NoMemory};
+use table_source_frames::HEAD_LEN;
+
+/// How many bytes are allowed for the table of an image.
+fn room_for(image: &Image) -> u64
+    ensures { result ≡ room_of image.now }
+{
+    let most = 4 * image.bytes().len() as u64;
+    let least = HEAD_LEN as u64;
+    if most < least { least } else { most }
+}
+
+/// The line table of an image: that of its steps, if it fits into four times the bytes of the image, and else one that
+/// has no lines. It takes the time of [`give_turns`] and of a sort of the turns, and the memory of what frames have,
+/// each thing once, of 16 bytes for each turn, and of the table.
+pub fn line_table(heap: Heap, image: &Image) -> Result<Vec<u8, Heap>, NoMemory>
+    ensures { IfOk result (λ bytes. IsLineTable image.now bytes.items) }
+{
+    table_by_turns();
+    let store = LineStore::new(heap.share());
+    let mut taker = StoreTaker { store };
+    give_turns(heap.share(), image, &mut taker)?;
+    taker.store.finish(heap, room_for(image))
+}

@@ -1,0 +1,10 @@
+use Rattle.std.proofs.Common.{arith}
+use Rattle.table_symbols.specs.Table.{table_bytes}
+use Rattle.table_symbols.proofs.TableLemmas.{lines_stand}
+use Rattle.table_symbols.proofs.table.Table.into_lines.Goals as goal
+
+pub returns-clause-lines : goal.returns-clause-lines
+returns-clause-lines c = λ text t opened. (
+  c.forget.ensures.keeps text (table_bytes t) opened.pages,
+  lines_stand t c.first_line-first.result opened.fits (omega (arith, c.first_line-first.ensures, opened.head.sections, opened.head.rows, opened.head.strings)),
+)

@@ -1,0 +1,25 @@
+//! Where the lines stand in a stored table.
+
+ghost use Rattle.std.specs.Prelude.{◌≡◌, ℕ, List};
+ghost use Rattle.table_checked_pages.specs.Views.{ArePagesOf};
+ghost use Rattle.table_checked_pages.specs.Standing.{IsRestFrom};
+ghost use Rattle.table_symbols.specs.Opened.{IsOpened};
+ghost use Rattle.table_symbols.specs.Table.{TableParts, table_bytes};
+
+use crate::Table;
+use table_checked_pages::Pages;
+
+impl Table {
+    /// The bytes of the table, and the offset among them from which on they are its lines. Of the bytes that were read
+    /// for symbols none is kept.
+    pub fn into_lines(self) -> (Pages, u64)
+        ensures claim { result.0.claim ≡ self.pages.claim }
+        ensures lines { (text : List ℕ) (t : TableParts) → IsOpened self text t
+            → ArePagesOf result.0 text (table_bytes t) × IsRestFrom (table_bytes t) result.1 t.lines }
+    {
+        let first = self.first_line();
+        let mut pages = self.pages;
+        pages.forget();
+        (pages, first)
+    }
+}

@@ -1,0 +1,25 @@
+-- Whether what came is what has to come.
+use Rattle.std.specs.Prelude.{◌≡◌, ℕ, ◌==◌, List, All, IsOkAnd, string_bytes, take}
+use Rattle.std.specs.List.{common_prefix_len, count_by}
+use Rattle.test_acceptance.specs.declared.verdicts.Step.{Step}
+use Rattle.test_acceptance.specs.declared.verdicts.Outcome.{Outcome}
+
+-- the byte `\n`
+abbrev pub newline : ℕ
+newline = 10
+
+-- how many bytes two texts have in common before they part
+abbrev pub common_length : List ℕ → List ℕ → ℕ
+common_length wanted came = common_prefix_len (λ w c. w == c) wanted came
+
+-- the number, counted from 0, of the line in which two texts part: so many lines end before they do
+abbrev pub parting_line : List ℕ → List ℕ → ℕ
+parting_line wanted came = count_by (λ b. b == newline) (take (common_length wanted came) wanted)
+
+-- a line came as it stands: what came is what has to come, byte by byte
+abbrev pub IsAsItStands : Step → Type 0
+IsAsItStands step = string_bytes step.wanted ≡ string_bytes step.came
+
+-- what was asked for was carried out, and each of its lines came as it stands
+abbrev pub CameAsItStands : Outcome → Type 0
+CameAsItStands outcome = IsOkAnd outcome.ended (λ steps. All IsAsItStands steps.items)

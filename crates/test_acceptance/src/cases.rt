@@ -1,0 +1,409 @@
+//! The language of cases.
+//!
+//! A subject is a file of the folder `cases`. Each of its cases has a name, in a line `= NAME`, and what all of them
+//! need stands above the first one. A line `use NAME` stands for the lines of the file NAME of the folder `shared`. Any
+//! other line is carried out, and what has to come of it stands after it, in lines that begin with two spaces.
+//!
+//! What a line keeps is there for all that follow, so a case that is asked for alone is carried out after all that
+//! stands above it. A line is cut into words at each space; `words` has the form of a word with spaces, `"-[A b]"`.
+//!
+//! Files in memory, and what holds for the next call or command line alone:
+//!
+//! - an empty line, and one that begins with `#`, say nothing;
+//! - `file NAME PART..` keeps bytes under a name, and prints their number; `parts` has the forms of PART;
+//! - `line NAME TEXT` puts a line of text after a file, and prints the number of its bytes;
+//! - `same NAME PART..` prints whether a file has these bytes, or where the two differ first;
+//! - `hold pieces N`: inputs give at most N bytes at a time;
+//! - `hold growths N`: N growths are granted; `hold bytes N`: growths of N bytes in all are granted to a command, or to
+//!   a call that reads;
+//! - `hold opened N`: there is memory to open the first N inputs of a command, in the order of the words;
+//! - `hold out N`, `hold report N`: OUT, or the report, fails when it took N bytes; `hold places 0`: OUT takes all
+//!   bytes, and cannot be published;
+//! - `hold cut NAME N`: a file has its first N bytes alone; `hold read NAME N`: it fails when it gave N bytes;
+//! - `each cut NAME`, `each read NAME`, `each out`, `each report`, `each pieces N` carry the next one out at each
+//!   place, and print places in a row that have one outcome in one line;
+//! - `each growth` carries it out with 0, 1, .. growths until none is refused, and prints how many runs met a refusal
+//!   on either archive. A refused run leaves no report and nothing published, and OUT's draft empty or whole; one that
+//!   writes as it reads leaves a beginning there. The first run that meets none ends as with ample memory. Where
+//!   no run meets one, the sweep is `WRONG`: `hold growths 0` shows that a call takes no memory.
+//!
+//! Files of the system, in a folder of this run's own:
+//!
+//! - `lay NAME..` writes files in memory to the folder; `fetch NAME` reads one of the folder into memory, and prints
+//!   the number of its bytes, or that it is not there;
+//! - `link hard NEW OLD` and `link soft NEW OLD` make a link to a file of the folder;
+//! - `program WORD..` carries a command line out over files of the system, and prints the report, what was said on
+//!   standard error, where `@` stands for the folder, and the status. A word that begins with `@` names a file of the
+//!   folder. Of `hold` it heeds `report` alone; `unread text` and `unread memory` do the same of words that could not
+//!   be read, since one is no text, or for want of memory.
+//!
+//! The program over files in memory, whose report stands after `|`:
+//!
+//! - `plan WORD..` prints what a command line asks for, or why it is refused; `-` stands for no words;
+//! - `run WORD..` carries a command line out, and prints the report, after `OUT` the length and the SHA-256 of what was
+//!   published, or after `draft` those of what was not, the fault and the status. OUT, or its draft, is kept as a
+//!   file where it took bytes.
+//!
+//! Calls below the commands. What one gives stands after `|`, or is `nothing`, and its fault stands in a line of its
+//! own, `Truncated at 8`:
+//!
+//! - `kind NAME`: the kind of a file;
+//! - `fat NAME`: a universal file, a line for each slice: `slice 0: 28 bytes SHA256`;
+//! - `image NAME`: an image: `UUID ARCH image` (or `dsym`), `text base 0x..` (or `-`), `symtab SYMOFF NSYMS STROFF
+//!   STRSIZE` (or `-`), `commands N`, and a line for each section: `section 1 __TEXT,__text from 0x.., SIZE addresses`;
+//! - `check NAME`: a slice, by `Slice::check` and `Slice::admit`: `UUID ARCH SHA256`;
+//! - `nearest NAME ADDRESS..`: the nearest symbol by the scan and by the table: `0x.. NAME + OFFSET (SEGMENT,SECTION)
+//!   in section 1`, or `0x.. -`; `addresses` has the forms of ADDRESS;
+//! - `named NAME PART..`: each symbol of a name, as `nearest` prints it, at its own address;
+//! - `front NAME`: an archive's text, read from the front of a file: `2 records, 106 bytes are left`, with `then it
+//!   fails` where the reader fails after them;
+//! - `whole NAME`, `operations NAME`, `summary NAME`: an archive's text, operations and a summary, read to their ends:
+//!   `2 records, 2 entries`, where the entries are those of its summary, `3 operations`, `2 entries`;
+//! - `part NAME UUID QUESTION..`, `part NAME UUID ARCH QUESTION..`: an archive's text, read to its end, of which the
+//!   records of a UUID, or of a key, are kept: each, as `admit UUID ARCH SHA256` or `retire ..`, then `2 records`, the
+//!   length and the SHA-256 of their text, and their answers. Where memory is held, it is that of the reading;
+//! - `merge-streams LEFT RIGHT`: two archives, merged as they come into an output that takes as many bytes as OUT: `2
+//!   records, 195 bytes`, or `Left: Truncated at 97; 97 bytes written`; and the length and the SHA-256 of what was
+//!   written;
+//! - `pairs IMAGE N SEED`: N random pairs of archives, made of an image, which are merged as they come and joined as
+//!   values: the length and the SHA-256 of all that was merged;
+//! - `reading NAME FAILING N`: four pulls of N bytes from a reader of std over a file, of which the second call fails:
+//!   `moved 1` or `failed` for each, and the number of the reader's calls. FAILING is `interrupted`, `other`, `idle`
+//!   (it moves no byte) or `never`;
+//! - `writing NAME FAILING N`: a file, pushed in pieces of N bytes to a writer of std that fails so, and what that has
+//!   then;
+//! - `asked NAME`: four pulls of 8 bytes from an input of the cases, a pull of no byte from another one, and to an
+//!   output a push of no byte, and of the file: `moved 3` or `failed` for each;
+//! - `room N`: what memory with N growths holds: the numbers that one vector takes, and which of three vectors take
+//!   one, before and after a growth more is granted; `room-of-bytes N`: how many numbers of 8 bytes one vector takes in
+//!   memory with N bytes;
+//! - `heaps ARCHIVE OTHER OPS`: operations are copied from a memory that is wanting, and to one. Of two archives, each
+//!   in a memory of its own, one joins the other where its own memory is wanting, and where the other's is, and takes
+//!   the operations; the other takes them where the first one's is wanting. And the same of the join by value;
+//! - `world SCRIPT N`: `run` of a script's events on N sites: their number, and the length and the SHA-256 of the text
+//!   that each site holds.
+//!
+//! Calls that may change an archive. Behind what each gives stand the length and the SHA-256 of the text of what is
+//! held then, of a site also of what it saved, and the answers to the questions; `questions` has the forms of QUESTION:
+//!
+//! - `ask ARCHIVE QUESTION..`: the answers alone;
+//! - `take ARCHIVE OPS QUESTION..`: the operations of a file, taken into an archive in turn: `admit UUID ARCH SHA256
+//!   new` or `retire ..`, where the word at the end is `new` if that changed the archive, `held` if it was there, or
+//!   else `covered`; then `2 records`;
+//! - `join ARCHIVE OTHER QUESTION..`: an archive before and after it is joined with another: `2 records, all of the
+//!   other: no`;
+//! - `take-each ARCHIVE OPS QUESTION..`, `absorb ARCHIVE OTHER QUESTION..`: the same, with the operations taken
+//!   together, `2 new`, and the other archive joined by value;
+//! - `site HELD SAVED CALL INPUT QUESTION..`: a call of a site that saved the archive SAVED, and holds HELD beside it:
+//!   `new` (an empty site in its place), `take`, `retire` (the slice that INPUT is), `full`, `ask`, `reply`, `deliver`,
+//!   `save` or `stop`; `-` stands for no INPUT.
+//!
+//! Where growths are held, those of the call alone count. Where one is refused, what is held and saved has to be what
+//! the call promises, and to answer as an archive does that is read from its text; calls that take no memory have to
+//! succeed; and the call made again has to end as it ends at once, and to come to the same.
+//!
+//! Each call and each command line is carried out on the plain archive and on the indexed one, and has to end alike.
+//! One that is not swept is carried out on the first with inputs in pieces of 1 byte, too, and on the second in pieces
+//! of 7. A report of more than 40 lines is printed as `5000 lines SHA256`. What contradicts itself is printed as `WRONG`.
+
+use crate::folder::Folder;
+use crate::sweeps::{tell_growths, tell_sweep};
+use crate::tasks::Task;
+use crate::texts::{TextFault, cut_case};
+use crate::verdicts::Step;
+use cli_arguments::{Line, LineFault, Plan, parse_command_line};
+use memory::NoMemory;
+use std::alloc::Global;
+use std::mem;
+use std::rt::Files;
+use test_calls::{Call, Desk, Tried};
+use test_parts::{
+    CaseFault, FileLimit, Left, Limits, Store, Sweep, bytes_of, first_word, number, tell_left,
+    tell_line_fault, tell_room, tell_room_of_bytes, tell_same, words_of,
+};
+
+// How often the next case is carried out.
+#[derive(Clone, Copy)]
+enum Mode<'t> {
+    Once,
+    Growths,
+    Sweep(Sweep<'t>),
+}
+
+// Files in memory, and what holds for the next case.
+#[derive(Drop)]
+struct Bench<'t> {
+    alloc: Global,
+    store: Store,
+    limits: Limits<'t>,
+    mode: Mode<'t>,
+}
+
+/// Carries out the lines of a subject's text, or those of one of its cases, and gives each with what has to come of it
+/// and what came. What stands above that case is carried out before it, and not given.
+pub fn carry_out<R: Files + AllocGlobal>(
+    alloc: Global,
+    folder: &Folder<'_, R>,
+    text: &str,
+    case: Option<&str>,
+) -> Result<Vec<Step>, TextFault> {
+    let mut bench = Bench {
+        alloc,
+        store: Store::new(alloc),
+        limits: Limits::AMPLE,
+        mode: Mode::Once,
+    };
+    let Some(name) = case else {
+        return Ok(bench.carry_out(folder, text)?);
+    };
+    let (above, case) = cut_case(alloc, text, name)?;
+    bench.carry_out(folder, above)?;
+    Ok(bench.carry_out(folder, case)?)
+}
+
+// Tells the command of a line, what stands at each of its names, and its plan.
+fn tell_line(line: &Line, told: &mut String) -> Result<(), NoMemory> {
+    write!(told, "  {}", line.name)?;
+    for (argument, values) in line.arguments().iter().zip(&line.values) {
+        write!(told, " {} {values:?}", argument.name)?;
+    }
+    writeln!(told, "\n  {:?}", Plan::of(line))
+}
+
+// Adds a line to what has to come of the last one.
+fn add_wanted(alloc: Global, steps: &mut Vec<Step>, line: &str) -> Result<(), NoMemory> {
+    match steps.last_mut() {
+        Some(step) => writeln!(step.wanted, "{line}"),
+        None => {
+            let step = Step {
+                line: String::new(alloc),
+                wanted: format!(in alloc; "{line}\n")?,
+                came: String::new(alloc),
+            };
+            Ok(steps.push(step)?)
+        }
+    }
+}
+
+impl<'t> Bench<'t> {
+    // Carries out the lines of a text, and gives each with what has to come of it and what came.
+    fn carry_out<R: Files + AllocGlobal>(
+        &mut self,
+        folder: &Folder<'_, R>,
+        text: &'t str,
+    ) -> Result<Vec<Step>, NoMemory> {
+        let mut steps = Vec::new(self.alloc);
+        for line in text.lines() {
+            if line.starts_with("  ") {
+                add_wanted(self.alloc, &mut steps, line)?;
+            } else {
+                steps.push(self.step(folder, line)?)?;
+            }
+        }
+        Ok(steps)
+    }
+
+    // Carries out a line. Where that cannot be done, it says so.
+    fn step<R: Files + AllocGlobal>(
+        &mut self,
+        folder: &Folder<'_, R>,
+        line: &'t str,
+    ) -> Result<Step, NoMemory> {
+        let mut came = String::new(self.alloc);
+        if let Err(fault) = self.read_line(line, folder, &mut came) {
+            writeln!(came, "  WRONG: not carried out, {fault}")?;
+        }
+        Ok(Step {
+            line: String::from_str(self.alloc, line)?,
+            wanted: String::new(self.alloc),
+            came,
+        })
+    }
+
+    fn read_line<R: Files + AllocGlobal>(
+        &mut self,
+        line: &'t str,
+        folder: &Folder<'_, R>,
+        told: &mut String,
+    ) -> Result<(), CaseFault> {
+        if line.is_empty() || line.starts_with('#') || line.starts_with("= ") {
+            return Ok(());
+        }
+        let (verb, words) = line.split_once(' ').unwrap_or((line, ""));
+        match verb {
+            "file" => self.keep(words, told),
+            "line" => self.keep_line(words, told),
+            "same" => self.compare(words, told),
+            "hold" => self.hold(words),
+            "each" => self.sweep(words),
+            "lay" => folder.lay(&self.store, words),
+            "fetch" => folder.fetch(&mut self.store, words, told),
+            "link" => folder.link(words),
+            "program" => self.run_over_files(words, folder, told),
+            "unread" => folder.run_unread(words, told),
+            "room-of-bytes" => Ok(tell_room_of_bytes(self.alloc, number(words)?, told)?),
+            "room" => Ok(tell_room(self.alloc, number(words)?, told)?),
+            "plan" => self.plan(words, told),
+            "run" => self.run(words, told),
+            _ => self.carry(Task::Call(Call::of_verb(verb, words)), None, told),
+        }
+    }
+
+    // Keeps bytes under a name.
+    fn keep(&mut self, words: &str, told: &mut String) -> Result<(), CaseFault> {
+        let (name, parts) = first_word(words);
+        let bytes = bytes_of(self.alloc, &self.store, parts)?;
+        writeln!(told, "  {} bytes", bytes.len())?;
+        self.store.keep(self.alloc, name, bytes)
+    }
+
+    // Puts a line of text after a file, which may be new.
+    fn keep_line(&mut self, words: &str, told: &mut String) -> Result<(), CaseFault> {
+        let (name, text) = words.split_once(' ').unwrap_or((words, ""));
+        let mut bytes = Vec::new(self.alloc);
+        if let Some(before) = self.store.bytes(name) {
+            bytes.extend_from_slice(before)?;
+        }
+        bytes.extend_from_slice(text.as_bytes())?;
+        bytes.push(b'\n')?;
+        writeln!(told, "  {} bytes", bytes.len())?;
+        self.store.keep(self.alloc, name, bytes)
+    }
+
+    // Tells whether a file has these bytes.
+    fn compare(&self, words: &str, told: &mut String) -> Result<(), CaseFault> {
+        let (name, parts) = first_word(words);
+        let bytes = bytes_of(self.alloc, &self.store, parts)?;
+        Ok(tell_same(self.store.named(name)?, &bytes, told)?)
+    }
+
+    // Sets a limit of the next case.
+    fn hold(&mut self, words: &'t str) -> Result<(), CaseFault> {
+        let (what, value) = words.split_once(' ').ok_or(CaseFault::BadLine)?;
+        match what {
+            "cut" => self.limits.cut = Some(file_limit(value)?),
+            "read" => self.limits.read = Some(file_limit(value)?),
+            _ => return self.hold_number(what, number(value)?),
+        }
+        Ok(())
+    }
+
+    fn hold_number(&mut self, what: &str, number: u64) -> Result<(), CaseFault> {
+        match what {
+            "pieces" => self.limits.pieces = number as usize,
+            "growths" => self.limits.growths = number,
+            "bytes" => self.limits.bytes = number,
+            "opened" => self.limits.opened = number,
+            "out" => self.limits.out = number as usize,
+            "places" => self.limits.places = number > 0,
+            "report" => self.limits.report = number as usize,
+            _ => return Err(CaseFault::BadLine),
+        }
+        Ok(())
+    }
+
+    // Makes the next case a sweep.
+    fn sweep(&mut self, words: &'t str) -> Result<(), CaseFault> {
+        let (what, value) = words.split_once(' ').unwrap_or((words, ""));
+        self.mode = match what {
+            "cut" => Mode::Sweep(Sweep::Cut(value)),
+            "read" => Mode::Sweep(Sweep::Read(value)),
+            "pieces" => Mode::Sweep(Sweep::Pieces(number(value)? as usize)),
+            "out" => Mode::Sweep(Sweep::Out),
+            "report" => Mode::Sweep(Sweep::Report),
+            "growth" => Mode::Growths,
+            _ => return Err(CaseFault::BadLine),
+        };
+        Ok(())
+    }
+
+    // What the words of a line ask for, which stand after the program's name.
+    fn read(&self, words: &str) -> Result<Line, LineFault> {
+        let mut all = Vec::new(self.alloc);
+        all.push("symarch")?;
+        if words != "-" {
+            all.extend_from_slice(&words_of(self.alloc, words)?)?;
+        }
+        parse_command_line(self.alloc, &all)
+    }
+
+    // Tells what a command line asks for.
+    fn plan(&self, words: &str, told: &mut String) -> Result<(), CaseFault> {
+        match self.read(words) {
+            Ok(line) => tell_line(&line, told)?,
+            Err(fault) => tell_line_fault(&fault, told)?,
+        }
+        Ok(())
+    }
+
+    // Carries out a command line.
+    fn run(&mut self, words: &str, told: &mut String) -> Result<(), CaseFault> {
+        match self.read(words) {
+            Ok(line) => self.carry(Task::Run(&line), line.out_path(), told),
+            Err(fault) => Ok(tell_line_fault(&fault, told)?),
+        }
+    }
+
+    // Carries out a command line over files of the system, whose report may fail.
+    fn run_over_files<R: Files + AllocGlobal>(
+        &mut self,
+        words: &str,
+        folder: &Folder<'_, R>,
+        told: &mut String,
+    ) -> Result<(), CaseFault> {
+        let most = mem::replace(&mut self.limits, Limits::AMPLE).report;
+        folder.run(words, most, told)
+    }
+
+    // Carries out a case, keeps what it left in OUT under its name, and sets what holds for the next one back.
+    fn carry(&mut self, task: Task, out: Option<&str>, told: &mut String) -> Result<(), CaseFault> {
+        let mode = mem::replace(&mut self.mode, Mode::Once);
+        let limits = mem::replace(&mut self.limits, Limits::AMPLE);
+        let desk = Desk {
+            alloc: self.alloc,
+            store: &self.store,
+            limits,
+            tried: Tried::Plain,
+        };
+        match mode {
+            Mode::Growths => tell_growths(desk, task, told),
+            Mode::Sweep(sweep) => tell_sweep(desk, sweep, task, told),
+            Mode::Once => {
+                let left = task.carry_out(desk)?;
+                tell_left(&left, told)?;
+                tell_others(desk, task, &left, told)?;
+                self.keep_out(out, left.out)
+            }
+        }
+    }
+
+    // Keeps OUT under its name, where it took bytes.
+    fn keep_out(&mut self, name: Option<&str>, out: Vec<u8>) -> Result<(), CaseFault> {
+        match name {
+            Some(name) if !out.is_empty() => self.store.keep(self.alloc, name, out),
+            _ => Ok(()),
+        }
+    }
+}
+
+// The name and the number of a limit on a file.
+fn file_limit(words: &str) -> Result<FileLimit<'_>, CaseFault> {
+    let (name, len) = words.split_once(' ').ok_or(CaseFault::BadLine)?;
+    let len = number(len)? as usize;
+    Ok(FileLimit { name, len })
+}
+
+// Tells where it makes a difference that the archive is the other one, or that the inputs come in small pieces.
+fn tell_others(desk: Desk, task: Task, left: &Left, told: &mut String) -> Result<(), CaseFault> {
+    for (tried, pieces) in [(Tried::Plain, 1), (Tried::Indexed, 7)] {
+        let mut other = Desk { tried, ..desk };
+        other.limits.pieces = pieces;
+        if task.carry_out(other)? != *left {
+            writeln!(
+                told,
+                "  WRONG: another end on {tried:?} with inputs in pieces of {pieces}"
+            )?;
+        }
+    }
+    Ok(())
+}

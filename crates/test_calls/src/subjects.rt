@@ -1,0 +1,200 @@
+//! What a call may change: an archive by itself, or a site.
+
+use archive_core::{Archive, Operation, Slice, take_all};
+use archive_exchange::Site;
+use archive_index::take_each;
+use archive_read::read_ops;
+use byte_device::Bytes;
+use join_core::Join;
+use memory::Heap;
+use std::alloc::Global;
+use test_parts::{
+    CallFault, Ended, answers_of, read, tell_answers, tell_beside, tell_each_taking, tell_text,
+    text_of,
+};
+use text_reports::Text;
+
+/// A call that may change an archive, and what is asked then.
+#[derive(Clone, Copy)]
+pub struct Change<'a> {
+    pub alloc: Global,
+    /// The verb of the case: a call on an archive, or at a site.
+    pub verb: &'a str,
+    /// The text of the archive that is held.
+    pub held: &'a [u8],
+    /// The text of the archive that a site has saved; none where the call is on an archive.
+    pub saved: Option<&'a [u8]>,
+    /// What the call is given.
+    pub input: &'a [u8],
+    /// How many growths are granted for it.
+    pub growths: u64,
+    /// The words of what is asked.
+    pub questions: &'a str,
+}
+
+impl Change<'_> {
+    /// Whether a part of it may be done where memory is refused.
+    pub fn is_done_in_parts(self) -> bool {
+        match self.saved {
+            None => self.verb != "ask",
+            Some(_) => self.verb == "take" || self.verb == "deliver" || self.verb == "ask",
+        }
+    }
+
+    /// The same call, with all growths.
+    pub fn with_ample_memory(mut self) -> Self {
+        self.growths = u64::MAX;
+        self
+    }
+}
+
+/// What a call is made on.
+#[derive(Drop)]
+pub enum Subject<A: Archive> {
+    Archive(A),
+    Site(Site<A>),
+}
+
+/// What is seen of it: the texts of what is held and of what is saved, and the answers.
+#[derive(Drop, PartialEq, Eq)]
+pub struct Observation {
+    pub held: Vec<u8>,
+    pub saved: Vec<u8>,
+    pub answers: String,
+}
+
+impl<A: Archive + Drop> Subject<A> {
+    /// What the call is made on, before it.
+    pub fn begin(heap: &Heap, change: Change) -> Result<Subject<A>, CallFault> {
+        let Some(saved) = change.saved else {
+            return Ok(Subject::Archive(read(heap.share(), change.held)?));
+        };
+        let mut site = Site::new(heap.share())?;
+        site.deliver(saved)?;
+        site.save()?;
+        site.deliver(change.held)?;
+        Ok(Subject::Site(site))
+    }
+
+    /// Makes the call, and tells what it gives.
+    pub fn act(&mut self, heap: &Heap, change: Change, told: &mut String) -> Ended {
+        match self {
+            Subject::Archive(archive) => tell_on_archive(archive, heap, change, told),
+            Subject::Site(site) => {
+                heap.grant(change.growths);
+                tell_at_site(site, heap, change, told)
+            }
+        }
+    }
+
+    /// Sees what is there, and then, at a site, what was saved.
+    pub fn see(
+        mut self,
+        heap: &Heap,
+        change: Change,
+        told: &mut String,
+    ) -> Result<Observation, CallFault> {
+        heap.grant(0);
+        let held = text_of(change.alloc, self.archive())?;
+        heap.grant(u64::MAX);
+        let answers = answers_of(heap, self.archive(), change.questions, told)?;
+        let mut saved = Vec::new(change.alloc);
+        if let Subject::Site(site) = &mut self {
+            site.stop()?;
+            saved = text_of(change.alloc, site.archive())?;
+        }
+        Ok(Observation {
+            held,
+            saved,
+            answers,
+        })
+    }
+
+    fn archive(&self) -> &A {
+        match self {
+            Subject::Archive(archive) => archive,
+            Subject::Site(site) => site.archive(),
+        }
+    }
+}
+
+fn tell_on_archive<A: Archive + Drop>(
+    archive: &mut A,
+    heap: &Heap,
+    change: Change,
+    told: &mut String,
+) -> Ended {
+    match change.verb {
+        "ask" => {
+            heap.grant(change.growths);
+            tell_answers(heap, archive, change.questions, told)?;
+        }
+        "take" => tell_each_taking(archive, operations_of(heap, change)?, told)?,
+        "take-each" => {
+            let new = take_each(archive, operations_of(heap, change)?)?;
+            writeln!(told, "{new} new")?;
+        }
+        "join" => {
+            let other = other_of(archive, heap, change, told)?;
+            archive.join(&other)?;
+            tell_beside(archive, &other, told)?;
+        }
+        "absorb" => {
+            let other = other_of(archive, heap, change, told)?;
+            take_all(archive, other)?;
+            writeln!(told, "{} records", archive.len())?;
+        }
+        _ => return Err(CallFault::NoSuchCall),
+    }
+    Ok(())
+}
+
+// The operations that a call is given, for which memory is held from here on.
+fn operations_of(heap: &Heap, change: Change) -> Result<Vec<Operation, Heap>, CallFault> {
+    let operations = read_ops(heap.share(), &mut Bytes::new(change.input))?;
+    heap.grant(change.growths);
+    Ok(operations)
+}
+
+// The archive that a call is given. Tells how another one stands beside it.
+fn other_of<A: Archive + Drop>(
+    archive: &A,
+    heap: &Heap,
+    change: Change,
+    told: &mut String,
+) -> Result<A, CallFault> {
+    let other = read(heap.share(), change.input)?;
+    tell_beside(archive, &other, told)?;
+    heap.grant(change.growths);
+    Ok(other)
+}
+
+fn tell_at_site<A: Archive + Drop>(
+    site: &mut Site<A>,
+    heap: &Heap,
+    change: Change,
+    told: &mut String,
+) -> Ended {
+    let input = change.input;
+    match change.verb {
+        "new" => *site = Site::new(heap.share())?,
+        "take" => {
+            for row in site.take_file(input)? {
+                writeln!(told, "{}", Text(row))?;
+            }
+        }
+        "retire" => {
+            let slice = Slice::check(input)?;
+            let new = site.retire(slice.key(), slice.digest())?;
+            writeln!(told, "new: {new}")?;
+        }
+        "full" => tell_text(&site.full()?, told)?,
+        "ask" => tell_text(&site.ask()?, told)?,
+        "reply" => tell_text(&site.reply(input)?, told)?,
+        "deliver" => site.deliver(input)?,
+        "save" => site.save()?,
+        "stop" => site.stop()?,
+        _ => return Err(CallFault::NoSuchCall),
+    }
+    Ok(())
+}

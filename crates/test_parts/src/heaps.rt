@@ -1,0 +1,113 @@
+//! Two memories, one for each of two archives.
+
+use crate::archives::read;
+use crate::faults::{CallFault, Ended};
+use archive_core::{Archive, Operation, take_all};
+use archive_read::read_ops;
+use byte_device::Bytes;
+use memory::{Heap, NoMemory};
+use std::alloc::Global;
+
+/// The texts of two archives, and of operations.
+#[derive(Clone, Copy)]
+pub struct Texts<'a> {
+    pub alloc: Global,
+    pub one: &'a [u8],
+    pub other: &'a [u8],
+    pub operations: &'a [u8],
+}
+
+// Two archives, each in a memory of its own.
+#[derive(Drop)]
+struct Apart<A: Archive> {
+    own: Heap,
+    theirs: Heap,
+    archive: A,
+    other: A,
+}
+
+impl<A: Archive + Drop> Apart<A> {
+    fn read(texts: Texts) -> Result<Self, CallFault> {
+        let own = Heap::new(texts.alloc)?;
+        let theirs = Heap::new(texts.alloc)?;
+        Ok(Apart {
+            archive: read(own.share(), texts.one)?,
+            other: read(theirs.share(), texts.other)?,
+            own,
+            theirs,
+        })
+    }
+}
+
+/// Tells what grows where each of two archives has its own memory: each is made to want memory while the other is not.
+pub fn tell_heaps<A: Archive + Drop>(texts: Texts, told: &mut String) -> Ended {
+    tell_copies(texts, told)?;
+    tell_joined::<A>(texts, told)?;
+    tell_absorbed::<A>(texts, told)
+}
+
+// Tells how many operations are copied to a memory, where that of the first ones is wanting, and where it itself is.
+fn tell_copies(texts: Texts, told: &mut String) -> Ended {
+    let own = Heap::new(texts.alloc)?;
+    let theirs = Heap::new(texts.alloc)?;
+    let operations = read_ops(theirs.share(), &mut Bytes::new(texts.operations))?;
+    theirs.grant(0);
+    let with = count_copies(&own, &operations)?;
+    theirs.grant(u64::MAX);
+    own.grant(0);
+    let without = count_copies(&own, &operations)?;
+    writeln!(
+        told,
+        "{with} copied in their own memory, {without} without it"
+    )?;
+    Ok(())
+}
+
+fn count_copies(heap: &Heap, operations: &[Operation]) -> Result<u64, NoMemory> {
+    let mut copied: u64 = 0;
+    for operation in operations {
+        if operation.copy(heap.share()).is_ok() {
+            copied = copied.saturating_add(1);
+        }
+    }
+    Ok(copied)
+}
+
+// Tells whether an archive joins another where its own memory is wanting, and what both have when they grow in theirs.
+fn tell_joined<A: Archive + Drop>(texts: Texts, told: &mut String) -> Ended {
+    let mut apart = Apart::<A>::read(texts)?;
+    apart.own.grant(0);
+    let joined = apart.archive.join(&apart.other).is_ok();
+    writeln!(told, "joined without its own memory: {joined}")?;
+    apart.own.grant(u64::MAX);
+    apart.theirs.grant(0);
+    apart.archive.join(&apart.other)?;
+    tell_growing("joined", &mut apart.archive, texts, told)?;
+    apart.theirs.grant(u64::MAX);
+    apart.own.grant(0);
+    tell_growing("the other", &mut apart.other, texts, told)
+}
+
+// Tells a join by value in the same way.
+fn tell_absorbed<A: Archive + Drop>(texts: Texts, told: &mut String) -> Ended {
+    let mut apart = Apart::<A>::read(texts)?;
+    let other = apart.other;
+    apart.own.grant(0);
+    let absorbed = take_all(&mut apart.archive, other).is_ok();
+    writeln!(told, "absorbed without its own memory: {absorbed}")?;
+    let mut apart = Apart::<A>::read(texts)?;
+    let other = apart.other;
+    apart.theirs.grant(0);
+    take_all(&mut apart.archive, other)?;
+    tell_growing("absorbed", &mut apart.archive, texts, told)
+}
+
+// Tells how many records an archive has, and then with each operation that it can take.
+fn tell_growing<A: Archive>(what: &str, archive: &mut A, texts: Texts, told: &mut String) -> Ended {
+    let before = archive.len();
+    for operation in read_ops(Heap::new(texts.alloc)?, &mut Bytes::new(texts.operations))? {
+        let _ = archive.take(operation);
+    }
+    let after = archive.len();
+    Ok(writeln!(told, "{what}: {before} records, then {after}")?)
+}

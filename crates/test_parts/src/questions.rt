@@ -1,0 +1,93 @@
+//! What is asked of an archive.
+//!
+//! A word `0xHEX` asks each key of its records for an address, `find` each UUID for its rows, and any other word is a
+//! name.
+
+use crate::addresses::address;
+use crate::faults::{CallFault, Ended};
+use archive_core::{Answer, Archive, Record, SliceKey, Where};
+use memory::{Heap, NoMemory};
+use std::alloc::Global;
+use text_reports::{Text, find_lines, push_answer};
+
+/// Asks an archive, and tells its answers.
+pub fn tell_answers<A: Archive>(heap: &Heap, archive: &A, words: &str, told: &mut String) -> Ended {
+    for question in words.split(' ') {
+        match address(question) {
+            Ok(address) => tell_lookups(heap, archive, address, told)?,
+            Err(_) if question.is_empty() => {}
+            Err(_) if question == "find" => tell_finds(heap, archive, told)?,
+            Err(_) => {
+                for row in archive.find_name(question.as_bytes())?.iter() {
+                    writeln!(told, "{}", Text(row))?;
+                }
+            }
+        }
+    }
+    Ok(())
+}
+
+fn tell_lookups<A: Archive>(heap: &Heap, archive: &A, address: u64, told: &mut String) -> Ended {
+    for key in keys_of(*told.allocator(), archive)? {
+        let answer = archive.lookup(&key, Where::File(address))?;
+        let mut text = String::new(heap.share());
+        push_answer(heap, &mut text, address, &answer, &[])?;
+        told.push_str(&text)?;
+    }
+    Ok(())
+}
+
+fn tell_finds<A: Archive>(heap: &Heap, archive: &A, told: &mut String) -> Result<(), NoMemory> {
+    let mut asked = None;
+    for key in keys_of(*told.allocator(), archive)? {
+        if asked != Some(key.uuid) {
+            let rows = archive.find(&key.uuid)?;
+            told.push_str(&find_lines(heap.share(), &rows)?)?;
+            asked = Some(key.uuid);
+        }
+    }
+    Ok(())
+}
+
+/// The answers of an archive. Tells where a lookup is refused for want of memory, and no slices are in conflict.
+pub fn answers_of<A: Archive>(
+    heap: &Heap,
+    archive: &A,
+    questions: &str,
+    told: &mut String,
+) -> Result<String, CallFault> {
+    let mut answers = String::new(*told.allocator());
+    if !questions.is_empty() {
+        tell_needless(heap, archive, told)?;
+        tell_answers(heap, archive, questions, &mut answers)?;
+    }
+    Ok(answers)
+}
+
+fn tell_needless<A: Archive>(heap: &Heap, archive: &A, told: &mut String) -> Result<(), NoMemory> {
+    for key in keys_of(*told.allocator(), archive)? {
+        let place = Where::File(0x1040);
+        heap.grant(0);
+        let refused = archive.lookup(&key, place).is_err();
+        heap.grant(u64::MAX);
+        if refused && !matches!(&archive.lookup(&key, place)?, Answer::Conflict(_)) {
+            writeln!(told, "WRONG: a lookup without a conflict is refused")?;
+        }
+    }
+    Ok(())
+}
+
+// The keys of an archive's records, each once.
+fn keys_of<A: Archive>(alloc: Global, archive: &A) -> Result<Vec<SliceKey>, NoMemory> {
+    let mut keys = Vec::new(alloc);
+    for index in 0..archive.len() {
+        let key = match archive.record_at(index) {
+            Record::Admit(slice) => slice.key(),
+            Record::Retire(key, _) => key,
+        };
+        if !keys.contains(&key) {
+            keys.push(key)?;
+        }
+    }
+    Ok(keys)
+}

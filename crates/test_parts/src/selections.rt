@@ -1,0 +1,75 @@
+//! Calls that read an archive and keep a part of it.
+
+use crate::archives::{tell_record, text_of};
+use crate::devices::StrictSource;
+use crate::faults::{CaseFault, Ended};
+use crate::questions::tell_answers;
+use crate::tellings::tell_text;
+use crate::words::first_word;
+use archive_core::{ArchKey, Archive, SliceKey};
+use archive_read::{Under, read_part};
+use archive_records::{RecordFault, key_prefix};
+use memory::{Heap, NoMemory};
+use text_values::Word;
+use uuid::Uuid;
+
+/// Which records of an archive are kept.
+#[derive(Clone, Copy)]
+pub enum Picked {
+    /// Those of a UUID.
+    OfUuid(Uuid),
+    /// Those of a UUID and an architecture.
+    OfKey(SliceKey),
+}
+
+impl Picked {
+    /// What words pick, and the questions after that: `UUID QUESTION..` or `UUID ARCH QUESTION..`.
+    pub fn of_words(words: &str) -> Result<(Picked, &str), CaseFault> {
+        let (word, rest) = first_word(words);
+        let uuid = Uuid::read(word).ok_or(CaseFault::BadLine)?;
+        let (word, questions) = first_word(rest);
+        Ok(match ArchKey::read(word) {
+            Some(arch) => (Picked::OfKey(SliceKey { uuid, arch }), questions),
+            None => (Picked::OfUuid(uuid), rest),
+        })
+    }
+}
+
+/// Reads an archive's text, keeps the records that are picked, and tells each, what text they are, and their answers.
+/// The growths and the bytes that memory has are those of the reading.
+pub fn tell_part<A: Archive + Drop>(
+    heap: Heap,
+    picked: Picked,
+    questions: &str,
+    source: &mut StrictSource,
+    told: &mut String,
+) -> Ended {
+    let part: A = read_picked(heap.share(), picked, source)?;
+    heap.grant(u64::MAX);
+    heap.grant_bytes(u64::MAX);
+    tell_records(&part, told)?;
+    told.push_str("held: ")?;
+    tell_text(&text_of(*told.allocator(), &part)?, told)?;
+    tell_answers(&heap, &part, questions, told)
+}
+
+// Reads an archive, and keeps the records that are picked.
+fn read_picked<A: Archive + Drop>(
+    heap: Heap,
+    picked: Picked,
+    source: &mut StrictSource,
+) -> Result<A, RecordFault> {
+    match picked {
+        Picked::OfUuid(uuid) => read_part(heap, &Under(uuid.as_bytes()), source),
+        Picked::OfKey(key) => read_part(heap, &Under(&key_prefix(&key)), source),
+    }
+}
+
+// Tells each record of an archive, and how many there are.
+fn tell_records<A: Archive>(archive: &A, told: &mut String) -> Result<(), NoMemory> {
+    for index in 0..archive.len() {
+        tell_record(&archive.record_at(index), told)?;
+        told.push_str("\n")?;
+    }
+    writeln!(told, "{} records", archive.len())
+}
