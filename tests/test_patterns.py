@@ -100,6 +100,7 @@ SAMPLES: Dict[str, Samples] = {
     "reports.json.walk.LITERAL": ("match", [DIGITS, run("1.", "1"), run("1e", "1"), run("-", "1.1")]),
     "reports.json.walk.SPACE": ("match", [SPACES]),
     "reports.json.walk.COLON": ("match", [SPACES, run(":", " ")]),
+    "reports.json.walk.COMMA": ("match", [SPACES, run(",", " "), run("", ","), run("", " ,")]),
     "reports.json.walk.UNENDED": ("fullmatch", [DIGITS, run("", "-a.")]),
     "reports.text.named_lines.SOURCE": ("search", [
         run("", " ("), run(" (", ":1"), run(" (", ":"), run(" (:", "1"), SPACES,

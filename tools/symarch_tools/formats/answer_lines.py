@@ -46,7 +46,7 @@ def symbol_in(said: bytes) -> Optional[SymbolSaid]:
 
 def count_in(said: bytes) -> Optional[int]:
     """How many slices answer, if it is said that there are several."""
-    found = SEVERAL.fullmatch(said)
+    found = SEVERAL.fullmatch(said) if said.startswith(b"!") else None
     return int(found[1]) if found else None
 
 

@@ -87,14 +87,22 @@ class Answers:
 
     def lines_at(self, offset: int) -> Lines:
         """Where an offset is in the source, if all slices that answer say the same of it."""
+        one = self.one_at(offset)
+        if one:
+            return self.chains.lines(one[2])
         found: Set[Lines] = {self.chains.lines(said[2]) for said in self.said(offset).values()}
         return found.pop() if len(found) == 1 else NOTHING
 
     def said(self, offset: int) -> Dict[str, Places]:
+        one = self.one_at(offset)
+        return {"": one} if one else self.several.get(offset, {})
+
+    def one_at(self, offset: int) -> Optional[Places]:
+        """What is said of an offset, if one slice answers."""
         place = bisect.bisect_left(self.offsets, offset)
         if place >= len(self.places) or self.offsets[place] != offset or self.places[place] == MANY:
-            return self.several.get(offset, {})
-        return {"": (self.places[place], self.symbol_offsets[place], self.chain_places[place])}
+            return None
+        return self.places[place], self.symbol_offsets[place], self.chain_places[place]
 
     def shown(self, place: int, symbol_offset: int) -> Optional[Symbol]:
         return (self.names.shown[place], symbol_offset) if place >= 0 else None
@@ -105,7 +113,7 @@ class Answers:
         self.begin()
         for offset in self.offsets:
             line = lines.line()
-            if line == NOT_THERE % offset and not self.places:
+            if not self.places and line == NOT_THERE % offset:
                 continue
             address, said = two_words(line)
             is_first = offset == self.offsets[0]

@@ -303,10 +303,18 @@ class Frames:
         """The same of frames that are alike."""
         found = self.known.get(key)
         if found is None:
-            found = different(self.symbols_of(*key))
+            found = self.found_answers(*key)
             if len(self.known) < MOST_KNOWN:
                 self.known[key] = found
         return found
+
+    def found_answers(self, number: int, asked: int, kind: int) -> Dict[Optional[Symbol], List[str]]:
+        """The same as the archive says it. Mostly one slice answers."""
+        said = self.images.listed[number].answers if number != NO_IMAGE else None
+        one = said.one_at(asked) if said and not kind & (CANNOT_BE_ASKED | IS_INLINED) else None
+        if said is None or one is None:
+            return different(self.symbols_of(number, asked, kind))
+        return {said.shown(one[0], one[1] + (kind & IS_RETURN)): [""]}
 
     def alike(self) -> Iterator[Tuple[Tuple[int, int, int], int]]:
         """The keys of frames, each with how many are alike of some that follow one another."""

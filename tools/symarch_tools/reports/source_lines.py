@@ -53,6 +53,9 @@ class Chains:
     found: List[List[Frame]] = field(default_factory=list)
     # What functions that are inlined at several places say there.
     known: Dict[bytes, Frame] = field(default_factory=dict)
+    # Where frames are by the places of their chains, with the names that were shown then.
+    made: Dict[int, Lines] = field(default_factory=dict)
+    shown: Optional[List[str]] = None
 
     def place(self, said: bytes) -> int:
         """The place of the frames that lines of the program have. ValueError if one is no frame."""
@@ -76,6 +79,16 @@ class Chains:
         return found
 
     def lines(self, place: int) -> Lines:
-        *inlined, own = self.found[place] or [(-1, None)]
-        shown = self.names.shown
+        if self.shown is not self.names.shown:
+            self.shown, self.made = self.names.shown, {}
+        made = self.made.get(place)
+        if made is None:
+            made = self.lines_of(self.found[place], self.names.shown)
+            if len(self.made) < MOST_KNOWN:
+                self.made[place] = made
+        return made
+
+    @staticmethod
+    def lines_of(frames: List[Frame], shown: List[str]) -> Lines:
+        *inlined, own = frames or [(-1, None)]
         return Lines(own[1], tuple(Inlined(shown[name] if name >= 0 else None, source) for name, source in inlined))

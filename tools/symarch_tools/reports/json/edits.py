@@ -8,7 +8,7 @@ from typing import Any, Dict, List, Mapping, Match, NamedTuple, Optional, Sequen
 
 from ..answers import Symbol
 from ..source_lines import Inlined, Lines, Source
-from .walk import FLAT, SPACE, STRING, JsonMember, key_at, loaded
+from .walk import FLAT, SPACE, STRING, JsonMember, key_at, loaded, name_loaded
 
 # The different answers to a frame, each with the digests of its slices; and a change: where it begins and ends, and
 # what stands there then.
@@ -19,6 +19,8 @@ Change = Tuple[int, int, bytes]
 # numbers of an array, with what is between them.
 VALUE = re.compile(rb"(" + STRING + rb"|[^\s,}]+)[\s,]*", re.DOTALL)
 ARRAY = re.compile(rb"\[\s*[^\s,]+(\s*,\s*)[^\s,\]]+")
+# How names and values are written. An encoder takes far longer to make than to write one.
+WRITER = json.JSONEncoder(ensure_ascii=False)
 # A value of more bytes is not read, and the space before the first member is not looked for further back.
 MOST_OF_VALUE, MOST_SPACE = 10_000, 1_000
 SYMBOL, LOCATION, CONFLICT = "symbol", "symbolLocation", "conflict"
@@ -150,7 +152,7 @@ def places_in(flat: Match[bytes]) -> List[MemberPlace]:
         assert key is not None
         value = VALUE.match(data, key[1], flat.end())
         assert value is not None
-        found.append(MemberPlace(loaded(data[begin : key[0]]), begin, *value.span(1)))
+        found.append(MemberPlace(name_loaded(data[begin : key[0]]), begin, *value.span(1)))
         begin = value.end()
     return found
 
@@ -226,4 +228,5 @@ def conflict_of(answers: FrameAnswers) -> List[Dict[str, Any]]:
 
 
 def text_of(value: object, **layout: Any) -> bytes:
-    return json.dumps(value, ensure_ascii=False, **layout).encode(errors="surrogateescape")
+    made = json.dumps(value, ensure_ascii=False, **layout) if layout else WRITER.encode(value)
+    return made.encode(errors="surrogateescape")

@@ -1,10 +1,11 @@
 """JSON of any size, piece by piece: a document that is loaded whole needs ten times its bytes, and more."""
 from __future__ import annotations
 
+import functools
 import json
 import re
 from dataclasses import dataclass
-from typing import Any, Dict, Optional, Protocol, Tuple
+from typing import Any, Callable, Dict, Optional, Protocol, Tuple
 
 # A string; and an object or an array without others in it. The form of a string needs much memory for one with many
 # escapes, so it is for short ones: `string_end` finds the end of any.
@@ -13,6 +14,7 @@ INSIDE = rb'[^][{}"]*(?:' + STRING + rb'[^][{}"]*)*'
 FLAT = re.compile(rb"\{" + INSIDE + rb"\}|\[" + INSIDE + rb"\]", re.DOTALL)
 LITERAL = re.compile(rb"(?:-?[0-9]+(?:\.[0-9]+)?(?:[eE][-+]?[0-9]+)?|true|false|null|NaN|-?Infinity)(?=[ \t\r\n,\]}])")
 SPACE = re.compile(rb"[ \t\r\n]*")
+COMMA = re.compile(rb"[ \t\r\n]*(,?)[ \t\r\n]*")
 COLON = re.compile(rb"[ \t\r\n]*:[ \t\r\n]*")
 # What may be the beginning of a value that is no string, where the bytes end within it.
 UNENDED = re.compile(rb"[-+.0-9a-zA-Z]*")
@@ -20,9 +22,12 @@ UNENDED = re.compile(rb"[-+.0-9a-zA-Z]*")
 MOST_FLAT = 4_000
 # No document goes deeper, and none has more members in the objects that are open at once.
 MOST_DEEP, MOST_MEMBERS = 500, 200_000
+# Names of members come again and again: so many are kept.
+MOST_NAMES = 1_000
 LOADER = json.JSONDecoder(strict=False)
 # The value of a member that has others in it.
 NESTED = object()
+BACKSLASH = ord("\\")
 
 
 @dataclass(eq=False)
@@ -76,7 +81,8 @@ def string_end(data: bytes, begin: int) -> int:
     """Where the string ends that begins at a place; -1 if it does not."""
     begin += 1
     end = data.find(b'"', begin)
-    while end >= 0 and (end - begin - len(data[begin:end].rstrip(b"\\"))) % 2:
+    # Most strings have no backslash before a quotation mark.
+    while end >= 0 and data[end - 1] == BACKSLASH and (end - begin - len(data[begin:end].rstrip(b"\\"))) % 2:
         begin = end + 1
         end = data.find(b'"', begin)
     return end + 1 if end >= 0 else -1
@@ -96,6 +102,12 @@ def loaded(data: bytes) -> Any:
     if end != len(text):
         raise ValueError
     return value
+
+
+@functools.lru_cache(MOST_NAMES)
+def name_loaded(data: bytes) -> str:
+    """The name of a member."""
+    return str(loaded(data))
 
 
 def flat_at(data: bytes, begin: int) -> Optional[Tuple[Any, int]]:
@@ -147,26 +159,22 @@ class Walker:
 
     def step(self, node: Node) -> None:
         """Goes on after a value, or after the beginning of an object or an array."""
-        self.pass_space()
-        byte = self.data[self.place : self.place + 1]
-        if byte == (b"]" if node.is_list else b"}"):
-            self.place += 1
-            self.close(node)
-            return
-        if node.count:
-            if byte != b",":
+        found = COMMA.match(self.data, self.place)
+        assert found is not None
+        self.place = found.start(1)
+        if not found[1]:
+            if self.data[self.place : self.place + 1] == (b"]" if node.is_list else b"}"):
+                self.place += 1
+                self.close(node)
+                return
+            if node.count:
                 raise self.broken()
-            self.place += 1
-            self.pass_space()
+        elif node.count:
+            self.place = found.end()
         node.count += 1
         if not node.is_list:
             self.take_key()
         self.take_value()
-
-    def pass_space(self) -> None:
-        found = SPACE.match(self.data, self.place)
-        assert found is not None
-        self.place = found.end()
 
     def take_key(self) -> None:
         found = key_at(self.data, self.place)
@@ -176,11 +184,11 @@ class Walker:
         if self.members > MOST_MEMBERS:
             raise Broken(self.place, limit=f"has more than {MOST_MEMBERS} members")
         end, value = found
-        self.key, self.key_begin, self.place = self.text(self.place, end), self.place, value
+        self.key, self.key_begin, self.place = self.text(self.place, end, name_loaded), self.place, value
 
-    def text(self, begin: int, end: int) -> str:
+    def text(self, begin: int, end: int, load: Callable[[bytes], object]) -> str:
         try:
-            return str(loaded(self.data[begin:end])) if end - begin <= MOST_FLAT else ""
+            return str(load(self.data[begin:end])) if end - begin <= MOST_FLAT else ""
         except ValueError:
             raise self.broken() from None
 
@@ -195,7 +203,7 @@ class Walker:
             return
         end = string_end(self.data, self.place) if byte == b'"' else -1
         if end >= 0:
-            self.leaf(self.text(self.place, end), end)
+            self.leaf(self.text(self.place, end, loaded), end)
             return
         found = LITERAL.match(self.data, self.place)
         if not found:

@@ -504,12 +504,13 @@ class TextReport:
     def end_of(self, at: int, whole: Match[bytes], crash: Optional[Match[bytes]]) -> int:
         """Where a line with a frame, of a crash or another one, ends that has an answer: with its rest in the next
         line, if it was wrapped, and with the lines of slices that answered before."""
-        end = whole.end()
-        if end >= self.end or not self.frames.answers(at).keys() - {None}:
+        end, has_several = whole.end(), b"!" in whole[1]
+        may_be_wrapped = crash is not None and not OFFSET.search(crash["said"])
+        if end >= self.end or not (has_several or may_be_wrapped) or not self.frames.answers(at).keys() - {None}:
             return end
-        while end < self.end and b"!" in whole[1] and CONFLICTING.match(self.line_at(end)[1]):
+        while end < self.end and has_several and CONFLICTING.match(self.line_at(end)[1]):
             end = self.line_at(end).end()
-        if end > whole.end() or crash is None or OFFSET.search(crash["said"]):
+        if end > whole.end() or crash is None or not may_be_wrapped:
             return end
         following = self.line_at(end)
         return following.end() if rest_after(crash["said"], crash["image"].strip(), following[1]) else end

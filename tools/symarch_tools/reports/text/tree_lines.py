@@ -230,6 +230,8 @@ class Tree:
     def inlined(self, form: Form, inlined: Sequence[Inlined], following: bytes, is_list: bool) -> Iterator[bytes]:
         """The lines of the functions that were inlined at a frame, of which the line was moved last; a list of frames
         is set in nowhere."""
+        if not inlined:
+            return
         column = column_of(form.head + b"x") or 0
         bars, number = self.moved(form.head + b"x")[:-1], form.head[column:]
         bars = bars[: len(bars) - len(number)]
@@ -240,5 +242,5 @@ class Tree:
             name = bytes_of(one.name or NO_NAME)
             before = bars[: len(bars) - len(star)] + inset + star
             yield before + number + name + form.to_address(source_of(one)) + b" " + INLINED
-        if inlined and not is_list:
+        if not is_list:
             self.open.append((column, STEP * len(inlined)))
