@@ -1,5 +1,5 @@
-"""The cases of `test_acceptance`, compared with a model of archives and commands, tests/model, which shares nothing
-with the program: a test for each subject. `tests/check-cases SUBJECT/CASE` tries one case."""
+"""The cases of `test_acceptance`, compared with a model of archives and commands, tests/model, which shares nothing with the
+program: a test for each subject. `tests/check-cases SUBJECT/CASE` tries one case."""
 import unittest
 from typing import Callable
 

@@ -17,7 +17,7 @@ OUT_OF_MEMORY = "symarch: out of memory"
 
 
 class Help(PlacesCase):
-    """Help and the version. The cases of `test_acceptance` show the lines between the first and the last."""
+    """Help and the version. Which lines stand between the first and the last is shown by the cases of `test_acceptance`."""
 
     def prints_help(self, words: str, usage: str, last: str) -> None:
         came = self.call(*words.split(" "))

@@ -1,5 +1,5 @@
-"""The language of crates/test_acceptance/data/cases, carried out by the model. Blocks: a line, and the lines after it
-that begin with two spaces."""
+"""The language of crates/test_acceptance/data/cases, carried out by the model. Blocks: a line, and the lines after it that
+begin with two spaces."""
 from __future__ import annotations
 
 import pathlib

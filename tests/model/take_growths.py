@@ -1,6 +1,6 @@
 """Takes the numbers of refused growths over from what the program `test_acceptance` printed.
 
-CAME is what `rt run` printed in crates/test_acceptance: of each line that differs the subject and the case, the line,
+CAME is what `rt run` printed in crates/test_acceptance: of each line that came otherwise the subject and the case, the line,
 and what had to come and what came, each from the first one on that differs. Every other difference is printed, and has
 to be looked at."""
 import argparse

@@ -7,7 +7,9 @@ use Rattle.clap.specs.Words.{Text}
 use Rattle.cli_files.specs.{InputStates.AreFirstAsked, FileCalls.FileCall, FileCalls.bytes_in}
 use Rattle.cli_files.specs.OutFiles.{Stage, draft_account, has_calls, is_settled, published_account, publishing_calls}
 use Rattle.cli_files.specs.Publishing.{IsPath, IsPublished, IsRemoved, account, number_of, place, took_nothing}
-use Rattle.cli_files.specs.declared.{replaceable.Replaces.Replaces, published.Published.Published}
+use Rattle.std.specs.Prelude.{IfSome}
+use Rattle.cli_files.specs.Refusals.{IsRefused}
+use Rattle.cli_files.specs.declared.{replaceable.OutFault.OutFault, replaceable.Replaces.Replaces, published.Published.Published}
 
 -- what is known tells the path
 place_first : (p q : Option (List ℕ)) (xs ys : List ℕ) → place p ++ xs ≡ place q ++ ys → p ≡ q
@@ -91,6 +93,15 @@ pub path_from : {T E : Type 0} (r : Result T E) (a b : Option Text) (xs ys : Lis
     (path : Option Text) → a ≡ b → xs ≡ ys → OnOk r (IsPath a xs compared path) → OnOk r (IsPath b ys compared path)
 path_from r a b xs ys compared path asked inputs is =
     rw (← asked, ← inputs) is
+
+-- why OUT was refused, by equal paths, rules and calls
+pub refused_there : (fault : Option OutFault) (rule now : Replaces) (path here : Option (List ℕ)) (calls called : List FileCall)
+    → calls ≡ called → here ≡ path → now ≡ rule
+    → IfSome fault (λ fault. ∥ IsRefused now here fault calls ∥₁) → IfSome fault (λ fault. ∥ IsRefused rule path fault called ∥₁)
+refused_there None rule now path here calls called same paths rules is = tt
+refused_there (Some fault) rule now path here calls called same paths rules is =
+    subst (λ cs. ∥ IsRefused rule path fault cs ∥₁) same (subst (λ p. ∥ IsRefused rule p fault calls ∥₁) paths
+    (subst (λ r. ∥ IsRefused r here fault calls ∥₁) rules is))
 
 -- without a path nothing was called
 pub called_nowhere : (replaces : Replaces) (path : Option (List ℕ)) (calls : List FileCall) → path ≡ None

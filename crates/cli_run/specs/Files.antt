@@ -1,5 +1,5 @@
 -- A line that is carried out over files of the system.
-use Rattle.std.specs.Prelude.{◌≡◌, ◌≢◌, ◌⊎◌, ℕ, List, OnOk, [], ◌++◌, length, Option, Some, None, Result, Ok, Err}
+use Rattle.std.specs.Prelude.{◌≡◌, ◌≢◌, ◌⊎◌, ℕ, IfSome, List, OnOk, [], ◌++◌, length, Option, Some, None, Result, Ok, Err}
 use Rattle.std.specs.Io.KnownBytes.{Appends}
 use Rattle.std.specs.declared.io.traits.{Read.Ghosts as Reads, Seek.Ghosts as Seeks, Write.Ghosts as Writes}
 use Rattle.clap.specs.Words.{Text}
@@ -13,6 +13,7 @@ use Rattle.command_common.specs.Outputs.{IsKept, IsPublished as IsOutPublished, 
 use Rattle.cli_files.specs.{FileCalls.FileCall, FileCalls.bytes_in, InputStates.AreFirstAsked, InputStates.Told}
 use Rattle.cli_files.specs.OutFiles.{fault_of, publishing_calls, stage_of}
 use Rattle.cli_files.specs.Publishing.{IsPath, IsPublished, IsRemoved, account}
+use Rattle.cli_files.specs.Refusals.{IsRefused}
 use Rattle.cli_files.specs.declared.replaceable.{OutFault.OutFault, Replaces.Replaces}
 use Rattle.cli_files.specs.declared.system_files.SystemFiles.{SystemFiles}
 use Rattle.cli_files.specs.declared.replaceable.OutFault.TheVariants as fault
@@ -97,7 +98,7 @@ outs_in calls begun done = outs calls.held calls.draft_failures calls.published 
 -- are its notes. Inputs were made for its paths, each once and in the order of the words, and for no other. OUT has the
 -- path of the line, unless an input's file is there, and replaces what the plan says. Where a text was published, the
 -- calls for OUT are those by which it was put at that path; where none was, those by which nothing is left, with the
--- bytes that the draft took; and where the draft took none and did not fail there are none.
+-- bytes that the draft took, and they say why OUT was refused, if it was; and where the draft took none and did not fail there are none.
 pub record IsCarriedOut {S D T : Type 0} (calls : Calls S D T) (line : Line) (report : Writer)
     (told : Result Status Failure) (notes : List Note) : Type 0 where
   pub path : Option Text
@@ -122,6 +123,7 @@ pub record IsCarriedOut {S D T : Type 0} (calls : Calls S D T) (line : Line) (re
       → (p : List ℕ) × (path ≡ Some p) × ∥ IsPublished p replaces text calls.called ∥₁
   pub removed : (not_put : IsNotPut (outs_in calls begun done) ended)
       → ∥ IsRemoved replaces path calls.called ∥₁ × (bytes_in calls.called ≡ not_put.bytes)
+      × IfSome calls.fault (λ fault. ∥ IsRefused replaces path fault calls.called ∥₁)
   pub untouched : IsKept (known_of (outs_in calls begun done)) → calls.called ≡ []
   pub told_is : told ≡ command_fault_of calls.fault ended
 

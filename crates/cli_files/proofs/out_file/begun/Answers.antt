@@ -1,5 +1,5 @@
 use Rattle.std.proofs.Common.{◌∙◌, ◌++◌, ◌∷◌, [], ap, string_bytes, subst, sym}
-use Rattle.cli_files.specs.FileCalls.{Creates}
+use Rattle.cli_files.specs.FileCalls.{Creates, taking}
 use Rattle.cli_files.specs.OutFiles.{IsWayTo}
 use Rattle.cli_files.proofs.Publishings.{begun_drafted, begun_through}
 use Rattle.cli_files.specs.Publishing.{IsBeside, IsTargetOf, draft_mode}
@@ -19,7 +19,7 @@ returns-in_ok-draft-in-Beside-clause-calls g c = λ none.
     let draft = c.in_ok-draft-in-Beside.draft in
     let made = c.in_ok-draft-in-Beside.ensures in
     let way = subst (λ way. IsWayTo c.args.replaces path way probes) c.in-Beside.is (c.in_ok-way_to.ensures.way none) in
-    (begun_drafted c.args.replaces path (string_bytes draft.own.path) (string_bytes draft.target) probes _ way.2
+    (begun_drafted c.args.replaces path (string_bytes draft.own.path) (string_bytes draft.target) probes _ made.created.0 way.2
     (subst (λ target. IsTargetOf c.args.replaces path (string_bytes target) probes) (sym made.target) way.0)
     (subst (λ target. IsBeside (string_bytes draft.own.path) (string_bytes target)) (sym made.target) made.beside)
-    (made.created ∙ ap (λ there. probes ++ Creates (string_bytes draft.own.path) (draft_mode there) ∷ []) way.1)).0
+    (made.created.1 ∙ ap (λ there. probes ++ taking made.created.0 ++ Creates (string_bytes draft.own.path) (draft_mode there) ∷ []) way.1)).0

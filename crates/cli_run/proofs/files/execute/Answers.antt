@@ -5,7 +5,7 @@ use Rattle.cli_files.specs.{FileCalls.bytes_in, Publishing.IsPublished, Publishi
 use Rattle.cli_files.specs.OutFiles.{draft_account, is_settled, published_account, publishing_calls, Untouched, stage_of}
 use Rattle.cli_arguments.specs.{Inputs.inputs_view, LineView.line_view, Lines.inputs_of}
 use Rattle.cli_run.specs.Files.{command_fault_of}
-use Rattle.cli_run.proofs.OutPublished.{draft_took, first_from, none_asked, nothing_taken, nothing_there, published_there, settled_of, settled_without_calls}
+use Rattle.cli_run.proofs.OutPublished.{draft_took, first_from, none_asked, nothing_taken, nothing_there, published_there, refused_there, settled_of, settled_without_calls}
 use Rattle.cli_run.proofs.{Noting.told_done, Noting.unbegun, Saying.none_called, Outcomes.carried_outcome}
 use Rattle.cli_run.proofs.files.execute.Goals as goal
 
@@ -106,6 +106,9 @@ returns g c =
                 (subst (λ r. IsRemoved r (option_map string_bytes last.path) last.calls.entries)
                 (c.discard.ensures.replaces ∙ is.1) removed))),
             ap bytes_in called ∙ c.discard.ensures.bytes ∙ is.2,
+            refused_there _ rule _ path _ last.calls.entries _ (sym called)
+                (ap (option_map string_bytes) c.discard.ensures.path ∙ is.0) (c.discard.ensures.replaces ∙ is.1)
+                c.discard.ensures.refused,
           );
       untouched = λ kept.
           let is = took [] kept.0.0 in none_called is.2 kept.0.1 kept.1.0;
