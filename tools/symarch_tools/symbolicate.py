@@ -326,22 +326,10 @@ def carry_out(options: Options, reader: Optional[Reader] = None) -> int:
     archives = Archives(options.archives, options.has_lines(), options.has_paths)
     look_up(archives, reports)
     status = status or (Status.REFUSED if archives.refused else Status.DONE)
-    if options.is_missing and options.is_json:
-        print_objects([*(one.members() for one in most_wanted(wanted_in(reports))), *reader.refused])
-        print_end(len(reports), None, status)
-    elif options.is_missing:
-        print_missing(reports, options.has_counts)
     if options.is_missing:
-        return status
+        return say_missing(options, reader, status)
     is_lacking_swift = show_names(options, archives.names, archives.chains.names)
-    if options.is_group:
-        print_groups(reports)
-    elif options.out is not None:
-        os.makedirs(options.out, exist_ok=True)
-        for report in reports:
-            write_report(report, options.out)
-    elif not options.is_json and reader.is_printed:
-        print_report(reports[0])
+    say_named(options, reader)
     account = Account(reports, options.out is not None, is_lacking_swift)
     account.say()
     status = status or (Status.DONE if account.every.named else Status.NONE_NAMED)
@@ -349,6 +337,28 @@ def carry_out(options: Options, reader: Optional[Reader] = None) -> int:
         print_objects(itertools.chain(account.objects(options.has_frames), reader.refused))
         print_end(len(reports), vars(account.every), status)
     return status
+
+
+def say_missing(options: Options, reader: Reader, status: int) -> int:
+    """Prints the images that lack a dSYM, and returns the status."""
+    if options.is_json:
+        print_objects([*(one.members() for one in most_wanted(wanted_in(reader.found))), *reader.refused])
+        print_end(len(reader.found), None, status)
+    else:
+        print_missing(reader.found, options.has_counts)
+    return status
+
+
+def say_named(options: Options, reader: Reader) -> None:
+    """Prints or writes the reports with their names, unless they are printed as JSON."""
+    if options.is_group:
+        print_groups(reader.found)
+    elif options.out is not None:
+        os.makedirs(options.out, exist_ok=True)
+        for report in reader.found:
+            write_report(report, options.out)
+    elif not options.is_json and reader.is_printed:
+        print_report(reader.found[0])
 
 
 def carry_out_or_end(options: Options) -> int:
