@@ -16,6 +16,8 @@ pub enum Status {
     Done,
     /// The answer is empty or has no single symbol: exit status 1.
     Partial,
+    /// Part of it was refused, which the report names; the rest was done: exit status 2.
+    Refused,
 }
 
 /// Which input of a command. Archives and files are counted from 0 in the order of the words.

@@ -12,6 +12,7 @@ pub fn status_of(ended: &Result<Status, Failure>) -> u8
     match ended {
         Ok(Status::Done) => 0,
         Ok(Status::Partial) => 1,
+        Ok(Status::Refused) => 2,
         Err(Failure::Command(CommandFault::OutOfMemory)) => 4,
         Err(_) => 2,
     }

@@ -6,7 +6,7 @@ use Rattle.text_inputs.specs.Frames.{frames_of}
 use Rattle.text_inputs.specs.declared.frame.Frame.{Frame}
 use Rattle.command_common.specs.declared.faults.InputName.{InputName}
 use Rattle.command_common.specs.declared.faults.Status.{Status}
-use Rattle.command_common.specs.declared.faults.Status.TheVariants.{Done, Partial}
+use Rattle.command_common.specs.declared.faults.Status.TheVariants.{Done, Partial, Refused}
 use Rattle.command_common.specs.declared.faults.Why.{Why}
 use Rattle.command_common.specs.Archives.{AreRefused, AreUnfailed, HoldTogether}
 use Rattle.command_common.specs.Ends.{Query}
@@ -64,6 +64,7 @@ IsToldAlone lines archive others frame told =
 abbrev pub is_done : Status → Bool
 is_done Done = true
 is_done Partial = false
+is_done Refused = false
 
 -- What `symbolicate` tells over the archives of the frames, asked once for each and in their order: done if it is each
 -- time, and one text after the other.

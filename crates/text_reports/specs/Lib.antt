@@ -2,6 +2,7 @@ pub mod Texts
 pub mod Rows
 pub mod Report
 pub mod Finds
+pub mod Slices
 pub mod Escapes
 pub mod Frames
 pub mod FrameLists
