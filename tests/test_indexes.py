@@ -13,7 +13,7 @@ from .model.plans import Plan
 from .support.cases import powerless_over, same
 from .support.made_images import archive, image, index, number_uuid, slice_words
 from .support.second_lines import said_by
-from .test_inputs import InputsCase
+from .test_inputs import LIMIT, MEGABYTE, InputsCase
 
 ONE, TWO = image(1), image(2)
 UUID, ARCH, DIGEST = slice_words(ONE)
@@ -176,6 +176,27 @@ def with_symbols(number: int, symbols: Dict[bytes, int], kind: int = 2) -> bytes
         entries.append((len(strings), value))
         strings += name + b"\0"
     return with_entries(number, entries, strings, kind)
+
+
+class LargerThanMemory(InputsCase):
+    """Archives that are larger than the memory which a command gets."""
+
+    def test_index(self) -> None:
+        """64 MB in slices of a megabyte."""
+        images = [image(number, more=bytes([number]) * MEGABYTE) for number in range(64)]
+        self.put("in.sym", archive(images))
+        self.writes(index(images), "index", "in.sym", "out.sym", limit=LIMIT)
+
+    def test_find(self) -> None:
+        """Of several archives by their indexes it holds the slices of UUID, and no others."""
+        made, other = image(1, more=bytes(MEGABYTE)), image(2, more=os.urandom(2 * LIMIT))
+        words = ["find", "0.sym", UUID, "--with", "1.sym"]
+        for number, images in enumerate(([made, other], [made, image(3)])):
+            self.put(f"{number}.sym", archive(images))
+            self.put(f"{number}.idx", index(images))
+            words += ["--index", f"{number}.idx"]
+        came = self.run_program(*words, limit=LIMIT)
+        same("find", (came.status, came.lines, came.errors), (0, [f"{ARCH} image {slice_words(made)[2]}"], b""))
 
 
 class OverlappingNames(InputsCase):

@@ -23,6 +23,8 @@ HANDED_IN = {"screen", "progress", "json_lines"}
 MOST_MODULES = 15
 # An operation with more values is an object of its own.
 MOST_VALUES = 5
+# What speaks to other machines.
+NETWORK = {"asyncio", "ftplib", "http", "smtplib", "socket", "socketserver", "ssl", "telnetlib", "urllib", "xmlrpc"}
 # What every command has alike: commands import no others.
 OF_ALL_COMMANDS = {("commands", "arguments")}
 
@@ -48,6 +50,15 @@ def imported(path: pathlib.Path) -> Iterator[Tuple[str, ...]]:
             named = tuple(node.module.split(".")) if node.module else ()
             for one in node.names:
                 yield (*base, *named) if named else (*base, one.name)
+
+
+def imported_elsewhere(path: pathlib.Path) -> Iterator[str]:
+    """The modules, or their packages, that a module imports from beside the tools."""
+    for node in nodes(path):
+        if isinstance(node, ast.Import):
+            yield from (one.name.partition(".")[0] for one in node.names)
+        elif isinstance(node, ast.ImportFrom) and not node.level:
+            yield (node.module or "").partition(".")[0]
 
 
 def values_of(arguments: ast.arguments) -> List[ast.arg]:
@@ -78,6 +89,12 @@ class Tree(unittest.TestCase):
     def test_commands_import_no_others(self) -> None:
         found = [(path.stem, one) for path in (TOOLS / "commands").glob("*.py") for one in imported(path)]
         self.assertEqual([it for it in found if it[1][0] == "commands" and it[1] not in OF_ALL_COMMANDS], [])
+
+    def test_network(self) -> None:
+        """Only symarch-server uses it."""
+        found = {(path.name, name) for path in modules() for name in imported_elsewhere(path) if name in NETWORK}
+        self.assertEqual(found, set())
+        self.assertTrue(NETWORK & {name for path in modules(SERVER) for name in imported_elsewhere(path)})
 
     def test_formats_print_nothing(self) -> None:
         found = [(path.name, one) for path in (TOOLS / "formats").glob("*.py") for one in imported(path)]

@@ -16,5 +16,6 @@
 - reports           cases over symbolicate-report, and archives of the images of examples/crash
 - packages          what packaging/package makes
 - servers           a server of an archive, and what it answers
+- named             the tests and the cases, by their names
 - command_table     the commands of the program and their arguments, by its table
 """
