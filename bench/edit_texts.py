@@ -171,6 +171,11 @@ def files_of(crate: str) -> str:
     return "".join(f"{crate}/{it.relative_to(top)} {blob(it.read_bytes())}\n" for it in paths)
 
 
+def own_sources(crate: str) -> str:
+    """A digest of the sources of a crate alone."""
+    return digest_of(files_of(crate))
+
+
 @functools.lru_cache(maxsize=None)
 def sources(crate: str) -> str:
     """A digest of the sources of a crate, of those below it, and of the kit's logic."""

@@ -1,11 +1,13 @@
 """The edits: that each fits the sources, that the tables have them, and that a test has to catch each wrong body that
 the prover accepts. `bench/edits` and `bench/allowed` try them."""
-import ast
 import re
+import shutil
 import sys
 import unittest
-from typing import Dict, List, Set
+from typing import Dict, List
 
+from .support.cases import FolderCase
+from .support.named import cases, methods
 from .support.program import TOP, call
 
 sys.path.insert(0, str(TOP / "bench"))
@@ -19,23 +21,6 @@ NEVER = "never tried"
 def rows_of(table: str) -> List[List[str]]:
     """The cells of the rows of a table, without its head."""
     return [line.split("\t") for line in table.splitlines()[1:]]
-
-
-def methods() -> Set[str]:
-    """The tests of tests/, as they are named."""
-    found: Set[str] = set()
-    for path in (TOP / "tests").glob("test_*.py"):
-        for one in ast.parse(path.read_text(encoding="utf-8")).body:
-            if isinstance(one, ast.ClassDef):
-                names = [it.name for it in one.body if isinstance(it, ast.FunctionDef)]
-                found.update(f"tests.{path.stem}.{one.name}.{name}" for name in names)
-    return found
-
-
-def cases() -> Set[str]:
-    """The cases of `test_acceptance`, SUBJECT/CASE."""
-    texts = {it.name: it.read_text(encoding="utf-8") for it in (TOP / "crates/test_acceptance/data/cases").iterdir()}
-    return {f"{subject}/{name}" for subject, text in texts.items() for name in re.findall("^= (.*)$", text, re.M)}
 
 
 def every(file: str) -> Dict[str, Edit]:
@@ -64,6 +49,10 @@ class Edits(unittest.TestCase):
         for row in rows_of(TABLE.read_text(encoding="utf-8")):
             edit, text, sources, result = row
             with self.subTest(edit):
+                if "/" not in edit:
+                    self.assertRegex(sources, DIGEST)
+                    self.assertIn([edit in crates(), text, result], [[True, "-", "tried"], [True, "-", "left late"]])
+                    continue
                 self.assertTrue(DIGEST.fullmatch(text))
                 self.assertEqual(sources == "-", result == NEVER)
                 self.assertTrue(sources == "-" or DIGEST.fullmatch(sources))
@@ -76,6 +65,17 @@ class Edits(unittest.TestCase):
         self.assertEqual(came.errors, b"")
         self.assertEqual(sum(counted), len(every("edits")) + sum(len(in_gate(crate)) for crate in crates()))
 
+    @unittest.skipIf(shutil.which("rt") is None, "there is no rt, whose logic an edit was tried with")
+    def test_touched(self) -> None:
+        """No edit is late of a crate whose sources are others than when its edits were last tried, or left."""
+        came = call([TOP / "bench" / "edits", "--list", "--touched"])
+        self.assertEqual(came.status, 0, f"{came.out.decode()}try them by `bench/edits --late --touched`")
+
+    def test_left(self) -> None:
+        # The gate prints the reason, and so how many edits are late.
+        came = call([TOP / "bench" / "edits", "--list", "--touched"])
+        self.skipTest(came.lines[-1])
+
     def test_allowed(self) -> None:
         """Each wrong body that is let through has a test that is there, and is in no other table."""
         rows = {row[0]: row for row in rows_of(ALLOWED.read_text(encoding="utf-8"))}
@@ -84,3 +84,63 @@ class Edits(unittest.TestCase):
         self.assertEqual([row[0] for row in rows.values() if row[3] not in tests], [])
         digests = {edit.crate + edit.digest() for edit in every("edits").values()}
         self.assertEqual([it.key for it in every("allowed").values() if it.crate + it.digest() in digests], [])
+
+
+class Touched(FolderCase):
+    """`bench/edits` in a repository of two small crates, where no edit is tried."""
+
+    is_side_by_side = True
+    seconds = 5
+
+    def setUp(self) -> None:
+        super().setUp()
+        for path in ("bench/edits", "bench/edit_texts.py", "packaging/crate_list.py"):
+            shutil.copymode(TOP / path, self.file(path, (TOP / path).read_bytes()))
+        self.file("crates.txt", "low:\nhigh: low\n")
+        for crate in ("low", "high"):
+            self.file(f"crates/{crate}/src/lib.rt", f"pub fn of_{crate}() -> u8 {{\n    1\n}}\n")
+            self.file(f"crates/{crate}/edits", "# is_two\nfile: src/lib.rt\nold:     1\nnew:     2\n")
+
+    def says(self, words: str, status: int, *lines: str) -> None:
+        came = call([self.folder / "bench/edits", *words.split()], cwd=self.folder)
+        self.assertEqual((came.errors, came.status, came.lines), (b"", status, [*lines]), words)
+
+    def tried(self, crate: str) -> None:
+        """As a log says of its edit, since no crate is proved here."""
+        self.file("log", f"rt: must-fail {crate}/is_two.edit: refused, as it must be: the goal\n")
+        self.says("--log log", 0, "1 edits in log")
+
+    def test_a_crate_that_was_never_tried(self) -> None:
+        low = ["low: 1 edits, 1 late, of which 1 were never tried", "  low/is_two: never tried"]
+        high = [line.replace("low", "high") for line in low]
+        self.says("--list --touched", 1, *high, *low, "0 other crates: 0 edits, 0 late")
+        self.tried("high")
+        self.says("--list --touched", 1, *low, "1 other crates: 1 edits, 0 late")
+        self.tried("low")
+        self.says("--list --touched", 0, "2 other crates: 2 edits, 0 late")
+
+    def test_edits_that_are_left(self) -> None:
+        self.says("--leave", 0, "2 crates: 2 late edits are left")
+        self.says("--list --touched", 0, "2 other crates: 2 edits, 2 late")
+        self.says("--list low", 1, "low: 1 edits, 1 late, of which 1 were never tried", "  low/is_two: never tried",
+                  "1 other crates: 1 edits, 1 late")  # fmt: skip
+
+    def test_a_crate_that_changed(self) -> None:
+        """It is touched, and those above it are not, but their edits are late."""
+        self.tried("low")
+        self.tried("high")
+        self.file("crates/low/specs/Lib.antt", "-- More\n")
+        late = ["low: 1 edits, 1 late, of which 0 were never tried", "  low/is_two: refused: the goal"]
+        self.says("--list --touched", 1, *late, "1 other crates: 1 edits, 1 late")
+        self.tried("low")
+        self.says("--list --touched", 0, "2 other crates: 2 edits, 1 late")
+
+    def test_an_edit_that_changed(self) -> None:
+        """It has to be tried anew, unless edits of its crate were left."""
+        new = "# is_two\nfile: src/lib.rt\nold:     1\nnew:     3\n"
+        late = ["low: 1 edits, 1 late, of which 1 were never tried", "  low/is_two: never tried"]
+        self.says("--leave high", 0, "1 crates: 1 late edits are left")
+        self.tried("low")
+        self.file("crates/low/edits", new)
+        self.file("crates/high/edits", new)
+        self.says("--list --touched", 1, *late, "1 other crates: 1 edits, 1 late")
