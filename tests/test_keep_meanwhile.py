@@ -80,13 +80,14 @@ FOLDED = """
 import subprocess
 from symarch_tools.reports import archives
 
-look_into_files = archives.Archives.look_into_files
+answers = archives.Archives.answers
 
 def folded(self, *words):
+    came = answers(self, *words)
     subprocess.run([{keep!r}, "fold", "--all", "--quiet", *self.paths], check=True)
-    return look_into_files(self, *words)
+    return came
 
-archives.Archives.look_into_files = folded
+archives.Archives.answers = folded
 """
 # A program that has the index of an archive replaced under another name, so often, before it is called.
 RENAMING = """

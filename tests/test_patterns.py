@@ -44,11 +44,16 @@ SAMPLES: Dict[str, Samples] = {
     "console.escapes.OF_TERMINAL": ("sub", [text_run("", "a"), text_run("", "\x9b")]),
     "console.version.RELEASE": ("search", [text_run("### ", "1.1.1"), text_run("", "### 1.1.1, 2000-01-01\n\0\n")]),
     "console.version.NEXT": ("search", [text_run("### ", "1.1.1"), text_run("", "### 1.1.1, not release\n")]),
-    "formats.answer_lines.ANSWER": ("match", [run("", " + 1 "), run("", " + 1"), SPACES]),
-    "formats.answer_lines.SEVERAL": ("fullmatch", [run("!", "1")]),
-    "formats.answer_lines.ESCAPED": ("sub", [text_run("", "\\x1"), text_run("", "\\xff")]),
+    "console.answer_lines.ANSWER": ("match", [run("", " + 1 "), run("", " + 1"), SPACES]),
+    "console.answer_lines.SEVERAL": ("fullmatch", [run("!", "1")]),
+    "console.answer_lines.ESCAPED": ("sub", [text_run("", "\\x1"), text_run("", "\\xff")]),
+    "console.answer_lines.SLICE": ("fullmatch", [
+        text_run(f"{UUID} ", "a"), text_run(f"{UUID} arm64 dsym ", "0"), text_run(f"{UUID} arm64 refused ", "a"),
+    ]),
+    "console.program_faults.FAULT": ("fullmatch", [
+        text_run("archive 0: ", " at 1"), text_run("index ", "1"), text_run("file 0: Stale at entry ", "1"),
+    ]),
     "formats.builds.LINE": ("fullmatch", [run("0" * 16 + " 2000-01-01 " + UUID + " arm64 " + DIGEST + " ", "\\x20")]),
-    "store.asking.AT_ENTRY": ("fullmatch", [text_run("symarch: index ", "1")]),
     "store.bundles.folder.UNPRINTABLE": ("sub", [text_run("", "\1"), text_run("", "a")]),
     "formats.contents.NUMBERED": ("fullmatch", [text_run("cpu:", "0")]),
     "commands.arguments.DIGEST": ("fullmatch", [text_run("", "a")]),
@@ -61,10 +66,7 @@ SAMPLES: Dict[str, Samples] = {
     "formats.file_kinds.HTML": ("match", [run("<", "html"), run("<!doctype ", "html")]),
     "formats.file_kinds.SPACE": ("match", [SPACES]),
     "formats.file_kinds.REPORT": ("match", [SPACES, run("\xef\xbb\xbf", "\n")]),
-    "store.program.AT_RECORD": ("fullmatch", [text_run("symarch: archive 0: ", " at 1"), text_run("", " at ")]),
-    "store.program.CUT_SHORT": ("fullmatch", [
-        text_run("symarch: archive ", "1"), text_run("symarch: archive 0: Truncated at ", "1"),
-    ]),
+    "store.program.PASSED_OVER": ("fullmatch", [text_run("file ", "1"), text_run("file 1 refused ", "a")]),
     "exchange.signatures.LENGTH": ("search", [run("", "length 1"), run("", "length 1 \n"), run("length ", "1")]),
     "exchange.signatures.FOLDER": ("search", [run("", "folder 0\n"), run("folder ", "0")]),
     "exchange.shared_folder.NAME_OF_SITE": ("fullmatch", [text_run("", "a")]),
@@ -127,11 +129,6 @@ SAMPLES: Dict[str, Samples] = {
     ]),
     "reports.text.pasted.FIRST_LINE": ("search", [
         SPACES, run("", ">\n"), run("{", "\r"), run("", " {\n \n"), run("", "Proces\n"),
-    ]),
-    "reports.questions.OF_AN_INDEX": ("match", [run("symarch: index 1: ", "a"), run("symarch: index ", "1")]),
-    "reports.questions.AT_ENTRY": ("fullmatch", [text_run("Stale at entry ", "1")]),
-    "reports.questions.TRUNCATED": ("match", [
-        run("symarch: archive ", "1"), run("symarch: archive 1: ", "Truncated "),
     ]),
     "reports.json.readable_header.WORDS": ("findall", [
         text_run("", "A"), text_run("", "Aa"), text_run("", "AAa"), text_run("", "_"),

@@ -385,12 +385,12 @@ class Origins(ReportCase):
         self.says(self.file("old.sym", b"MSYMARC1" + shipped[8:]), origin="by dSYM")
 
     def test_an_archive_that_is_no_file(self) -> None:
-        """A pipe is read once, so nobody can say."""
-        for name in ("shipped", "image"):
+        """A pipe is read once."""
+        for name, origin in (("shipped", "by dSYM"), ("image", "without dSYM")):
             pipe = self.folder / f"{name}.pipe"
             os.mkfifo(pipe)
             with subprocess.Popen(["cp", self.archives / name, pipe]):
-                self.says(pipe, origin="with or without dSYM")
+                self.says(pipe, origin=origin)
 
     def test_each_of_several_reports(self) -> None:
         paths = [self.file("one/crash", source("crash")), self.file("one/ips", source("ips"))]
@@ -612,7 +612,7 @@ class Calls(ReportCase):
     def test_one_call_for_all_images(self) -> None:
         self.report(FIXTURES / "spool.spindump.txt", "both", environment={"SYMARCH": self.counting()})
         (words,) = (self.folder / "calls").read_text().splitlines()
-        self.assertRegex(words, r"^frames frames \S+ --lines both$")
+        self.assertRegex(words, r"^frames frames \S+ --lines --slices both$")
         asked = (self.folder / "asked").read_text().splitlines()
         self.assertEqual(len(set(asked)), len(asked), "a frame that is asked for twice")
         uuids = [uuid.replace("-", "") for uuid in (SPOOL, SPOOL_2, DYLD, KERNEL)]

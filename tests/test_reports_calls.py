@@ -1,14 +1,19 @@
-"""Several calls of the program side by side, whose answers are those of one."""
+"""Several calls of the program side by side, whose answers are those of one; and what it prints of keys and inputs."""
 import os
 import signal
 import subprocess
 import sys
+import unittest
 from typing import Any, List, Tuple
 
-from .support.cases import Without
-from .support.program import MOST_SECONDS, Ended
+from .support.cases import Without, same
+from .support.program import MOST_SECONDS, TOP, Ended
 from .support.reports import SPOOL, SPOOL_2, TOOL, ReportCase
 from .support.waits import is_running, wait_until
+
+sys.path.insert(0, str(TOP / "tools"))
+from symarch_tools.console.answer_lines import slice_in  # noqa: E402
+from symarch_tools.console.program_faults import fault_on_standard_error, input_fault  # noqa: E402
 
 LOADS = {SPOOL: 0x104D38000, SPOOL_2: 0x204D38000}
 # Notes each call, and does something else in some of them.
@@ -80,3 +85,36 @@ class SideBySide(ReportCase):
             self.assertEqual((run.communicate(timeout=MOST_SECONDS)[1], run.returncode), (b"", -signal.SIGINT))
         self.assertEqual(list(temporary.iterdir()), [])
         self.assertEqual([it for it in begun.read_text().split() if is_running(int(it))], [])
+
+
+class Printed(unittest.TestCase):
+    """What the program prints of keys, and of inputs that it refuses."""
+
+    is_side_by_side = True
+    seconds = 1
+
+    def test_faults(self) -> None:
+        for text, wanted in (
+            ("index 1: Stale", ("index", 1, "Stale", "Stale", None, None)),
+            ("index 0: Damaged at entry 3", ("index", 0, "Damaged at entry 3", "Damaged", None, 3)),
+            ("archive 2: Truncated at 57", ("archive", 2, "Truncated at 57", "Truncated", 57, None)),
+            ("archive 0: BadSlice(Image(BadUuid(0))) at 8",
+             ("archive", 0, "BadSlice(Image(BadUuid(0))) at 8", "BadSlice(Image(BadUuid(0)))", 8, None)),
+            ("file 7: cannot open", ("file", 7, "cannot open", "cannot open", None, None)),
+            ("frames: BadFrame at line 3", None), ("out of memory", None), ("", None),
+        ):  # fmt: skip
+            same(text, input_fault(text), wanted)
+            same(f"{text} as a line", fault_on_standard_error(f"symarch: {text}\n  more\n"), wanted)
+            same(f"{text} of another program", fault_on_standard_error(text), None)
+
+    def test_keys(self) -> None:
+        digest, refused = "0" * 64, "index 0: NoLines at entry 4"
+        for said, wanted in (
+            (f"{SPOOL} arm64 dsym {digest}", (SPOOL, "arm64", "dsym", None)),
+            (f"{SPOOL} cpu:0100000c/80000002 image {digest}", (SPOOL, "cpu:0100000c/80000002", "image", None)),
+            (f"{SPOOL} x86_64 absent", (SPOOL, "x86_64", "absent", None)),
+            (f"{SPOOL} arm64 refused {refused}", (SPOOL, "arm64", None, refused)),
+        ):
+            same(said, slice_in(f"{said}\n".encode()), wanted)
+        for other in (f"dsym {digest}", "dsym\n", f"retired {digest}\n", "\xff absent\n"):
+            self.assertRaises(ValueError, slice_in, f"{SPOOL} arm64 {other}".encode("latin-1"))

@@ -60,7 +60,7 @@ class Json(ReportCase):
         os.mkfifo(pipe)
         with subprocess.Popen(["cp", self.archives / "shipped", pipe]):
             found, _, _ = self.objects(crash, pipe)
-        self.assertEqual(found[0]["images"][0]["answered_by"], "dsym_or_image")
+        self.assertEqual(found[0]["images"][0]["answered_by"], "dsym")
 
     def test_several(self) -> None:
         """A line for each, also of those that are refused and of those in a folder; without --out none is written."""

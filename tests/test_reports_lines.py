@@ -2,6 +2,7 @@
 tests/fixtures/lines, in the forms of reports that the system symbolicated."""
 import json
 import re
+import sys
 import uuid
 from pathlib import Path
 from typing import Any, Dict, List, Set, Tuple
@@ -10,6 +11,39 @@ from .model.indexes import entries_in
 from .support import kept_lines
 from .support.reports import CRASHES, DYLD, FIXTURES, SPOOL, ReportCase, named, program, without_lines
 
+# A program that finds no lines in the tables of some keys, of which it has the faults.
+LACKING = """import subprocess
+import sys
+
+program, *words = sys.argv[1:]
+faults = {faults!r}
+
+
+def lines_of(words):
+    return subprocess.run([program, *words], stdout=subprocess.PIPE, text=True).stdout.splitlines()
+
+
+with open({calls!r}, "a") as calls:
+    print(*words, file=calls)
+with open(words[1]) as file:
+    asked = [line.split(" ") for line in file]
+refused = [it for it in dict.fromkeys(" ".join(one[:2]) for one in asked) if "--lines" in words and it in faults]
+with open(words[1], "w") as file:
+    file.writelines(" ".join(one) for one in asked if " ".join(one[:2]) not in refused)
+answers = [line for line in lines_of(words) if line.startswith(("0x", " "))]
+with open(words[1], "w") as file:
+    file.writelines(" ".join(one) for one in asked)
+every = [line for line in lines_of([it for it in words if it != "--lines"]) if not line.startswith(("0x", " "))]
+for *key, _, address in asked:
+    if " ".join(key) in refused:
+        print(f"0x{{int(address, 16):016x}} !")
+        continue
+    print(answers.pop(0))
+    while answers and answers[0].startswith(" "):
+        print(answers.pop(0))
+print("\\n".join([*every, *(faults[it] for it in sorted(refused))]))
+sys.exit(2 if refused else 0)
+"""
 FORM = {"crash": ".crash", "ips": ".ips", "sample": ".sample.txt", "spindump": ".spindump.txt",
         "metrickit": ".metrickit.json"}  # fmt: skip
 COMPANION = "arm64-2-dsymutil"
@@ -189,22 +223,21 @@ class TooManyLines(LinesCase):
 
     def lacking(self, *numbers: str) -> Dict[str, str]:
         """A program that finds no lines in the tables of these UUIDs."""
-        body = f'echo "$*" >>"{self.folder}/calls"\ncase "$*" in *--lines*)\n'
-        for number in numbers:
-            said = f"symarch: index 0: NoLines at entry {self.entries.index(number)}"
-            key = f"{number.replace('-', '')} {'arm64' if number == self.c else 'x86_64'} "
-            body += f'if grep -q "{key}" "$2"; then echo "{said}" >&2; exit 2; fi\n'
-        return {"SYMARCH": self.script("lacking", f'{body};;\nesac\nexec "$symarch" "$@"')}
+        archs = {self.c: "arm64", self.cxx: "x86_64"}
+        faults = {f"{it.replace('-', '')} {archs[it]}": f"{it} {archs[it]} refused index 0: NoLines at entry "
+                  f"{self.entries.index(it)}" for it in numbers}  # fmt: skip
+        path = self.file("lacking.py", LACKING.format(faults=faults, calls=str(self.folder / "calls")))
+        return {"SYMARCH": self.script("lacking", f'exec "{sys.executable}" -B "{path}" "$symarch" "$@"')}
 
     def test_its_names_are_printed(self) -> None:
         came = self.report(fixture("crash"), self.archive, environment=self.lacking(self.c))
         self.assertEqual((came.status, came.out.decode()), (0, self.printed("--no-lines", fixture("crash"))))
         counts = "by dSYM: lines {0}; not in the archive: dyld {1}; without lines, too many for the index: lines {0}"
         self.assertEqual(came.error_lines[-1].partition("; ")[2], counts.format(self.c, DYLD))
-        self.assertEqual(len((self.folder / "calls").read_text().splitlines()), 3)
+        self.assertEqual(len((self.folder / "calls").read_text().splitlines()), 2)
 
     def test_other_images_have_lines(self) -> None:
-        """The program is called once more for each slice, and then for those without lines."""
+        """The program is called once more, for the slices without lines."""
         frame = "3   x   0x000000020000038a 0x200000000 + 906"
         text = source_text("crash").replace("\n\nThread 1", f"\n{frame}\n\nThread 1")
         path = self.file("both.crash", f"{text}       0x200000000 - 0x20000ffff x x86_64 <{self.cxx}> /x\n")

@@ -438,7 +438,7 @@ class Several(ReportCase):
         self.paths = [self.file(f"several/{form}", source(form)) for form in self.forms]
 
     def test_each_is_written(self) -> None:
-        lines = f'echo "$1 ${{4##*/}}" >>"{self.folder}/calls"', f'cat "$2" >>"{self.folder}/asked"'
+        lines = f'echo "$1 ${{5##*/}}" >>"{self.folder}/calls"', f'cat "$2" >>"{self.folder}/asked"'
         counting = self.script("counting", "\n".join([*lines, 'exec "$symarch" "$@"']))
         out = self.folder / "out of several"
         came = self.report("--out", out, *self.paths, "shipped", environment={"SYMARCH": counting})

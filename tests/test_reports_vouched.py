@@ -137,14 +137,14 @@ class ChangedTables(VouchedCase):
         self.says(ALL_NAMED, words=[CRASHES / "arm64.crash", "both.sym"], status=0, printed=named("crash"))
 
     def test_several_at_once(self) -> None:
-        """The program is called once more, however many tables changed."""
+        """The program is called once, however many tables changed."""
         both = self.archive("both.sym", "both")
         self.change_table(both)
         self.change_table(both, SPOOL_2)
         program = self.script("counting", f'echo >>"{self.folder}/calls"; exec "$symarch" "$@"')
         came = self.report(FIXTURES / "spool.spindump.txt", "both.sym", environment={"SYMARCH": program})
         self.assertEqual(sorted(came.error_lines[:2]), sorted([advice(SPOOL, "both.sym"), advice(SPOOL_2, "both.sym")]))
-        self.assertEqual((came.status, (self.folder / "calls").read_text().count("\n")), (2, 2))
+        self.assertEqual((came.status, (self.folder / "calls").read_text().count("\n")), (2, 1))
 
     def test_an_architecture_that_is_not_stated(self) -> None:
         """The image for another architecture under its UUID does not answer in its place."""
@@ -216,6 +216,20 @@ class ReadSlices(VouchedCase):
         self.says(ALL_NAMED, words=words, status=0, printed=named("crash"))
         self.change(self.folder / "other.sym")
         self.says(advice(SPOOL, "other.sym"), f"{NONE_NAMED}; {CHANGED}", words=words)
+
+    def test_other_keys_are_named(self) -> None:
+        """The program refuses the whole, and is asked for fewer keys, down to the one whose slice changed."""
+        dsym = (CRASHES / "spool-1.dSYM").read_bytes()
+        other = self.file("other.dSYM", dsym[:-1] + bytes([dsym[-1] ^ 1]))
+        for name, paths in (("one.sym", [CRASHES / "spool-1.dSYM", CRASHES / "spool-2.dSYM"]), ("other.sym", [other])):
+            self.assertEqual(self.call("admit", self.archives / "empty", name, *paths).status, 0)
+            self.assertEqual(self.call("index", name, f"{name}.idx").status, 0)
+        self.change(self.folder / "other.sym")
+        came = self.report(FIXTURES / "spool.spindump.txt", "one.sym", "other.sym")
+        self.assertEqual((came.status, self.shortened(came)[0]), (2, advice(SPOOL, "other.sym")))
+        _, *origins = came.error_lines[1].split("; ")
+        wanted = [f"by dSYM: spool {SPOOL_2}", f"changed since it came in: spool {SPOOL}"]
+        self.assertEqual(origins[:2], wanted)
 
     def test_without_an_index_the_archive_alone_answers(self) -> None:
         plain = self.archive("plain.sym", "shipped", is_indexed=False)

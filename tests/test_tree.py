@@ -13,7 +13,7 @@ TOOLS, SERVER = TOP / "tools" / "symarch_tools", TOP / "tools" / "symarch_server
 BELOW: Dict[str, Set[str]] = {
     "commands": {"exchange", "store", "formats", "console"},
     "exchange": {"store", "formats", "console"},
-    "reports": {"store", "formats", "console"},
+    "reports": {"store", "console"},
     "store": {"formats", "console"},
     "formats": {"console"},
     "console": set(),

@@ -19,7 +19,7 @@ from symarch_tools.console.screen import Screen
 from symarch_tools.formats.builds import UNKNOWN, Build, BuildLines, Named, field, field_shown
 from symarch_tools.formats.contents import digest_in
 from symarch_tools.formats.packed_files import DESCRIPTORS
-from symarch_tools.reports.archives import kept_slices
+from symarch_tools.reports.archives import with_levels
 from symarch_tools.store import lock
 from symarch_tools.store.archive import Archive
 from symarch_tools.store.asking import Asked, opened_archive
@@ -80,6 +80,16 @@ def write_builds(found: Sequence[Listed], screen: Screen) -> None:
 
 
 # ---- what an archive has of a UUID
+
+
+def kept_slices(numbers: Sequence[uuid.UUID], path: str) -> KeptSlices:
+    """What an archive has under some UUIDs, with its levels and what came in lately."""
+    kept = KeptSlices(set())
+    for _ in lock.looks(lambda: [one.file.state() for one in with_levels([path])], quiet=0):
+        kept = KeptSlices.under(numbers)
+        for one in with_levels([path]):
+            kept.take(one.path, one.index)
+    return kept
 
 
 @dataclass(frozen=True)
@@ -212,7 +222,7 @@ def candidate(key: bytes, _: KeptSlice, digest: bytes) -> Members:
 def dsyms(job: Members, _: List[int]) -> Members:
     """Of some UUIDs those of which the archive has a dSYM."""
     numbers = [uuid.UUID(one) for one in job["uuids"]]
-    kept = kept_slices(numbers, [job["archive"]])
+    kept = kept_slices(numbers, job["archive"])
     keys = [key_in(key) for key in list(kept.slices)]
     return {"status": 0, "uuids": sorted({str(key[0]) for key in keys if kept.has_companion(key)})}
 

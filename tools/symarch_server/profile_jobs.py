@@ -4,15 +4,17 @@ from __future__ import annotations
 import functools
 import json
 import re
+from dataclasses import dataclass, field
 from typing import Any, Dict, List, Optional, Sequence, Tuple
 
 from symarch_tools import symbolicate
-from symarch_tools.reports.archives import Archives, kept_slices
+from symarch_tools.reports.archives import Archives
 from symarch_tools.reports.arguments import Options, options_of
 from symarch_tools.reports.images import NO_IMAGE, Frames, Image, Images
 from symarch_tools.reports.source_lines import NOTHING, Inlined, Source
 
 from .control import OUT, Members
+from .jobs import kept_slices
 
 # A UUID, and after it an age, which is 0 for Mach-O.
 DEBUG_ID = re.compile("[0-9A-Fa-f]{32}[0-9A-Fa-f]{0,8}")
@@ -25,11 +27,13 @@ class BadForm(Exception):
     """What is asked has another form: where, and what is expected there."""
 
 
+@dataclass(eq=False)
 class Asking:
     """The modules and frames of all jobs, each module once for an architecture that nobody states."""
 
-    def __init__(self) -> None:
-        self.images = Images()
+    images: Images = field(default_factory=Images)
+
+    def __post_init__(self) -> None:
         self.frames = Frames(self.images)
 
     def take(self, where: str, job: Any) -> "Stacks":
@@ -65,11 +69,12 @@ class Asking:
         return index, at
 
 
+@dataclass(frozen=True)
 class Stacks:
     """The modules and stacks of a job."""
 
-    def __init__(self, modules: List[Tuple[str, str, int]], stacks: List[List[Tuple[int, int]]]) -> None:
-        self.modules, self.stacks = modules, stacks
+    modules: List[Tuple[str, str, int]]
+    stacks: List[List[Tuple[int, int]]]
 
     def found_modules(self, images: Images) -> Dict[str, Optional[bool]]:
         """Whether the archive has each module that has a frame."""
@@ -81,12 +86,15 @@ class Stacks:
         return found
 
 
+@dataclass(eq=False)
 class Writing:
     """Writes answers as JSON. What several frames have, as the functions that are inlined there, is made once."""
 
-    def __init__(self, frames: Frames, offsets: List[int]) -> None:
-        self.frames, self.offsets = frames, offsets
-        self.named = 0
+    frames: Frames
+    offsets: List[int]
+    named: int = 0
+
+    def __post_init__(self) -> None:
         self.text = functools.lru_cache(maxsize=MOST_FRAMES)(json.dumps)
         self.inlined = functools.lru_cache(maxsize=MOST_FRAMES)(self.inlined_once)
 
@@ -156,7 +164,7 @@ def profile(job: Members, _: List[int]) -> Members:
 def state_architectures(images: Sequence[Image], archive: str) -> None:
     """Gives each image the architecture under which an archive has its UUID, if that is one alone: the program is asked
     for this one, and not for each that there is."""
-    kept = kept_slices([image.uuid for image in images], [archive])
+    kept = kept_slices([image.uuid for image in images], archive)
     found = kept.architectures() if kept.is_known else {}
     for image in images:
         archs = found.get(image.uuid, [])

@@ -102,11 +102,9 @@ def answered(job: Members, log: int) -> Tuple[Members, List[int]]:
     except MemoryError:
         return {"fault": "the work needs more memory than it may have", "out_of_memory": True}, []
     except Failed as failed:
-        return {"fault": failed.text, "status": failed.status}, []
-    except Failure as failure:
-        if failure.status == Status.NO_MEMORY:
+        if isinstance(failed, Failure) and failed.status == Status.NO_MEMORY:
             return {"fault": "the work needs more memory than it may have", "out_of_memory": True}, []
-        return {"fault": failure.reason or said(), "status": failure.status}, []
+        return {"fault": failed.text or said(), "status": failed.status}, []
     except OSError as error:
         return {"fault": system_text(error), "status": 2}, []
     except BaseException:

@@ -11,7 +11,7 @@ from typing import TYPE_CHECKING, Dict, Iterable, Iterator, List, Optional, Sequ
 
 from .console.demangler import demangled, lacks_swift, without_underscores
 from .console.escapes import shown
-from .console.faults import about, system_text
+from .console.faults import Failed, about, system_text
 from .console.json_lines import Members, path_members
 from .console.signals import Stopped, signals
 from .console.streams import drop, encoded, note, printing, say
@@ -130,13 +130,13 @@ class Reader:
             if is_found:
                 self.passed_over += 1
                 return True
-            self.refuse(path, failure.reason, failure.status)
+            self.refuse(path, failure.text, failure.status)
         except NoReport as failure:
             if is_found and not is_named_as_report(path):
                 return False
-            self.refuse(path, failure.reason, failure.status)
+            self.refuse(path, failure.text, failure.status)
         except Failure as failure:
-            self.refuse(path, failure.reason, failure.status)
+            self.refuse(path, failure.text, failure.status)
         except OSError as error:
             self.refuse(path, system_text(error, os.fsencode(path)))
         return True
@@ -177,12 +177,9 @@ def given_images(options: Options) -> List[GivenImage]:
     """The images that the options name, and those of the builds that they name."""
     given = [*options.images]
     if options.builds:
-        from .store.lookup import NoBuild, images_of_build
+        from .store.lookup import images_of_build
 
-        try:
-            given += [GivenImage(*one) for it in options.builds for one in images_of_build(options.archives, it)]
-        except NoBuild as fault:
-            raise Failure(str(fault), Status.REFUSED) from None
+        given += [GivenImage(*one) for it in options.builds for one in images_of_build(options.archives, it)]
     return given
 
 
@@ -365,11 +362,11 @@ def carry_out_or_end(options: Options) -> int:
     """Carries out a command line. If that fails, JSON has an end that says it."""
     try:
         return carry_out(options)
-    except Failure as failure:
+    except Failed as failure:
         if not options.is_json or failure.status == Status.BAD_ARGUMENTS:
             raise
-        if failure.reason:
-            note(failure.reason)
+        if failure.text:
+            note(failure.text)
         status = failure.status
     except OSError as error:
         if not options.is_json or error.filename == b"standard output":
@@ -383,9 +380,9 @@ def carry_out_or_end(options: Options) -> int:
 def carry_out_arguments(arguments: Sequence[str]) -> int:
     try:
         return carry_out_or_end(options_of(arguments))
-    except Failure as failure:
-        if failure.reason:
-            note(failure.reason)
+    except Failed as failure:
+        if failure.text:
+            note(failure.text)
         return failure.status
     except BrokenPipeError:
         # Who reads has enough: the tool ends as the signal would end another one, and says nothing.

@@ -7,7 +7,7 @@ import os
 import shutil
 import sys
 import tempfile
-from typing import Dict, Iterator, List, Sequence, Set, Tuple, Union
+from typing import Dict, Iterable, Iterator, List, Sequence, Set, Tuple, Union
 
 from ..console.escapes import shown
 from ..console.faults import SliceRefused
@@ -44,6 +44,8 @@ two hex digits. ARCHIVE.builds keeps the name of the file, the day, and the app,
 USAGE = "symarch-keep add [--quiet] [--wait SECONDS] [--json] [--verbose] [--dry-run] [--dsyms-only] ARCHIVE PATH..."
 ABOUT = "add images and dSYMs to an archive"
 STANDARD_INPUT = b"-"
+# A call that reads slices as files has so many bytes and files of them.
+MOST_OF_CALL, MOST_FILES = 256 << 20, 10_000
 WORDS = ("added", "known", "retired")
 KEYS = (*WORDS, "refused", "passed_over", "made", "dry_run")
 
@@ -125,7 +127,8 @@ def put_new(
     try:
         new = sorted((one for one in slices if one.word == "added"), key=functools.cmp_to_key(compared))
         if is_dry_run:
-            return refusals(program, new)
+            read_records(program, new)
+            return []
         lines = [one.line() for one in slices]
         archive.folder.builds.news = days_of(sights_of(slices, archive.folder.builds))
         if not new:
@@ -141,17 +144,51 @@ def put_new(
         return [first, *refusals(program, [one for one in new if one is not first.one])]
 
 
-def refusals(program: Program, slices: Sequence[Slice]) -> List[SliceRefused]:
-    """Why the program refuses some of the slices, which are in the order of their records. It reads each once."""
+def refusals(program: Program, slices: Iterable[Slice]) -> List[SliceRefused]:
+    """Why some of the slices are refused: those that cannot be read, and those of which the program says it."""
     found: List[SliceRefused] = []
-    while slices:
+    for some in calls_for(slices):
+        if len(some) > 1:
+            found += refused_files(program, some)
+            continue
         try:
-            program.run(Run(["find", "/dev/stdin", NO_UUID], slices))
-            break
+            read_records(program, some)
         except SliceRefused as refused:
             found.append(refused)
-            slices = slices[slices.index(refused.one) + 1 :]
     return found
+
+
+def read_records(program: Program, slices: Sequence[Slice]) -> None:
+    """Has the program read slices as records of an archive, so that it holds one of them. Raises the first refusal."""
+    program.run(Run(["find", "/dev/stdin", NO_UUID], slices))
+
+
+def refused_files(program: Program, slices: Iterable[Slice]) -> List[SliceRefused]:
+    """Why some of the slices are refused, which the program reads as files, and holds together."""
+    found: List[SliceRefused] = []
+    files: List[Slice] = []
+    with tempfile.TemporaryDirectory(prefix="symarch-keep.") as room:
+        for one in slices:
+            try:
+                with open(os.path.join(room, str(len(files))), "wb") as file:
+                    file.writelines(one.chunks())
+                files.append(one)
+            except SliceRefused as refused:
+                found.append(refused)
+        return found + program.refused(files, os.fsencode(room))
+
+
+def calls_for(slices: Iterable[Slice]) -> Iterator[List[Slice]]:
+    """Slices in parts, for each of which the program is called once: a long one alone."""
+    some: List[Slice] = []
+    size = 0
+    for one in slices:
+        if some and (size + one.length > MOST_OF_CALL or len(some) == MOST_FILES):
+            yield some
+            some, size = [], 0
+        some.append(one)
+        size += one.length
+    yield some
 
 
 def standard_input(ends: contextlib.ExitStack) -> bytes:

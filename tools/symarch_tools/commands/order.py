@@ -6,8 +6,9 @@ from typing import List, NoReturn, Optional, Sequence
 from ..console.escapes import shown
 from ..console.faults import Failed
 from ..formats.packed_files import ZIP
+from ..formats.universal_files import UNIVERSAL
 from ..store.file_names import beginning, is_archive
-from ..store.slices import THIN, UNIVERSAL, is_dsym
+from ..store.slices import THIN, is_dsym
 
 # In a call standard input; and in place of ARCHIVE, if no argument may be that.
 STANDARD_INPUT, ARCHIVE = "-", "ARCHIVE"

@@ -6,12 +6,12 @@ from dataclasses import dataclass, field
 from typing import Dict, Iterable, Iterator, List, Optional
 
 from ..console import demangler
+from ..console.answer_lines import NO_SLICE, OF_FRAME, OF_SLICE, UNKNOWN, FrameSaid, SymbolSaid, count_in, frame_in
+from ..console.answer_lines import symbol_in, two_words, unescaped
 from ..console.escapes import line_shown
 from ..console.faults import Failed
 from ..console.json_lines import Members, line_of
 from ..console.screen import Screen, screen_of
-from ..formats.answer_lines import NO_SLICE, OF_FRAME, OF_SLICE, UNKNOWN, FrameSaid, SymbolSaid, count_in, frame_in
-from ..formats.answer_lines import symbol_in, two_words, unescaped
 from ..formats.contents import arch_in
 from ..store.asking import Asked, AskedCommand, NoLines, opened_archive
 from .arguments import arch_of, define_archive, number_of, uuid_of

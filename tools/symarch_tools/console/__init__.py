@@ -11,4 +11,6 @@
 - unforeseen_faults   what no part of a tool foresaw, in one line
 - program_path        where the program symarch is
 - version             the version of the tools
+- answer_lines        what the program prints of an address and of the slices under a key
+- program_faults      the faults of an input, as the program prints them
 """

@@ -26,8 +26,8 @@ class CutShort(Failed):
     """An archive that ends before its records do."""
 
     @classmethod
-    def at(cls, path: str) -> "CutShort":
-        return cls(f"{path} is cut short: restore it from a backup or another site", leaves_archive=False)
+    def at(cls, path: str, status: int = 4) -> "CutShort":
+        return cls(f"{path} is cut short: restore it from a backup or another site", status, leaves_archive=False)
 
     def name_as(self, typed: str) -> None:
         """Says it by the path that was typed, if that leads to the archive, or to the one that it is of."""

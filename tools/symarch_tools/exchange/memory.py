@@ -11,6 +11,7 @@
 
 So a question, or names of builds, that were read once need not be read again, whichever site sent them."""
 import time
+from dataclasses import dataclass
 from typing import Dict, Iterable, List, NamedTuple, Optional, Tuple
 
 from ..formats.contents import Content, kept_text
@@ -36,12 +37,15 @@ class Lacks(NamedTuple):
     length: int = 0
 
 
+@dataclass(eq=False)
 class Exchanged:
     """What this site asked: the times and digests of its questions, of which the last one has this content and all of
     the others; the dates of what was done with each other site; and what it read."""
 
-    def __init__(self, archive: Archive) -> None:
-        self.archive, self.kept = archive, archive.files.main.kept(ASKED)
+    archive: Archive
+
+    def __post_init__(self) -> None:
+        self.kept = self.archive.files.main.kept(ASKED)
         self.last: Optional[Content] = None
         self.questions: List[Tuple[str, str]] = []
         self.sites: Dict[str, Dict[str, str]] = {}

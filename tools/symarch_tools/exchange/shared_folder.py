@@ -22,6 +22,7 @@ import os
 import re
 import stat
 import time
+from dataclasses import dataclass
 from typing import BinaryIO, Dict, Iterable, Iterator, List, NamedTuple, Optional, Pattern, Set, Tuple, Union
 
 from ..console.escapes import shown
@@ -105,15 +106,18 @@ def latest_first(files: Iterable[TimedFile]) -> Iterator[Tuple[str, List[TimedFi
         yield site, list(its)
 
 
+@dataclass(eq=False)
 class SharedFolder:
     """The folder, as one site sees it when it begins; who may send there, if files are signed; and how long a file may
     be, if that is said."""
 
-    def __init__(
-        self, path: bytes, site: str, senders: Optional[Senders] = None, most: Optional[int] = None
-    ) -> None:
-        self.path, self.site, self.senders, self.most = path, site, senders, most
-        names = sorted(os.listdir(os.fsdecode(path)))
+    path: bytes
+    site: str
+    senders: Optional[Senders] = None
+    most: Optional[int] = None
+
+    def __post_init__(self) -> None:
+        names = sorted(os.listdir(os.fsdecode(self.path)))
         # Files whose times do not count, and why.
         self.untimely: List[Tuple[Sent, str]] = []
         self.questions, self.every_mark, self.builds = (self.timely(names, form) for form in (QUESTION, MARK, BUILDS))
@@ -124,13 +128,13 @@ class SharedFolder:
         self.right: Dict[str, str] = {}
         for found in filter(None, map(SIGNATURE.fullmatch, names)):
             self.signatures.setdefault(found["of"], []).append(found[0])
-            self.own_signatures.update([found[0]] * (found["site"] == site))
+            self.own_signatures.update([found[0]] * (found["site"] == self.site))
         # How many files are not whole, and how many were named before; which are done with, and which were seen now.
         self.not_whole = self.named_before = 0
         self.done: Set[str] = set()
         self.unfit: Set[str] = set()
-        if senders and not senders.last:
-            senders.go_to(self.first_folder(senders))
+        if self.senders and not self.senders.last:
+            self.senders.go_to(self.first_folder(self.senders))
 
     def timely(self, names: Iterable[str], form: Pattern[str]) -> List[TimedFile]:
         """The files of a form whose times count. The others are noted."""
@@ -328,14 +332,21 @@ class SharedFolder:
         return stay
 
 
-def regular_size(path: bytes) -> int:
-    """The length of a file. Raises Unfit if it is a link, or none."""
+@contextlib.contextmanager
+def reaching() -> Iterator[None]:
+    """Raises Unfit for what the system says of a file."""
     try:
-        status = os.lstat(path)
+        yield
     except FileNotFoundError:
         raise Gone("is gone", is_half=True) from None
     except OSError as error:
         raise Unfit(f"{error.strerror}", is_half=True) from None
+
+
+def regular_size(path: bytes) -> int:
+    """The length of a file. Raises Unfit if it is a link, or none."""
+    with reaching():
+        status = os.lstat(path)
     if not stat.S_ISREG(status.st_mode):
         raise Unfit("is a link" if stat.S_ISLNK(status.st_mode) else "is no file")
     return status.st_size
@@ -345,12 +356,8 @@ def regular_size(path: bytes) -> int:
 def regular_file(path: bytes) -> Iterator[BinaryIO]:
     """Opens a file to which others may write, without waiting for it. Raises Unfit if it is a link, or none."""
     regular_size(path)
-    try:
+    with reaching():
         descriptor = os.open(path, os.O_RDONLY | os.O_NOFOLLOW | os.O_NONBLOCK)
-    except FileNotFoundError:
-        raise Gone("is gone", is_half=True) from None
-    except OSError as error:
-        raise Unfit(f"{error.strerror}", is_half=True) from None
     with open(descriptor, "rb") as file:
         if not stat.S_ISREG(os.fstat(descriptor).st_mode):
             raise Unfit("is no file")

@@ -18,7 +18,7 @@ import re
 import shutil
 import subprocess
 import time
-from dataclasses import dataclass
+from dataclasses import dataclass, field
 from typing import Dict, Iterable, List, NamedTuple, Sequence, Set, Tuple
 
 from ..console.escapes import shown
@@ -82,18 +82,21 @@ def folder_in(signature: bytes) -> str:
     return found[1].decode() if found else ""
 
 
+@dataclass(eq=False)
 class Keys:
     """The key by which this site signs, which may be in an agent, and the file of those who may."""
 
-    def __init__(self, key: bytes, signers: bytes) -> None:
-        self.key, self.signers = key, signers
+    key: bytes
+    signers: bytes
+
+    def __post_init__(self) -> None:
         command = shutil.which("ssh-keygen")
         if not command:
             raise Failed("there is no ssh-keygen, which signs and verifies: install OpenSSH", 126)
         self.command = command
-        with open(signers, "rb") as file:
+        with open(self.signers, "rb") as file:
             self.signers_digest = hashlib.sha256(file.read()).hexdigest()
-        with open(key, "rb") as file:
+        with open(self.key, "rb") as file:
             status = os.fstat(file.fileno())
         # By which a change of the key is seen.
         self.note = f"{status.st_ino}.{status.st_size}.{status.st_mtime_ns}"
@@ -122,11 +125,14 @@ class Keys:
         return "good" if came.returncode == 0 else "bad" if came.stdout.startswith(b"Could not verify") else ""
 
 
+@dataclass(eq=False)
 class Remembered:
     """What ARCHIVE.signers has, by which this site signs, and requires signatures."""
 
-    def __init__(self, beside: ArchiveFolder) -> None:
-        self.beside, self.path = beside, beside.beside(SIGNERS)
+    beside: ArchiveFolder
+
+    def __post_init__(self) -> None:
+        self.path = self.beside.beside(SIGNERS)
         self.folder, self.written = "", b""
         self.last: Dict[str, str] = {}
         self.own: Dict[str, str] = {}
@@ -162,14 +168,13 @@ class Remembered:
             self.written = text
 
 
+@dataclass(eq=False)
 class Senders(Remembered):
     """Who may send to a folder, by the keys of a call and by what this site remembers."""
 
-    def __init__(self, beside: ArchiveFolder, keys: Keys) -> None:
-        super().__init__(beside)
-        self.keys = keys
-        # The digests that count after this call.
-        self.seen: Set[str] = set()
+    keys: Keys
+    # The digests that count after this call.
+    seen: Set[str] = field(default_factory=set)
 
     def go_to(self, folder: str) -> None:
         """Takes the ID of a folder. What was signed for another one is signed again."""

@@ -7,7 +7,6 @@
 - builds            the names of builds: ARCHIVE.builds
 - universal_files   universal files
 - mach_images       what the commands of an image say: its sections and symbols
-- answer_lines      what the program prints of an address
 - packed_files      zip files and gzipped tar files
 - packed_modules    what of these needs modules that take long to import
 - bundles           what Info.plist and the path say of a slice

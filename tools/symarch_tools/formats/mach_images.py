@@ -8,8 +8,8 @@ from array import array
 from dataclasses import dataclass, field
 from typing import BinaryIO, Iterator, List, NamedTuple, Optional, Tuple
 
-# How long the header is; a command; the commands of segments and symbols, and what is read of them.
-HEADER, COMMAND = struct.Struct("<16x2I8x"), struct.Struct("<II")
+# The header; a command; the commands of segments and symbols, and what is read of them.
+HEADER, COMMAND = struct.Struct("<4x5I8x"), struct.Struct("<II")
 LC_SYMTAB, LC_SEGMENT_64 = 0x2, 0x19
 SEGMENT, SECTION, SYMTAB = struct.Struct("<64xI4x"), struct.Struct("<16s16sQQ32x"), struct.Struct("<8x4I")
 NLIST = struct.Struct("<IBB2xQ")
@@ -51,16 +51,14 @@ class MachImage:
     symtab: Tuple[int, int, int, int] = (0, 0, 0, 0)
 
     def __post_init__(self) -> None:
-        count, size = HEADER.unpack(self.read(0, HEADER.size).ljust(HEADER.size, b"\0"))
-        commands, at = self.read(HEADER.size, size), 0
-        while count > 0 and at + COMMAND.size <= len(commands):
-            kind, size = COMMAND.unpack_from(commands, at)
+        *_, count, size = HEADER.unpack(self.read(0, HEADER.size).ljust(HEADER.size, b"\0"))
+        commands = self.read(HEADER.size, size)
+        for kind, at, size in commands_in(commands, count):
             if kind == LC_SEGMENT_64:
                 self.sections += sections_in(commands[at : at + size])
             elif kind == LC_SYMTAB and size >= SYMTAB.size:
                 at_symbols, number, at_names, names_size = SYMTAB.unpack_from(commands, at)
                 self.symtab = at_symbols, number, at_names, names_size
-            at, count = at + max(size, COMMAND.size), count - 1
 
     def read(self, at: int, size: int) -> bytes:
         """Bytes of the image, as far as it goes."""
@@ -83,6 +81,15 @@ class MachImage:
                 name = names.at(entry) if self.sections[number - 1].contains(value) else None
                 if name:
                     yield NamedSymbol(value, number, name)
+
+
+def commands_in(commands: bytes, count: int) -> Iterator[Tuple[int, int, int]]:
+    """The kind of each command, where it is, and how long."""
+    at = 0
+    while count > 0 and at + COMMAND.size <= len(commands):
+        kind, size = COMMAND.unpack_from(commands, at)
+        yield kind, at, size
+        at, count = at + max(size, COMMAND.size), count - 1
 
 
 def sections_in(command: bytes) -> Iterator[Section]:

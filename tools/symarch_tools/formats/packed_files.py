@@ -267,11 +267,11 @@ class Window(io.RawIOBase):
         return len(data)
 
 
+@dataclass(eq=False)
 class Inner:
     """Packed files that are members of others, one after another in a file without a name."""
 
-    def __init__(self) -> None:
-        self.file: Optional[BinaryIO] = None
+    file: Optional[BinaryIO] = None
 
     def take(self, packed: Packed, member: Member, front: bytes) -> Optional[Packed]:
         """The packed file that a member is, of which the first bytes were read; none if it is none."""

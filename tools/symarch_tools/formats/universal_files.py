@@ -1,17 +1,19 @@
-"""Universal files, of mach-o/fat.h: where each slice stands, and whether a file is one of these slices. A single slice
-is a file of its own."""
+"""Universal files, of mach-o/fat.h: where each slice stands in one that is made or read, and whether a file is one of
+these slices. A single slice is a file of its own."""
 import os
 import stat
 import struct
-from typing import BinaryIO, Iterator, List, NamedTuple, Sequence
+from typing import BinaryIO, Iterator, List, NamedTuple, Sequence, Tuple
 
-from .contents import DIGEST, chunks_in, digest_in
+from ..console.faults import SliceRefused
+from .contents import DIGEST, TOO_LARGE, chunks_in, digest_in
 from .indexes import HEAD, IndexRow
 
 # The magic of each kind, its entries, and the last byte of a file that the narrow one can name.
 NARROW, WIDE = bytes.fromhex("cafebabe"), bytes.fromhex("cafebabf")
 NARROW_ENTRY, WIDE_ENTRY = struct.Struct(">8s3I"), struct.Struct(">8sQQII")
-MOST_NARROW = 0xFFFFFFFF
+UNIVERSAL = {NARROW: NARROW_ENTRY, WIDE: WIDE_ENTRY}
+MOST_NARROW, MOST_PARTS = 0xFFFFFFFF, 32
 FAT_HEADER = struct.Struct(">4sI")
 # Slices stand at multiples of the pages of their machines, by powers of two, as `lipo` places them.
 ALIGNMENT, ALIGNMENT_OF_ARM = 12, 14
@@ -120,3 +122,47 @@ def copied_to(target: BinaryIO, at: int, path: bytes) -> None:
     with open(path, "rb") as file:
         for chunk in chunks_in(file):
             target.write(chunk)
+
+
+# ---- universal files that are read
+
+
+def count_in(first: bytes) -> int:
+    """How many parts a file has by its first eight bytes, of which some may be lacking."""
+    return int.from_bytes(first[4:].ljust(4, b"\0"), "big")
+
+
+def parts_in(file: BinaryIO, first: bytes, size: int) -> List[Tuple[int, int]]:
+    """The offset and size of each part of a universal file, of which the first eight bytes were read. The faults are
+    those of docs/FILES.md, in its order: the program would read a whole file to say one. One of a file that was cut has
+    after it what the table promises, and what is there."""
+    layout, count = UNIVERSAL[first[:4]], count_in(first)
+    entries = file.read(count * layout.size) if count <= MOST_PARTS else b""
+    is_whole = len(entries) == count * layout.size
+    parts = [(offset, length) for _, offset, length, *_ in layout.iter_unpack(entries)] if is_whole else []
+    faults = [(len(first) < FAT_HEADER.size, "HeaderTruncated"), (count > MOST_PARTS, f"TooManyArches({count})")]
+    faults.append((len(parts) < count, "TableTruncated"))
+    faults += [(sum(part) > size, f"SliceOutside({number})") for number, part in enumerate(parts)]
+    faults += [(part[1] >= TOO_LARGE, f"TooLarge({number})") for number, part in enumerate(parts)]
+    for is_there, fault in faults:
+        if is_there:
+            is_header = len(first) == FAT_HEADER.size
+            end = len(first) + count * layout.size
+            told = cut(parts, end, size) if is_header else header_cut(FAT_HEADER.size, size, "the file has")
+            raise SliceRefused(f"Fat({fault}){told}")
+    return parts
+
+
+def header_cut(wanted: int, size: int, there: str) -> str:
+    return f": its header takes {wanted} bytes, and {there} {size}"
+
+
+def cut(parts: Sequence[Tuple[int, int]], end_of_table: int, size: int) -> str:
+    """What a table promises, and what is there, if a file ends before that."""
+    if not parts and size < end_of_table:
+        return f": its table takes {end_of_table} bytes, and the file has {size}"
+    outside = next((number for number, part in enumerate(parts) if sum(part) > size), None)
+    if outside is None:
+        return ""
+    offset, length = parts[outside]
+    return f": part {outside} is bytes {offset} to {offset + length} by the table, and the file has {size}"

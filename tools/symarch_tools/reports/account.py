@@ -17,7 +17,6 @@ from .report import Count, Report
 WORDS = {
     Origin.DSYM: "dsym",
     Origin.IMAGE: "image",
-    Origin.UNKNOWN: "dsym_or_image",
     Origin.CHANGED: "changed",
     Origin.OTHERS: "other_architecture",
     Origin.ABSENT: "absent",

@@ -3,21 +3,25 @@ from __future__ import annotations
 
 import bisect
 import enum
-from dataclasses import dataclass
+import uuid
 from array import array
-from typing import Dict, Iterator, Optional, Set, Tuple
+from dataclasses import dataclass, field
+from typing import Dict, Iterator, List, Optional, Set, Tuple
 
-from ..formats.answer_lines import OF_FRAME, count_in, symbol_in, two_words
-from ..store.lookup import Key
+from ..console.answer_lines import OF_FRAME, count_in, slice_in, symbol_in, two_words
+from ..console.program_faults import InputFault, input_fault
 from .names import Names
 from .source_lines import NOTHING, Chains, Lines
 
+# A UUID and an architecture.
+Key = Tuple[uuid.UUID, str]
 # The name of a function, and the offset in it.
 Symbol = Tuple[str, int]
 # What a slice answers, by the places of its name and of its frames, and the offset.
 Places = Tuple[int, int, int]
 
-NOT_THERE = b"0x%016x ?\n"
+# What is printed of an offset where no slice answers, and where the key is refused.
+NOT_THERE, REFUSED = b"0x%016x ?\n", b"0x%016x !\n"
 # The places of names for an offset without a symbol, and for one with the answers of several slices.
 NONE, MANY = -1, -2
 
@@ -27,7 +31,6 @@ class Origin(enum.Enum):
 
     DSYM = "by dSYM"
     IMAGE = "without dSYM"
-    UNKNOWN = "with or without dSYM"
     CHANGED = "changed since it came in"
     OTHERS = "under another architecture"
     ABSENT = "not in the archive"
@@ -52,6 +55,42 @@ class Said:
         while self.ahead.startswith(OF_FRAME):
             found.append(self.line())
         return b"".join(found)
+
+
+ORIGINS = {"dsym": Origin.DSYM, "image": Origin.IMAGE, "absent": Origin.ABSENT}
+
+
+@dataclass
+class KeyLines:
+    """What the program prints after the answers: what answers under each key, also under the other architectures of a
+    UUID, and why keys are refused."""
+
+    origins: Dict[Key, Origin] = field(default_factory=dict)
+    refused: Dict[Key, InputFault] = field(default_factory=dict)
+
+    def take(self, line: bytes) -> None:
+        """ValueError if a line is none of these."""
+        found = slice_in(line)
+        key = uuid.UUID(found.uuid), found.arch
+        if found.kind is not None:
+            self.origins[key] = ORIGINS[found.kind]
+            return
+        fault = input_fault(found.reason or "")
+        if fault is None or fault.kind != "index":
+            raise ValueError
+        self.refused[key] = fault
+
+    def add(self, other: KeyLines) -> None:
+        self.origins.update(other.origins)
+        self.refused.update(other.refused)
+
+    def architectures(self) -> Dict[uuid.UUID, List[str]]:
+        """Those under which slices answer, by their UUIDs."""
+        found: Dict[uuid.UUID, List[str]] = {}
+        for (number, arch), origin in self.origins.items():
+            if origin is not Origin.ABSENT:
+                found.setdefault(number, []).append(arch)
+        return found
 
 
 @dataclass(eq=False)
@@ -108,24 +147,28 @@ class Answers:
         return (self.names.shown[place], symbol_offset) if place >= 0 else None
 
     def take(self, lines: Said) -> None:
-        """Takes the answer to each question. Those of a key that no slice has are not kept. ValueError if a line is no
-        answer."""
+        """Takes the answer to each question. Those of a key that no slice has, or that is refused, are not kept.
+        ValueError if a line is no answer."""
         self.begin()
         for offset in self.offsets:
             line = lines.line()
-            if not self.places and line == NOT_THERE % offset:
+            if not self.places and line in (NOT_THERE % offset, REFUSED % offset):
                 continue
             address, said = two_words(line)
-            is_first = offset == self.offsets[0]
-            if address != b"0x%016x" % offset or (not is_first and self.origin is Origin.ABSENT):
+            if address != b"0x%016x" % offset or not self.places and offset != self.offsets[0]:
                 raise ValueError
-            self.origin = Origin.UNKNOWN
             several = count_in(said)
             if several is not None:
                 self.several[offset] = dict(self.of_slice(lines) for _ in range(several))
                 self.add(MANY, 0, 0)
             else:
                 self.add(*self.answer(said, lines))
+
+    def take_origin(self, lines: KeyLines) -> None:
+        """Takes what answers under the key. ValueError if there were other answers."""
+        self.origin = lines.origins.get(self.key, Origin.ABSENT)
+        if bool(self.places) != (self.origin is not Origin.ABSENT and self.key not in lines.refused):
+            raise ValueError
 
     def add(self, place: int, symbol_offset: int, chain_place: int) -> None:
         self.places.append(place)

@@ -9,60 +9,61 @@ import shutil
 import stat
 import tempfile
 import time
-import uuid
 from array import array
 from dataclasses import dataclass, field
 from typing import Dict, Iterable, List, Mapping, Optional, Sequence, Set, Tuple
 
 from ..console.escapes import shown
-from ..console.streams import note, noted, say
+from ..console.program_faults import InputFault
+from ..console.streams import note
 from ..store import file_names
-from ..store.lock import MOST_OF_CHANGES, State, looks, state_of
-from ..store.lookup import KeptSlices, Key, changed_keys, is_cut, is_empty_archive, is_of, is_of_version_1, key_of_entry
-from .answers import Answers, Origin
+from ..store.archive_file import ArchiveFile
+from ..store.file_names import INDEX, NEXT_INDEX
+from ..store.levels import ArchiveFiles
+from ..store.lock import MOST_OF_CHANGES, State, looks
+from .answers import Answers, Key, KeyLines, Origin
 from .faults import Failure, Status
-from .images import Image, unique
+from .images import ARCHITECTURES, Image, unique
 from .names import Names
-from .questions import FramesProgram, IndexFault, cut_short
+from .questions import FramesProgram, cut_short
 from .source_lines import Chains
 
-# What `symarch-keep` has next to an archive: what came in lately, the index, and the index of a file that takes the
-# place of the archive just now.
-NAMES = file_names.TODAY, file_names.INDEX, file_names.NEXT_INDEX
-TODAY, INDEX, NEXT_INDEX = map(os.fsdecode, NAMES)
+# What `symarch-keep` has next to an archive: what came in lately.
+TODAY = os.fsdecode(file_names.TODAY)
 # Which files stand at paths.
-Places = List[Tuple[str, Optional[int]]]
+Places = List[Tuple[bytes, Optional[int]]]
+# What is said of an index that is another one's, or is not there any more, and of a slice whose table has no lines.
+OF_ANOTHER, NO_LINES = ("Stale", "cannot open"), "NoLines"
 
 
-def beside(path: str, ending: str) -> str:
-    """The path of what stands next to an archive. A link stands elsewhere."""
-    return (os.path.realpath(path) if os.path.islink(path) else path) + ending
+def files_of(path: str) -> ArchiveFiles:
+    """An archive, its levels and what came in lately, which need not be there. Where a link leads these stand."""
+    return ArchiveFiles(os.fsencode(os.path.realpath(path) if os.path.islink(path) else path))
 
 
-def index_beside(path: str) -> str:
-    """The path of the index of an archive; none if it has none. That of a new file may have no other name yet."""
-    index = beside(path, INDEX)
-    if not os.path.lexists(index) and is_of(beside(path, NEXT_INDEX), path):
-        return beside(path, NEXT_INDEX)
-    return index if os.path.lexists(index) else ""
-
-
+@dataclass(eq=False)
 class NamedArchive:
-    """An archive, and the index next to it, if there is one. `kept` is the archive that `symarch-keep` has it for."""
+    """An archive file, and the index next to it, if there is one. `kept` is the archive that `symarch-keep` has it
+    for."""
 
-    def __init__(self, path: str, kept: str) -> None:
-        self.indexes = beside(path, NEXT_INDEX), beside(path, INDEX)
-        for one in (*reversed(self.indexes), *([path] if path != kept else [])):
+    file: ArchiveFile
+    path: str
+    kept: str
+    # The indexes that were taken in place of others, and until when more are.
+    tried: Set[Tuple[bytes, Tuple[State, ...]]] = field(default_factory=set)
+    end: float = field(default_factory=lambda: time.monotonic() + MOST_OF_CHANGES)
+
+    def __post_init__(self) -> None:
+        for one in (self.beside(INDEX), self.beside(NEXT_INDEX), *[self.path] * (self.path != self.kept)):
             if file_names.is_no_file(os.fsencode(one)):
-                raise Failure(f"{shown(one)} is a pipe, a socket or a device: remove it", Status.REFUSED)
-        self.path, self.kept, self.index = path, kept, index_beside(path)
-        # The indexes that were taken in place of others, and until when more are.
-        self.tried: Set[Tuple[str, Tuple[State, ...]]] = set()
-        self.end = time.monotonic() + MOST_OF_CHANGES
+                raise Failure(f"{shown(one)} is {file_names.NO_FILE}: remove it", Status.REFUSED)
+        # That of a new file may have no other name yet.
+        is_next = not os.path.lexists(self.beside(INDEX)) and self.file.has_length_of(NEXT_INDEX)
+        last = self.beside(INDEX) if os.path.lexists(self.beside(INDEX)) else ""
+        self.index = self.beside(NEXT_INDEX) if is_next else last
 
-    def state(self) -> Tuple[State, ...]:
-        """Which file it is, and which indexes stand next to it."""
-        return tuple(state_of(os.fsencode(path)) for path in (self.path, *self.indexes))
+    def beside(self, ending: bytes) -> str:
+        return os.fsdecode(self.file.beside(ending))
 
     def refuse(self, why: str, more: str = "") -> None:
         raise Failure(f"{why}: run symarch-keep check {shown(self.kept)}{more}", Status.REFUSED)
@@ -70,15 +71,16 @@ class NamedArchive:
     def take_other_index(self) -> None:
         """Takes another index, since the archive has not the length that this one says, or it is gone. A command of
         symarch-keep that ends just now has put a new archive in place, and then puts the index of that."""
-        for _ in looks(self.state):
-            for one in ((index, self.state()) for index in self.indexes):
-                if one not in self.tried and time.monotonic() < self.end and is_of(one[0], self.path):
+        for _ in looks(self.file.state):
+            for ending in (NEXT_INDEX, INDEX):
+                one = ending, self.file.state()
+                if one not in self.tried and time.monotonic() < self.end and self.file.has_length_of(ending):
                     self.tried.add(one)
-                    self.index = one[0]
+                    self.index = self.beside(ending)
                     return
-        if is_cut(self.path):
+        if self.file.is_cut():
             raise cut_short(self.path)
-        why = f"{shown(self.path)} was written since {shown(beside(self.path, INDEX))} was, which does not vouch for it"
+        why = f"{shown(self.path)} was written since {shown(self.beside(INDEX))} was, which does not vouch for it"
         self.refuse(why, f", and if that ends with 0 symarch-keep fold {shown(self.kept)}, which indexes it anew")
 
     def make_index(self, program: FramesProgram, folder: str) -> None:
@@ -89,7 +91,7 @@ class NamedArchive:
             with open(self.path, "rb") as file, open(copy, "wb") as written:
                 shutil.copyfileobj(file, written)
             self.path = copy
-        if is_of_version_1(self.path):
+        if files_of(self.path).main.is_of_version_1():
             program.make("migrate", self.path, os.path.join(made, "archive"), named)
             self.path = os.path.join(made, "archive")
         self.index = os.path.join(made, "index")
@@ -101,19 +103,12 @@ def with_levels(paths: Iterable[str]) -> List[NamedArchive]:
     the levels, the last one first. A fold removes a file once one that follows here has all of it."""
     found = []
     for path in paths:
-        today, levels = beside(path, TODAY), levels_of(path)
-        if os.path.lexists(today) and not is_empty_archive(today):
-            found.append(NamedArchive(today, path))
-        found += [NamedArchive(level, path) for level in reversed(levels)]
-        found.append(NamedArchive(path, path[: -len(TODAY)] if path.endswith(TODAY) else path))
+        files = files_of(path)
+        others = [files.today] * (os.path.lexists(files.today.path) and not files.today.is_empty())
+        others += filter(ArchiveFile.exists, reversed(files.levels))
+        found += [NamedArchive(one, os.fsdecode(one.path), path) for one in others]
+        found.append(NamedArchive(files.main, path, path[: -len(TODAY)] if path.endswith(TODAY) else path))
     return found
-
-
-def levels_of(path: str) -> List[str]:
-    """The levels of an archive that are there."""
-    numbers = file_names.numbers_beside(os.fsencode(beside(path, "")))
-    levels = [beside(path, os.fsdecode(file_names.level_ending(number))) for number in numbers]
-    return list(filter(os.path.exists, levels))
 
 
 def refuse_missing(path: str) -> None:
@@ -121,14 +116,15 @@ def refuse_missing(path: str) -> None:
     try:
         os.stat(path)
     except FileNotFoundError:
-        if not levels_of(path) and not os.path.lexists(beside(path, TODAY)):
+        files = files_of(path)
+        if not any(os.path.lexists(one.path) for one in (*files.levels, files.today)):
             why = f"{shown(path)}: No such file; symarch-keep add makes an archive"
             raise Failure(why, Status.REFUSED) from None
     except OSError:
         pass
 
 
-def place_of(path: str) -> Tuple[str, Optional[int]]:
+def place_of(path: bytes) -> Tuple[bytes, Optional[int]]:
     """Which file stands under a path."""
     try:
         return path, os.stat(path).st_ino
@@ -138,17 +134,83 @@ def place_of(path: str) -> Tuple[str, Optional[int]]:
 
 def places_of(paths: Iterable[str]) -> Places:
     """Which files archives and their levels are. A fold makes others; what comes in lately does not."""
-    return [place_of(path) for one in paths for path in (one, *levels_of(one))]
+    files = map(files_of, paths)
+    return [place_of(file.path) for its in files for file in (its.main, *filter(ArchiveFile.exists, its.levels))]
 
 
-def kept_slices(numbers: Iterable[uuid.UUID], paths: Sequence[str]) -> KeptSlices:
-    """What archives have under some UUIDs, with their levels and what came in lately."""
-    wanted, kept = list(numbers), KeptSlices(set())
-    for _ in looks(lambda: [file.state() for file in with_levels(paths)], quiet=0):
-        kept = KeptSlices.under(wanted)
-        for file in with_levels(paths):
-            kept.take(file.path, file.index)
-    return kept
+@dataclass(eq=False)
+class Attempt:
+    """An attempt to ask archives, which counts if no others took their places meanwhile: the answers by their keys,
+    what answers under each key, and the archives in which slices of some changed."""
+
+    paths: Sequence[str]
+    places: Optional[Places]
+    answers: Mapping[Key, Answers]
+    keys: KeyLines = field(default_factory=KeyLines)
+    changed: Dict[Key, str] = field(default_factory=dict)
+    program: FramesProgram = field(default_factory=FramesProgram)
+    # Where indexes are made.
+    folder: str = ""
+
+    def __post_init__(self) -> None:
+        self.files = with_levels(self.paths)
+
+    def states(self) -> List[Tuple[State, ...]]:
+        return [named.file.state() for named in self.files]
+
+    def ask(self, answers: Sequence[Answers], has_lines: bool) -> bool:
+        """Asks the archives, by the index of each if one of them has one, and by another index if one is not of its
+        archive. Returns False if others stand in these places meanwhile."""
+        while True:
+            self.make_indexes()
+            reply = self.program.reply([(file.path, file.index) for file in self.files], answers, has_lines)
+            if self.places not in (None, places_of(self.paths)):
+                return False
+            fault = reply.fault()
+            if fault is None or fault.kind == "file" or fault.number >= len(self.files):
+                break
+            file = self.files[fault.number]
+            if fault.is_cut_short():
+                raise cut_short(file.path)
+            if fault.kind == "archive":
+                break
+            if fault.entry is not None:
+                return self.ask_apart(answers, has_lines, fault)
+            if fault.reason not in OF_ANOTHER:
+                file.refuse(f"{shown(file.index)} is not read: {fault.text}")
+            file.take_other_index()
+        self.program.judge(reply)
+        self.keys.add(reply.keys)
+        return self.take_refused(answers, has_lines, reply.keys.refused)
+
+    def make_indexes(self) -> None:
+        """Makes the indexes of files that have none, where others have: the program takes as many as archives."""
+        if any(file.index for file in self.files):
+            for file in self.files:
+                if not file.index:
+                    file.make_index(self.program, self.folder)
+
+    def ask_apart(self, answers: Sequence[Answers], has_lines: bool, fault: InputFault) -> bool:
+        """Asks for each half alone after a fault of one key, which is that of the key that is left."""
+        if len(answers) == 1:
+            return self.take_refused(answers, has_lines, {answers[0].key: fault})
+        half = len(answers) // 2
+        return self.ask(answers[:half], has_lines) and self.ask(answers[half:], has_lines)
+
+    def take_refused(
+        self, answers: Sequence[Answers], has_lines: bool, refused: Mapping[Key, InputFault]
+    ) -> bool:
+        """Takes why keys are refused: a slice has too many lines, without which it is asked for again, or changed."""
+        lacking = []
+        for one in answers:
+            fault = refused.get(one.key)
+            if fault and has_lines and fault.reason == NO_LINES:
+                one.has_too_many_lines = True
+                lacking.append(one)
+            elif fault:
+                one.origin = Origin.CHANGED
+                self.changed[one.key] = self.files[fault.number].kept
+        return not lacking or self.ask(lacking, has_lines=False)
 
 
 @dataclass(eq=False)
@@ -161,12 +223,11 @@ class Archives:
     has_paths: bool
     names: Names = field(default_factory=Names)
     refused: Set[Key] = field(default_factory=set)
-    files: List[NamedArchive] = field(default_factory=list)
-    # Whether each is a file, and no pipe.
-    can_be_read_again: bool = True
 
     def __post_init__(self) -> None:
-        self.chains, self.program = Chains(self.has_paths), FramesProgram(self.has_lines)
+        self.chains = Chains(self.has_paths)
+        # Whether each is a file, and no pipe.
+        self.can_be_read_again = not any(file_names.is_no_file(os.fsencode(path)) for path in self.paths)
 
     def look_up(self, images: Sequence[Image]) -> None:
         """Asks for all offsets of all images; and of those whose UUID is there under one other architecture alone for
@@ -188,124 +249,37 @@ class Archives:
         offsets = {key: offsets_of(some, once) for key, some in wanted.items()}
         for image in images:
             image.put_aside(next((offsets[image.uuid, arch] for arch in image.architectures()), image.asked))
-        with tempfile.TemporaryDirectory(prefix="symbolicate-report.") as folder:
-            answers = self.answers(offsets, folder)
-            for image in images:
-                found = {arch: answers[image.uuid, arch] for arch in image.architectures()}
-                image.take({arch: one for arch, one in found.items() if one.origin is not Origin.ABSENT})
-            self.look_into_files(images, [one for one in answers.values() if one.origin is Origin.UNKNOWN])
+            if not image.architectures():
+                # The program says under which others its UUID is there.
+                offsets.setdefault((image.uuid, ARCHITECTURES[0]), array("Q", [0]))
+        attempt = self.answers(offsets)
+        for key in wanted:
+            if key in attempt.changed and key not in self.refused:
+                told = f"run symarch-keep check {shown(attempt.changed[key])}"
+                note(f"{key[0]} {key[1]} changed since it came in: {told}")
+                self.refused.add(key)
+        others = attempt.keys.architectures()
+        for image in images:
+            found = {arch: attempt.answers[image.uuid, arch] for arch in image.architectures()}
+            image.take({arch: one for arch, one in found.items() if one.origin is not Origin.ABSENT})
+            if image.origin() is Origin.ABSENT:
+                image.others = others.get(image.uuid, [])
 
-    def answers(self, offsets: Mapping[Key, array[int]], folder: str) -> Dict[Key, Answers]:
+    def answers(self, offsets: Mapping[Key, array[int]]) -> Attempt:
         """What the archives answer: again where a fold made others of them, which may have moved what was asked."""
         end = time.monotonic() + MOST_OF_CHANGES
         while True:
             made = {key: Answers(key, its, self.names, self.chains) for key, its in offsets.items()}
             places = places_of(self.paths) if time.monotonic() < end else None
-            self.files = with_levels(self.paths)
-            states = self.states()
+            attempt = Attempt(self.paths, places, made)
+            states = attempt.states()
             try:
-                if self.ask(list(made.values()), places, folder):
-                    return made
+                with tempfile.TemporaryDirectory(prefix="symbolicate-report.") as attempt.folder:
+                    if attempt.ask(list(made.values()), self.has_lines):
+                        return attempt
             except FileNotFoundError:
-                if places is None or states == self.states():
+                if places is None or states == attempt.states():
                     raise
-
-    def states(self) -> List[Tuple[State, ...]]:
-        return [file.state() for file in self.files]
-
-    def ask(self, answers: List[Answers], places: Optional[Places], folder: str) -> bool:
-        """Asks the archives, by the index of each if one of them has one, and again without what these do not vouch
-        for. Returns False if others stand in these places meanwhile."""
-        while True:
-            self.make_indexes(folder)
-            reply = self.program.reply([(file.path, file.index) for file in self.files], answers)
-            if places not in (None, places_of(self.paths)):
-                return False
-            cut = reply.cut_archive()
-            if cut is not None and cut < len(self.files):
-                raise cut_short(self.files[cut].path)
-            fault = reply.fault_of_index()
-            if fault is None or fault.number >= len(self.files):
-                break
-            answers = self.without_changed(self.files[fault.number], fault, answers)
-        said = reply.said.decode(errors="surrogateescape")
-        noted.extend(line.strip() for line in said.splitlines())
-        say(said)
-        self.program.judge(reply)
-        return True
-
-    def make_indexes(self, folder: str) -> None:
-        """Makes the indexes of files that have none, where others have: the program takes as many as archives."""
-        if any(file.index for file in self.files):
-            for file in self.files:
-                if not file.index:
-                    file.make_index(self.program, folder)
-
-    def without_changed(self, file: NamedArchive, fault: IndexFault, answers: List[Answers]) -> List[Answers]:
-        """What is asked again after a fault of an index: all, by another index, or without lines of a slice that has
-        too many; or all but the slices that changed, or whose tables did."""
-        if fault.is_of_another():
-            file.take_other_index()
-            return answers
-        if fault.entry is None:
-            file.refuse(f"{shown(file.index)} is not read: {fault.text}")
-        if fault.is_of_lines():
-            return self.without_lines(file, key_of_entry(file.index, fault.entry or 0), answers)
-        changed = self.changed(answers, fault.is_of_table()) or {key_of_entry(file.index, fault.entry or 0): file}
-        left = self.without(changed, answers)
-        if len(left) == len(answers):
-            file.refuse(f"{shown(file.path)} is not that of {shown(file.index)}")
-        return left
-
-    @staticmethod
-    def without_lines(file: NamedArchive, key: Key, answers: List[Answers]) -> List[Answers]:
-        """The same, of which those of a key are asked for without lines."""
-        its = [one for one in answers if one.key == key and not one.has_too_many_lines]
-        if not its:
-            file.refuse(f"{shown(file.path)} is not that of {shown(file.index)}")
-        for one in its:
-            one.has_too_many_lines = True
-        return answers
-
-    def without(self, changed: Dict[Key, NamedArchive], answers: List[Answers]) -> List[Answers]:
-        """The answers except for those of slices that changed, which are said."""
-        for one in answers:
-            if one.key in changed:
-                self.note_changed(one.key, changed[one.key].kept)
-                one.origin = Origin.CHANGED
-        return [one for one in answers if one.key not in changed]
-
-    def note_changed(self, key: Key, archive: str) -> None:
-        """Says once that a slice changed."""
-        if key not in self.refused:
-            note(f"{key[0]} {key[1]} changed since it came in: run symarch-keep check {shown(archive)}")
-        self.refused.add(key)
-
-    def changed(self, answers: Iterable[Answers], is_of_tables: bool) -> Dict[Key, NamedArchive]:
-        """The keys of which a slice changed since it came in, or a table, and where."""
-        keys = [one.key for one in answers]
-        return {key: file for file in self.files for key in changed_keys(file.index, file.path, keys, is_of_tables)}
-
-    def look_into_files(self, images: Sequence[Image], asked: Sequence[Answers]) -> None:
-        """Finds out whether a companion answered for each key that has an answer, and whether the UUIDs of images
-        without one are there under other architectures."""
-        absent = [image for image in images if image.origin() is Origin.ABSENT]
-        numbers = [*(one.key[0] for one in asked), *(image.uuid for image in absent)]
-        kept = KeptSlices.under(numbers)
-        for file in self.files:
-            kept.take(file.path, file.index)
-        if not kept.is_known:
-            # A fold may have moved meanwhile what was asked.
-            kept = kept_slices(numbers, self.paths)
-        for one in asked:
-            if kept.has_companion(one.key):
-                one.origin = Origin.DSYM
-            elif kept.is_known:
-                one.origin = Origin.IMAGE
-        others = kept.architectures()
-        for image in absent:
-            image.others = others.get(image.uuid, [])
-        self.can_be_read_again = kept.is_known
 
 
 def offsets_of(images: Sequence[Image], once: Dict[Tuple[int, ...], array[int]]) -> array[int]:

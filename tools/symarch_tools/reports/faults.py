@@ -1,6 +1,7 @@
 """Why the tool ends, and its statuses."""
 import enum
-from dataclasses import dataclass
+
+from ..console.faults import Failed
 
 
 class Status(enum.IntEnum):
@@ -14,13 +15,9 @@ class Status(enum.IntEnum):
     NO_PROGRAM = 126
 
 
-@dataclass(eq=False)
-class Failure(Exception):
-    """What ends the tool, or keeps a report out: the reason, for standard error, and the status. The reason is empty if
-    the program has given its own."""
-
-    reason: str
-    status: int
+class Failure(Failed):
+    """What ends the tool, or keeps a report out: the reason and the status. The reason is empty if the program gave its
+    own."""
 
 
 class NoReport(Failure):

@@ -5,7 +5,7 @@ from __future__ import annotations
 from dataclasses import dataclass, field
 from typing import Dict, List, NamedTuple, Optional, Tuple
 
-from ..formats.answer_lines import UNKNOWN, frame_in, unescaped
+from ..console.answer_lines import UNKNOWN, frame_in, unescaped
 from .names import Names
 
 # So many lines of frames are kept.

@@ -10,8 +10,8 @@ from typing import List, Optional, Tuple
 from ..console.escapes import shown
 from ..console.faults import Failed
 from ..console.screen import Screen
-from ..formats.contents import MAGIC, MAGICS, RETIREMENT, Content, EndsEarly, KeptFile, Malformed, content_in, heads_in
-from ..formats.contents import records_in
+from ..formats.contents import EMPTY, MAGIC, MAGICS, RETIREMENT, Content, EndsEarly, KeptFile, Malformed, content_in
+from ..formats.contents import heads_in, records_in
 from ..formats.files import remove, size_of, time_of
 from ..formats.indexes import Index, OtherKind, changes, index_at
 from . import upgrades
@@ -65,6 +65,14 @@ class ArchiveFile:
     def is_of_version_1(self) -> bool:
         return self.magic() == MAGICS[1]
 
+    def is_empty(self) -> bool:
+        """Whether it is an archive without a record."""
+        with contextlib.suppress(OSError):
+            if self.size() == len(EMPTY):
+                with open(self.path, "rb") as file:
+                    return file.read() in [magic + EMPTY[len(magic) :] for magic in MAGICS]
+        return False
+
     def heads(self) -> Optional[List[bytes]]:
         try:
             with open(self.path, "rb") as file:
@@ -95,6 +103,11 @@ class ArchiveFile:
         with contextlib.suppress(FileNotFoundError, Malformed):
             return index_at(self.beside(ending))
         return None
+
+    def has_length_of(self, ending: bytes) -> bool:
+        """Whether an index next to it is of an archive as long."""
+        index = self.kept_index(ending)
+        return index is not None and index.size() == self.size()
 
     def following(self) -> Optional[Index]:
         """The index that FILE.idx.next is, where the file is the one of which that was made; else None."""

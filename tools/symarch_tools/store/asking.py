@@ -2,12 +2,12 @@
 indexes if each has one. Who asks takes no lock, so it never waits for a command that writes."""
 import contextlib
 import os
-import re
 import uuid
 from typing import BinaryIO, Dict, Iterator, List, NamedTuple, Optional, Sequence, Set, Tuple
 
 from ..console.escapes import shown
 from ..console.faults import CutShort, Failed, system_text
+from ..console.program_faults import fault_on_standard_error
 from ..console.screen import Screen
 from ..formats.contents import DIGEST, EMPTY, Moved, digest_in, entry_in, join_of, unmoved
 from ..formats.indexes import HEAD, Index, IndexRow
@@ -18,8 +18,6 @@ from .changes import index_read
 from .file_names import INDEX, NEXT_INDEX
 from .lock import looks
 from .program import Program, Run
-
-AT_ENTRY = re.compile("symarch: index ([0-9]+): (Stale|Damaged|NoLines) at entry ([0-9]+)")
 
 
 class NoLines(Exception):
@@ -151,11 +149,11 @@ class Asked:
         try:
             printed, status, noted = self.program.answer(run)
         except Failed as failed:
-            found = AT_ENTRY.fullmatch(failed.text)
-            index = self.files[int(found[1])].its_index if found else None
-            if found and index:
-                slice_words = index.row(int(found[3])).words()
-                raise (NoLines(slice_words) if found[2] == "NoLines" else self.changed(slice_words)) from None
+            found = fault_on_standard_error(failed.text)
+            index = self.files[found.number].its_index if found and found.entry is not None else None
+            if found and found.entry is not None and index:
+                slice_words = index.row(found.entry).words()
+                raise (NoLines(slice_words) if found.reason == "NoLines" else self.changed(slice_words)) from None
             raise
         self.notes = noted.decode(errors="replace").splitlines()
         return printed.decode().splitlines(), status

@@ -1,11 +1,6 @@
 """The files of an archive: ARCHIVE, its levels ARCHIVE.1, ARCHIVE.2 and so on, and ARCHIVE.today; and which of them a
-fold joins.
-
-Each is at least twice as large as the one after it, or nearly. What comes in goes into the last, ARCHIVE.today. A fold
-joins that with the files before it, as long as these are less than twice as large as what is joined so far; if the
-first one is not, ARCHIVE.today becomes a level after all others. So a byte is written again only when its file has
-grown by half or more. Files of less than LEAST bytes are joined whatever the sizes are, so a small archive has no
-levels.
+fold joins, as its help says. Each is at least twice as large as the one after it, or nearly, so a byte is written again
+only when its file has grown by half or more.
 
 The join takes the place of the largest file of which it is made, by the steps of `folder`. Then the other levels are
 removed, each before its index, and ARCHIVE.today is emptied. So a kill leaves each record in the

@@ -1,5 +1,5 @@
-"""What archive files have under some UUIDs: which slices changed since they came in, and which are companions. Rows of
-an index are found by halving; of an archive without one the heads of its records are read."""
+"""What archive files have under some UUIDs, for pages of the server; and the images of builds. Rows of an index are
+found by halving; of an archive without one the heads of its records are read."""
 from __future__ import annotations
 
 import collections
@@ -7,15 +7,13 @@ import os
 import stat
 import uuid
 from dataclasses import dataclass, field
-from typing import BinaryIO, DefaultDict, Dict, Iterable, Iterator, List, NamedTuple, Optional, Sequence, Set, Tuple
+from typing import DefaultDict, Dict, Iterable, Iterator, List, NamedTuple, Optional, Sequence, Set, Tuple
 
 from ..console.escapes import shown
-from ..console.faults import about
-from ..formats.contents import ADMISSION, DIGEST, EMPTY, END, KEY, MAGIC, MAGICS, RETIREMENT, Malformed, arch_in
-from ..formats.contents import digest_in, numbers_of, record_size, records_in, words_of
+from ..console.faults import Failed, about
+from ..formats.contents import ADMISSION, DIGEST, END, KEY, RETIREMENT, Malformed, arch_in, digest_in, numbers_of
+from ..formats.contents import record_size, records_in, words_of
 from ..formats.indexes import FILETYPE, HEAD, INDEX_TAIL, MH_DSYM, ROW, TAIL, IndexRow
-from ..formats.tables import is_good
-
 
 # A UUID and an architecture.
 Key = Tuple[uuid.UUID, str]
@@ -79,47 +77,6 @@ class IndexFile:
         while low < self.count and self.row(low).entry.startswith(begins):
             yield self.row(low)
             low += 1
-
-    def size(self) -> int:
-        """How long its archive is."""
-        return MAGIC + sum(self.row(number).length for number in range(self.count)) + TAIL
-
-
-def is_of(index: str, archive: str) -> bool:
-    """Whether an index is there that an archive of this length has."""
-    try:
-        with IndexFile(index) as rows:
-            return rows.size() == os.stat(archive).st_size
-    except (FileNotFoundError, Malformed):
-        return False
-
-
-def key_of_entry(index: str, entry: int) -> Key:
-    """The key of an entry of an index."""
-    with IndexFile(index) as rows:
-        return key_in(rows.row(entry).entry[1 : 1 + KEY])
-
-
-def changed_keys(index: str, archive: str, keys: Iterable[Key], is_of_tables: bool = False) -> Set[Key]:
-    """The keys of which a slice is another one in an archive than its index has; or of which a table is."""
-    found = set()
-    with IndexFile(index) as rows, open(index if is_of_tables else archive, "rb") as file:
-        for key in keys:
-            admitted = rows.rows_under(ADMISSION + key_bytes(key))
-            if any(not (has_good_table if is_of_tables else is_as_it_came)(file, row) for row in admitted):
-                found.add(key)
-    return found
-
-
-def is_as_it_came(file: BinaryIO, row: IndexRow) -> bool:
-    """Whether the record of a row stands in an archive, with the slice that has its digest."""
-    file.seek(row.at)
-    head = file.read(HEAD)
-    return head == row.head() and digest_in(file, row.at + HEAD, row.length - HEAD) == row.entry[-DIGEST:]
-
-
-def has_good_table(file: BinaryIO, row: IndexRow) -> bool:
-    return row.size > 0 and is_good(file, row)
 
 
 @dataclass(eq=False)
@@ -194,44 +151,11 @@ def digest_of(one: KeptSlice) -> bytes:
         return digest_in(file, one.at, one.length)
 
 
-# ---- archive files as a whole
-
-
-def is_cut(path: str) -> bool:
-    """Whether a file begins as an archive, and does not end as one."""
-    with open(path, "rb") as file:
-        magic = file.read(MAGIC)
-        try:
-            collections.deque(records_in(file), maxlen=0)
-        except Malformed:
-            return any(one.startswith(magic) for one in MAGICS)
-    return False
-
-
-def is_empty_archive(path: str) -> bool:
-    try:
-        if os.stat(path).st_size != len(EMPTY):
-            return False
-        with open(path, "rb") as file:
-            return file.read() in [magic + EMPTY[len(magic) :] for magic in MAGICS]
-    except OSError:
-        return False
-
-
-def is_of_version_1(path: str) -> bool:
-    with open(path, "rb") as file:
-        return file.read(MAGIC) == MAGICS[1]
-
-
 # ---- images of builds
 
 
 # The name of an image, its UUID and its architecture.
 BuildImage = Tuple[str, str, str]
-
-
-class NoBuild(Exception):
-    """That no archive knows a build, for people."""
 
 
 def images_of_build(archives: Iterable[str], build: Sequence[str]) -> List[BuildImage]:
@@ -250,7 +174,7 @@ def images_of_build(archives: Iterable[str], build: Sequence[str]) -> List[Build
                 elif one.app == asked[0]:
                     others.add(one[1:3])
     if not found:
-        raise NoBuild(f"no build {shown('/'.join(build))}{said_of(others)}")
+        raise Failed(f"no build {shown('/'.join(build))}{said_of(others)}", 2)
     return list(found)
 
 

@@ -1,6 +1,7 @@
 """What changed or is lost: the lines of it, with their objects of JSON; and ARCHIVE.lost, which has what an archive had
 and lacks, as after a restore, until it is back or is taken as lost."""
 import uuid
+from dataclasses import dataclass, field
 from typing import Iterable, List, Optional
 
 from ..console.escapes import shown
@@ -13,12 +14,16 @@ LOST = b".lost"
 ACCEPTED = "accepted "
 
 
+@dataclass(eq=False)
 class Lost:
     """What the file of a path has: what is lost, and what is taken as lost."""
 
-    def __init__(self, path: bytes) -> None:
-        self.path, self.fault = path, ""
-        self.content, self.accepted = Content(), Content()
+    path: bytes
+    content: Content = field(default_factory=Content)
+    accepted: Content = field(default_factory=Content)
+    fault: str = ""
+
+    def __post_init__(self) -> None:
         kept = self.kept()
         if kept:
             self.content, self.accepted = kept.content(), kept.content(ACCEPTED)

@@ -8,6 +8,7 @@ from typing import Dict, List, Mapping, Optional, Sequence, Tuple, Union
 
 from ..console.escapes import shown
 from ..console.faults import CutShort, Failed, SliceRefused
+from ..console.program_faults import OWN_WORDS, fault_on_standard_error
 from ..console.program_path import candidates, named
 from ..console.signals import signals
 from ..console.streams import write
@@ -16,17 +17,17 @@ from ..formats.packed_files import DESCRIPTORS
 from .slices import Slice
 
 Argument = Union[str, bytes]
-# A fault of a record, that of a slice, which has its own in parentheses, and that of an archive that ends early.
-AT_RECORD = re.compile("symarch: archive ([01]): (.*) at ([0-9]{1,20})")
-BAD_SLICE = "BadSlice("
-CUT_SHORT = re.compile("symarch: archive [0-9]{1,9}: Truncated at [0-9]{1,20}")
+# The faults of a slice and of a file, which have those of the image in parentheses.
+BAD_SLICE, OF_FILE = "BadSlice(", "Slice(0, "
+# What is reported of a file that `admit` passes over; and the status of a command that went on without a part.
+PASSED_OVER, IN_PART = re.compile(r"file ([0-9]+) refused (.*)"), 2
 
 
 @dataclass(frozen=True)
 class Run:
     """A call of the program: its arguments, the slices whose archive is on its standard input, the folder in which it
     runs, the open files that it gets, and what is called as it moves on. A fault names a path of `names` by what that
-    has for it."""
+    has for it. `goes_on` is said of a command that may report what it refuses, and carry out the rest."""
 
     arguments: Sequence[Argument]
     slices: Sequence[Slice] = ()
@@ -34,6 +35,7 @@ class Run:
     open_files: Sequence[int] = ()
     moved: Moved = unmoved
     names: Mapping[str, str] = field(default_factory=dict)
+    goes_on: bool = False
 
     def all_names(self) -> Dict[str, str]:
         """How paths are shown, also the arguments of a command if they name files of the folder."""
@@ -54,11 +56,13 @@ class Merge:
     held: Sequence[int] = ()
 
 
+@dataclass(eq=False)
 class Program:
     """The program symarch."""
 
-    def __init__(self) -> None:
-        self.path = answering_program()
+    path: str = field(default_factory=lambda: answering_program())
+
+    def __post_init__(self) -> None:
         if not os.path.exists(os.path.join(DESCRIPTORS, "0")):
             raise Failed(f"there is no {DESCRIPTORS}, by which the program gets its files: /proc is not mounted")
 
@@ -67,7 +71,7 @@ class Program:
         return self.answer(run)[0]
 
     def answer(self, run: Run) -> Tuple[bytes, int, bytes]:
-        """Carries out a call, and returns what is printed, the status, 0 or 1, and what is noted."""
+        """Carries out a call, and returns what is printed, the status, and what is noted."""
         with contextlib.ExitStack() as ends:
             # A signal waits until what ends the program is on the stack: one that goes on writes into a folder that is
             # being removed.
@@ -92,9 +96,18 @@ class Program:
                 with contextlib.suppress(subprocess.TimeoutExpired), signals.later():
                     printed, said = process.communicate(timeout=0.2)
                 run.moved(len(run.slices))
-        if process.returncode not in (0, 1):
+        is_in_part = run.goes_on and process.returncode == IN_PART and not said.startswith(OWN_WORDS.encode())
+        if process.returncode not in (0, 1) and not is_in_part:
             raise fault(run, said, process.returncode)
         return printed or b"", process.returncode, said
+
+    def refused(self, slices: Sequence[Slice], room: bytes) -> List[SliceRefused]:
+        """Why some slices are refused, of which the room has the bytes as files that are called by their numbers."""
+        names = map(str, range(len(slices)))
+        arguments = ["admit", "--keep-going", "/dev/stdin", "/dev/null", *names]
+        printed = self.run(Run(arguments, folder=room, goes_on=True)) if slices else b""
+        found = filter(None, map(PASSED_OVER.fullmatch, printed.decode().splitlines()))
+        return [SliceRefused(inner(it[2], OF_FILE), slices[int(it[1])], it[2].startswith(OF_FILE)) for it in found]
 
     def merge(self, asked: Merge) -> None:
         """Writes the join of archives and of slices. Those after the first come joined by a pipe, so that nothing is
@@ -199,23 +212,26 @@ def give(descriptor: int, slices: Sequence[Slice], moved: Moved) -> None:
     write(descriptor, END + len(slices).to_bytes(LENGTH, "big"))
 
 
+def inner(reason: str, begins: str) -> str:
+    """The fault in the parentheses of another one, which begins so; else that one."""
+    return reason[len(begins) : -1] if reason.startswith(begins) and reason.endswith(")") else reason
+
+
 def fault(run: Run, said: bytes, status: int) -> Exception:
     """What the program says of a slice that it was given, or else of the whole: its line, and the one for people."""
     line, _, more = said.decode(errors="replace").strip().partition("\n")
-    found = AT_RECORD.fullmatch(line)
-    if found and found[1] == ("1" if run.arguments[0] == "merge" else "0"):
-        at = MAGIC
+    found = fault_on_standard_error(line)
+    if found and found.kind == "archive" and found.number == (run.arguments[0] == "merge"):
+        at, reason = MAGIC, found.reason
         for one in run.slices:
-            if at == int(found[3]):
-                reason = found[2]
-                is_bad = reason.startswith(BAD_SLICE) and reason.endswith(")")
-                return SliceRefused(reason[len(BAD_SLICE) : -1] if is_bad else reason, one, True)
+            if at == found.byte:
+                return SliceRefused(inner(reason, BAD_SLICE), one, True)
             at += len(one.head) + one.length
     where, _, path = more.partition(" is ")
     names = run.all_names()
     for name in names:
         if path.startswith(name) and path[len(name) :][:1] in ("", ":", ","):
-            if CUT_SHORT.fullmatch(line):
+            if found and found.is_cut_short():
                 return CutShort.at(names[name])
             more = f"{where} is {names[name]}{path[len(name):]}"
             break

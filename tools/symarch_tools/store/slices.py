@@ -8,7 +8,7 @@ import os
 import stat
 import struct
 from dataclasses import dataclass, field
-from typing import BinaryIO, Callable, Dict, Iterable, Iterator, List, Optional, Sequence, Set, Tuple
+from typing import BinaryIO, Callable, Dict, Iterable, Iterator, List, Optional, Set, Tuple
 
 from ..console.escapes import shown
 from ..console.faults import SliceRefused
@@ -16,23 +16,19 @@ from ..console.json_lines import line_of, path_members
 from ..console.screen import Screen
 from ..formats.builds import Build, Sight
 from ..formats.bundles import MOST_OF_LIST, Bundles
-from ..formats.contents import CHUNK, KEY, TOO_LARGE, head_of, words_of
+from ..formats.contents import CHUNK, KEY, head_of, words_of
 from ..formats.file_kinds import MOST_LOOKED_AT, ONE, look_of
+from ..formats.mach_images import COMMAND, HEADER, LC_SYMTAB, NLIST, SYMTAB, commands_in
 from ..formats.packed_files import MOST_LEVELS, Allowance, Damaged, DamagedInner, Inner, Member, Packed, TooMuch
 from ..formats.packed_files import Unpacker, is_named_as_packed, is_of_dsym, may_be_packed, packed_at
+from ..formats.universal_files import FAT_HEADER, NARROW, UNIVERSAL, WIDE_ENTRY, count_in, header_cut, parts_in
 from .losses import record_members
 
-# mach-o/fat.h: an entry of each table, of which offset and size count. mach-o/loader.h: the header and its commands.
-UNIVERSAL = {bytes.fromhex("cafebabe"): struct.Struct(">8xII4x"), bytes.fromhex("cafebabf"): struct.Struct(">8xQQ8x")}
-FAT_HEADER, MOST_PARTS = 8, 32
-WIDEST = max(layout.size for layout in UNIVERSAL.values())
 # A Java class file begins as a universal file, and has its version in place of the number of parts.
-JAVA, LEAST_OF_JAVA = bytes.fromhex("cafebabe"), 45
+LEAST_OF_JAVA = 45
+# mach-o/loader.h: the magic of a 64-bit image, file types, and the command with its UUID.
 THIN = bytes.fromhex("cffaedfe")
-HEADER, COMMAND, SYMTAB = struct.Struct("<4x5I8x"), struct.Struct("<II"), struct.Struct("<8x4I")
-MH_OBJECT, MH_DSYM, LC_SYMTAB, LC_UUID = 1, 10, 2, 0x1B
-# mach-o/nlist.h: how long an entry of a symbol table is.
-NLIST = 16
+MH_OBJECT, MH_DSYM, LC_UUID = 1, 10, 0x1B
 # Commands after these bytes are not looked at here.
 MOST_OF_COMMANDS = 16 << 20
 KINDS = {
@@ -287,13 +283,12 @@ class Finder:
     def take_file(self, file: BinaryIO, size: int) -> None:
         file.seek(0)
         first = file.read(8)
-        layout, count = UNIVERSAL.get(first[:4]), int.from_bytes(first[4:].ljust(4, b"\0"), "big")
-        if layout is None:
+        if first[:4] not in UNIVERSAL:
             self.take_part(file, None, 0, size, size)
         elif is_java(first):
             self.pass_over("other files")
         else:
-            parts = table(file, first, layout, count, size)
+            parts = parts_in(file, first, size)
             for part, (offset, length) in enumerate(parts):
                 self.take_part(file, part, offset, length, size)
             if not parts:
@@ -320,53 +315,17 @@ def is_dsym(path: bytes) -> bool:
     if not os.path.isfile(path):
         return False
     with open(path, "rb") as file:
-        front = file.read(FAT_HEADER + WIDEST)
+        front = file.read(FAT_HEADER.size + WIDE_ENTRY.size)
         layout = UNIVERSAL.get(front[:4])
-        if layout and FAT_HEADER + layout.size <= len(front):
-            offset, _ = layout.unpack_from(front, FAT_HEADER)
+        if layout and FAT_HEADER.size + layout.size <= len(front):
+            _, offset, *_ = layout.unpack_from(front, FAT_HEADER.size)
             file.seek(min(offset, os.fstat(file.fileno()).st_size))
             front = file.read(HEADER.size)
     return front[:4] == THIN and front[12:16] == MH_DSYM.to_bytes(4, "little")
 
 
 def is_java(first: bytes) -> bool:
-    return first[:4] == JAVA and int.from_bytes(first[4:].ljust(4, b"\0"), "big") >= LEAST_OF_JAVA
-
-
-def table(
-    file: BinaryIO, first: bytes, layout: struct.Struct, count: int, size: int
-) -> List[Tuple[int, int]]:
-    """The offset and size of each part of a universal file. The faults are those of docs/FILES.md, in its order; one of
-    a file that was cut has after it what the table promises, and what is there."""
-    entries = file.read(count * layout.size) if count <= MOST_PARTS else b""
-    is_whole = len(entries) == count * layout.size
-    parts = [(offset, length) for offset, length in layout.iter_unpack(entries)] if is_whole else []
-    faults = [(len(first) < FAT_HEADER, "HeaderTruncated"), (count > MOST_PARTS, f"TooManyArches({count})")]
-    faults.append((len(parts) < count, "TableTruncated"))
-    faults += [(sum(part) > size, f"SliceOutside({number})") for number, part in enumerate(parts)]
-    faults += [(part[1] >= TOO_LARGE, f"TooLarge({number})") for number, part in enumerate(parts)]
-    for is_there, fault in faults:
-        if is_there:
-            is_header = len(first) == FAT_HEADER
-            end = len(first) + count * layout.size
-            told = cut(parts, end, size) if is_header else header_cut(FAT_HEADER, size, "the file has")
-            raise SliceRefused(f"Fat({fault}){told}")
-    return parts
-
-
-def header_cut(wanted: int, size: int, there: str) -> str:
-    return f": its header takes {wanted} bytes, and {there} {size}"
-
-
-def cut(parts: Sequence[Tuple[int, int]], end_of_table: int, size: int) -> str:
-    """What a table promises, and what is there, if a file ends before that."""
-    if not parts and size < end_of_table:
-        return f": its table takes {end_of_table} bytes, and the file has {size}"
-    outside = next((number for number, part in enumerate(parts) if sum(part) > size), None)
-    if outside is None:
-        return ""
-    offset, length = parts[outside]
-    return f": part {outside} is bytes {offset} to {offset + length} by the table, and the file has {size}"
+    return first[:4] == NARROW and count_in(first) >= LEAST_OF_JAVA
 
 
 def promised(one: Slice) -> str:
@@ -377,14 +336,11 @@ def promised(one: Slice) -> str:
         if len(front) < HEADER.size:
             return header_cut(HEADER.size, len(front), "there are")
         *_, count, size = HEADER.unpack(front)
-        end, at = HEADER.size + size, 0
-        commands = file.read(min(size, one.length - len(front), MOST_OF_COMMANDS))
-        while count > 0 and at + COMMAND.size <= len(commands):
-            command, length = COMMAND.unpack_from(commands, at)
+        end, commands = HEADER.size + size, file.read(min(size, one.length - len(front), MOST_OF_COMMANDS))
+        for command, at, _ in commands_in(commands, count):
             if command == LC_SYMTAB:
                 symbols, number, strings, more = SYMTAB.unpack_from(commands, at)
-                end = max(end, symbols + NLIST * number, strings + more)
-            at, count = at + max(length, COMMAND.size), count - 1
+                end = max(end, symbols + NLIST.size * number, strings + more)
         if end > one.length:
             return f": its commands promise {end} bytes, and there are {one.length}"
     return ""

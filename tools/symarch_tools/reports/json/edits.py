@@ -4,6 +4,7 @@ from __future__ import annotations
 import json
 import re
 from array import array
+from dataclasses import dataclass, field
 from typing import Any, Dict, List, Mapping, Match, NamedTuple, Optional, Sequence, Set, Tuple
 
 from ..answers import Symbol
@@ -40,15 +41,17 @@ class MemberPlace(NamedTuple):
     end: int
 
 
+@dataclass(eq=False)
 class Members:
     """Where the members of many objects stand, in arrays: an object for each member needs many times the memory."""
 
-    def __init__(self, data: bytes) -> None:
-        self.data = data
-        self.names: List[str] = []
-        self.numbers: Dict[str, int] = {}
+    data: bytes
+    names: List[str] = field(default_factory=list)
+    numbers: Dict[str, int] = field(default_factory=dict)
+
+    def __post_init__(self) -> None:
         self.firsts, self.counts = array("Q"), array("I")
-        self.name_numbers, self.places = array("I"), array("I" if len(data) < 2**32 else "Q")
+        self.name_numbers, self.places = array("I"), array("I" if len(self.data) < 2**32 else "Q")
 
     def keep(self, number: int, members: Mapping[str, JsonMember]) -> None:
         """Keeps the members of the object with a number."""

@@ -2,6 +2,7 @@
 from __future__ import annotations
 
 import uuid
+from dataclasses import dataclass, field
 from typing import Any, Dict, Iterable, Iterator, List, NamedTuple, Optional, Sequence, Tuple, Union
 
 from ...console.escapes import line_shown
@@ -82,13 +83,17 @@ class SaidFrame(NamedTuple):
         return f"0x{self.base:x} + {self.offset}" if self.base is not None and has_image else "???"
 
 
+@dataclass(eq=False)
 class ReadableReport:
     """A JSON document that has frames, after a header that stood before it."""
 
-    def __init__(self, document: JsonReport, header: Dict[str, Any]) -> None:
-        self.document, self.header = document, header
+    document: JsonReport
+    header: Dict[str, Any]
+    bases: Dict[uuid.UUID, Tuple[int, Optional[str]]] = field(default_factory=dict)
+
+    def __post_init__(self) -> None:
+        document = self.document
         self.data, self.frames, self.end = document.data, document.frames, document.end
-        self.bases: Dict[uuid.UUID, Tuple[int, Optional[str]]] = {}
         node = document.report or document.root
         self.top = values_of(self.data, node) if node and document.stacks else {}
         blocks = ["\n".join(lines) for lines in backtrace_blocks(self.top)]

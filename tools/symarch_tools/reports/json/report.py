@@ -2,6 +2,7 @@
 from __future__ import annotations
 
 from array import array
+from dataclasses import dataclass, field
 from typing import Any, Dict, Iterator, List, NamedTuple, Optional, Tuple
 
 from ..images import HAD_NAME, HAS_BELOW, HAS_INLINED, IS_BELOW, IS_INLINED, IS_RETURN, MOST_IMAGES, NO_IMAGE
@@ -46,32 +47,37 @@ class Calls(NamedTuple):
     stacks: List[CallStack]
 
 
+@dataclass(eq=False)
 class JsonReport:
     """A JSON document of a report, which may have no frames. With `is_kept` it keeps what people read of it."""
 
-    def __init__(self, data: bytes, begin: int, images: Images, is_kept: bool = False) -> None:
-        self.data, self.begin, self.images, self.is_kept = data, begin, images, is_kept
-        self.frames = Frames(images)
+    data: bytes
+    begin: int
+    images: Images
+    is_kept: bool = False
+    # What people read: the outermost object, or a value without others; the object that has the images, and these;
+    # lists of frames, trees of calls with their stacks, and how deep each frame stands in them.
+    root: Optional[Node] = None
+    value: Any = None
+    report: Optional[Node] = None
+    listed: List[Any] = field(default_factory=list)
+    stacks: List[Stack] = field(default_factory=list)
+    calls: List[Calls] = field(default_factory=list)
+    call_stacks: List[CallStack] = field(default_factory=list)
+    depths: array[int] = field(default_factory=lambda: array("I"))
+    # Whether it stands after the heading of a full report, and what is wrong with its bytes.
+    is_full: bool = False
+    broken: Optional[Broken] = None
+
+    def __post_init__(self) -> None:
+        self.frames = Frames(self.images)
         # The members of frames that have others in them.
-        self.members = Members(data)
-        # What people read: the outermost object, or a value without others; the object that has the images, and these;
-        # lists of frames, trees of calls with their stacks, and how deep each frame stands in them.
-        self.root: Optional[Node] = None
-        self.value: Any = None
-        self.report: Optional[Node] = None
-        self.listed: List[Any] = []
-        self.stacks: List[Stack] = []
-        self.calls: List[Calls] = []
-        self.call_stacks: List[CallStack] = []
-        self.depths = array("I")
-        # Whether it stands after the heading of a full report, and what is wrong with its bytes.
-        self.is_full = False
-        self.broken: Optional[Broken] = None
+        self.members = Members(self.data)
         try:
-            self.end = Walker(data, begin, self).walk()
+            self.end = Walker(self.data, self.begin, self).walk()
         except Broken as broken:
             self.broken = broken
-            self.end = len(data) if broken.is_cut else broken.place
+            self.end = len(self.data) if broken.is_cut else broken.place
         self.place_frames(0, [], None)
         self.frames.interrupt_said()
 

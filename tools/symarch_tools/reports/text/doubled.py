@@ -1,5 +1,6 @@
 """Text of which each line has an empty one after it, as pages and mails put it there when they are pasted."""
 from __future__ import annotations
+from dataclasses import dataclass
 
 from typing import Iterable, Iterator, Tuple
 
@@ -11,11 +12,11 @@ BLANKS = tuple(mark + end for mark in (b"", EMPTY) for end in (b"\n", b"\r\n"))
 ADDRESS, LEAST = b"0x", 4
 
 
+@dataclass(frozen=True)
 class Doubled:
     """The empty line after each line; none if the text is as it was written."""
 
-    def __init__(self, blank: bytes) -> None:
-        self.blank = blank
+    blank: bytes
 
     def removed(self, data: bytes) -> bytes:
         """The text without these. A line that has none after it is marked, as one that had nothing before it."""

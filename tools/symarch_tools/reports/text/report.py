@@ -413,20 +413,25 @@ class SaidOfLine(NamedTuple):
     inlined: List[bytes]
 
 
+@dataclass(eq=False)
 class TextReport:
     """A report, or a part of one, as lines. `is_whole` says whether images are listed after its last frames, by UUIDs
     or without."""
 
-    def __init__(self, data: bytes, begin: int, end: int, images: Images) -> None:
-        self.data, self.begin, self.end = data, begin, end
+    data: bytes
+    begin: int
+    end: int
+    images: Images
+    known: Dict[Tuple[int, int, int], Optional[SaidOfLine]] = field(default_factory=dict)
+    is_whole: bool = True
+
+    def __post_init__(self) -> None:
         # Where the heading of a full report stands that follows the text, or else its end.
-        self.heading = end
-        self.frames = Frames(images)
-        self.known: Dict[Tuple[int, int, int], Optional[SaidOfLine]] = {}
-        self.form = line_form(data, begin, end)
-        found = PROCESSOR.search(data, begin, end)
+        self.heading = self.end
+        self.frames = Frames(self.images)
+        self.form = line_form(self.data, self.begin, self.end)
+        found = PROCESSOR.search(self.data, self.begin, self.end)
         self.processor = PROCESSORS.get(found[1].decode()) if found else None
-        self.is_whole = True
         self.read()
 
     def line_at(self, place: int) -> Match[bytes]:

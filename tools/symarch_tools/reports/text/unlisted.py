@@ -3,6 +3,7 @@ from __future__ import annotations
 
 import bisect
 import re
+from dataclasses import dataclass, field
 from typing import Dict, List, NamedTuple, Optional, Tuple
 
 from ..images import CANNOT_BE_ASKED, NO_IMAGE, Frames, GivenImage
@@ -22,18 +23,21 @@ class NamedFrame(NamedTuple):
     start: Optional[int]
 
 
+@dataclass(eq=False)
 class Unlisted:
     """The frames of a part of a text that may be of the images that the call names."""
 
-    def __init__(self, frames: Frames, processor: Optional[str]) -> None:
-        self.frames, self.processor = frames, processor
+    frames: Frames
+    processor: Optional[str]
+    named: List[NamedFrame] = field(default_factory=list)
+    addresses: List[int] = field(default_factory=list)
+    # The numbers of the images that frames are in, by their names.
+    numbers: Dict[str, int] = field(default_factory=dict)
+
+    def __post_init__(self) -> None:
         self.given: Dict[str, List[GivenImage]] = {}
-        for one in frames.images.given:
+        for one in self.frames.images.given:
             self.given.setdefault(one.name, []).append(one)
-        self.named: List[NamedFrame] = []
-        self.addresses: List[int] = []
-        # The numbers of the images that frames are in, by their names.
-        self.numbers: Dict[str, int] = {}
 
     def take(self, at: int, address: int, image: bytes, said: bytes) -> None:
         """Takes the frame of a line that names its image."""

@@ -1,5 +1,5 @@
 """What the program prints of an address: the symbol that a slice answers, and below it, by `--lines`, the frames, each
-with its file and line."""
+with its file and line; and, by `--slices`, what it prints of the slices under a key."""
 from __future__ import annotations
 
 import re
@@ -17,6 +17,8 @@ UNKNOWN = b"?"
 MOST_DIGITS = 20
 # Bytes that the program does not print as they are.
 ESCAPED = re.compile(r"(?:\\x[0-9a-f]{2})+")
+# A slice that answers under a key, that there is none, or why the key is refused.
+SLICE = re.compile(r"([0-9a-f-]{36}) (\S+) (?:(dsym|image) [0-9a-f]{64}|(absent)|refused (.+))\n")
 
 
 class SymbolSaid(NamedTuple):
@@ -34,6 +36,15 @@ class FrameSaid(NamedTuple):
     path: bytes
     line: int
     column: int
+
+
+class SliceSaid(NamedTuple):
+    """What is printed of a key: its UUID and architecture; dsym, image or absent, or else why it is refused."""
+
+    uuid: str
+    arch: str
+    kind: Optional[str]
+    reason: Optional[str]
 
 
 def symbol_in(said: bytes) -> Optional[SymbolSaid]:
@@ -66,6 +77,14 @@ def frame_in(line: bytes) -> FrameSaid:
     if not (line.startswith(OF_FRAME) and at and is_number(number) and is_number(column)):
         raise ValueError
     return FrameSaid(name, path, int(number), int(column))
+
+
+def slice_in(line: bytes) -> SliceSaid:
+    """What the line of a slice says. ValueError if it is none."""
+    found = SLICE.fullmatch(line.decode())
+    if not found:
+        raise ValueError
+    return SliceSaid(found[1], found[2], found[3] or found[4], found[5])
 
 
 def is_number(digits: bytes) -> bool:
