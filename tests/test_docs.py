@@ -26,7 +26,7 @@ METHODS_OF = re.compile(r"^impl(?:<.*?>)? (?:.* for )?(\w+).*\{$", re.M)
 OF_TESTS = ("test_acceptance", "test_calls", "test_parts")
 # Help and refusals, which have usage lines; and what these have of options.
 HELPS = "crates/test_acceptance/data/cases/words"
-OPTIONS = re.compile(r"\[OPTIONS\] |--lines |--\w+ <\w+> ")
+OPTIONS = re.compile(r"\[OPTIONS\] |--(?:lines|slices|keep-going) |--\w+ <\w+> ")
 # A command of the program in a line of README.
 COMMAND_LINE = re.compile(r"(?<![\w./-])symarch((?: [\w./-]+)+)")
 # How long README is, and what it speaks of only once a crash is named.

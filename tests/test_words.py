@@ -32,7 +32,7 @@ class Help(PlacesCase):
 
     def test_help_of_a_command(self) -> None:
         for words in ("help admit", "admit --help", "admit -h"):
-            self.prints_help(words, "symarch admit <IN> <OUT> <FILE>...", "  -h, --help  Print help")
+            self.prints_help(words, "symarch admit [OPTIONS] <IN> <OUT> <FILE>...", "  -h, --help        Print help")
 
     def test_version(self) -> None:
         """The number is that of the last release of CHANGELOG.md, or of the next one above it."""

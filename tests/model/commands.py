@@ -2,7 +2,7 @@
 from __future__ import annotations
 
 import functools
-from typing import Any, Callable, Dict, Iterable, List, NamedTuple, Optional, Sequence, Tuple, TypeVar
+from typing import Any, Callable, Dict, Iterable, List, NamedTuple, Optional, Sequence, Tuple, TypeVar, Union
 
 from .contents import OLD_ARCHIVE, Content, Fault, MergeFault, Source, admission, copy_unnamed, covering, magic_fault
 from .contents import merge_streams, merged_by_definition, read_archive, read_ops, read_summary, retirement
@@ -22,6 +22,8 @@ UNLIMITED = 1 << 62
 Read = TypeVar("Read")
 # What opens an input by its path; None where it cannot be opened.
 Open = Callable[[str], Optional[Source]]
+# The parts of a file, of which a skipped one is None; or why it is passed over.
+Parts = Union[List[Optional[bytes]], str]
 # The lines of a command over the content of its archive.
 Lines = Callable[[Content], List[str]]
 
@@ -316,37 +318,55 @@ class Run:
         self.push(Content().text())
         return self.end(0, [])
 
-    def slices(self, paths: Sequence[str]) -> List[Tuple[int, int, Optional[bytes]]]:
-        """The numbers of file and slice of each part of files, and its bytes; none of one that is skipped."""
-        found: List[Tuple[int, int, Optional[bytes]]] = []
-        for file, path in enumerate(paths):
-            parts = parts_of_file(self.whole(path, f"file {file}"))
-            if isinstance(parts, str):
-                raise CommandFault(f"file {file}", parts)
-            found += [(file, number, part) for number, part in enumerate(parts)]
+    def parts(self, number: int, path: str) -> List[Optional[bytes]]:
+        """The parts of a file; none of one that is skipped."""
+        parts = parts_of_file(self.whole(path, f"file {number}"))
+        if isinstance(parts, str):
+            raise CommandFault(f"file {number}", parts)
+        return [*parts]
+
+    def files(self, plan: Plan) -> List[Parts]:
+        """The parts of each file, or why it is passed over."""
+        found: List[Parts] = []
+        for number, path in enumerate(plan.files):
+            try:
+                found.append(self.parts(number, path))
+            except NoMemory:
+                raise
+            except CommandFault as fault:
+                if not plan.keep_going:
+                    raise
+                found.append(fault.text)
         return found
 
-    @takes("in out file*")
+    @takes("in out file*", flags="--keep-going")
     def run_admit(self, plan: Plan) -> int:
-        parts = self.before(plan.one["in"], lambda: self.slices(plan.files))
-        came = Content([admission(part) for _, _, part in parts if part is not None])
+        files = self.before(plan.one["in"], lambda: self.files(plan))
+        parts = [part for its in files if not isinstance(its, str) for part in its]
+        came = Content([admission(part) for part in parts if part is not None])
 
         def lines_of(content: Content) -> List[str]:
             retired = [it for it in came.records() if covering(it) in content.rets]
             words = [f"{key_text(it[1:25])} {sha(it[33:]).hex()}" for it in retired]
             self.notes = [f"{it} is retired in IN, and does not come in" for it in words]
             lines = []
-            for file, number, part in parts:
-                what = f"file {file} slice {number}"
-                if part is None:
-                    lines.append(f"{what} skipped")
-                    continue
-                record = admission(part)
-                word = "added" if content.take(record) else "known"
-                lines.append(f"{what} {word} {key_text(record[1:25])} {sha(part).hex()}")
+            for number, its in enumerate(files):
+                refused = [f"refused {its}"] if isinstance(its, str) else []
+                taken = [] if isinstance(its, str) else [self.taken(content, *it) for it in enumerate(its)]
+                lines += [f"file {number} {it}" for it in (*refused, *taken)]
             return lines
 
-        return self.merge(plan.one["in"], came.text(), lines_of)
+        self.merge(plan.one["in"], came.text(), lines_of)
+        return 2 if any(isinstance(it, str) for it in files) else 0
+
+    @staticmethod
+    def taken(content: Content, number: int, part: Optional[bytes]) -> str:
+        """What becomes of a part, which the content takes."""
+        if part is None:
+            return f"slice {number} skipped"
+        record = admission(part)
+        word = "added" if content.take(record) else "known"
+        return f"slice {number} {word} {key_text(record[1:25])} {sha(part).hex()}"
 
     @takes("in out uuid arch digest")
     def run_retire(self, plan: Plan) -> int:
@@ -474,16 +494,33 @@ class Run:
             self.notes = [f"there is no symbol {escaped(name)}, but there is _{escaped(name)}"]
         return self.told(lines)
 
-    @takes("archive uuid arch address*", is_asking=True, indexes=ANY_NUMBER, is_telling_lines=True)
+    @takes("archive uuid arch address*", is_asking=True, indexes=ANY_NUMBER, flags="--lines --slices")
     def run_symbolicate(self, plan: Plan) -> int:
         asked = [Asked(plan.key, (it, plan.load)) for it in plan.addresses]
-        return self.answered(self.answers(plan, [plan.one["archive"], *plan.more], asked))
+        return self.answered(plan, [plan.one["archive"], *plan.more], asked, [plan.key])
 
-    def answered(self, answers: Sequence[Answer]) -> int:
-        self.tell([line for lines, _ in answers for line in lines])
+    def answered(self, plan: Plan, archives: Sequence[str], asked: Sequence[Asked], keys: Sequence[bytes]) -> int:
+        answers = self.answers(plan, archives, asked)
+        slices = self.slices(plan, archives, keys) if plan.slices else []
+        self.tell([*(line for lines, _ in answers for line in lines), *slices])
         return 0 if all(is_one for _, is_one in answers) else 1
 
-    @takes("frames archives*", indexes=ANY_NUMBER, is_telling_lines=True)
+    def slices(self, plan: Plan, archives: Sequence[str], keys: Sequence[bytes]) -> List[str]:
+        """The lines of the slices that answer under the UUIDs of keys, and of the keys under which none does."""
+        if plan.indexes:
+            rows = index_rows([it for one in self.indexed(archives, plan.indexes) for it in one.entries])
+        else:
+            rows = find_rows(self.join(archives))
+        retired = {(key, digest) for key, state, digest in rows if state == "retired"}
+        live = {(key, digest): state for key, state, digest in rows if (key, digest) not in retired}
+        companions = {key for (key, _), state in live.items() if state == "dsym"}
+        found = sorted(it for it, state in live.items() if state == "dsym" or it[0] not in companions)
+        wanted = [(key, digest) for key, digest in found if key[:16] in {it[:16] for it in keys}]
+        absent = sorted({*keys} - {key for key, _ in wanted})
+        lines = [f"{key_text(key)} {live[key, digest]} {digest.hex()}" for key, digest in wanted]
+        return [*lines, *(f"{key_text(key)} absent" for key in absent)]
+
+    @takes("frames archives*", indexes=ANY_NUMBER, flags="--lines --slices")
     def run_frames(self, plan: Plan) -> int:
         if plan.indexes:
             self.test_pairs(plan.archives, plan.indexes)
@@ -491,7 +528,7 @@ class Run:
         if isinstance(frames, str):
             raise CommandFault("frames", frames)
         asked = [Asked(it.key, (it.address, it.load)) for it in frames]
-        return self.answered(self.answers(plan, plan.archives, asked))
+        return self.answered(plan, plan.archives, asked, [it.key for it in frames])
 
     @takes("archive out", indexes=1)
     def run_summary(self, plan: Plan) -> int:

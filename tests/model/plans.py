@@ -10,13 +10,12 @@ ANY_NUMBER = 1 << 62
 
 class Taken(NamedTuple):
     """What a command takes: its words by their names, in their order, of which the last may stand several times, with
-    a star after it; whether it asks several archives by `--with`; how often `--index` may stand; and whether `--lines`
-    may."""
+    a star after it; whether it asks several archives by `--with`; how often `--index` may stand; and which flags may."""
 
     words: Sequence[str]
     is_asking: bool
     indexes: int
-    is_telling_lines: bool
+    flags: Sequence[str]
 
 
 # What each command takes, by its name; `takes` notes it.
@@ -25,12 +24,12 @@ Method = TypeVar("Method", bound=Callable[..., int])
 
 
 def takes(
-    words: str, is_asking: bool = False, indexes: int = 0, is_telling_lines: bool = False
+    words: str, is_asking: bool = False, indexes: int = 0, flags: str = ""
 ) -> Callable[[Method], Method]:
     """Notes what the command takes that a method `run_` and its name carries out."""
 
     def note(method: Method) -> Method:
-        TAKEN[method.__name__[len("run_") :]] = Taken(words.split(), is_asking, indexes, is_telling_lines)
+        TAKEN[method.__name__[len("run_") :]] = Taken(words.split(), is_asking, indexes, flags.split())
         return method
 
     return note
@@ -60,7 +59,7 @@ class Plan:
         self.taken = TAKEN[self.command]
         self.load: Optional[int] = None
         self.wanted: Optional[bytes] = None
-        self.lines = False
+        self.flags: List[str] = []
         self.more: List[str] = []
         self.indexes: List[str] = []
         self.one: Dict[str, str] = {}
@@ -76,6 +75,18 @@ class Plan:
             raise Copy
 
     @property
+    def lines(self) -> bool:
+        return "--lines" in self.flags
+
+    @property
+    def slices(self) -> bool:
+        return "--slices" in self.flags
+
+    @property
+    def keep_going(self) -> bool:
+        return "--keep-going" in self.flags
+
+    @property
     def key(self) -> bytes:
         return self.uuid + self.arch
 
@@ -89,8 +100,8 @@ class Plan:
                 found.append(word)
             elif word == "--":
                 return found + left
-            elif word == "--lines" and self.taken.is_telling_lines and not self.lines:
-                self.lines = True
+            elif word in self.taken.flags and word not in self.flags:
+                self.flags.append(word)
             else:
                 self.take_option(*self.option(word, left))
         return found

@@ -9,7 +9,7 @@ from .program import TOP
 # of its own.
 TABLE = "crates/cli_arguments/src/commands.rt"
 ARGUMENT = re.compile(r"^const (\w+): Argument = Argument \{\n(.*?)^\};", re.M | re.S)
-FIELD = re.compile(r'^ +(name|count|role): (?:\w+::)?"?(\w+)(?:\("(\w+)"\))?', re.M)
+FIELD = re.compile(r'^ +(name|count|role): (?:\w+::)?"?(\w+)(?:\("([\w-]+)"\))?', re.M)
 SIGNATURE = re.compile(r'^ +Signature \{\n +name: "(\w+)",\n.*?^ +arguments: &\[(.*?)\]', re.M | re.S)
 # What the names of files end in that stand for an argument.
 ENDINGS = {"IN": ".sym", "ARCHIVE": ".sym", "SUMMARY": ".sum"}

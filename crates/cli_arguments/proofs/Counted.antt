@@ -88,7 +88,7 @@ module _ {X : Type 0} (line : Line) (inputs : Inputs X) (listed : is_listed line
   enough plan.New is = tt
   enough plan.Apply is = (some kinds.Archive _ is.0 (omega arith), some kinds.Ops _ is.0 (omega arith))
   enough plan.Delta is = (some kinds.Archive _ is.0 (omega arith), some kinds.Summary _ is.0 (omega arith))
-  enough (plan.Frames lines) is =
+  enough (plan.Frames lines slices) is =
       (some kinds.Archive _ is.0 (omega arith), some kinds.Frames _ is.0 (omega arith))
   enough plan.Rehearse is = some kinds.Script _ is.0 (omega arith)
   enough asked is = some kinds.Archive _ is.0 (omega arith)

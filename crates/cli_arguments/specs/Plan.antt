@@ -22,7 +22,7 @@ Has line name values = named_by name (arguments_named line.name) line.values ≡
 -- the command of a plan
 abbrev pub command_of : Plan → Signature
 command_of plan.New = table.new_command
-command_of plan.Admit = table.admit_command
+command_of (plan.Admit _) = table.admit_command
 command_of (plan.Retire _ _) = table.retire_command
 command_of plan.Merge = table.merge_command
 command_of plan.Migrate = table.migrate_command
@@ -31,8 +31,8 @@ command_of (plan.Find _) = table.find_command
 command_of plan.List = table.list_command
 command_of (plan.Extract _ _) = table.extract_command
 command_of (plan.Name _) = table.name_command
-command_of (plan.Symbolicate _ _ _ _) = table.symbolicate_command
-command_of (plan.Frames _) = table.frames_command
+command_of (plan.Symbolicate _ _ _ _ _) = table.symbolicate_command
+command_of (plan.Frames _ _) = table.frames_command
 command_of plan.Summary = table.summary_command
 command_of plan.Index = table.index_command
 command_of plan.Delta = table.delta_command
@@ -40,6 +40,7 @@ command_of plan.Rehearse = table.rehearse_command
 
 -- A line has the values of a plan at its names.
 abbrev pub HasValues : Plan → Line → Type 0
+HasValues (plan.Admit keep_going) line = Has line (codes "KEEP_GOING") (texts (flag keep_going))
 HasValues (plan.Retire key digest) line =
     Has line (codes "UUID") (uuids (one key.uuid)) × Has line (codes "ARCH") (archs (one key.arch))
     × Has line (codes "DIGEST") (digests (one digest))
@@ -48,11 +49,13 @@ HasValues (plan.Extract key digest) line =
     Has line (codes "UUID") (uuids (one key.uuid)) × Has line (codes "ARCH") (archs (one key.arch))
     × Has line (codes "DIGEST") (digests (perhaps digest))
 HasValues (plan.Name name) line = Has line (codes "NAME") (text name.now)
-HasValues (plan.Symbolicate key load lines addresses) line =
+HasValues (plan.Symbolicate key load lines slices addresses) line =
     Has line (codes "UUID") (uuids (one key.uuid)) × Has line (codes "ARCH") (archs (one key.arch))
     × Has line (codes "HEX") (numbers (perhaps load)) × Has line (codes "LINES") (texts (flag lines))
+    × Has line (codes "SLICES") (texts (flag slices))
     × Has line (codes "ADDRESS") (numbers (several addresses.now))
-HasValues (plan.Frames lines) line = Has line (codes "LINES") (texts (flag lines))
+HasValues (plan.Frames lines slices) line =
+    Has line (codes "LINES") (texts (flag lines)) × Has line (codes "SLICES") (texts (flag slices))
 HasValues _ line = ⊤
 
 -- The plan is the one that a line asks for.
@@ -64,7 +67,7 @@ abbrev pub HasInputs : {X : Type 0} → Plan → Inputs X → Type 0
 HasInputs plan.New inputs = ⊤
 HasInputs plan.Apply inputs = (0 < length inputs.archives) × (0 < length inputs.ops)
 HasInputs plan.Delta inputs = (0 < length inputs.archives) × (0 < length inputs.summaries)
-HasInputs (plan.Frames _) inputs = (0 < length inputs.archives) × (0 < length inputs.frames)
+HasInputs (plan.Frames _ _) inputs = (0 < length inputs.archives) × (0 < length inputs.frames)
 HasInputs plan.Rehearse inputs = 0 < length inputs.scripts
 HasInputs _ inputs = 0 < length inputs.archives
 

@@ -43,9 +43,9 @@ digest_bytes =
 abbrev pub samples : List Sample
 samples =
     sample (codes "new" ∷ codes "o" ∷ []) (line_with table.new_command (text (codes "o") ∷ []))
-    ∷ sample (codes "admit" ∷ codes "i" ∷ codes "o" ∷ codes "f" ∷ codes "g" ∷ [])
-    (line_with table.admit_command
-    (text (codes "i") ∷ text (codes "o") ∷ texts (several (codes "f" ∷ codes "g" ∷ [])) ∷ []))
+    ∷ sample (codes "admit" ∷ codes "i" ∷ codes "o" ∷ codes "--keep-going" ∷ codes "f" ∷ codes "g" ∷ [])
+    (line_with table.admit_command (text (codes "i") ∷ text (codes "o") ∷ texts (flag true)
+    ∷ texts (several (codes "f" ∷ codes "g" ∷ [])) ∷ []))
     ∷ sample (codes "retire" ∷ codes "i" ∷ codes "o" ∷ uuid_text ∷ codes "arm64e" ∷ digest_text ∷ [])
     (line_with table.retire_command (text (codes "i") ∷ text (codes "o") ∷ uuids (one uuid_bytes)
     ∷ archs (one (arch_key 0x0100_000c 2)) ∷ digests (one (record { 0 = digest_bytes })) ∷ []))
@@ -72,12 +72,12 @@ samples =
     ∷ sample (codes "symbolicate" ∷ codes "a" ∷ uuid_text ∷ codes "x86_64h" ∷ codes "10" ∷ codes "--load=0xfF"
     ∷ codes "--with" ∷ codes "b" ∷ codes "--lines" ∷ codes "0x20" ∷ [])
     (line_with table.symbolicate_command (text (codes "a") ∷ uuids (one uuid_bytes) ∷ archs (one (arch_key 0x0100_0007 8))
-    ∷ numbers (perhaps (Some 255)) ∷ texts (flag true) ∷ texts (several (codes "b" ∷ [])) ∷ texts (several [])
-    ∷ numbers (several (0x10 ∷ 0x20 ∷ [])) ∷ []))
-    ∷ sample (codes "frames" ∷ codes "f" ∷ codes "a" ∷ codes "b" ∷ codes "--index" ∷ codes "i" ∷ codes "--index"
-    ∷ codes "j" ∷ [])
-    (line_with table.frames_command (text (codes "f") ∷ texts (flag false) ∷ texts (several (codes "i" ∷ codes "j" ∷ []))
-    ∷ texts (several (codes "a" ∷ codes "b" ∷ [])) ∷ []))
+    ∷ numbers (perhaps (Some 255)) ∷ texts (flag true) ∷ texts (flag false) ∷ texts (several (codes "b" ∷ []))
+    ∷ texts (several []) ∷ numbers (several (0x10 ∷ 0x20 ∷ [])) ∷ []))
+    ∷ sample (codes "frames" ∷ codes "f" ∷ codes "a" ∷ codes "b" ∷ codes "--index" ∷ codes "i" ∷ codes "--slices"
+    ∷ codes "--index" ∷ codes "j" ∷ [])
+    (line_with table.frames_command (text (codes "f") ∷ texts (flag false) ∷ texts (flag true)
+    ∷ texts (several (codes "i" ∷ codes "j" ∷ [])) ∷ texts (several (codes "a" ∷ codes "b" ∷ [])) ∷ []))
     ∷ sample (codes "summary" ∷ codes "a" ∷ codes "o" ∷ [])
     (line_with table.summary_command (text (codes "a") ∷ text (codes "o") ∷ texts (perhaps None) ∷ []))
     ∷ sample (codes "index" ∷ codes "a" ∷ codes "o" ∷ [])

@@ -35,6 +35,14 @@ index_paths = argument (codes "INDEX") (Often (codes "index")) (roles.Reads kind
 abbrev pub lines_flag : Argument
 lines_flag = argument (codes "LINES") (Flag (codes "lines")) (roles.Says forms.Plain)
 
+-- that the slices that answer are asked for too
+abbrev pub slices_flag : Argument
+slices_flag = argument (codes "SLICES") (Flag (codes "slices")) (roles.Says forms.Plain)
+
+-- that files that are refused are passed over
+abbrev pub keep_going_flag : Argument
+keep_going_flag = argument (codes "KEEP_GOING") (Flag (codes "keep-going")) (roles.Says forms.Plain)
+
 abbrev pub out_path : Argument
 out_path = argument (codes "OUT") Once roles.Writes
 
@@ -49,7 +57,7 @@ new_command = signature (codes "new") (out_path ∷ [])
 
 abbrev pub admit_command : Signature
 admit_command = signature (codes "admit")
-    (input_path ∷ out_path ∷ argument (codes "FILE") Several (roles.Reads kinds.File) ∷ [])
+    (input_path ∷ out_path ∷ keep_going_flag ∷ argument (codes "FILE") Several (roles.Reads kinds.File) ∷ [])
 
 abbrev pub retire_command : Signature
 retire_command = signature (codes "retire") (input_path ∷ out_path ∷ uuid_word ∷ arch_word
@@ -82,12 +90,12 @@ name_command = signature (codes "name")
 
 abbrev pub symbolicate_command : Signature
 symbolicate_command = signature (codes "symbolicate") (archive_path ∷ uuid_word ∷ arch_word
-    ∷ argument (codes "HEX") (Perhaps (codes "load")) (roles.Says forms.Number) ∷ lines_flag ∷ other_paths
-    ∷ index_paths ∷ argument (codes "ADDRESS") Several (roles.Says forms.Number) ∷ [])
+    ∷ argument (codes "HEX") (Perhaps (codes "load")) (roles.Says forms.Number) ∷ lines_flag ∷ slices_flag
+    ∷ other_paths ∷ index_paths ∷ argument (codes "ADDRESS") Several (roles.Says forms.Number) ∷ [])
 
 abbrev pub frames_command : Signature
 frames_command = signature (codes "frames")
-    (argument (codes "FRAMES") Once (roles.Reads kinds.Frames) ∷ lines_flag ∷ index_paths
+    (argument (codes "FRAMES") Once (roles.Reads kinds.Frames) ∷ lines_flag ∷ slices_flag ∷ index_paths
     ∷ argument (codes "ARCHIVE") Several (roles.Reads kinds.Archive) ∷ [])
 
 abbrev pub summary_command : Signature

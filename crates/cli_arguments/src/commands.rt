@@ -236,6 +236,20 @@ const LINES: Argument = Argument {
     role: Role::Says(Form::Plain),
 };
 
+const SLICES: Argument = Argument {
+    name: "SLICES",
+    help: "Also print a line for each slice that answers, for programs to read",
+    count: Count::Flag("slices"),
+    role: Role::Says(Form::Plain),
+};
+
+const KEEP_GOING: Argument = Argument {
+    name: "KEEP_GOING",
+    help: "Pass over each FILE that is refused, with a line for it; the exit status is 2 then",
+    count: Count::Flag("keep-going"),
+    role: Role::Says(Form::Plain),
+};
+
 const ADDRESSES: Argument = Argument {
     name: "ADDRESS",
     help: "The addresses to look up, in hexadecimal, with or without 0x",
@@ -250,6 +264,8 @@ const ANSWERS: &str = "Each address gets one line: the nearest symbol, or\n\
     !N  if N slices answer; a line for each follows\n\
     With --lines each line of a slice is followed by one for each frame, innermost first:\n\
     four spaces and NAME at PATH:LINE:COLUMN, with ? for what is unknown.\n\
+    With --slices a line UUID ARCH dsym DIGEST, or with image, follows for each slice that\n\
+    answers under a UUID, and a line UUID ARCH absent for each key without one.\n\
     The exit status is 1 if any answer is not exactly one symbol.\n\
     Numbers are hexadecimal, also without 0x.";
 
@@ -271,7 +287,7 @@ const COMMANDS: &[Signature] = &[
         name: "admit",
         about: "Add Mach-O images to an archive",
         more: None,
-        arguments: &[IN, OUT, IMAGES],
+        arguments: &[IN, OUT, KEEP_GOING, IMAGES],
     },
     Signature {
         name: "retire",
@@ -334,14 +350,14 @@ const COMMANDS: &[Signature] = &[
         about: "Print the nearest symbols of addresses",
         more: Some(ANSWERS),
         arguments: &[
-            ARCHIVE, IMAGE_UUID, ARCH, LOAD, LINES, OTHER, INDEXES, ADDRESSES,
+            ARCHIVE, IMAGE_UUID, ARCH, LOAD, LINES, SLICES, OTHER, INDEXES, ADDRESSES,
         ],
     },
     Signature {
         name: "frames",
         about: "Print the nearest symbols of all frames of a crash",
         more: Some(ANSWERS),
-        arguments: &[FRAMES, LINES, INDEXES, TOGETHER],
+        arguments: &[FRAMES, LINES, SLICES, INDEXES, TOGETHER],
     },
     Signature {
         name: "summary",

@@ -6,8 +6,8 @@ ghost use Rattle.cli_arguments.specs.LineView.{line_view};
 ghost use Rattle.cli_arguments.specs.ValuesView.{values_view};
 ghost use Rattle.cli_arguments.specs.Lines.{line_with};
 ghost use Rattle.cli_arguments.specs.Plan.{IsPlanOf, key_of};
-ghost use Rattle.cli_arguments.specs.Table.{extract_command, find_command, frames_command, name_command};
-ghost use Rattle.cli_arguments.specs.Table.{retire_command, symbolicate_command};
+ghost use Rattle.cli_arguments.specs.Table.{admit_command, extract_command, find_command, frames_command};
+ghost use Rattle.cli_arguments.specs.Table.{name_command, retire_command, symbolicate_command};
 
 use crate::lines::Line;
 use crate::values::Amount::{Flag, One, Perhaps, Several};
@@ -22,8 +22,11 @@ use uuid::Uuid;
 pub enum Plan<'l> {
     /// To write the empty archive.
     New,
-    /// To take each file, in the order of the words. A file that is named twice is taken twice.
-    Admit,
+    /// To take each file, in the order of the words. A file that is named twice is taken twice. If `keep_going`, one that
+    /// is refused is passed over.
+    Admit {
+        keep_going: bool,
+    },
     /// To take one retirement.
     Retire {
         key: SliceKey,
@@ -51,16 +54,19 @@ pub enum Plan<'l> {
         name: &'l str,
     },
     /// To answer each address, in the order of the words. With `load` the addresses are those of an image that was
-    /// loaded there. If `lines`, the source frames follow what each slice answers.
+    /// loaded there. If `lines`, the source frames follow what each slice answers. If `slices`, the slices that answer
+    /// follow the answers.
     Symbolicate {
         key: SliceKey,
         load: Option<u64>,
         lines: bool,
+        slices: bool,
         addresses: &'l [u64],
     },
-    /// To answer each frame of a crash, in the order of the lines of FRAMES; `lines` as of `Symbolicate`.
+    /// To answer each frame of a crash, in the order of the lines of FRAMES; `lines` and `slices` as of `Symbolicate`.
     Frames {
         lines: bool,
+        slices: bool,
     },
     /// To write the summary of an archive.
     Summary,
@@ -95,7 +101,7 @@ fn plan_in<'l>(line: &'l Line) -> Option<Plan<'l>>
     let values = line.values.as_slice();
     match line.name.as_str() {
         "new" => Some(Plan::New),
-        "admit" => Some(Plan::Admit),
+        "admit" => admit(values),
         "retire" => retire(values),
         "merge" => Some(Plan::Merge),
         "migrate" => Some(Plan::Migrate),
@@ -110,6 +116,23 @@ fn plan_in<'l>(line: &'l Line) -> Option<Plan<'l>>
         "index" => Some(Plan::Index),
         "delta" => Some(Plan::Delta),
         "rehearse" => Some(Plan::Rehearse),
+        _ => None,
+    }
+}
+
+fn admit<'l>(values: &'l [Values]) -> Option<Plan<'l>>
+    requires { are_values_of admit_command.arguments (map values_view values.now) ≡ true }
+    ensures { IsSomeAnd result (λ plan. IsPlanOf plan (line_with admit_command (map values_view values.now))) }
+{
+    match values {
+        [
+            Texts(One(_)),
+            Texts(One(_)),
+            Texts(Flag(keep_going)),
+            Texts(Several(_)),
+        ] => Some(Plan::Admit {
+            keep_going: *keep_going,
+        }),
         _ => None,
     }
 }
@@ -184,7 +207,13 @@ fn symbolicate<'l>(values: &'l [Values]) -> Option<Plan<'l>>
     let [Texts(One(_)), Uuids(One(uuid)), Archs(One(arch)), rest @ ..] = values else {
         return None;
     };
-    let [Numbers(Perhaps(load)), Texts(Flag(lines)), rest @ ..] = rest else {
+    let [
+        Numbers(Perhaps(load)),
+        Texts(Flag(lines)),
+        Texts(Flag(slices)),
+        rest @ ..,
+    ] = rest
+    else {
         return None;
     };
     match rest {
@@ -196,6 +225,7 @@ fn symbolicate<'l>(values: &'l [Values]) -> Option<Plan<'l>>
             key: key(uuid, arch),
             load: *load,
             lines: *lines,
+            slices: *slices,
             addresses,
         }),
         _ => None,
@@ -206,11 +236,20 @@ fn frames<'l>(values: &'l [Values]) -> Option<Plan<'l>>
     requires { are_values_of frames_command.arguments (map values_view values.now) ≡ true }
     ensures { IsSomeAnd result (λ plan. IsPlanOf plan (line_with frames_command (map values_view values.now))) }
 {
-    let [Texts(One(_)), Texts(Flag(lines)), rest @ ..] = values else {
+    let [
+        Texts(One(_)),
+        Texts(Flag(lines)),
+        Texts(Flag(slices)),
+        rest @ ..,
+    ] = values
+    else {
         return None;
     };
     match rest {
-        [Texts(Several(_)), Texts(Several(_))] => Some(Plan::Frames { lines: *lines }),
+        [Texts(Several(_)), Texts(Several(_))] => Some(Plan::Frames {
+            lines: *lines,
+            slices: *slices,
+        }),
         _ => None,
     }
 }

@@ -5,4 +5,6 @@ pub mod Asked
 pub mod Compared
 mod PlacesHeld
 pub mod Described
+mod DraftNames
+mod Said
 mod ByHand

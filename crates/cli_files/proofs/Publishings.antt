@@ -3,14 +3,17 @@ use Rattle.std.proofs.Common.{◌≡◌, ◌∙◌, ◌⊎◌, ℕ, true, false,
 use Rattle.std.proofs.lemmas.List.{length-append, length-take-le, map-append}
 use Rattle.std.proofs.lemmas.Bool.{and_parts}
 use Rattle.std.proofs.lemmas.Grind.{not_there}
+use mathlib.Core.Logic.{∥∥₁_map}
 use Rattle.std.specs.List.{concat}
+use Rattle.std.specs.Prelude.{IfSome}
 use Rattle.archive_records.proofs.Puts.{concat-push}
-use Rattle.cli_files.specs.FileCalls.{FileCall, Begins, Compares, Finds, FindsLink, FindsNoLink, FindsNothing, Gives, Leads, Creates, Opens, Writes, Syncs, Removes, are_probes, bytes_in, drafting, is_probe, publishing, writing}
-use Rattle.cli_files.specs.OutFiles.{IsSoFar, Stage, Through, Drafted, WritesTo, draft_account, has_calls, is_drafted, is_settled, takes_bytes}
+use Rattle.cli_files.specs.FileCalls.{FileCall, Begins, Compares, Finds, FindsLink, FindsNoLink, FindsNothing, Gives, Leads, Creates, Opens, Writes, Syncs, Removes, are_probes, bytes_in, drafting, is_probe, publishing, taking, writing}
+use Rattle.cli_files.specs.OutFiles.{IsSoFar, Stage, Untouched, Through, Drafted, Refused, Removed, Settled, WritesTo, draft_account, fault_of, has_calls, is_drafted, is_settled, takes_bytes}
 use Rattle.cli_files.proofs.Same.{both_probes, probes_append}
 use Rattle.cli_files.specs.declared.out_file.OutState.{OutState}
 use Rattle.cli_files.specs.declared.out_file.OutState.TheVariants as state
 use Rattle.cli_files.specs.Publishing.{BeginsSo, FindsReplaced, HandsOn, IsBeside, IsDescriptor, IsDrafted, IsPublished, IsRemoved, IsTakenBack, IsTargetOf, IsTested, IsWritable, IsWrittenThrough, account, both_give, draft_mode, folder_of, number_of, place, there, took_nothing}
+use Rattle.cli_files.specs.Refusals.{IsRefused}
 use Rattle.cli_files.specs.Replacing.{GivesWay}
 use Rattle.cli_files.specs.declared.found.Found.{Found}
 use Rattle.cli_files.specs.declared.replaceable.Replaces.{Replaces}
@@ -32,6 +35,15 @@ probes_bytes (call ∷ probes) are = grind (arith, are, probes_bytes probes)
 
 bytes_behind : (probes ys : List FileCall) → are_probes probes ≡ true → bytes_in (probes ++ ys) ≡ bytes_in ys
 bytes_behind probes ys are = bytes_append probes ys ∙ ap (λ t. t ++ bytes_in ys) (probes_bytes probes are)
+
+-- and paths that are taken too
+pub taking_probes : (probes : List FileCall) (taken : List (List ℕ)) → are_probes probes ≡ true
+    → are_probes (probes ++ taking taken) ≡ true
+taking_probes probes taken asked = probes_append probes (taking taken) asked (all_taken taken)
+  where
+    all_taken : (taken : List (List ℕ)) → are_probes (taking taken) ≡ true
+    all_taken [] = refl
+    all_taken (path ∷ taken) = all_taken taken
 
 pub writable_probes : (path : List ℕ) (probes : List FileCall) → IsWritable path probes → are_probes probes ≡ true
 writable_probes path probes (inl (found, file, other)) = ap are_probes other
@@ -71,14 +83,23 @@ begun_through replaces path probes new writable is = (
   ap bytes_in is ∙ bytes_behind probes (Opens path ∷ []) (writable_probes path probes writable),
 )
 
-pub begun_drafted : (replaces : Replaces) (path draft target : List ℕ) (probes new : List FileCall)
+pub begun_drafted : (replaces : Replaces) (path draft target : List ℕ) (probes new : List FileCall) (taken : List (List ℕ))
     → (IsDescriptor path → ⊥) → IsTargetOf replaces path target probes
-    → IsBeside draft target → new ≡ probes ++ Creates draft (draft_mode (there probes)) ∷ []
+    → IsBeside draft target → new ≡ probes ++ taking taken ++ Creates draft (draft_mode (there probes)) ∷ []
     → IsSoFar replaces (Some path) (Drafted draft target) new × (bytes_in new ≡ [])
-begun_drafted replaces path draft target probes new none led beside is = (
-  (path, refl, record { probes = probes; pieces = []; no_descriptor = none; target_is = led; beside = beside; calls_are = is }),
-  ap bytes_in is ∙ bytes_behind probes (Creates draft (draft_mode (there probes)) ∷ []) (target_probes replaces path target probes led),
+begun_drafted replaces path draft target probes new taken none led beside is = (
+  (path, refl, record { probes = probes; taken = taken; pieces = []; no_descriptor = none; target_is = led; beside = beside; calls_are = is }),
+  ap bytes_in is ∙ bytes_behind (probes ++ taking taken) (Creates draft (draft_mode (there probes)) ∷ [])
+      (taking_probes probes taken (target_probes replaces path target probes led)),
 )
+
+-- whatever the mode of the draft, no bytes went to it
+pub drafted_bytes : (replaces : Replaces) (path target draft : List ℕ) (mode : ℕ) (probes new : List FileCall)
+    (taken : List (List ℕ)) → IsTargetOf replaces path target probes
+    → new ≡ probes ++ taking taken ++ Creates draft mode ∷ [] → bytes_in new ≡ []
+drafted_bytes replaces path target draft mode probes new taken led is =
+    ap bytes_in is ∙ bytes_behind (probes ++ taking taken) (Creates draft mode ∷ [])
+    (taking_probes probes taken (target_probes replaces path target probes led))
 
 bytes_written : (pieces : List (List ℕ)) → bytes_in (map Writes pieces) ≡ concat pieces
 bytes_written [] = refl
@@ -100,13 +121,14 @@ pub more_drafted : (replaces : Replaces) (path draft target bytes : List ℕ) (c
     → IsDrafted replaces path draft target calls → IsDrafted replaces path draft target (calls ++ Writes bytes ∷ [])
 more_drafted replaces path draft target bytes calls d = record {
   probes = d.probes;
+  taken = d.taken;
   pieces = d.pieces ++ bytes ∷ [];
   no_descriptor = d.no_descriptor;
   target_is = d.target_is;
   beside = d.beside;
   calls_are = ap (λ cs. cs ++ Writes bytes ∷ []) d.calls_are
-      ∙ append_assoc d.probes (drafting draft (draft_mode (there d.probes)) d.pieces) (Writes bytes ∷ [])
-      ∙ ap (λ cs. d.probes ++ Creates draft (draft_mode (there d.probes)) ∷ cs) (sym (map-append Writes d.pieces (bytes ∷ [])));
+      ∙ append_assoc (d.probes ++ taking d.taken) (drafting draft (draft_mode (there d.probes)) d.pieces) (Writes bytes ∷ [])
+      ∙ ap (λ cs. d.probes ++ taking d.taken ++ Creates draft (draft_mode (there d.probes)) ∷ cs) (sym (map-append Writes d.pieces (bytes ∷ [])));
 }
 
 -- more bytes are written
@@ -162,7 +184,8 @@ hands_on_draft path replaces draft target calls new so put =
     let d : IsDrafted replaces so.0 draft target calls = so.2 in
     let tests = put.0 in
     let last = publishing draft target (folder_of target) in
-    let calls_are : new ≡ d.probes ++ drafting draft (draft_mode (there d.probes)) d.pieces ++ tests ++ last =
+    let asked = d.probes ++ taking d.taken in
+    let calls_are : new ≡ asked ++ drafting draft (draft_mode (there d.probes)) d.pieces ++ tests ++ last =
     put.2 ∙ ap (λ cs. cs ++ tests ++ last) d.calls_are in (
       so.0,
       so.1,
@@ -170,6 +193,7 @@ hands_on_draft path replaces draft target calls new so put =
         draft = draft;
         target = target;
         probes = d.probes;
+        taken = d.taken;
         pieces = d.pieces;
         no_descriptor = d.no_descriptor;
         target_is = d.target_is;
@@ -177,10 +201,11 @@ hands_on_draft path replaces draft target calls new so put =
         tests = tests;
         tested = put.1;
         whole = sym (ap bytes_in calls_are
-            ∙ bytes_same (d.probes ++ drafting draft (draft_mode (there d.probes)) d.pieces ++ tests) last refl
-            ∙ bytes_same (d.probes ++ drafting draft (draft_mode (there d.probes)) d.pieces) tests
+            ∙ bytes_same (asked ++ drafting draft (draft_mode (there d.probes)) d.pieces ++ tests) last refl
+            ∙ bytes_same (asked ++ drafting draft (draft_mode (there d.probes)) d.pieces) tests
             (probes_bytes tests (tested_probes replaces draft target tests put.1))
-            ∙ bytes_behind d.probes (drafting draft (draft_mode (there d.probes)) d.pieces) (target_probes replaces so.0 target d.probes d.target_is)
+            ∙ bytes_behind asked (drafting draft (draft_mode (there d.probes)) d.pieces)
+            (taking_probes d.probes d.taken (target_probes replaces so.0 target d.probes d.target_is))
             ∙ bytes_written d.pieces);
         calls_are = calls_are;
       }),
@@ -255,6 +280,16 @@ removed_at_once draft calls new is =
 
 -- ---- states
 
+-- what was refused was so for a reason
+pub so_refused : (replaces : Replaces) (path : Option (List ℕ)) (stage : Stage) (calls : List FileCall)
+    → ∥ IsSoFar replaces path stage calls ∥₁ → IfSome (fault_of stage) (λ fault. ∥ IsRefused replaces path fault calls ∥₁)
+so_refused replaces path (Refused fault) calls so = ∥∥₁_map so (λ is. is.1)
+so_refused replaces path Untouched calls so = tt
+so_refused replaces path Through calls so = tt
+so_refused replaces path (Drafted draft target) calls so = tt
+so_refused replaces path Removed calls so = tt
+so_refused replaces path Settled calls so = tt
+
 drafted_has_calls : (stage : Stage) → is_drafted stage ≡ true → has_calls stage ≡ false → ⊥
 drafted_has_calls (Drafted d t) drafted without = cc
 drafted_has_calls stage drafted without = cc
@@ -271,7 +306,7 @@ takes_unsettled stage takes = cc
 drafted_some : (replaces : Replaces) (path : Option (List ℕ)) (stage : Stage) (calls : List FileCall)
     → is_drafted stage ≡ true → calls ≡ [] → IsSoFar replaces path stage calls → ⊥
 drafted_some replaces path (Drafted d t) calls drafted none so =
-    let some = ap length (sym none ∙ so.2.calls_are) ∙ length-append so.2.probes (drafting d (draft_mode (there so.2.probes)) so.2.pieces) in
+    let some = ap length (sym none ∙ so.2.calls_are) ∙ length-append (so.2.probes ++ taking so.2.taken) (drafting d (draft_mode (there so.2.probes)) so.2.pieces) in
     grind (arith, some)
 drafted_some replaces path stage calls drafted none so = cc
 

@@ -13,12 +13,13 @@ use Rattle.cli_files.specs.declared.found.Found.{Found}
 -- archive is compared with another one, of which it neither has nor covers so many records. A file is created that was
 -- not there, with a mode, or what is there is opened and emptied; it takes bytes, which are synced to the disk; it is
 -- renamed, and the folder synced; or it is removed. Or the system refuses a call of a path, for want of memory or
--- otherwise.
+-- otherwise, or since a file is there where one was to be created.
 pub data FileCall : Type 0 where
   Finds : (path : List ℕ) → (found : Found) → FileCall
   FindsNothing : (path : List ℕ) → FileCall
   FindsLink : (path : List ℕ) → FileCall
   FindsNoLink : (path : List ℕ) → FileCall
+  FindsTaken : (path : List ℕ) → FileCall
   Leads : (path : List ℕ) → (target : List ℕ) → FileCall
   Begins : (path : List ℕ) → (bytes : List ℕ) → FileCall
   Gives : (path : List ℕ) → (bytes : List ℕ) → FileCall
@@ -59,6 +60,7 @@ call_of (call ∷ []) path other =
     else if call == 13 then Gives path other
     else if call == 15 then FindsNothing path
     else if call == 16 then WantsMemory path
+    else if call == 18 then FindsTaken path
     else Refuses path
 call_of _ path other = Refuses path
 
@@ -105,14 +107,15 @@ abbrev pub begun : List ℕ → Result (Option (List ℕ)) Error → List FileCa
 begun path (Ok beginning) = Begins path (first_bytes beginning) ∷ []
 begun path (Err error) = failed path (error_kind error) ∷ []
 
--- a file was to be created with this mode, at a path that was free or taken
-abbrev pub untaken : List ℕ → ErrorKind → List FileCall
-untaken path AlreadyExists = []
-untaken path kind = failed path kind ∷ []
+-- a file was not created at a path, which may be taken
+abbrev pub uncreated : List ℕ → ErrorKind → FileCall
+uncreated path AlreadyExists = FindsTaken path
+uncreated path kind = failed path kind
 
+-- a file was to be created with this mode
 abbrev pub created : {T : Type 0} → List ℕ → ℕ → Result T Error → List FileCall
 created path mode (Ok done) = Creates path mode ∷ []
-created path mode (Err error) = untaken path (error_kind error)
+created path mode (Err error) = uncreated path (error_kind error) ∷ []
 
 -- ---- lists of calls
 
@@ -137,6 +140,10 @@ is_probe _ = true
 abbrev pub are_probes : List FileCall → Bool
 are_probes [] = true
 are_probes (call ∷ calls) = is_probe call && are_probes calls
+
+-- these paths are taken
+abbrev pub taking : List (List ℕ) → List FileCall
+taking paths = map FindsTaken paths
 
 -- pieces of a text go to a draft with this mode
 abbrev pub drafting : List ℕ → ℕ → List (List ℕ) → List FileCall

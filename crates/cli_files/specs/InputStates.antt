@@ -5,6 +5,8 @@ use Rattle.std.specs.List.{AllByRecursion, AllZip}
 use Rattle.std.specs.IoError.{error_kind}
 use Rattle.std.specs.declared.io.ErrorKind.TheVariants.{OutOfMemory}
 use Rattle.byte_device.specs.Disks.{At, FileAt, Holding, IsOpened, Missing, Path, Unknown, opened_with}
+use Rattle.byte_openings.specs.declared.openings.Opening.{Opening}
+use Rattle.byte_openings.specs.declared.openings.Opening.TheVariants as openings
 use Rattle.cli_files.specs.declared.input_state.InputState.{InputState}
 use Rattle.cli_files.specs.declared.input_state.InputState.TheVariants as state
 use Rattle.cli_files.specs.declared.input_state.Unopened.{Unopened as Reason}
@@ -27,6 +29,15 @@ abbrev pub unopened_in : Stage → Option Reason
 unopened_in Waiting = None
 unopened_in Open = None
 unopened_in (Unopened reason) = Some reason
+
+-- what came of opening it, by why it was not opened, if it was not
+abbrev pub opening_by : Option Reason → Opening
+opening_by None = openings.Fine
+opening_by (Some (why.Refused refused)) = openings.Refused
+opening_by (Some why.OutOfMemory) = openings.OutOfMemory
+
+abbrev pub opening_in : Stage → Opening
+opening_in stage = opening_by (unopened_in stage)
 
 -- the paths that were opened for an input with this path
 abbrev pub opened_in : Stage → Path → List Path
@@ -116,6 +127,10 @@ pub record Told (S : Type 0) : Type 0 where
   pub stage : S → Stage
   pub opened : S → Option (List Path)
   pub wanting : S → Option (List Path)
+
+-- what came of opening one of these inputs
+abbrev pub opening_told : {S : Type 0} → Told S → S → Opening
+opening_told told input = opening_in (told.stage input)
 
 -- The input has this path, and waits for its turn.
 pub record IsWaiting {S : Type 0} (told : Told S) (path : Path) (input : S) : Type 0 where

@@ -4,6 +4,7 @@ pub mod InputStates
 pub mod AtTurns
 pub mod Identities
 pub mod OutFiles
+pub mod Refusals
 pub mod Replacing
 pub mod Publishing
 pub mod Fresh

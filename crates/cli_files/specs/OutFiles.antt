@@ -3,6 +3,7 @@ use Rattle.std.specs.Prelude.{◌≡◌, ◌≢◌, ℕ, Bool, true, false, List
 use Rattle.std.specs.Io.KnownBytes.{WriteAppends}
 use Rattle.cli_files.specs.FileCalls.{FileCall, bytes_in}
 use Rattle.cli_files.specs.Publishing.{IsDescriptor, IsDrafted, IsRemoved, IsTargetOf, IsWritable, IsWrittenThrough, account, there}
+use Rattle.cli_files.specs.Refusals.{IsRefused}
 use Rattle.cli_files.specs.declared.out_file.OutState.{OutState}
 use Rattle.cli_files.specs.declared.out_file.OutState.TheVariants as state
 use Rattle.cli_files.specs.declared.published.Published.{Published}
@@ -102,7 +103,7 @@ IsSoFar replaces path Through calls =
     (p : List ℕ) × (path ≡ Some p) × (text : List ℕ) × IsWrittenThrough p text calls
 IsSoFar replaces path (Drafted draft target) calls =
     (p : List ℕ) × (path ≡ Some p) × IsDrafted replaces p draft target calls
-IsSoFar replaces path (Refused fault) calls = IsRemoved replaces path calls
+IsSoFar replaces path (Refused fault) calls = IsRemoved replaces path calls × IsRefused replaces path fault calls
 IsSoFar replaces path Removed calls = IsRemoved replaces path calls
 IsSoFar replaces path Settled calls = calls ≡ []
 

@@ -6,7 +6,7 @@ use Rattle.std.specs.List.{concat}
 use Rattle.std.specs.Path.{path_parent, path_with_file_name}
 use Rattle.cli_files.specs.FileCalls.{Begins, Compares, FileCall, Finds, FindsLink, FindsNoLink, FindsNothing}
 use Rattle.cli_files.specs.FileCalls.{Gives, Leads, Removes, Syncs, are_probes, bytes_in, drafting, is_probe}
-use Rattle.cli_files.specs.FileCalls.{publishing, writing}
+use Rattle.cli_files.specs.FileCalls.{publishing, taking, writing}
 use Rattle.cli_files.specs.Identities.{AreApart, IsMet}
 use Rattle.cli_files.specs.declared.found.Found.{Found}
 use Rattle.cli_files.specs.declared.replaceable.Replaces.{Replaces}
@@ -143,12 +143,13 @@ IsTakenBack draft old new =
     × ((new ≡ old ++ tests ++ Removes draft ∷ [])
     ⊎ ((said : FileCall) × (is_probe said ≡ true) × (new ≡ old ++ tests ++ Syncs ∷ said ∷ Removes draft ∷ [])))
 
--- Pieces of the text went to a draft beside the target of a path, which is no descriptor, and the draft, which may
--- replace what is there, was put in its place.
+-- Pieces of the text went to a draft beside the target of a path, which is no descriptor, under a name that was not
+-- taken, and the draft, which may replace what is there, was put in its place.
 pub record IsReplaced (path : List ℕ) (replaces : Replaces) (text : List ℕ) (calls : List FileCall) : Type 0 where
   pub draft : List ℕ
   pub target : List ℕ
   pub probes : List FileCall
+  pub taken : List (List ℕ)
   pub pieces : List (List ℕ)
   pub no_descriptor : IsDescriptor path → ⊥
   pub target_is : IsTargetOf replaces path target probes
@@ -156,7 +157,8 @@ pub record IsReplaced (path : List ℕ) (replaces : Replaces) (text : List ℕ) 
   pub tests : List FileCall
   pub tested : IsTested replaces draft target tests
   pub whole : concat pieces ≡ text
-  pub calls_are : calls ≡ probes ++ drafting draft (draft_mode (there probes)) pieces ++ tests ++ publishing draft target (folder_of target)
+  pub calls_are : calls ≡ probes ++ taking taken ++ drafting draft (draft_mode (there probes)) pieces ++ tests
+      ++ publishing draft target (folder_of target)
 
 -- Pieces of the text went to what is at the path, which is no regular file, or a descriptor.
 pub record IsWrittenThrough (path text : List ℕ) (calls : List FileCall) : Type 0 where
@@ -170,14 +172,15 @@ pub record IsWrittenThrough (path text : List ℕ) (calls : List FileCall) : Typ
 abbrev pub IsPublished : List ℕ → Replaces → List ℕ → List FileCall → Type 0
 IsPublished path replaces text calls = IsReplaced path replaces text calls ⊎ IsWrittenThrough path text calls
 
--- Pieces of a text went to a draft beside the target of a path, which is no descriptor.
+-- Pieces of a text went to a draft beside the target of a path, which is no descriptor, under a name that was not taken.
 pub record IsDrafted (replaces : Replaces) (path draft target : List ℕ) (calls : List FileCall) : Type 0 where
   pub probes : List FileCall
+  pub taken : List (List ℕ)
   pub pieces : List (List ℕ)
   pub no_descriptor : IsDescriptor path → ⊥
   pub target_is : IsTargetOf replaces path target probes
   pub beside : IsBeside draft target
-  pub calls_are : calls ≡ probes ++ drafting draft (draft_mode (there probes)) pieces
+  pub calls_are : calls ≡ probes ++ taking taken ++ drafting draft (draft_mode (there probes)) pieces
 
 -- They did, and the draft, which may have been compared and synced before, was removed.
 pub record IsDraftRemoved (replaces : Replaces) (path : List ℕ) (calls : List FileCall) : Type 0 where

@@ -1,9 +1,11 @@
 //! Drafts of OUT: a file of its own beside OUT, which takes the bytes and is renamed when it is whole. What the system
 //! does is in no contract; what is called of it is, and what it said.
 
-ghost use Rattle.std.specs.Prelude.{◌≡◌, ◌∷◌, ◌++◌, [], IfOk, List, OnErr, OnOk, string_bytes, true};
+ghost use Rattle.std.specs.Prelude.{◌≡◌, ◌∷◌, ◌++◌, [], ℕ, IfErr, IfOk, List, OnErr, OnOk, false, string_bytes, true};
 ghost use Rattle.std.specs.Path.{path_with_file_name};
-ghost use Rattle.cli_files.specs.FileCalls.{Creates, FileCall, Removes, are_probes, publishing};
+ghost use Rattle.cli_files.specs.FileCalls.{Creates, FileCall, Removes, are_probes, publishing, taking};
+ghost use Rattle.cli_files.specs.Refusals.{IsRemovedFor, IsSaid, is_failure};
+ghost use Rattle.cli_files.specs.declared.replaceable.Replaces.{Replaces};
 ghost use Rattle.cli_files.specs.Publishing.{IsBeside, IsTakenBack, IsTested, draft_mode, draft_name, folder_of};
 
 use crate::file_calls::FileCalls;
@@ -68,10 +70,13 @@ pub fn create_draft<F: Files>(
 ) -> Result<Draft<F::File>, OutFault>
     ensures target { IfOk result (λ draft. draft.target ≡ target) }
     ensures beside { IfOk result (λ draft. IsBeside (string_bytes draft.own.path) (string_bytes target)) }
-    ensures created { IfOk result (λ draft. calls.new.entries
-        ≡ calls.old.entries ++ Creates (string_bytes draft.own.path) (draft_mode there) ∷ []) }
+    ensures created { IfOk result (λ draft. (taken : List (List ℕ)) × (calls.new.entries
+        ≡ calls.old.entries ++ taking taken ++ Creates (string_bytes draft.own.path) (draft_mode there) ∷ [])) }
     ensures refused { OnErr result ((tests : List FileCall) × (are_probes tests ≡ true)
         × (calls.new.entries ≡ calls.old.entries ++ tests)) }
+    ensures said { (replaces : Replaces) (before : List FileCall) (said : FileCall)
+        → calls.old.entries ≡ before ++ said ∷ [] → is_failure said ≡ false
+        → IfErr result (λ fault. IsSaid replaces fault calls.new.entries) }
 {
     let mode = mode_of(&there);
     'names: for number in 0..MOST_NAMES {
@@ -120,6 +125,8 @@ pub fn put_draft<F: Files>(
         ++ publishing (string_bytes draft.now.own.path) (string_bytes draft.now.target)
         (folder_of (string_bytes draft.now.target)))) }
     ensures removed { OnErr result (IsTakenBack (string_bytes draft.now.own.path) calls.old.entries calls.new.entries) }
+    ensures said { IfErr result
+        (λ fault. IsRemovedFor replaces fault (string_bytes draft.now.own.path) calls.new.entries) }
 {
     if let Err(fault) = test_place(alloc, system, draft, replaces, calls) {
         remove_draft(system, draft, calls);
@@ -150,6 +157,7 @@ fn test_place<F: Files>(
         × (calls.new.entries ≡ calls.old.entries ++ tests)) }
     ensures refused { OnErr result ((tests : List FileCall) × (are_probes tests ≡ true)
         × (calls.new.entries ≡ calls.old.entries ++ tests)) }
+    ensures said { IfErr result (λ fault. IsSaid replaces fault calls.new.entries) }
 {
     match replaces {
         Replaces::Summaries | Replaces::Indexes => {

@@ -138,13 +138,17 @@ impl FileCalls {
         }
     }
 
-    /// A file was to be created that was not there, with this mode. Nothing is noted of a path that is taken.
+    /// A file was to be created that was not there, with this mode.
     pub fn creates<T>(&mut self, path: &str, mode: u32, answer: &io::Result<T>)
         ensures { self.new.entries ≡ self.old.entries ++ created path.now mode answer.now }
     {
         match answer {
             Ok(_) => self.note(&[0, mode as u64], path.as_bytes(), &[]),
-            Err(error) if error.kind() == ErrorKind::AlreadyExists => {}
+            Err(error) if error.kind() == ErrorKind::AlreadyExists => self.note(
+                &[18],
+                path.as_bytes(),
+                &[],
+            ),
             Err(error) => self.fails(path, error),
         }
     }

@@ -7,11 +7,12 @@ ghost use Rattle.std.specs.Io.KnownBytes.{ReadConsumes};
 ghost use Rattle.byte_device.specs.Disks.{FileAt, Path, opened_with};
 ghost use Rattle.byte_device.specs.Places.{HasSize, TakenAt};
 ghost use Rattle.cli_files.specs.InputStates.{GivesPlaces, GivesState, HoldsFile, IsStateOf, Open, SaysWanting};
-ghost use Rattle.cli_files.specs.InputStates.{Waiting, bytes_at, left_in, opened_in, stage_of, unopened_in};
-ghost use Rattle.cli_files.specs.InputStates.{wanting_in};
+ghost use Rattle.cli_files.specs.InputStates.{Waiting, bytes_at, left_in, opened_in, opening_in};
+ghost use Rattle.cli_files.specs.InputStates.{stage_of, unopened_in, wanting_in};
 
 use crate::disks::Disk;
 use byte_device::{CannotOpen, Failed, Placed, Source};
+use byte_openings::{Opening, Opens};
 use memory::NoMemory;
 
 /// How far an input is.
@@ -231,6 +232,18 @@ impl<'l, D: Disk> Source for AtTurn<'l, D> {
                 self.failures += 1;
                 Err(Failed)
             }
+        }
+    }
+}
+
+impl<'l, D: Disk> Opens for AtTurn<'l, D> {
+    ghost opening_of = { λ s. opening_in (stage_of s.state) };
+
+    fn opening(&self) -> Opening {
+        match self.unopened() {
+            None => Opening::Fine,
+            Some(Unopened::Refused(_)) => Opening::Refused,
+            Some(Unopened::OutOfMemory) => Opening::OutOfMemory,
         }
     }
 }

@@ -1,12 +1,16 @@
 //! What would be lost of an archive where a draft takes its place.
 
-ghost use Rattle.std.specs.Prelude.{◌≡◌, ◌≤◌, ◌∷◌, ◌++◌, IfOk, List, OnErr, OnOk, [], length, true};
+ghost use Rattle.std.specs.Prelude.{◌≡◌, ◌≢◌, ◌≤◌, ◌⊎◌, ◌∷◌, ◌++◌, IfErr, IfOk, List, None, OnErr, OnOk, Some, [], length, true, ℕ};
 ghost use Rattle.std.specs.Io.KnownBytes.{ReadConsumes};
+ghost use Rattle.std.specs.IoError.{error_kind};
 ghost use Rattle.byte_device.specs.Devices.{stream};
-ghost use Rattle.archive_merge.specs.Losses.{Loses};
-ghost use Rattle.cli_files.specs.FileCalls.{Compares, FileCall, are_probes, first_bytes};
+ghost use Rattle.archive_merge.specs.Losses.{IsNotCompared, Loses};
+ghost use Rattle.archive_records.specs.declared.fault.MergeCause.{MergeCause};
+ghost use Rattle.cli_files.specs.FileCalls.{Begins, Compares, FileCall, are_probes, first_bytes};
 ghost use Rattle.cli_files.specs.Publishing.{BeginsSo, IsTested};
-ghost use Rattle.cli_files.specs.Replacing.{GivesWay};
+ghost use Rattle.cli_files.specs.Refusals.{Fails, IsSaid, IsUncompared, IsUnread};
+ghost use Rattle.cli_files.specs.Replacing.{GivesWay, IsOfKind};
+ghost use Rattle.cli_files.specs.declared.replaceable.Replaces.{Replaces};
 ghost use Rattle.cli_files.specs.declared.replaceable.Replaces.TheVariants.{ArchivesBelow};
 
 use crate::file_calls::FileCalls;
@@ -35,6 +39,7 @@ pub fn test_losses<F: Files>(
         × (calls.new.entries ≡ calls.old.entries ++ tests)) }
     ensures refused { OnErr result ((tests : List FileCall) × (are_probes tests ≡ true)
         × (calls.new.entries ≡ calls.old.entries ++ tests)) }
+    ensures said { IfErr result (λ fault. IsSaid ArchivesBelow fault calls.new.entries) }
 {
     if given_way(system, target, Replaces::ArchivesBelow, calls)?.is_none() {
         return Ok(());
@@ -57,6 +62,8 @@ fn lost_at<F: Files>(
         (λ lost. calls.new.entries ≡ calls.old.entries ++ Compares draft.now target.now lost ∷ []) }
     ensures refused { OnErr result ((tests : List FileCall) × (are_probes tests ≡ true)
         × (calls.new.entries ≡ calls.old.entries ++ tests)) }
+    ensures said { (replaces : Replaces) → IsUncompared calls.old.entries
+        → IfErr result (λ fault. IsSaid replaces fault calls.new.entries) }
 {
     let heap = Heap::new(alloc)?;
     let mut new = side_at(alloc, system, draft, calls)?;
@@ -78,6 +85,10 @@ fn lost_between<'d, 't, R: Read + Drop>(
     ensures noted { IfOk result (λ lost. calls.new.entries
         ≡ calls.old.entries ++ Compares new.old.path.now old.old.path.now lost ∷ []) }
     ensures refused { OnErr result (calls.new.entries ≡ calls.old.entries) }
+    ensures unread { IfErr result (λ fault. (stop : MergeCause)
+        × IsNotCompared (stream ⟦<ArchiveSide<'d, R> as Source>⟧.left ⟦<ArchiveSide<'d, R> as Source>⟧.failures new.old new.new)
+        (stream ⟦<ArchiveSide<'t, R> as Source>⟧.left ⟦<ArchiveSide<'t, R> as Source>⟧.failures old.old old.new) stop
+        × IsUnread stop fault) }
 {
     let (draft, target) = (new.path(), old.path());
     match lost_operations(heap, new, old) {
@@ -90,17 +101,21 @@ fn lost_between<'d, 't, R: Read + Drop>(
 }
 
 /// What the file at a path begins with, which has to give way: `None` if it is empty, or nothing is there.
+#[tactic(auto, using(crate::proofs::Said::other_kind))]
 pub fn given_way<F: Files>(
     system: &System<'_, F>,
     path: &str,
     replaces: Replaces,
     calls: &mut FileCalls,
 ) -> Result<Option<LeadingBytes>, OutFault>
+    ensures kind { IfOk result
+        (λ beginning. (bytes : List ℕ) → beginning ≡ Some bytes → IsOfKind replaces bytes) }
     ensures begins { IfOk result (λ beginning. GivesWay replaces (first_bytes beginning)
         × (tests : List FileCall) × BeginsSo path.now (first_bytes beginning) tests
         × (calls.new.entries ≡ calls.old.entries ++ tests)) }
     ensures refused { OnErr result ((tests : List FileCall) × (are_probes tests ≡ true)
         × (calls.new.entries ≡ calls.old.entries ++ tests)) }
+    ensures said { IfErr result (λ fault. IsSaid replaces fault calls.new.entries) }
 {
     let beginning = match beginning_at(system, path, calls) {
         Ok(beginning) => beginning,
@@ -120,6 +135,9 @@ fn beginning_at<F: Files>(
         × (calls.new.entries ≡ calls.old.entries ++ tests)) }
     ensures refused { OnErr result ((tests : List FileCall) × (are_probes tests ≡ true)
         × (calls.new.entries ≡ calls.old.entries ++ tests)) }
+    ensures read { IfOk result (λ beginning. beginning ≢ None → (before : List FileCall)
+        × (calls.new.entries ≡ before ++ Begins path.now (first_bytes beginning) ∷ [])) }
+    ensures failed { IfErr result (λ error. Fails error calls.new.entries) }
 {
     let size = match system.metadata(path, calls) {
         Ok(there) => there.size,
@@ -140,6 +158,8 @@ fn side_at<'p, F: Files>(
     ensures opened { OnOk result (calls.new.entries ≡ calls.old.entries) }
     ensures refused { OnErr result ((tests : List FileCall) × (are_probes tests ≡ true)
         × (calls.new.entries ≡ calls.old.entries ++ tests)) }
+    ensures said { (replaces : Replaces) → IsUncompared calls.old.entries
+        → IfErr result (λ fault. IsSaid replaces fault calls.new.entries) }
 {
     let opened = match system.open(path, false, calls) {
         Ok(opened) => opened,
@@ -152,7 +172,13 @@ fn side_at<'p, F: Files>(
 }
 
 /// The fault where the system refused.
-fn refused(error: io::Error) -> OutFault {
+fn refused(error: io::Error) -> OutFault
+    ensures said { (calls : List FileCall) (replaces : Replaces) → Fails error calls ⊎ IsUncompared calls
+        → IsSaid replaces result calls }
+    ensures memory { error_kind error ≡ ErrorKind.OutOfMemory → result ≡ OutFault.OutOfMemory }
+    ensures other { error_kind error ≢ ErrorKind.OutOfMemory
+        → result ≡ OutFault.NotReplaced (Obstacle.Refused (Some error)) }
+{
     if error.kind() == ErrorKind::OutOfMemory {
         OutFault::OutOfMemory
     } else {
@@ -162,11 +188,9 @@ fn refused(error: io::Error) -> OutFault {
 
 /// The fault where one of the two archives was not read to its end, with what the system said of each. The draft was
 /// written by this command: where it cannot be read, its device is why.
-fn unread(
-    fault: MergeFault,
-    of_draft: Option<io::Error>,
-    of_target: Option<io::Error>,
-) -> OutFault {
+fn unread(fault: MergeFault, of_draft: Option<io::Error>, of_target: Option<io::Error>) -> OutFault
+    ensures { IsUnread fault.cause result }
+{
     match fault.cause {
         MergeCause::Left(fault) | MergeCause::Right(fault)
             if fault.kind == RecordFaultKind::OutOfMemory => OutFault::OutOfMemory,

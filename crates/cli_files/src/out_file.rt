@@ -1,7 +1,7 @@
 //! OUT, whose draft is created with its first bytes, and published when it is whole. What the files hold is in no
 //! contract; what was called of the system is.
 
-ghost use Rattle.std.specs.Prelude.{◌≡◌, ◌≢◌, ◌⊎◌, ◌≤◌, ◌<◌, ◌-◌, ◌^◌, ℕ, List, Option, None, Some, IfSome, IfOk};
+ghost use Rattle.std.specs.Prelude.{◌≡◌, ◌≢◌, ◌⊎◌, ◌≤◌, ◌<◌, ◌-◌, ◌^◌, ℕ, List, Option, None, Some, IfErr, IfSome, IfOk};
 ghost use Rattle.std.specs.Prelude.{IsSome, OnErr, OnOk, length, true, false, [], option_map, string_bytes};
 ghost use Rattle.cli_files.specs.FileCalls.{are_probes, bytes_in};
 ghost use Rattle.cli_files.specs.OutFiles.{IsSoFar, Settled, Untouched, WritesBegun, WritesTo};
@@ -9,6 +9,7 @@ ghost use Rattle.cli_files.specs.OutFiles.{draft_account, fault_of};
 ghost use Rattle.cli_files.specs.OutFiles.{has_calls, is_drafted, is_settled, stage_of, takes_bytes};
 ghost use Rattle.cli_files.specs.declared.replaceable.Replaces.{Replaces};
 ghost use Rattle.cli_files.specs.declared.replaceable.Replaces.TheVariants.{ArchivesBelow};
+ghost use Rattle.cli_files.specs.Refusals.{IsRefused, IsSaid};
 ghost use Rattle.cli_files.specs.Publishing.{HandsOn, IsRemoved, took_nothing};
 
 use crate::drafts::{Draft, create_draft, put_draft, remove_draft};
@@ -79,6 +80,7 @@ fn begun<F: Files>(
     ensures bytes { calls.old.entries ≡ [] → bytes_in calls.new.entries ≡ [] }
     ensures begun { IfOk result (λ state. has_calls (stage_of state) ≡ true) }
     ensures refused { calls.old.entries ≡ [] → OnErr result (are_probes calls.new.entries ≡ true) }
+    ensures said { calls.old.entries ≡ [] → IfErr result (λ fault. IsSaid replaces fault calls.new.entries) }
 {
     match way_to(alloc, system, path, replaces, calls)? {
         Way::Through => match system.create(path, calls) {
@@ -328,6 +330,8 @@ impl<'a, F: Files> OutFile<'a, F> {
         ensures failures { self.new.failures ≡ self.old.failures }
         ensures settled { is_settled (stage_of self.new.state) ≡ is_settled (stage_of self.old.state) }
         ensures fault { fault_of (stage_of self.new.state) ≡ fault_of (stage_of self.old.state) }
+        ensures refused { IfSome (fault_of (stage_of self.new.state)) (λ fault.
+            ∥ IsRefused self.new.replaces (option_map string_bytes self.new.path) fault self.new.calls.entries ∥₁) }
     {
         remove(&self.system, &mut self.state, &mut self.calls);
     }

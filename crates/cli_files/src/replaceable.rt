@@ -1,6 +1,6 @@
 //! Which file at OUT's path is replaced, by what it begins with, and why one is not. What files hold is in no contract.
 
-ghost use Rattle.std.specs.Prelude.{◌≡◌, ◌≢◌, ℕ, IsOk, List, None, Ok, OnOk, Some, false, true};
+ghost use Rattle.std.specs.Prelude.{◌≡◌, ◌≢◌, ℕ, IfErr, IsOk, List, None, Ok, OnOk, Some, false, true};
 ghost use Rattle.cli_files.specs.FileCalls.{first_bytes};
 ghost use Rattle.cli_files.specs.Replacing.{GivesWay, IsOfKind};
 
@@ -25,6 +25,11 @@ pub enum OutFault {
 }
 
 impl From<NoMemory> for OutFault {
+    ghost use Rattle.std.specs.Prelude.{◌≡◌};
+    ghost use Rattle.cli_files.specs.declared.replaceable.OutFault.TheVariants.{OutOfMemory};
+
+    ghost from_gives = { λ _ fault. fault ≡ OutOfMemory };
+
     fn from(_refused: NoMemory) -> OutFault {
         OutFault::OutOfMemory
     }
@@ -90,7 +95,10 @@ pub fn beginning_of<R: Read>(file: &mut R, size: u64) -> io::Result<Option<Leadi
 /// Tests whether a file that begins so may be replaced.
 pub fn test_kind(replaces: Replaces, beginning: &Option<LeadingBytes>) -> Result<(), OutFault>
     ensures gives_way { OnOk result (GivesWay replaces (first_bytes beginning.now)) }
+    ensures of_kind { OnOk result ((bytes : List ℕ) → beginning.now ≡ Some bytes → IsOfKind replaces bytes) }
     ensures empty { beginning.now ≡ None → IsOk result }
+    ensures other { IfErr result (λ fault. (bytes : List ℕ) × (beginning.now ≡ Some bytes)
+        × (fault ≡ OutFault.NotReplaced (Obstacle.OtherKind bytes)) × (IsOfKind replaces bytes → ⊥)) }
     ensures kind { (bytes : List ℕ) → beginning.now ≡ Some bytes → IsOfKind replaces bytes → IsOk result }
 {
     match beginning {

@@ -1,9 +1,11 @@
 //! Whether what is at OUT has no other bytes than a draft, as the system gives them.
 
-ghost use Rattle.std.specs.Prelude.{◌≡◌, ◌≢◌, ◌∷◌, ◌++◌, ◌⊎◌, ℕ, List, IfOk, OnErr, OnOk, [], length, true, false};
+ghost use Rattle.std.specs.Prelude.{◌≡◌, ◌≢◌, ◌∷◌, ◌++◌, ◌⊎◌, ℕ, List, IfErr, IfOk, OnErr, OnOk, [], length, true, false};
 ghost use Rattle.std.specs.List.{concat};
 ghost use Rattle.cli_files.specs.FileCalls.{FileCall, Gives, are_probes};
 ghost use Rattle.cli_files.specs.Publishing.{AreOther, AreSame, IsEmptyAt, IsTested, both_give};
+ghost use Rattle.cli_files.specs.Refusals.{Fails, IsSaid};
+ghost use Rattle.cli_files.specs.declared.replaceable.Replaces.{Replaces};
 ghost use Rattle.cli_files.specs.declared.replaceable.Replaces.TheVariants.{SameBytes};
 
 use crate::file_calls::FileCalls;
@@ -27,6 +29,7 @@ pub fn test_sameness<F: Files>(
         × (calls.new.entries ≡ calls.old.entries ++ tests)) }
     ensures refused { OnErr result ((tests : List FileCall) × (are_probes tests ≡ true)
         × (calls.new.entries ≡ calls.old.entries ++ tests)) }
+    ensures said { (replaces : Replaces) → IfErr result (λ fault. IsSaid replaces fault calls.new.entries) }
 {
     match agrees(system, draft, target, calls) {
         Ok(true) => Ok(()),
@@ -49,6 +52,7 @@ fn agrees<F: Files>(
         × AreOther draft.now target.now tests × (calls.new.entries ≡ calls.old.entries ++ tests)) }
     ensures refused { OnErr result ((tests : List FileCall) × (are_probes tests ≡ true)
         × (calls.new.entries ≡ calls.old.entries ++ tests)) }
+    ensures failed { IfErr result (λ error. Fails error calls.new.entries) }
 {
     let there = match system.metadata(target, calls) {
         Ok(there) => there,
@@ -82,6 +86,7 @@ fn has_same_piece<R: Read>(
     ensures refused { OnErr result ((tests : List FileCall) × (are_probes tests ≡ true)
         × (calls.new.entries ≡ calls.old.entries ++ tests)) }
     ensures paths { (first.new.path.now ≡ first.old.path.now) × (second.new.path.now ≡ second.old.path.now) }
+    ensures failed { IfErr result (λ error. Fails error calls.new.entries) }
 {
     first.read_exact(of_first, calls)?;
     second.read_exact(of_second, calls)?;
@@ -102,6 +107,7 @@ fn have_same<R: Read>(
         ++ Gives first.old.path.now a ∷ Gives second.old.path.now b ∷ [])) }
     ensures refused { OnErr result ((tests : List FileCall) × (are_probes tests ≡ true)
         × (calls.new.entries ≡ calls.old.entries ++ tests)) }
+    ensures failed { IfErr result (λ error. Fails error calls.new.entries) }
 {
     let mut left = count;
     let mut of_first = [0; PIECE];

@@ -50,7 +50,9 @@ fn found_of(metadata: Metadata) -> Found {
 }
 
 impl<'a, F: Files> System<'a, F> {
-    pub fn new(files: &'a F) -> Self {
+    pub fn new(files: &'a F) -> Self
+        ensures { result.files.now ≡ files.now }
+    {
         System { files }
     }
 

@@ -1,10 +1,12 @@
 //! How OUT is written: what its path leads to, as the system says it. A call that asks is noted with its answer.
 
-ghost use Rattle.std.specs.Prelude.{◌≡◌, ◌∷◌, [], IfOk, List, OnErr, Some, string_bytes, true};
+ghost use Rattle.std.specs.Prelude.{◌≡◌, ◌∷◌, ◌++◌, [], IfErr, IfOk, List, OnErr, Some, string_bytes, true};
+ghost use Rattle.std.specs.IoError.{error_kind};
 ghost use Rattle.cli_files.specs.declared.replaceable.Replaces.{Replaces};
 ghost use Rattle.cli_files.specs.FileCalls.{FileCall, Finds, FindsNothing, are_probes};
 ghost use Rattle.cli_files.specs.OutFiles.{IsWayTo};
 ghost use Rattle.cli_files.specs.Publishing.{FindsReplaced, IsDescriptor, IsTargetOf, there};
+ghost use Rattle.cli_files.specs.Refusals.{IsSaid};
 ghost use Rattle.cli_files.specs.declared.found.Found.{Found};
 
 use crate::descriptors::is_descriptor;
@@ -38,6 +40,7 @@ pub fn way_to<F: Files>(
 ) -> Result<Way, OutFault>
     ensures way { calls.old.entries ≡ [] → IfOk result (λ way. IsWayTo replaces path.now way calls.new.entries) }
     ensures refused { calls.old.entries ≡ [] → OnErr result (are_probes calls.new.entries ≡ true) }
+    ensures said { IfErr result (λ fault. IsSaid replaces fault calls.new.entries) }
 {
     if is_descriptor(path) {
         return Ok(Way::Through);
@@ -65,9 +68,14 @@ fn absent<F: Files>(
         → IfOk result (λ way. (replaces : Replaces) → IsWayTo replaces path.now way calls.new.entries) }
     ensures refused { calls.old.entries ≡ FindsNothing path.now ∷ []
         → OnErr result (are_probes calls.new.entries ≡ true) }
+    ensures said { (replaces : Replaces) (before : List FileCall)
+        → calls.old.entries ≡ before ++ FindsNothing path.now ∷ [] → error_kind error ≡ ErrorKind.NotFound
+        → IfErr result (λ fault. IsSaid replaces fault calls.new.entries) }
 {
-    let is_no_name = path.is_empty() || path.ends_with('/');
-    if is_no_name || system.is_link(path, calls) {
+    if path.is_empty() || path.ends_with('/') {
+        return Err(OutFault::NotCreated(Some(error)));
+    }
+    if system.is_link(path, calls) {
         return Err(OutFault::NotCreated(Some(error)));
     }
     Ok(Way::Beside(String::from_str(alloc, path)?, None))
@@ -88,6 +96,7 @@ fn replaced<F: Files>(
         → IfOk result (λ way. IsWayTo replaces path.now way calls.new.entries) }
     ensures refused { calls.old.entries ≡ Finds path.now found ∷ []
         → OnErr result (are_probes calls.new.entries ≡ true) }
+    ensures said { IfErr result (λ fault. IsSaid replaces fault calls.new.entries) }
 {
     let mut file = match system.open(path, true, calls) {
         Ok(file) => file,
@@ -114,6 +123,7 @@ fn target_of<F: Files>(
     ensures found { (found : Found) (rest : List FileCall) → calls.old.entries ≡ Finds path.now found ∷ rest
         → there calls.new.entries ≡ Some found }
     ensures refused { are_probes calls.old.entries ≡ true → OnErr result (are_probes calls.new.entries ≡ true) }
+    ensures said { (replaces : Replaces) → IfErr result (λ fault. IsSaid replaces fault calls.new.entries) }
 {
     if !system.is_link(path, calls) {
         return Ok(String::from_str(alloc, path)?);

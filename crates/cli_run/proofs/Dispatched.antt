@@ -27,20 +27,20 @@ pub not_none : {A : Type 0} (xs : List A) → false ≡ (length xs == 0) → 0 <
 not_none xs is = grind (arith, nat_tests)
 
 pub symbolicate_by : {S : Type 0} (archives places indexes : List (Reader S)) (key : SliceKey) (load : Option ℕ)
-    (lines : Bool) (addresses : List ℕ) → 0 < length indexes
-    → symbolicate_of archives places indexes key load lines addresses
-    ≡ if_paired (index_for_each_archive (length archives) (length indexes)) (symbolicate_at indexes places key load lines addresses)
-symbolicate_by archives places [] key load lines addresses some = absurd (omega arith)
-symbolicate_by [] places (i ∷ indexes) key load lines addresses some = refl
-symbolicate_by (a ∷ archives) places (i ∷ indexes) key load lines addresses some = refl
+    (lines slices : Bool) (addresses : List ℕ) → 0 < length indexes
+    → symbolicate_of archives places indexes key load lines slices addresses
+    ≡ if_paired (index_for_each_archive (length archives) (length indexes)) (symbolicate_at indexes places key load lines slices addresses)
+symbolicate_by archives places [] key load lines slices addresses some = absurd (omega arith)
+symbolicate_by [] places (i ∷ indexes) key load lines slices addresses some = refl
+symbolicate_by (a ∷ archives) places (i ∷ indexes) key load lines slices addresses some = refl
 
-pub frames_by : {S : Type 0} (lines : Bool) (crash : Reader S) (archives places indexes : List (Reader S))
+pub frames_by : {S : Type 0} (lines slices : Bool) (crash : Reader S) (archives places indexes : List (Reader S))
     → 0 < length indexes
-    → frames_of lines crash archives places indexes
-    ≡ if_paired (index_for_each_archive (length archives) (length indexes)) (frames_at lines crash indexes places)
-frames_by lines crash archives places [] some = absurd (omega arith)
-frames_by lines crash [] places (i ∷ indexes) some = refl
-frames_by lines crash (a ∷ archives) places (i ∷ indexes) some = refl
+    → frames_of lines slices crash archives places indexes
+    ≡ if_paired (index_for_each_archive (length archives) (length indexes)) (frames_at lines slices crash indexes places)
+frames_by lines slices crash archives places [] some = absurd (omega arith)
+frames_by lines slices crash [] places (i ∷ indexes) some = refl
+frames_by lines slices crash (a ∷ archives) places (i ∷ indexes) some = refl
 
 -- of more than one archive
 pub find_by : {S : Type 0} (archives places indexes : List (Reader S)) (uuid : List ℕ) → 0 < length indexes

@@ -1,10 +1,14 @@
 -- What is said of the first input.
-use Rattle.std.proofs.Common.{◌≡◌, ◌∙◌, ℕ, ◌≤◌, List, [], ◌∷◌, Option, Vec, ap, arith, get_or, length, subst, sym}
+use Rattle.std.proofs.Common.{◌≡◌, ◌∙◌, ℕ, ◌≤◌, Bool, true, false, List, [], ◌∷◌, Option, Result, Vec, ap, arith, get_or, length, subst, sym}
 use Rattle.std.proofs.lemmas.List.{length-set, with_items_is}
 use Rattle.std.specs.Vec.{with_items}
 use Rattle.std.specs.Prelude.{slice_set}
 use Rattle.command_common.specs.Inputs.{Reader, reader, readers}
-use Rattle.cli_run.specs.Plans.{Deed, none, of_first}
+use Rattle.byte_openings.specs.declared.openings.Opening.{Opening}
+use Rattle.command_common.specs.Outputs.{Outs, Writer, out_of}
+use Rattle.command_common.specs.declared.faults.{CommandFault.CommandFault, Status.Status}
+use Rattle.command_write.specs.PassedOver.{EndsAdmit}
+use Rattle.cli_run.specs.Plans.{Deed, EndsDeed, admitted_of, none, of_first}
 
 module _ {S : Type 0} (left : S → Option (List ℕ)) (failures : S → ℕ) (Holds : Deed → Type 0)
     (deed : Reader S → List (Reader S) → Deed) where
@@ -25,3 +29,11 @@ module _ {S : Type 0} (left : S → Option (List ℕ)) (failures : S → ℕ) (H
       subst (λ after. Holds (of_first none deed (readers left failures inputs.items after))) (sym written)
       (subst (λ zs. Holds (of_first none deed (readers left failures zs behind))) same
       (of_some ys d y some holds))
+
+-- `admit` ends so, with `--keep-going` or without it
+pub admit_ends : {S D T : Type 0} (keep_going : Bool) (opening : S → Opening) (archive : Reader S) (files : List (Reader S))
+    (out : Outs D T) (report : Writer) (r : Result Status CommandFault)
+    → EndsAdmit keep_going opening archive files (out_of out) report r
+    → EndsDeed (admitted_of keep_going opening archive files (out_of out).draft) out report r
+admit_ends false opening archive files out report r ends = ends
+admit_ends true opening archive files out report r ends = ends

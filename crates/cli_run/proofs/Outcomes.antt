@@ -11,12 +11,14 @@ use Rattle.byte_device.specs.declared.targets.Output.{Output as Out}
 use Rattle.command_common.specs.declared.faults.Why.TheVariants.{CannotOpen as NotOpened}
 use Rattle.command_common.specs.{Ends.Command, Ends.Ends, Ends.EndsStreamed, Ends.Query, Ends.Streamed}
 use Rattle.command_common.specs.Outputs.{FailsAt, IsKept, Outs, Publishes, Writer, out_of, report_of}
-use Rattle.cli_files.specs.{InputStates.Told, declared.input_state.Unopened.Unopened}
+use Rattle.command_common.specs.declared.faults.Status.TheVariants.{Done}
+use Rattle.command_write.specs.PassedOver.{EndsPassing, Passing}
+use Rattle.cli_files.specs.{InputStates.Told, InputStates.opening_told, declared.input_state.Unopened.Unopened}
 use Rattle.command_write.specs.declared.notes.Note.{Note}
 use Rattle.cli_files.specs.declared.input_state.Unopened.TheVariants as unopened
 use Rattle.cli_run.specs.Disks.{Carried}
 use Rattle.cli_messages.specs.{Names.input_at, Unopened.Tells, Unopened.fault_at, Unopened.unopened_of}
-use Rattle.cli_run.specs.Plans.{Deed, EndsDeed, EndsQuery, answers, changes, deed_of, empties, extracts, none, readers_by, streams}
+use Rattle.cli_run.specs.Plans.{Deed, EndsDeed, EndsQuery, answers, changes, deed_of, empties, extracts, none, passes, readers_by, streams}
 use Rattle.cli_run.specs.Files.{IsNotPut, IsOutcome}
 use Rattle.cli_arguments.specs.declared.plan.Plan.{Plan}
 use Rattle.command_extract.specs.Extract.{Extraction, Extracts, LacksSlice}
@@ -100,6 +102,13 @@ streamed command out report (Err OutOfMemory) e = elim e [
   | inr c ↦ published out report c.1.text c.1.told (Err OutOfMemory) c.1.published
 ]
 
+-- ---- what passes over inputs
+
+passing : {D T : Type 0} (command : Passing) (out : Outs D T) (report : Writer) (r : Result Status CommandFault)
+    → EndsPassing command (out_of out) report r → IsOutcome out r
+passing command out report (Ok status) e = published out report e.1.text e.1.told (Ok Done) e.1.published
+passing command out report (Err fault) e = streamed command.streamed out report (Err fault) e
+
 -- ---- what is extracted
 
 lacking : {D T : Type 0} (command : Extraction) (out : Outs D T) (report : Writer) (r : Result Status CommandFault)
@@ -120,6 +129,7 @@ done : {D T : Type 0} (deed : Deed) (out : Outs D T) (report : Writer) (r : Resu
 done empties out report r e = published out report (written set.empty) (report_of set.empty []) r e
 done (changes command) out report r e = ended command out report r e
 done (streams command) out report r e = streamed command out report r e
+done (passes command) out report r e = passing command out report r e
 done (extracts command) out report r e = extracted command out report r e
 done (answers query) out report r e = queried query out report r e
 done none out report r e = absurd e
@@ -147,5 +157,5 @@ pub carried_outcome : {S D T : Type 0} (told : Told S) (line : Line) (plan : Pla
     → IsOutcome out r
 carried_outcome told line plan before behind out report r notes noted c =
     told_outcome told behind out c.ended r c.tells
-    (done (deed_of plan (readers_by told.left told.failures before behind)
+    (done (deed_of (opening_told told) plan (readers_by told.left told.failures before behind)
     (readers_by told.whole told.failures before behind) out) out report c.ended c.executes)

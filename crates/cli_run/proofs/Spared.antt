@@ -32,7 +32,9 @@ use Rattle.command_index_frames.specs.Asking.{AreRefusedAsking, IsChanged, IsLin
 use Rattle.command_index_frames.specs.{Frames.RefusesFramesAt, Frames.frames_at, Symbolicate.symbolicate_at}
 use Rattle.command_index_queries.specs.Find.{find_together}
 use Rattle.command_extract.specs.{Entries.IsRefusedSlice, Extract.Extraction, Extract.Extracts, Indexed.AreRefusedBefore, Indexed.extract_at}
-use Rattle.cli_run.specs.Plans.{Deed, EndsDeed, Executes, answers, none, of_first, streams, summary_of}
+use Rattle.byte_openings.specs.declared.openings.Opening.{Opening}
+use Rattle.command_write.specs.PassedOver.{admit_passing_as_it_comes}
+use Rattle.cli_run.specs.Plans.{Deed, EndsDeed, Executes, answers, none, of_first, passes, streams, summary_of}
 use Rattle.cli_run.specs.Queries.{extract_of, extraction_if_paired, find_of, frames_of, if_paired, list_of, no_archive, no_index, index_for_each_archive, symbolicate_of}
 
 -- it is no reason that refuses an input
@@ -163,18 +165,18 @@ list archive place [] at r = text _ archive r.1
 list archive place (index ∷ _) at r = by_index 0 index place at r
 
 symbolicate : {S : Type 0} (archives places indexes : List (Reader S)) (key : SliceKey) (load : Option ℕ)
-    (lines : Bool) (addresses : List ℕ)
-    → Spares (symbolicate_of archives places indexes key load lines addresses).Refuses
-symbolicate (archive ∷ others) places [] key load lines addresses at r = together archive others at r
-symbolicate archives places indexes key load lines addresses at r =
-    when_paired (length archives) (length indexes) (symbolicate_at indexes places key load lines addresses)
+    (lines slices : Bool) (addresses : List ℕ)
+    → Spares (symbolicate_of archives places indexes key load lines slices addresses).Refuses
+symbolicate (archive ∷ others) places [] key load lines slices addresses at r = together archive others at r
+symbolicate archives places indexes key load lines slices addresses at r =
+    when_paired (length archives) (length indexes) (symbolicate_at indexes places key load lines slices addresses)
     (asking lines _ indexes places) at r
 
-frames : {S : Type 0} (lines : Bool) (crash : Reader S) (archives places indexes : List (Reader S))
-    → Spares (frames_of lines crash archives places indexes).Refuses
-frames lines crash (archive ∷ others) places [] at r = framed crash archive others at r
-frames lines crash archives places indexes at r =
-    when_paired (length archives) (length indexes) (frames_at lines crash indexes places)
+frames : {S : Type 0} (lines slices : Bool) (crash : Reader S) (archives places indexes : List (Reader S))
+    → Spares (frames_of lines slices crash archives places indexes).Refuses
+frames lines slices crash (archive ∷ others) places [] at r = framed crash archive others at r
+frames lines slices crash archives places indexes at r =
+    when_paired (length archives) (length indexes) (frames_at lines slices crash indexes places)
     (framed_at lines crash indexes places) at r
 
 stops_at : {S : Type 0} (indexes places : List (Reader S)) (key : SliceKey) (digest : Option Digest) (draft : Writer)
@@ -235,63 +237,67 @@ summing : {S D T : Type 0} (archive place : Reader S) (indexes : List (Reader S)
 summing archive place [] out report at e = text _ archive e.0.1
 summing archive place (index ∷ _) out report at e = by_index 0 index place at e.0
 
-pub spared : {S D T : Type 0} (asked : Plan) (inputs places : Inputs (Reader S)) (out : Outs D T) (report : Writer)
-    (at : InputName) → Executes asked inputs places out report (Err (Input at CannotOpen)) → ⊥
-spared plan.Admit inputs places out report at e =
+pub spared : {S D T : Type 0} (opening : S → Opening) (asked : Plan) (inputs places : Inputs (Reader S)) (out : Outs D T) (report : Writer)
+    (at : InputName) → Executes opening asked inputs places out report (Err (Input at CannotOpen)) → ⊥
+spared opening (plan.Admit false) inputs places out report at e =
     at_first inputs.archives (λ archive _. streams (admit_as_it_comes archive inputs.files (out_of out).draft)) out
     report at
     (λ archive _ e. in_turn archive (IsFirstRefused File IsAccepted IsFileRefused inputs.files)
     (first_file inputs.files) at e.stops.0.0) e
-spared (plan.Retire key digest) inputs places out report at e =
+spared opening (plan.Admit true) inputs places out report at e =
+    at_first inputs.archives
+    (λ archive _. passes (admit_passing_as_it_comes opening archive inputs.files (out_of out).draft)) out report at
+    (λ archive _ e. text _ archive e.stops.0.0.1) e
+spared opening (plan.Retire key digest) inputs places out report at e =
     at_first inputs.archives (λ archive _. streams (retire_as_it_comes archive key digest (out_of out).draft)) out
     report at (λ archive _ e. text _ archive e.stops.0.0.1) e
-spared plan.Merge inputs places out report at e =
+spared opening plan.Merge inputs places out report at e =
     at_first inputs.archives (λ archive others. streams (merge_as_it_comes archive others out)) out report at
     (λ archive others e. merging archive others out report at e) e
-spared plan.Migrate inputs places out report at e =
+spared opening plan.Migrate inputs places out report at e =
     at_first inputs.archives (λ archive _. streams (migrate_as_it_comes archive (out_of out).draft)) out report at
     (λ archive _ e. text _ archive e.stops.0.0.1) e
-spared plan.Apply inputs places out report at e =
+spared opening plan.Apply inputs places out report at e =
     at_first inputs.archives
     (λ archive _. of_first none (λ ops _. streams (apply_as_it_comes archive ops (out_of out).draft)) inputs.ops) out
     report at
     (λ archive _ e. at_first inputs.ops (λ ops _. streams (apply_as_it_comes archive ops (out_of out).draft)) out
     report at (λ ops _ e. in_turn archive (IsRefusedOps ops) (operations ops) at e.stops.0.0) e) e
-spared (plan.Find uuid) inputs places out report at e =
+spared opening (plan.Find uuid) inputs places out report at e =
     find inputs.archives places.archives places.indexes uuid at e.0.0
-spared plan.List inputs places out report at e =
+spared opening plan.List inputs places out report at e =
     at_first inputs.archives
     (λ archive _. of_first none (λ place _. answers (list_of archive place places.indexes)) places.archives) out report
     at
     (λ archive _ e. at_first places.archives (λ place _. answers (list_of archive place places.indexes)) out report at
     (λ place _ e. list archive place places.indexes at e.0.0) e) e
-spared (plan.Extract key digest) inputs places out report at e =
+spared opening (plan.Extract key digest) inputs places out report at e =
     extracted (extract_of inputs.archives places.archives places.indexes key digest (out_of out).draft) out report at
     (extract inputs.archives places.archives places.indexes key digest (out_of out).draft at) e
-spared (plan.Name sought) inputs places out report at e =
+spared opening (plan.Name sought) inputs places out report at e =
     at_first inputs.archives (λ archive others. answers (name archive others sought.now)) out report at
     (λ archive others e. together archive others at e.0.0) e
-spared (plan.Symbolicate key load lines addresses) inputs places out report at e =
-    symbolicate inputs.archives places.archives places.indexes key load lines addresses.now at e.0.0
-spared (plan.Frames lines) inputs places out report at e =
+spared opening (plan.Symbolicate key load lines slices addresses) inputs places out report at e =
+    symbolicate inputs.archives places.archives places.indexes key load lines slices addresses.now at e.0.0
+spared opening (plan.Frames lines slices) inputs places out report at e =
     at_first inputs.frames
-    (λ crash _. answers (frames_of lines crash inputs.archives places.archives places.indexes)) out report at
-    (λ crash _ e. frames lines crash inputs.archives places.archives places.indexes at e.0.0) e
-spared plan.Summary inputs places out report at e =
+    (λ crash _. answers (frames_of lines slices crash inputs.archives places.archives places.indexes)) out report at
+    (λ crash _ e. frames lines slices crash inputs.archives places.archives places.indexes at e.0.0) e
+spared opening plan.Summary inputs places out report at e =
     at_first inputs.archives
     (λ archive _. of_first none (λ place _. summary_of archive place places.indexes) places.archives) out report at
     (λ archive _ e. at_first places.archives (λ place _. summary_of archive place places.indexes) out report at
     (λ place _ e. summing archive place places.indexes out report at e) e) e
-spared plan.Index inputs places out report at e =
+spared opening plan.Index inputs places out report at e =
     at_first inputs.archives (λ archive _. streams (index_of archive (draft_of out))) out report at
     (λ archive _ e. making e.stops.stopped at e.stops.tells) e
-spared plan.Delta inputs places out report at e =
+spared opening plan.Delta inputs places out report at e =
     at_first inputs.archives
     (λ archive _. of_first none (λ named _. streams (delta_as_it_comes archive named (out_of out).draft))
     inputs.summaries) out report at
     (λ archive _ e. at_first inputs.summaries
     (λ named _. streams (delta_as_it_comes archive named (out_of out).draft)) out report at
     (λ named _ e. in_turn archive (IsRefusedSummary named) (entries named) at e.stops.0.0) e) e
-spared plan.Rehearse inputs places out report at e =
+spared opening plan.Rehearse inputs places out report at e =
     at_first inputs.scripts (λ script _. answers (rehearse script)) out report at (λ script _ e. e.0.0.1) e
-spared asked inputs places out report at e = e
+spared opening asked inputs places out report at e = e

@@ -1,6 +1,6 @@
 -- A plan over inputs that are opened at their turn.
 use Rattle.std.specs.Prelude.{◌≡◌, List, OnOk, length, Result}
-use Rattle.cli_files.specs.InputStates.{AreAtTurn, Told}
+use Rattle.cli_files.specs.InputStates.{AreAtTurn, Told, opening_told}
 use Rattle.cli_arguments.specs.{Inputs.Inputs, Inputs.of_kind, Lines.Line, declared.commands.Kind.Kind}
 use Rattle.command_common.specs.declared.faults.{CommandFault.CommandFault, Status.Status}
 use Rattle.command_common.specs.Outputs.{Outs, Writer}
@@ -22,7 +22,8 @@ pub record Carried {S D T : Type 0} (told : Told S) (line : Line) (plan : Plan) 
   pub as_many : AreAsMany before behind
   pub at_turn : (kind : Kind) → AreAtTurn told (of_kind kind behind)
   pub ended : Result Status CommandFault
-  pub executes : Executes plan (readers_by told.left told.failures before behind)
+  pub executes : Executes (opening_told told) plan (readers_by told.left told.failures before behind)
       (readers_by told.whole told.failures before behind) out report ended
-  pub notes_are : OnOk ended (Notes plan (readers_by told.left told.failures before behind) notes noted)
+  pub notes_are : OnOk ended (Notes (opening_told told) plan
+      (readers_by told.left told.failures before behind) notes noted)
   pub tells : Tells told behind ended result

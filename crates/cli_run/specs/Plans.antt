@@ -12,7 +12,9 @@ use Rattle.command_common.specs.Outputs.{Outs, Publishes, Writer, draft_of, out_
 use Rattle.cli_files.specs.declared.replaceable.Replaces.{Replaces}
 use Rattle.cli_files.specs.declared.replaceable.Replaces.TheVariants.{ArchivesBelow, Summaries, Indexes, SameBytes}
 use Rattle.command_write.specs.{Admit.admit_as_it_comes, Apply.apply_as_it_comes, Delta.delta_as_it_comes}
-use Rattle.command_write.specs.{Summary.summary, Notes.NotesMissing, Notes.NotesRetired, Retire.retire_as_it_comes}
+use Rattle.command_write.specs.{Summary.summary, Notes.NotesMissing, Retire.retire_as_it_comes}
+use Rattle.command_write.specs.PassedOver.{EndsPassing, NotesAdmit, Passing, admit_passing_as_it_comes}
+use Rattle.byte_openings.specs.declared.openings.Opening.{Opening}
 use Rattle.command_write.specs.{MergeStreams.merge_as_it_comes, Migrate.migrate_as_it_comes, declared.notes.Note.Note}
 use Rattle.command_index_queries.specs.Summary.{summary_at}
 use Rattle.cli_run.specs.Queries.{NotesUnderscored, extract_of, find_of, frames_of, list_of, symbolicate_of}
@@ -30,11 +32,13 @@ replaces_of (plan.Extract _ _) = SameBytes
 replaces_of _ = ArchivesBelow
 
 -- what the command of a plan is, over inputs: it writes the empty archive, it writes OUT, it writes OUT while it reads,
--- it writes a slice, if there is one, or it reports; and it is none where inputs are wanting
+-- or so that it passes over what is refused, it writes a slice, if there is one, or it reports; and it is none where
+-- inputs are wanting
 pub data Deed : Type 1 where
   empties : Deed
   changes : Command → Deed
   streams : Streamed → Deed
+  passes : Passing → Deed
   extracts : Extraction → Deed
   answers : Query → Deed
   none : Deed
@@ -69,10 +73,10 @@ asked_of plan.List inputs places =
     of_first none (λ archive _. of_first none (λ place _. answers (list_of archive place places.indexes))
     places.archives) inputs.archives
 asked_of (plan.Name sought) inputs places = named_of inputs.archives sought.now
-asked_of (plan.Symbolicate key load lines addresses) inputs places =
-    answers (symbolicate_of inputs.archives places.archives places.indexes key load lines addresses.now)
-asked_of (plan.Frames lines) inputs places =
-    of_first none (λ crash _. answers (frames_of lines crash inputs.archives places.archives places.indexes))
+asked_of (plan.Symbolicate key load lines slices addresses) inputs places =
+    answers (symbolicate_of inputs.archives places.archives places.indexes key load lines slices addresses.now)
+asked_of (plan.Frames lines slices) inputs places =
+    of_first none (λ crash _. answers (frames_of lines slices crash inputs.archives places.archives places.indexes))
     inputs.frames
 asked_of plan.Rehearse inputs places = of_first none (λ script _. answers (rehearse script)) inputs.scripts
 asked_of _ _ _ = none
@@ -82,8 +86,8 @@ abbrev pub only_reports : Plan → Bool
 only_reports (plan.Find _) = true
 only_reports plan.List = true
 only_reports (plan.Name _) = true
-only_reports (plan.Symbolicate _ _ _ _) = true
-only_reports (plan.Frames _) = true
+only_reports (plan.Symbolicate _ _ _ _ _) = true
+only_reports (plan.Frames _ _) = true
 only_reports plan.Rehearse = true
 only_reports _ = false
 
@@ -103,30 +107,35 @@ summary_of archive place (named ∷ _) = changes (summary_at named place)
 abbrev pub merged_of : {S D T : Type 0} → List (Reader S) → Outs D T → Deed
 merged_of archives out = of_first none (λ archive others. streams (merge_as_it_comes archive others out)) archives
 
--- what any plan does, over the same inputs
-abbrev pub deed_of : {S D T : Type 0} → Plan → Inputs (Reader S) → Inputs (Reader S) → Outs D T → Deed
-deed_of plan.New inputs places out = empties
-deed_of plan.Admit inputs places out =
-    of_first none (λ archive _. streams (admit_as_it_comes archive inputs.files (out_of out).draft)) inputs.archives
-deed_of (plan.Retire key digest) inputs places out =
+-- what `admit` does, over an archive and files, with `--keep-going` or without it
+abbrev pub admitted_of : {S : Type 0} → Bool → (S → Opening) → Reader S → List (Reader S) → Writer → Deed
+admitted_of false opening archive files draft = streams (admit_as_it_comes archive files draft)
+admitted_of true opening archive files draft = passes (admit_passing_as_it_comes opening archive files draft)
+
+-- what any plan does, over the same inputs, each of which says what came of opening it
+abbrev pub deed_of : {S D T : Type 0} → (S → Opening) → Plan → Inputs (Reader S) → Inputs (Reader S) → Outs D T → Deed
+deed_of opening plan.New inputs places out = empties
+deed_of opening (plan.Admit keep_going) inputs places out =
+    of_first none (λ archive _. admitted_of keep_going opening archive inputs.files (out_of out).draft) inputs.archives
+deed_of opening (plan.Retire key digest) inputs places out =
     of_first none (λ archive _. streams (retire_as_it_comes archive key digest (out_of out).draft)) inputs.archives
-deed_of plan.Merge inputs places out = merged_of inputs.archives out
-deed_of plan.Migrate inputs places out =
+deed_of opening plan.Merge inputs places out = merged_of inputs.archives out
+deed_of opening plan.Migrate inputs places out =
     of_first none (λ archive _. streams (migrate_as_it_comes archive (out_of out).draft)) inputs.archives
-deed_of plan.Apply inputs places out =
+deed_of opening plan.Apply inputs places out =
     of_first none (λ archive _. of_first none (λ ops _. streams (apply_as_it_comes archive ops (out_of out).draft))
     inputs.ops) inputs.archives
-deed_of (plan.Extract key digest) inputs places out =
+deed_of opening (plan.Extract key digest) inputs places out =
     extracts (extract_of inputs.archives places.archives places.indexes key digest (out_of out).draft)
-deed_of plan.Summary inputs places out =
+deed_of opening plan.Summary inputs places out =
     of_first none (λ archive _. of_first none (λ place _. summary_of archive place places.indexes) places.archives)
     inputs.archives
-deed_of plan.Index inputs places out =
+deed_of opening plan.Index inputs places out =
     of_first none (λ archive _. streams (index archive (draft_of out))) inputs.archives
-deed_of plan.Delta inputs places out =
+deed_of opening plan.Delta inputs places out =
     of_first none (λ archive _. of_first none (λ named _. streams (delta_as_it_comes archive named
     (out_of out).draft)) inputs.summaries) inputs.archives
-deed_of asked inputs places out = asked_of asked inputs places
+deed_of opening asked inputs places out = asked_of asked inputs places
 
 -- What is asked is answered so, and nothing else is.
 abbrev pub EndsAsked : Deed → Writer → Result Status CommandFault → Type 0
@@ -148,15 +157,17 @@ EndsDeed empties out report result =
     Publishes (out_of out) report (written set.empty) (report_of set.empty []) result
 EndsDeed (changes command) out report result = Ends command (out_of out) report result
 EndsDeed (streams command) out report result = EndsStreamed command (out_of out) report result
+EndsDeed (passes command) out report result = EndsPassing command (out_of out) report result
 EndsDeed (extracts command) out report result = Extracts command out report result
 EndsDeed (answers query) out report result = EndsQuery query out report result
 EndsDeed none out report result = ⊥
 
--- How the command of a plan ends over its inputs, as they are read from their start, and as they are read from any
--- place.
-abbrev pub Executes : {S D T : Type 0} → Plan → Inputs (Reader S) → Inputs (Reader S) → Outs D T → Writer
-    → Result Status CommandFault → Type 0
-Executes asked inputs places out report result = EndsDeed (deed_of asked inputs places out) out report result
+-- How the command of a plan ends over its inputs, each of which says what came of opening it, as they are read from
+-- their start, and as they are read from any place.
+abbrev pub Executes : {S D T : Type 0} → (S → Opening) → Plan → Inputs (Reader S) → Inputs (Reader S) → Outs D T
+    → Writer → Result Status CommandFault → Type 0
+Executes opening asked inputs places out report result =
+    EndsDeed (deed_of opening asked inputs places out) out report result
 
 -- What `name` notes of an archive and the further ones.
 abbrev pub NotesNamed : {S : Type 0} → List (Reader S) → List ℕ → List Note → List Note → Type 0
@@ -164,10 +175,10 @@ NotesNamed archives sought old new =
     of_first (new ≡ old) (λ archive others. NotesUnderscored archive others sought old new) archives
 
 -- What the command of a plan that ended well notes over these inputs: `admit`, `retire` and `name` alone note something.
-abbrev pub Notes : {S : Type 0} → Plan → Inputs (Reader S) → List Note → List Note → Type 0
-Notes plan.Admit inputs old new =
-    of_first (new ≡ old) (λ archive _. NotesRetired archive inputs.files old new) inputs.archives
-Notes (plan.Retire key digest) inputs old new =
+abbrev pub Notes : {S : Type 0} → (S → Opening) → Plan → Inputs (Reader S) → List Note → List Note → Type 0
+Notes opening (plan.Admit keep_going) inputs old new =
+    of_first (new ≡ old) (λ archive _. NotesAdmit keep_going opening archive inputs.files old new) inputs.archives
+Notes opening (plan.Retire key digest) inputs old new =
     of_first (new ≡ old) (λ archive _. NotesMissing archive key digest old new) inputs.archives
-Notes (plan.Name sought) inputs old new = NotesNamed inputs.archives sought.now old new
-Notes _ inputs old new = new ≡ old
+Notes opening (plan.Name sought) inputs old new = NotesNamed inputs.archives sought.now old new
+Notes opening _ inputs old new = new ≡ old

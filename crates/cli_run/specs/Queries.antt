@@ -56,18 +56,19 @@ list_of archive place (index ∷ _) = list_at index place
 
 -- `symbolicate`, over archives and indexes as those of `find`
 abbrev pub symbolicate_of : {S : Type 0} → List (Reader S) → List (Reader S) → List (Reader S) → SliceKey → Option ℕ
-    → Bool → List ℕ → Query
-symbolicate_of (archive ∷ others) places [] key load lines addresses =
-    symbolicate archive others key load lines addresses
-symbolicate_of archives places indexes key load lines addresses =
+    → Bool → Bool → List ℕ → Query
+symbolicate_of (archive ∷ others) places [] key load lines slices addresses =
+    symbolicate archive others key load lines slices addresses
+symbolicate_of archives places indexes key load lines slices addresses =
     if_paired (index_for_each_archive (length archives) (length indexes))
-    (symbolicate_at indexes places key load lines addresses)
+    (symbolicate_at indexes places key load lines slices addresses)
 
 -- `frames`, over FRAMES, and such archives and indexes
-abbrev pub frames_of : {S : Type 0} → Bool → Reader S → List (Reader S) → List (Reader S) → List (Reader S) → Query
-frames_of lines crash (archive ∷ others) places [] = frames lines crash archive others
-frames_of lines crash archives places indexes =
-    if_paired (index_for_each_archive (length archives) (length indexes)) (frames_at lines crash indexes places)
+abbrev pub frames_of : {S : Type 0} → Bool → Bool → Reader S → List (Reader S) → List (Reader S) → List (Reader S)
+    → Query
+frames_of lines slices crash (archive ∷ others) places [] = frames lines slices crash archive others
+frames_of lines slices crash archives places indexes =
+    if_paired (index_for_each_archive (length archives) (length indexes)) (frames_at lines slices crash indexes places)
 
 -- the same of a command that writes a slice
 abbrev pub extraction_if_paired : Result (Unit {0}) CommandFault → Writer → Extraction → Extraction

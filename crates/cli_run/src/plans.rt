@@ -11,6 +11,7 @@ use crate::queries::answer;
 use crate::updates::{extract, merge, write};
 use archive_core::Archive;
 use byte_device::{Output, Placed, Sink, Source, Target};
+use byte_openings::Opens;
 use cli_arguments::{Inputs, Plan};
 use cli_files::Replaces;
 use command_common::{CommandFault, Status};
@@ -32,7 +33,13 @@ pub fn replaces(plan: &Plan) -> Replaces
 
 /// Carries out a plan over its inputs. An archive of the type `L` is asked for addresses, and one of `A` for all else.
 /// What the command notes is added to `notes`.
-pub fn execute<A: Archive + Drop, L: Archive + Drop, S: Source + Placed, T: Target, P: Sink>(
+pub fn execute<
+    A: Archive + Drop,
+    L: Archive + Drop,
+    S: Source + Placed + Opens,
+    T: Target,
+    P: Sink,
+>(
     heap: Heap,
     plan: &Plan,
     inputs: &mut Inputs<S>,
@@ -42,12 +49,12 @@ pub fn execute<A: Archive + Drop, L: Archive + Drop, S: Source + Placed, T: Targ
 ) -> Result<Status, CommandFault>
     requires { HasInputs plan.now (inputs_view inputs.old) }
     ensures as_many { AreAsMany (inputs_view inputs.old) (inputs_view inputs.new) }
-    ensures ends { Executes plan.now
+    ensures ends { Executes S.opening_of plan.now
         (readers_by ⟦<S as Source>⟧.left ⟦<S as Source>⟧.failures (inputs_view inputs.old) (inputs_view inputs.new))
         (readers_by ⟦<S as Placed>⟧.whole ⟦<S as Placed>⟧.failures (inputs_view inputs.old) (inputs_view inputs.new))
         (outs T.Draft.held T.Draft.failures T.published T.failures out.old out.new)
         (writer P.held P.failures report.old report.new) result }
-    ensures noted { OnOk result (Notes plan.now
+    ensures noted { OnOk result (Notes S.opening_of plan.now
         (readers_by ⟦<S as Source>⟧.left ⟦<S as Source>⟧.failures (inputs_view inputs.old) (inputs_view inputs.new))
         notes.old.items notes.new.items) }
 {
@@ -69,7 +76,7 @@ pub fn execute<A: Archive + Drop, L: Archive + Drop, S: Source + Placed, T: Targ
         | Plan::Symbolicate { .. }
         | Plan::Frames { .. }
         | Plan::Rehearse => answer::<A, L, _, _>(heap, plan, inputs, notes, report),
-        Plan::Admit
+        Plan::Admit { .. }
         | Plan::Retire { .. }
         | Plan::Migrate
         | Plan::Apply

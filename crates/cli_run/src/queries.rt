@@ -16,6 +16,7 @@ ghost use Rattle.cli_run.specs.Queries.{IsAlone, find_of, frames_of, list_of, sy
 use archive_core::{Archive, SliceKey};
 use archive_exchange::run_rehearse;
 use byte_device::{Placed, Sink, Source};
+use byte_openings::Opens;
 use cli_arguments::{Inputs, Plan};
 use command_common::{CommandFault, InputName, Status, Why, publish_report};
 use command_index_frames::{run_frames_at, run_symbolicate_at};
@@ -162,6 +163,7 @@ fn symbolicate<A: Archive + Drop, S: Source + Placed, P: Sink>(
     key: &SliceKey,
     load: Option<u64>,
     lines: bool,
+    slices: bool,
     addresses: &[u64],
     report: &mut P,
 ) -> Result<Status, CommandFault>
@@ -169,31 +171,34 @@ fn symbolicate<A: Archive + Drop, S: Source + Placed, P: Sink>(
     ensures { EndsReport (symbolicate_of
         (readers ⟦<S as Source>⟧.left ⟦<S as Source>⟧.failures archives.old archives.new)
         (readers ⟦<S as Placed>⟧.whole ⟦<S as Placed>⟧.failures archives.old archives.new)
-        (readers ⟦<S as Placed>⟧.whole ⟦<S as Placed>⟧.failures indexes.old indexes.new) key.now load lines
+        (readers ⟦<S as Placed>⟧.whole ⟦<S as Placed>⟧.failures indexes.old indexes.new) key.now load lines slices
         addresses.now)
         (writer P.held P.failures report.old report.new) result }
 {
     if indexes.is_empty() {
         let (archive, others) = first_and_rest(archives);
         return run_symbolicate::<A, _, _>(
-            heap, archive, others, key, load, lines, addresses, report,
+            heap, archive, others, key, load, lines, slices, addresses, report,
         );
     }
     test_pairs(archives.len(), indexes.len())?;
-    run_symbolicate_at::<A, _, _, _>(heap, indexes, archives, key, load, lines, addresses, report)
+    run_symbolicate_at::<A, _, _, _>(
+        heap, indexes, archives, key, load, lines, slices, addresses, report,
+    )
 }
 
 /// `frames` over archives, which are read by these indexes, if there are some.
 fn frames<A: Archive + Drop, S: Source + Placed, P: Sink>(
     heap: Heap,
     lines: bool,
+    slices: bool,
     crash: &mut S,
     archives: &mut [S],
     indexes: &mut [S],
     report: &mut P,
 ) -> Result<Status, CommandFault>
     requires { 0 < length archives.old }
-    ensures { EndsReport (frames_of lines
+    ensures { EndsReport (frames_of lines slices
         (reader ⟦<S as Source>⟧.left ⟦<S as Source>⟧.failures crash.old crash.new)
         (readers ⟦<S as Source>⟧.left ⟦<S as Source>⟧.failures archives.old archives.new)
         (readers ⟦<S as Placed>⟧.whole ⟦<S as Placed>⟧.failures archives.old archives.new)
@@ -202,15 +207,15 @@ fn frames<A: Archive + Drop, S: Source + Placed, P: Sink>(
 {
     if indexes.is_empty() {
         let (archive, others) = first_and_rest(archives);
-        return run_frames::<A, _, _>(heap, lines, crash, archive, others, report);
+        return run_frames::<A, _, _>(heap, lines, slices, crash, archive, others, report);
     }
     test_pairs(archives.len(), indexes.len())?;
-    run_frames_at::<A, _, _, _, _>(heap, lines, crash, indexes, archives, report)
+    run_frames_at::<A, _, _, _, _>(heap, lines, slices, crash, indexes, archives, report)
 }
 
 /// Carries out a plan that writes no OUT over its inputs. An archive of the type `L` is asked for addresses, and one of
 /// `A` for all else. What the command notes is added to `notes`.
-pub fn answer<A: Archive + Drop, L: Archive + Drop, S: Source + Placed, P: Sink>(
+pub fn answer<A: Archive + Drop, L: Archive + Drop, S: Source + Placed + Opens, P: Sink>(
     heap: Heap,
     plan: &Plan,
     inputs: &mut Inputs<S>,
@@ -224,7 +229,7 @@ pub fn answer<A: Archive + Drop, L: Archive + Drop, S: Source + Placed, P: Sink>
         (readers_by ⟦<S as Source>⟧.left ⟦<S as Source>⟧.failures (inputs_view inputs.old) (inputs_view inputs.new))
         (readers_by ⟦<S as Placed>⟧.whole ⟦<S as Placed>⟧.failures (inputs_view inputs.old) (inputs_view inputs.new))
         (writer P.held P.failures report.old report.new) result }
-    ensures noted { OnOk result (Notes plan.now
+    ensures noted { OnOk result (Notes S.opening_of plan.now
         (readers_by ⟦<S as Source>⟧.left ⟦<S as Source>⟧.failures (inputs_view inputs.old) (inputs_view inputs.new))
         notes.old.items notes.new.items) }
 {
@@ -246,12 +251,15 @@ pub fn answer<A: Archive + Drop, L: Archive + Drop, S: Source + Placed, P: Sink>
             key,
             load,
             lines,
+            slices,
             addresses,
         } => symbolicate::<L, _, _>(
-            heap, archives, indexes, key, *load, *lines, addresses, report,
+            heap, archives, indexes, key, *load, *lines, *slices, addresses, report,
         ),
-        Plan::Frames { lines } => match crashes.as_mut_slice() {
-            [crash, ..] => frames::<L, _, _>(heap, *lines, crash, archives, indexes, report),
+        Plan::Frames { lines, slices } => match crashes.as_mut_slice() {
+            [crash, ..] => frames::<L, _, _>(
+                heap, *lines, *slices, crash, archives, indexes, report,
+            ),
             [] => unreachable!(),
         },
         Plan::Rehearse => match scripts.as_mut_slice() {

@@ -13,6 +13,7 @@ ghost use Rattle.command_extract.specs.Extract.{Extracts};
 use crate::queries::{first_and_rest, test_pairs};
 use archive_core::{Archive, Digest, SliceKey};
 use byte_device::{Output, Placed, Sink, Source, Target};
+use byte_openings::Opens;
 use cli_arguments::{Inputs, Plan};
 use command_common::{CommandFault, Status};
 use command_extract::{run_extract, run_extract_at};
@@ -66,7 +67,7 @@ pub fn merge<A: Archive + Drop, S: Source, T: Target, P: Sink>(
 }
 
 /// Carries out a plan that writes OUT from one archive. What the command notes is added to `notes`.
-pub fn write<S: Source + Placed, T: Target, P: Sink>(
+pub fn write<S: Source + Placed + Opens, T: Target, P: Sink>(
     heap: Heap,
     plan: &Plan,
     inputs: &mut Inputs<S>,
@@ -77,12 +78,12 @@ pub fn write<S: Source + Placed, T: Target, P: Sink>(
     requires writes { writes_archive plan.now ≡ true }
     requires inputs { HasInputs plan.now (inputs_view inputs.old) }
     ensures as_many { AreAsMany (inputs_view inputs.old) (inputs_view inputs.new) }
-    ensures ends { Executes plan.now
+    ensures ends { Executes S.opening_of plan.now
         (readers_by ⟦<S as Source>⟧.left ⟦<S as Source>⟧.failures (inputs_view inputs.old) (inputs_view inputs.new))
         (readers_by ⟦<S as Placed>⟧.whole ⟦<S as Placed>⟧.failures (inputs_view inputs.old) (inputs_view inputs.new))
         (outs T.Draft.held T.Draft.failures T.published T.failures out.old out.new)
         (writer P.held P.failures report.old report.new) result }
-    ensures noted { OnOk result (Notes plan.now
+    ensures noted { OnOk result (Notes S.opening_of plan.now
         (readers_by ⟦<S as Source>⟧.left ⟦<S as Source>⟧.failures (inputs_view inputs.old) (inputs_view inputs.new))
         notes.old.items notes.new.items) }
 {
@@ -98,7 +99,9 @@ pub fn write<S: Source + Placed, T: Target, P: Sink>(
         unreachable!();
     };
     match plan {
-        Plan::Admit => run_admit(heap, archive, files, notes, out, report),
+        Plan::Admit { keep_going } => {
+            run_admit(heap, *keep_going, archive, files, notes, out, report)
+        }
         Plan::Retire { key, digest } => {
             run_retire(heap, archive, *key, *digest, notes, out, report)
         }

@@ -6,8 +6,10 @@ use Rattle.std.proofs.lemmas.List.Elements.{All-weaker}
 use Rattle.std.proofs.lemmas.Slice.Zip.{AllZip-long}
 use Rattle.archive_core.specs.Content.{HaveSameMembers, Operations}
 use Rattle.archive_core.specs.Key.{key_bytes}
+use Rattle.archive_core.specs.declared.find.FindRow.{FindRow}
 use Rattle.archive_core.specs.declared.keys.SliceKey.{SliceKey}
-use Rattle.command_queries.specs.Frames.{TellsFrames}
+use Rattle.command_queries.specs.Frames.{TellsFrames, frame_keys}
+use Rattle.command_queries.specs.Slices.{WithSlices}
 use Rattle.command_queries.specs.Symbolicate.{Answered, TellsAddresses}
 use Rattle.text_inputs.specs.declared.frame.Frame.{Frame}
 use Rattle.command_common.specs.Inputs.{AreRead, Reader, readers, EachUnfailed, IsRefusal}
@@ -28,7 +30,9 @@ use Rattle.command_index_queries.proofs.Groups.{later_readers, read_earlier, unf
 use Rattle.command_index_frames.specs.Asking.{AreGiven, AreRefusedAsking, AreTiedUnder, AreUntold, IsAnsweredByTables, IsChanged, IsLineless, IsUntoldUnder, IsUnreadTable, TellTables}
 use Rattle.command_index_frames.specs.Frames.{AreToldAt, IsFrameByTables, TellTablesOfFrames, keys_of}
 use Rattle.command_index_frames.specs.InnerAsking.{AreHeldUnder, AreRefusedUnder, IsUntoldBy, NoneFailed, command_fault}
+use Rattle.command_index_frames.specs.Slices.{IsAnsweringEntryRow}
 use Rattle.command_index_frames.specs.Symbolicate.{symbolicate_at}
+use Rattle.command_index_frames.proofs.Followed.{with_weaker}
 use Rattle.command_index_frames.proofs.States.{all_kept, fails_alone, none_failed_of, read_before, texts_of}
 
 -- after the indexes were read
@@ -185,28 +189,38 @@ module _ {I P : Type 0} (left : I → Option (List ℕ)) (failures : I → ℕ) 
         → IsRefusal (λ at why. (keys : List (List ℕ)) × AreKeys keys × AreRefusedAsking lines keys named known at why) (AreUnfailedTogether named known) fault
     frames_refused fault r = asked_refused (keys_of listed) AreKeys (λ b. (λ there. there, λ there. there)) still_tied fault r
 
-    pub frames_told : (status : Status) (text : List ℕ)
-        → AreRead (TellTablesOfFrames (HaveTexts left mid) all lines listed status text ⊎
-        (AreTiedUnder (keys_of listed) all × AreHeldUnder AreKeys all later (λ content. TellsFrames lines content listed status text)))
+    -- what tables tell, of the bytes that the indexes are given with
+    frames_given : (status : Status) (text : List ℕ) → TellTablesOfFrames (HaveTexts left mid) all lines listed status text → TellTablesOfFrames (AreGiven named) all lines listed status text
+    frames_given status text by = record {
+      rows = by.rows;
+      answered = zip_as (IsFrameByTables (HaveTexts left mid) all lines) (IsFrameByTables (AreGiven named) all lines) listed by.rows
+          (λ frame row a. (a.0, row_given frame.key frame.load row a.1)) by.answered;
+      status_is = by.status_is;
+      text_is = by.text_is;
+    }
+
+    abbrev OwnRow : FindRow → Type 0
+    OwnRow = IsAnsweringEntryRow all (frame_keys listed)
+
+    pub frames_told : (slices : Bool) (status : Status) (text : List ℕ)
+        → AreRead (WithSlices slices (TellTablesOfFrames (HaveTexts left mid) all lines listed) OwnRow (frame_keys listed) status text ⊎
+        (AreTiedUnder (keys_of listed) all × AreHeldUnder AreKeys all later (λ content. WithSlices slices (TellsFrames lines content listed) OwnRow (frame_keys listed) status text)))
         (NoneFailed failures mid new × EachUnfailed later)
-        → AreRead (AreToldAt lines named known listed status text) (AreUnfailedTogether named known)
-    frames_told status text told = record {
+        → AreRead (AreToldAt lines slices named known listed status text) (AreUnfailedTogether named known)
+    frames_told slices status text told = record {
       is = elim told.is [
         | inl by ↦ inl (record {
           all = all;
           read = read_all;
-          tells = record {
-            rows = by.rows;
-            answered = zip_as (IsFrameByTables (HaveTexts left mid) all lines) (IsFrameByTables (AreGiven named) all lines) listed by.rows
-                (λ frame row a. (a.0, row_given frame.key frame.load row a.1)) by.answered;
-            status_is = by.status_is;
-            text_is = by.text_is;
-          };
+          tells = with_weaker slices (TellTablesOfFrames (HaveTexts left mid) all lines listed) (TellTablesOfFrames (AreGiven named) all lines listed)
+              OwnRow (frame_keys listed) frames_given status text by;
         })
         | inr (tied, held) ↦ inr (record {
           keys = held.keys;
           are_keys = held.sought;
-          makes = made AreKeys (λ o s t. TellsFrames lines o listed s t) status text held;
+          all = all;
+          makes = made AreKeys (λ o. WithSlices slices (TellsFrames lines o listed) OwnRow (frame_keys listed)) status text held;
+          all_is = refl;
           tied = still_tied held.keys held.sought tied;
         })
       ];
@@ -228,34 +242,47 @@ module _ {I P : Type 0} (left : I → Option (List ℕ)) (failures : I → ℕ) 
         (λ at why refused. subst (λ (others : List (List ℕ)). AreRefusedAsking lines others named known at why) refused.1 refused.2) (λ u. u)
         (asked_refused keys (λ others. others ≡ keys) refl (λ others same tied. subst (λ (ks : List (List ℕ)). AreTiedUnder ks all) (sym same) tied) fault r)
 
-    pub key_told : (status : Status) (text : List ℕ)
-        → AreRead (TellTables (HaveTexts left mid) all key load lines addresses status text ⊎
-        (AreTiedUnder keys all × AreHeldUnder (λ others. others ≡ keys) all later (λ content. TellsAddresses content key load lines addresses status text)))
+    -- what tables tell, of the bytes that the indexes are given with
+    addresses_given : (status : Status) (text : List ℕ) → TellTables (HaveTexts left mid) all key load lines addresses status text → TellTables (AreGiven named) all key load lines addresses status text
+    addresses_given status text by = record {
+      rows = by.rows;
+      addresses_are = by.addresses_are;
+      answered = All-weaker (IsAnsweredByTables (HaveTexts left mid) all key load lines) (IsAnsweredByTables (AreGiven named) all key load lines)
+          (row_given key load) by.rows by.answered;
+      status_is = by.status_is;
+      text_is = by.text_is;
+    }
+
+    abbrev KeyRow : FindRow → Type 0
+    KeyRow = IsAnsweringEntryRow all (key ∷ [])
+
+    pub key_told : (slices : Bool) (status : Status) (text : List ℕ)
+        → AreRead (WithSlices slices (TellTables (HaveTexts left mid) all key load lines addresses) KeyRow (key ∷ []) status text ⊎
+        (AreTiedUnder keys all × AreHeldUnder (λ others. others ≡ keys) all later (λ content. WithSlices slices (TellsAddresses content key load lines addresses) KeyRow (key ∷ []) status text)))
         (NoneFailed failures mid new × EachUnfailed later)
-        → AreRead ((symbolicate_at named known key load lines addresses).Makes status text) (AreUnfailedTogether named known)
-    key_told status text told = record {
+        → AreRead ((symbolicate_at named known key load lines slices addresses).Makes status text) (AreUnfailedTogether named known)
+    key_told slices status text told = record {
       is = elim told.is [
         | inl by ↦ inl (record {
           all = all;
           read = read_all;
-          tells = record {
-            rows = by.rows;
-            addresses_are = by.addresses_are;
-            answered = All-weaker (IsAnsweredByTables (HaveTexts left mid) all key load lines) (IsAnsweredByTables (AreGiven named) all key load lines)
-                (row_given key load) by.rows by.answered;
-            status_is = by.status_is;
-            text_is = by.text_is;
-          };
+          tells = with_weaker slices (TellTables (HaveTexts left mid) all key load lines addresses) (TellTables (AreGiven named) all key load lines addresses)
+              KeyRow (key ∷ []) addresses_given status text by;
         })
         | inr (tied, held) ↦
-            let own : AreHeldUnder (λ others. others ≡ keys) all later (λ content. TellsAddresses content key load lines addresses status text) = record {
+            let own : AreHeldUnder (λ others. others ≡ keys) all later (λ content. WithSlices slices (TellsAddresses content key load lines addresses) KeyRow (key ∷ []) status text) = record {
               keys = keys;
               sought = refl;
               content = held.content;
               held = subst (λ (ks : List (List ℕ)). HoldNamed ks later all held.content) held.sought held.held;
               is_true = held.is_true;
             } in
-            inr (record { makes = made (λ others. others ≡ keys) (λ o s t. TellsAddresses o key load lines addresses s t) status text own; tied = tied })
+            inr (record {
+              all = all;
+              makes = made (λ others. others ≡ keys) (λ o. WithSlices slices (TellsAddresses o key load lines addresses) KeyRow (key ∷ [])) status text own;
+              all_is = refl;
+              tied = tied;
+            })
       ];
       unfailed = unfailed_all told.unfailed;
     }

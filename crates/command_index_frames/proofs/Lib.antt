@@ -1,4 +1,6 @@
 pub mod Runs
 pub mod Shown
 pub mod States
+pub mod SliceRows
+pub mod Followed
 pub mod Ended

@@ -1,4 +1,5 @@
 pub mod Asking
+pub mod Slices
 pub mod Symbolicate
 pub mod Frames
 pub mod InnerPlaces

@@ -1,8 +1,9 @@
-//! `frames FRAMES [--lines] ARCHIVE... --index INDEX`, over one archive or several.
+//! `frames FRAMES [--lines] [--slices] ARCHIVE... --index INDEX`, over one archive or several.
 ghost use Rattle.std.specs.Prelude.{◌≡◌, IfOk, MatchOption, length, map};
 ghost use Rattle.archive_core.specs.Content.{HaveSameMembers};
 ghost use Rattle.archive_core.specs.Key.{key_bytes};
-ghost use Rattle.command_queries.specs.Frames.{TellsFrames};
+ghost use Rattle.command_queries.specs.Frames.{TellsFrames, frame_keys};
+ghost use Rattle.command_queries.specs.Slices.{WithSlices};
 ghost use Rattle.command_common.specs.Ends.{EndsReport};
 ghost use Rattle.command_common.specs.Inputs.{reader, readers};
 ghost use Rattle.command_common.specs.Outputs.{writer};
@@ -11,8 +12,10 @@ ghost use Rattle.command_index_queries.specs.Prefixes.{prefix_bytes};
 ghost use Rattle.command_index_frames.specs.Asking.{AreTiedUnder};
 ghost use Rattle.command_index_frames.specs.Frames.{TellTablesOfFrames, frames_at, keys_of};
 ghost use Rattle.command_index_frames.specs.InnerAsking.{AsksEither, AsksSlices, AsksTables};
+ghost use Rattle.command_index_frames.specs.Slices.{AreFollowed, IsAnsweringEntryRow};
 
 use crate::places::asked_places;
+use crate::slices::with_slices;
 use crate::told::{answer_frames_by_tables, tell_keys};
 use archive_core::{Archive, SliceKey, compare_keys};
 use byte_device::{Placed, Sink, Source};
@@ -25,7 +28,7 @@ use text_inputs::Frame;
 
 /// The key of each frame.
 fn each_key(heap: Heap, frames: &[Frame]) -> Result<Vec<SliceKey, Heap>, NoMemory>
-    ensures { IfOk result (λ keys. keys.items ≡ map (λ frame. frame.key) frames.now) }
+    ensures { IfOk result (λ keys. keys.items ≡ frame_keys frames.now) }
 {
     frames.iter().map(|frame| frame.key).collect(heap)
 }
@@ -115,10 +118,51 @@ fn tell_frames<A: Archive + Drop, I: Placed, P: Placed>(
     }
 }
 
+/// Answers to frames, and after them the lines of the slices that answer under their keys, if they are wanted.
+fn frames_with_slices(
+    heap: &Heap,
+    slices: bool,
+    frames: &[Frame],
+    read: &[Index],
+    answers: Vec<u8, Heap>,
+) -> Result<Vec<u8, Heap>, NoMemory>
+    ensures { IfOk result (λ text. AreFollowed slices read.now (frame_keys frames.now) answers.items text.items) }
+{
+    let keys = each_key(heap.share(), frames)?;
+    with_slices(heap, slices, &keys, read, answers)
+}
+
+/// The same as `tell_frames`, and after it the lines of the slices, if they are wanted.
+fn tell_frames_and_slices<A: Archive + Drop, I: Placed, P: Placed>(
+    heap: &Heap,
+    lines: bool,
+    slices: bool,
+    frames: &[Frame],
+    read: &[Index],
+    indexes: &mut [I],
+    archives: &mut [P],
+) -> Result<(Status, Vec<u8, Heap>), CommandFault>
+    requires same { length read.now ≡ length indexes.old }
+    requires many { length read.now ≡ length archives.old }
+    ensures { let IsRow = IsAnsweringEntryRow read.now (frame_keys frames.now) in
+        AsksEither lines (λ keys. HaveSameMembers keys (keys_of frames.now)) I.whole I.failures
+        (keys_of frames.now) read.now indexes.old indexes.new
+        (readers P.whole P.failures archives.old archives.new) result
+        (λ told. WithSlices slices (TellTablesOfFrames (HaveTexts I.whole indexes.old) read.now lines frames.now)
+        IsRow (frame_keys frames.now) told.0 told.1.items)
+        (λ content told. WithSlices slices (TellsFrames lines content frames.now) IsRow (frame_keys frames.now)
+        told.0 told.1.items) }
+{
+    let (status, answers) = tell_frames::<A, I, P>(heap, lines, frames, read, indexes, archives)?;
+    let text = frames_with_slices(heap, slices, frames, read, answers)?;
+    Ok((status, text))
+}
+
 /// Writes for each frame of FRAMES what `run_symbolicate_at` writes for its address to the report, in the order of the
 /// lines. FRAMES is read to its end first, and then the indexes, which are compared with the lengths of their archives.
 /// The tables under one key are open at a time. If slices are read, then all under the keys of the frames, for as
-/// `run_symbolicate_at` says.
+/// `run_symbolicate_at` says. If `slices`, the lines of the slices that answer under the UUIDs of the frames are after
+/// that, and of the keys under which none does: they are made from the entries of the indexes.
 ///
 /// The status is `Done` where each answer is one symbol, and else `Partial`.
 ///
@@ -129,18 +173,21 @@ fn tell_frames<A: Archive + Drop, I: Placed, P: Placed>(
 pub fn run_frames_at<A: Archive + Drop, C: Source, I: Placed, P: Placed, W: Sink>(
     heap: Heap,
     lines: bool,
+    slices: bool,
     crash: &mut C,
     indexes: &mut [I],
     archives: &mut [P],
     report: &mut W,
 ) -> Result<Status, CommandFault>
     requires { length indexes.old ≡ length archives.old }
-    ensures { EndsReport (frames_at lines (reader C.left C.failures crash.old crash.new)
+    ensures { EndsReport (frames_at lines slices (reader C.left C.failures crash.old crash.new)
         (readers I.whole I.failures indexes.old indexes.new) (readers P.whole P.failures archives.old archives.new))
         (writer W.held W.failures report.old report.new) result }
 {
     let frames = read_crash(heap.share(), crash)?;
     let read = read_indexes(&heap, indexes, archives)?;
-    let (status, text) = tell_frames::<A, I, P>(&heap, lines, &frames, &read, indexes, archives)?;
+    let (status, text) = tell_frames_and_slices::<A, I, P>(
+        &heap, lines, slices, &frames, &read, indexes, archives,
+    )?;
     publish_bytes(status, &text, report)
 }

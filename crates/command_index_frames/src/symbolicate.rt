@@ -1,6 +1,7 @@
-//! `symbolicate ARCHIVE UUID ARCH [--load HEX] [--lines] ADDRESS... --index INDEX`, over one archive or several.
+//! `symbolicate ARCHIVE UUID ARCH [--load HEX] [--lines] [--slices] ADDRESS... --index INDEX`, over one archive or several.
 ghost use Rattle.std.specs.Prelude.{◌≡◌, ◌∷◌, [], IfOk, MatchOption, length, string_bytes};
 ghost use Rattle.archive_core.specs.Key.{key_bytes};
+ghost use Rattle.command_queries.specs.Slices.{WithSlices};
 ghost use Rattle.command_queries.specs.Symbolicate.{TellsAddresses};
 ghost use Rattle.command_common.specs.Ends.{EndsReport};
 ghost use Rattle.command_common.specs.Inputs.{readers};
@@ -9,12 +10,14 @@ ghost use Rattle.index_lookup.specs.AmongAsked.{HaveTexts};
 ghost use Rattle.command_index_frames.specs.Asking.{AreTiedUnder, TellTables};
 ghost use Rattle.command_index_frames.specs.InnerAsking.{AsksEither, AsksSlices, AsksTables};
 ghost use Rattle.command_index_frames.specs.InnerTold.{ShowsAddresses};
+ghost use Rattle.command_index_frames.specs.Slices.{IsAnsweringEntryRow};
 ghost use Rattle.command_index_frames.specs.Symbolicate.{symbolicate_at};
 
+use crate::slices::with_slices;
 use crate::tables::{push_told, tell_key};
 use archive_core::{Archive, SliceKey};
 use byte_device::{Placed, Sink};
-use command_common::{CommandFault, Status, publish_report};
+use command_common::{CommandFault, Status, publish_bytes};
 use command_index_queries::{KeyPrefix, read_indexes, read_prefixes};
 use command_queries::{answer_each, places_of, status_after};
 use index_format::Index;
@@ -112,10 +115,41 @@ fn tell_addresses<A: Archive + Drop, I: Placed, P: Placed>(
     }
 }
 
+/// The same as `tell_addresses`, and after it the lines of the slices that answer under the key, if they are wanted.
+fn tell_addresses_and_slices<A: Archive + Drop, I: Placed, P: Placed>(
+    heap: &Heap,
+    read: &[Index],
+    indexes: &mut [I],
+    archives: &mut [P],
+    key: &SliceKey,
+    load: Option<u64>,
+    lines: bool,
+    slices: bool,
+    addresses: &[u64],
+) -> Result<(Status, Vec<u8, Heap>), CommandFault>
+    requires same { length read.now ≡ length indexes.old }
+    requires many { length read.now ≡ length archives.old }
+    ensures { let IsRow = IsAnsweringEntryRow read.now (key.now ∷ []) in
+        AsksEither lines (λ keys. keys ≡ key_bytes key.now ∷ []) I.whole I.failures (key_bytes key.now ∷ [])
+        read.now indexes.old indexes.new (readers P.whole P.failures archives.old archives.new) result
+        (λ told. WithSlices slices (TellTables (HaveTexts I.whole indexes.old) read.now key.now load lines
+        addresses.now) IsRow (key.now ∷ []) told.0 told.1.items)
+        (λ content told. WithSlices slices (TellsAddresses content key.now load lines addresses.now) IsRow
+        (key.now ∷ []) told.0 told.1.items) }
+{
+    let (status, answers) = tell_addresses::<A, I, P>(
+        heap, read, indexes, archives, key, load, lines, addresses,
+    )?;
+    let text = with_slices(heap, slices, &[*key], read, answers.into_bytes())?;
+    Ok((status, text))
+}
+
 /// Writes what the join of the archives answers for each address to the report, as `run_symbolicate` of
 /// `command_queries` does. The indexes are read, and compared with the lengths of their archives; then their tables
 /// answer, page by page, and if `lines` tell the source frames. The slices that the indexes name under the key are read
-/// at their places, tested and hashed, if two slices of one length answer in two archives.
+/// at their places, tested and hashed, if two slices of one length answer in two archives. If `slices`, the lines of the
+/// slices that answer under the UUID are after that, made from the entries of the indexes, or that none does under the
+/// key.
 ///
 /// The status is `Done` where each answer is one symbol, and else `Partial`.
 ///
@@ -129,17 +163,18 @@ pub fn run_symbolicate_at<A: Archive + Drop, I: Placed, P: Placed, W: Sink>(
     key: &SliceKey,
     load: Option<u64>,
     lines: bool,
+    slices: bool,
     addresses: &[u64],
     report: &mut W,
 ) -> Result<Status, CommandFault>
     requires { length indexes.old ≡ length archives.old }
     ensures { EndsReport (symbolicate_at (readers I.whole I.failures indexes.old indexes.new)
-        (readers P.whole P.failures archives.old archives.new) key.now load lines addresses.now)
+        (readers P.whole P.failures archives.old archives.new) key.now load lines slices addresses.now)
         (writer W.held W.failures report.old report.new) result }
 {
     let read = read_indexes(&heap, indexes, archives)?;
-    let (status, text) = tell_addresses::<A, I, P>(
-        &heap, &read, indexes, archives, key, load, lines, addresses,
+    let (status, text) = tell_addresses_and_slices::<A, I, P>(
+        &heap, &read, indexes, archives, key, load, lines, slices, addresses,
     )?;
-    publish_report(status, &text, report)
+    publish_bytes(status, &text, report)
 }

@@ -3,3 +3,5 @@ pub mod NamesTogether
 pub mod Sourced
 pub mod Answered
 pub mod Framed
+pub mod RowsAnswering
+pub mod SlicesTold

@@ -1,7 +1,8 @@
 -- What `frames` tells of the frames of a crash.
-use Rattle.std.specs.Prelude.{◌≡◌, ℕ, List, [], ◌∷◌, Bool, true, false, Ok, ◌⊎◌, if◌then◌else◌}
+use Rattle.std.specs.Prelude.{◌≡◌, ℕ, List, [], ◌∷◌, Bool, true, false, Ok, ◌⊎◌, if◌then◌else◌, map}
 use Rattle.std.specs.List.{AllZip, flat_map, list_all}
 use Rattle.archive_core.specs.Content.{Operations}
+use Rattle.archive_core.specs.declared.keys.SliceKey.{SliceKey}
 use Rattle.text_inputs.specs.Frames.{frames_of}
 use Rattle.text_inputs.specs.declared.frame.Frame.{Frame}
 use Rattle.command_common.specs.declared.faults.InputName.{InputName}
@@ -11,6 +12,7 @@ use Rattle.command_common.specs.declared.faults.Why.{Why}
 use Rattle.command_common.specs.Archives.{AreRefused, AreUnfailed, HoldTogether}
 use Rattle.command_common.specs.Ends.{Query}
 use Rattle.command_common.specs.Inputs.{Reader, Gives, Unfailed, IsUntouched, EachUntouched, IsFrames, IsRefusedFrames}
+use Rattle.command_queries.specs.Slices.{IsAnsweringRow, WithSlices}
 use Rattle.command_queries.specs.Symbolicate.{Answered, IsAnswered, answers_status, answers_text}
 use Rattle.command_queries.specs.Symbolicate.{MakesAnswered}
 
@@ -27,13 +29,23 @@ pub record TellsFrames (lines : Bool) (content : Operations) (frames : List Fram
   pub status_is : status ≡ answers_status rows
   pub text_is : text ≡ answers_text rows
 
+-- the key of each frame
+abbrev pub frame_keys : List Frame → List SliceKey
+frame_keys frames = map (λ frame. frame.key) frames
+
+-- what a content tells of frames, and if they are wanted the lines of the slices that answer
+abbrev pub TellsFramesWith : Bool → Bool → Operations → List Frame → Status → List ℕ → Type 0
+TellsFramesWith lines slices content frames status text =
+    WithSlices slices (TellsFrames lines content frames) (IsAnsweringRow content (frame_keys frames)) (frame_keys frames)
+    status text
+
 -- FRAMES says these frames, ARCHIVE and the others are the texts of contents, and the join of these tells this of the
 -- frames.
-pub record MakesFramed {R S T : Type 0} (lines : Bool) (frames : Reader R) (archive : Reader S)
+pub record MakesFramed {R S T : Type 0} (lines slices : Bool) (frames : Reader R) (archive : Reader S)
     (others : List (Reader T)) (status : Status) (text : List ℕ) : Type 0 where
   pub listed : List Frame
   pub frames_are : Gives frames (λ bytes. frames_of bytes ≡ Ok listed)
-  pub tells : HoldTogether archive others (λ o. TellsFrames lines o listed status text)
+  pub tells : HoldTogether archive others (λ o. TellsFramesWith lines slices o listed status text)
 
 -- FRAMES is refused, and no archive is touched; or FRAMES says frames, its reader does not fail, and an archive is
 -- refused
@@ -43,9 +55,9 @@ RefusesFrames frames archive others at why =
     ⊎ (IsFrames frames × Unfailed frames × AreRefused archive others at why)
 
 -- `frames`, over these inputs
-abbrev pub frames : {R S T : Type 0} → Bool → Reader R → Reader S → List (Reader T) → Query
-frames lines input archive others = record {
-  Makes = MakesFramed lines input archive others;
+abbrev pub frames : {R S T : Type 0} → Bool → Bool → Reader R → Reader S → List (Reader T) → Query
+frames lines slices input archive others = record {
+  Makes = MakesFramed lines slices input archive others;
   Refuses = RefusesFrames input archive others;
   Unfailed = Unfailed input × AreUnfailed archive others;
 }
@@ -58,7 +70,7 @@ pub record Told : Type 0 where
 -- `symbolicate` tells this over the archives, asked for the frame's address alone
 abbrev pub IsToldAlone : {S T : Type 0} → Bool → Reader S → List (Reader T) → Frame → Told → Type 0
 IsToldAlone lines archive others frame told =
-    MakesAnswered archive others frame.key frame.load lines (frame.address ∷ []) told.status told.text
+    MakesAnswered archive others frame.key frame.load lines false (frame.address ∷ []) told.status told.text
 
 -- everything asked for was found
 abbrev pub is_done : Status → Bool

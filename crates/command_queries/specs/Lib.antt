@@ -3,6 +3,8 @@ pub mod List
 pub mod Name
 pub mod InnerNames
 pub mod Sources
+pub mod Slices
+pub mod InnerSlices
 pub mod Symbolicate
 pub mod Frames
 pub mod InnerSources

@@ -1,5 +1,5 @@
 -- What `symbolicate` tells of archives.
-use Rattle.std.specs.Prelude.{◌≡◌, ℕ, List, Bool, true, false, Option, Some, None, map, if◌then◌else◌}
+use Rattle.std.specs.Prelude.{◌≡◌, ℕ, List, [], ◌∷◌, Bool, true, false, Option, Some, None, map, if◌then◌else◌}
 use Rattle.std.specs.List.{AllByRecursion, flat_map, list_all}
 use Rattle.archive_core.specs.Content.{Operations}
 use Rattle.archive_core.specs.Lookup.{answer_view}
@@ -15,6 +15,7 @@ use Rattle.command_common.specs.declared.faults.Status.TheVariants.{Done, Partia
 use Rattle.command_common.specs.Archives.{AreRefused, AreUnfailed, HoldTogether}
 use Rattle.command_common.specs.Ends.{Query}
 use Rattle.command_common.specs.Inputs.{Reader}
+use Rattle.command_queries.specs.Slices.{IsAnsweringRow, WithSlices}
 use Rattle.command_queries.specs.Sources.{IsSourced}
 
 -- the place that an address of the words means: one of the image where it was loaded, if the words say where, and else
@@ -58,16 +59,23 @@ pub record TellsAddresses (content : Operations) (key : SliceKey) (load : Option
   pub status_is : status ≡ answers_status rows
   pub text_is : text ≡ answers_text rows
 
+-- what a content tells of addresses, and if they are wanted the lines of the slices that answer
+abbrev pub TellsAddressesWith : Operations → SliceKey → Option ℕ → Bool → Bool → List ℕ → Status → List ℕ → Type 0
+TellsAddressesWith content key load lines slices addresses status text =
+    WithSlices slices (TellsAddresses content key load lines addresses) (IsAnsweringRow content (key ∷ [])) (key ∷ [])
+    status text
+
 -- ARCHIVE and the others are the texts of contents, and the join of these tells this of the addresses.
-abbrev pub MakesAnswered : {R S : Type 0} → Reader R → List (Reader S) → SliceKey → Option ℕ → Bool → List ℕ → Status
-    → List ℕ → Type 0
-MakesAnswered archive others key load lines addresses status text =
-    HoldTogether archive others (λ o. TellsAddresses o key load lines addresses status text)
+abbrev pub MakesAnswered : {R S : Type 0} → Reader R → List (Reader S) → SliceKey → Option ℕ → Bool → Bool → List ℕ
+    → Status → List ℕ → Type 0
+MakesAnswered archive others key load lines slices addresses status text =
+    HoldTogether archive others (λ o. TellsAddressesWith o key load lines slices addresses status text)
 
 -- `symbolicate`, over these archives
-abbrev pub symbolicate : {R S : Type 0} → Reader R → List (Reader S) → SliceKey → Option ℕ → Bool → List ℕ → Query
-symbolicate archive others key load lines addresses = record {
-  Makes = MakesAnswered archive others key load lines addresses;
+abbrev pub symbolicate : {R S : Type 0} → Reader R → List (Reader S) → SliceKey → Option ℕ → Bool → Bool → List ℕ
+    → Query
+symbolicate archive others key load lines slices addresses = record {
+  Makes = MakesAnswered archive others key load lines slices addresses;
   Refuses = AreRefused archive others;
   Unfailed = AreUnfailed archive others;
 }

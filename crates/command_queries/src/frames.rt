@@ -1,19 +1,22 @@
-//! `frames FRAMES [--lines] ARCHIVE...`.
-ghost use Rattle.std.specs.Prelude.{IfOk};
+//! `frames FRAMES [--lines] [--slices] ARCHIVE...`.
+ghost use Rattle.std.specs.Prelude.{IfOk, true};
 ghost use Rattle.command_common.specs.Archives.{ReadsTogether};
 ghost use Rattle.command_common.specs.Ends.{EndsReport};
-ghost use Rattle.command_queries.specs.Frames.{TellsFrames, frames};
+ghost use Rattle.command_queries.specs.Frames.{TellsFrames, TellsFramesWith, frames};
+ghost use Rattle.command_queries.specs.InnerSlices.{TellsRowsAfter};
 ghost use Rattle.command_common.specs.Inputs.{reader, readers};
 ghost use Rattle.command_common.specs.Outputs.{writer};
 
 use crate::asked_frames::{AskedKeys, FrameQuestions, in_key_order};
-use archive_core::Archive;
+use crate::slices::{UnderUuids, keys_of, slices_under, uuids_of};
+use archive_core::{Archive, SliceKey};
 use byte_device::{Sink, Source};
 use command_common::{
-    CommandFault, Status, answer_all, answer_archives, publish_bytes, read_crash,
+    CommandFault, Status, answer_all, answer_archives, publish_bytes, read_crash, read_parts,
 };
 use memory::{Heap, NoMemory};
 use text_inputs::Frame;
+use uuid::Uuid;
 
 /// The lines of the answers to frames, in their order, with how a command ends that prints them. The frames are asked
 /// in the order of their keys; if `lines`, the DWARF of each slice is read once for all frames of its key.
@@ -59,11 +62,74 @@ fn tell_frames<A: Archive + Drop, R: Source>(
     Ok(text)
 }
 
+/// The lines of the answers of an archive to frames, and after them those of the slices that answer under UUIDs.
+fn tell_kept<A: Archive>(
+    heap: &Heap,
+    archive: &A,
+    uuids: &[Uuid],
+    keys: &[SliceKey],
+    frames: &[Frame],
+    lines: bool,
+) -> Result<(Status, Vec<u8, Heap>), NoMemory>
+    ensures { IfOk result (λ told. TellsRowsAfter (TellsFrames lines (A.content archive.now) frames.now)
+        (A.content archive.now) uuids.now keys.now told.0 told.1.items) }
+{
+    let (status, answers) = answer_frames(heap.share(), archive, frames, lines)?;
+    let slices = slices_under(heap.share(), archive, uuids, keys)?;
+    let mut text = answers;
+    text.extend_from_slice(slices.as_bytes())?;
+    Ok((status, text))
+}
+
+/// Reads the archives, and gives the lines of the answers of their join to the frames, and after them those of the
+/// slices that answer under the UUIDs of the frames, with how a command ends that prints them.
+fn tell_with_slices<A: Archive + Drop, R: Source>(
+    heap: &Heap,
+    lines: bool,
+    frames: &[Frame],
+    archive: &mut R,
+    others: &mut [R],
+) -> Result<(Status, Vec<u8, Heap>), CommandFault>
+    ensures { ReadsTogether (reader R.left R.failures archive.old archive.new)
+        (readers R.left R.failures others.old others.new) result
+        (λ told o. TellsFramesWith lines true o frames.now told.0 told.1.items) }
+{
+    let keys = keys_of(heap.share(), frames)?;
+    let uuids = uuids_of(heap.share(), &keys)?;
+    let kept: A = read_parts(heap.share(), &UnderUuids { uuids: &uuids }, archive, others)?;
+    let told = tell_kept(heap, &kept, &uuids, &keys, frames, lines)?;
+    Ok(told)
+}
+
+/// The lines of the answers to frames, and if `slices` those of the slices that answer, with how a command ends that
+/// prints them.
+fn tell_with<A: Archive + Drop, R: Source>(
+    heap: &Heap,
+    lines: bool,
+    slices: bool,
+    frames: &[Frame],
+    archive: &mut R,
+    others: &mut [R],
+) -> Result<(Status, Vec<u8, Heap>), CommandFault>
+    ensures { ReadsTogether (reader R.left R.failures archive.old archive.new)
+        (readers R.left R.failures others.old others.new) result
+        (λ told o. TellsFramesWith lines slices o frames.now told.0 told.1.items) }
+{
+    if slices {
+        tell_with_slices::<A, R>(heap, lines, frames, archive, others)
+    } else {
+        tell_frames::<A, R>(heap, lines, frames, archive, others)
+    }
+}
+
 /// Writes for each frame of FRAMES what `symbolicate` writes for its address to the report, in the order of the lines.
 /// FRAMES is read to its end first, and then the archives one after another, each in one pass. Of one archive the
 /// slices under one key are held at a time; of several all slices under the keys of the frames. Where FRAMES has no
 /// frame the archives are read and tested all the same. If `lines`, what each slice answers is followed by the source
 /// frames of the address in it.
+///
+/// If `slices`, the lines of the slices that answer under the UUIDs of the frames follow, and of the keys under which
+/// none does. Then all slices under these UUIDs are held, of one archive too.
 ///
 /// The status is `Done` where each answer is one symbol, and else `Partial`.
 ///
@@ -73,17 +139,18 @@ fn tell_frames<A: Archive + Drop, R: Source>(
 pub fn run_frames<A: Archive + Drop, R: Source, P: Sink>(
     heap: Heap,
     lines: bool,
+    slices: bool,
     crash: &mut R,
     archive: &mut R,
     others: &mut [R],
     report: &mut P,
 ) -> Result<Status, CommandFault>
     ensures { EndsReport
-        (frames lines (reader R.left R.failures crash.old crash.new)
+        (frames lines slices (reader R.left R.failures crash.old crash.new)
         (reader R.left R.failures archive.old archive.new) (readers R.left R.failures others.old others.new))
         (writer P.held P.failures report.old report.new) result }
 {
     let frames = read_crash(heap.share(), crash)?;
-    let (status, text) = tell_frames::<A, R>(&heap, lines, &frames, archive, others)?;
+    let (status, text) = tell_with::<A, R>(&heap, lines, slices, &frames, archive, others)?;
     publish_bytes(status, &text, report)
 }

@@ -2,6 +2,7 @@
 //!
 //! - `find`, `list`, `name`: the commands that ask which slices it has;
 //! - `sources`: the source frames of places in the slices that answer under a key;
+//! - `slices`: the lines of the slices that answer under the UUIDs of keys;
 //! - `asked_frames`: frames, as questions in the order of their keys;
 //! - `symbolicate`, `frames`: the commands that answer addresses, with the nearest symbol of each or with its source
 //!   frames.
@@ -17,6 +18,7 @@ mod find;
 mod frames;
 mod list;
 mod name;
+mod slices;
 mod sources;
 mod symbolicate;
 

@@ -1,12 +1,15 @@
-//! `symbolicate ARCHIVE UUID ARCH [--load HEX] [--lines] ADDRESS...`, over one archive or several.
-ghost use Rattle.std.specs.Prelude.{◌≡◌, ℕ, if◌then◌else◌, Contains, IfOk, map, string_bytes};
+//! `symbolicate ARCHIVE UUID ARCH [--load HEX] [--lines] [--slices] ADDRESS...`, over one archive or several.
+ghost use Rattle.std.specs.Prelude.{◌≡◌, ◌∷◌, [], ℕ, if◌then◌else◌, Contains, IfOk, map, string_bytes, take};
+ghost use Rattle.archive_core.specs.Key.{IsKey, key_bytes};
 ghost use Rattle.command_common.specs.declared.faults.Status.TheVariants.{Partial};
 ghost use Rattle.command_common.specs.Ends.{EndsReport};
 ghost use Rattle.command_common.specs.Inputs.{reader, readers};
 ghost use Rattle.command_common.specs.Outputs.{writer};
+ghost use Rattle.command_queries.specs.InnerSlices.{TellsRowsAfter, WithRows};
 ghost use Rattle.command_queries.specs.InnerSources.{AreSourcesOf};
 ghost use Rattle.command_queries.specs.Symbolicate.{TellsAddresses, is_symbol, asked_of, symbolicate};
 
+use crate::slices::slices_under;
 use crate::sources::Sources;
 use archive_core::{Answer, Archive, SliceKey, Where};
 use archive_read::Under;
@@ -95,9 +98,71 @@ pub fn answer_each<A: Archive>(
     Ok((status, text))
 }
 
+/// The lines of the answers of an archive to the addresses, and after them those of the slices that answer under the
+/// UUID of the key, with how a command ends that prints them.
+fn tell_with_slices<A: Archive>(
+    heap: &Heap,
+    archive: &A,
+    key: &SliceKey,
+    load: Option<u64>,
+    lines: bool,
+    addresses: &[u64],
+) -> Result<(Status, String<Heap>), NoMemory>
+    ensures { IfOk result
+        (λ told. TellsRowsAfter (TellsAddresses (A.content archive.now) key.now load lines addresses.now)
+        (A.content archive.now) (key.now.uuid ∷ []) (key.now ∷ []) told.0 (string_bytes told.1)) }
+{
+    let (status, answers) = answer_each(heap.share(), archive, key, load, lines, addresses)?;
+    let slices = slices_under(heap.share(), archive, &[key.uuid], &[*key])?;
+    let mut text = answers;
+    text.push_str(&slices)?;
+    Ok((status, text))
+}
+
+/// The lines of the answers of an archive to the addresses, and if `slices` those of the slices that answer, with how a
+/// command ends that prints them.
+fn tell_kept<A: Archive>(
+    heap: &Heap,
+    archive: &A,
+    key: &SliceKey,
+    load: Option<u64>,
+    lines: bool,
+    slices: bool,
+    addresses: &[u64],
+) -> Result<(Status, String<Heap>), NoMemory>
+    ensures { IfOk result
+        (λ told. WithRows slices (TellsAddresses (A.content archive.now) key.now load lines addresses.now)
+        (A.content archive.now) (key.now.uuid ∷ []) (key.now ∷ []) told.0 (string_bytes told.1)) }
+{
+    if slices {
+        tell_with_slices(heap, archive, key, load, lines, addresses)
+    } else {
+        answer_each(heap.share(), archive, key, load, lines, addresses)
+    }
+}
+
+/// The bytes of a key, of which the parts have their widths.
+fn prefix_of(key: SliceKey) -> [u8; 24]
+    ensures bytes { result ≡ key_bytes key }
+    ensures key { IsKey key }
+{
+    bytes_of(&key)
+}
+
+/// The front of a key under which slices are read: its UUID if `slices`, for all of its architectures are told, and
+/// else the key.
+fn asked_front(prefix: &[u8; 24], slices: bool) -> &[u8]
+    ensures { result.now ≡ (if slices then take 16 prefix.now else prefix.now) }
+{
+    if slices { &prefix[..16] } else { prefix }
+}
+
 /// Writes what the join of the archives answers for each address to the report, in their order. They are addresses of
 /// the image where it was loaded, if `load` says where that was, and else of its file. The archives are read one after
 /// another, each to its end. If `lines`, what each slice answers is followed by the source frames of the address in it.
+///
+/// If `slices`, the lines of the slices that answer under the UUID follow, and the key's if none does under it. Then all
+/// slices under the UUID are held.
 ///
 /// The status is `Done` where each answer is one symbol, and else `Partial`.
 ///
@@ -111,16 +176,18 @@ pub fn run_symbolicate<A: Archive + Drop, R: Source, P: Sink>(
     key: &SliceKey,
     load: Option<u64>,
     lines: bool,
+    slices: bool,
     addresses: &[u64],
     report: &mut P,
 ) -> Result<Status, CommandFault>
     ensures { EndsReport
         (symbolicate (reader R.left R.failures archive.old archive.new)
-        (readers R.left R.failures others.old others.new) key.now load lines addresses.now)
+        (readers R.left R.failures others.old others.new) key.now load lines slices addresses.now)
         (writer P.held P.failures report.old report.new) result }
 {
-    let prefix = bytes_of(key);
-    let kept: A = read_parts(heap.share(), &Under(&prefix), archive, others)?;
-    let (status, text) = answer_each(heap, &kept, key, load, lines, addresses)?;
+    let prefix = prefix_of(*key);
+    let front = asked_front(&prefix, slices);
+    let kept: A = read_parts(heap.share(), &Under(front), archive, others)?;
+    let (status, text) = tell_kept(&heap, &kept, key, load, lines, slices, addresses)?;
     publish_report(status, &text, report)
 }

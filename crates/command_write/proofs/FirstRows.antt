@@ -9,10 +9,11 @@ use Rattle.std.specs.Cmp.Lexicographic.{nat_list_cmp_total, slice_cmp}
 use Rattle.std.specs.FinSet.{empty}
 use Rattle.join_core.specs.Listing.{listing}
 use Rattle.join_core.proofs.Listing.{listing_ascending}
-use Rattle.text_reports.specs.declared.rows.AdmitRow.{AdmitRow}
+use Rattle.command_write.specs.declared.file_rows.FileRow.{FileRow}
+use Rattle.command_write.specs.declared.file_rows.FileRow.TheVariants.{Part, PassedOver}
 use Rattle.command_common.proofs.Readers.{pairs_long}
 use Rattle.archive_core.proofs.Made.{bytes_same}
-use Rattle.command_write.specs.InnerArriving.{AreFirstRows, was_added, row_again, rows_again}
+use Rattle.command_write.specs.InnerArriving.{AreFirstRows, adds, row_again, rows_again}
 use Rattle.std.proofs.lemmas.Bool.{cases_Bool, cases_eq, cases_lt}
 use Rattle.std.proofs.lemmas.List.{ext_get_or, get_or-set_other, get_or-set_same, length-set}
 use Rattle.archive_admission.specs.declared.taken.Taken.TheVariants.{Skipped}
@@ -69,10 +70,10 @@ pub no_listing : listing {R = slice_cmp nat_cmp} empty ≡ []
 unfolding IsStrictlySortedBy
 no_listing = listing_ascending nat_list_cmp_total bytes_same [] tt
 
-pub first_none : (came : List (List ℕ)) (first_rows : List ℕ) (rows : List AdmitRow) → came ≡ [] → first_rows ≡ [] → rows ≡ [] → AreFirstRows came first_rows rows []
+pub first_none : (came : List (List ℕ)) (first_rows : List ℕ) (rows : List FileRow) → came ≡ [] → first_rows ≡ [] → rows ≡ [] → AreFirstRows came first_rows rows []
 first_none came first_rows rows no_records no_first_rows no_rows = rw (no_records, no_first_rows, no_rows) (record { long = refl; beside = tt; each = λ place row at added. cc })
 
-module _ (came : List (List ℕ)) (first_rows : List ℕ) (rows : List AdmitRow) (records : List (List ℕ)) (row : AdmitRow) (r : List ℕ) (are_first : AreFirstRows came first_rows rows records) where
+module _ (came : List (List ℕ)) (first_rows : List ℕ) (rows : List FileRow) (records : List (List ℕ)) (row : FileRow) (r : List ℕ) (are_first : AreFirstRows came first_rows rows records) where
   longer : length (records ++ r ∷ []) ≡ length (rows ++ row ∷ [])
   longer = omega (arith, are_first.long, length-append records (r ∷ []), length-append rows (row ∷ []))
 
@@ -80,13 +81,13 @@ module _ (came : List (List ℕ)) (first_rows : List ℕ) (rows : List AdmitRow)
   beside_more = along_pairs _ _ first_rows came (λ place x h. kept_at records (r ∷ []) place x h) are_first.beside
 
   -- of one that was not added
-  pub first_known : was_added row.taken ≡ false → AreFirstRows came first_rows (rows ++ row ∷ []) (records ++ r ∷ [])
+  pub first_known : adds row ≡ false → AreFirstRows came first_rows (rows ++ row ∷ []) (records ++ r ∷ [])
   first_known known = record {
     long = longer;
     beside = beside_more;
     each = λ place other at added. elim (last_or rows row other place at) [
       | inl before ↦ are_first.each place other before added
-      | inr last ↦ cc (ap (λ (x : AdmitRow). was_added x.taken) last.1)
+      | inr last ↦ cc (ap (λ (x : FileRow). adds x) last.1)
     ];
   }
 
@@ -104,41 +105,43 @@ module _ (came : List (List ℕ)) (first_rows : List ℕ) (rows : List AdmitRow)
     ];
   })
 
-abbrev pub no_row : AdmitRow
-no_row = record { file = 0; slice = 0; taken = Skipped }
+abbrev pub no_row : FileRow
+no_row = Part (record { file = 0; slice = 0; taken = Skipped })
 
-abbrev pub row_at : List AdmitRow → ℕ → AdmitRow
+abbrev pub row_at : List FileRow → ℕ → FileRow
 row_at rows n = get_or rows n no_row
 
 -- ---- one row
 
-row_twice : (new : Bool) (row : AdmitRow) → row_again new (row_again new row) ≡ row_again new row
-row_twice new row = grind arith
+row_twice : (new : Bool) (row : FileRow) → row_again new (row_again new row) ≡ row_again new row
+row_twice new (Part row) = grind arith
+row_twice new (PassedOver file why) = refl
 
-row_kept : (new : Bool) (row : AdmitRow) → was_added row.taken ≡ false → row_again new row ≡ row
-row_kept new row is = grind arith
+row_kept : (new : Bool) (row : FileRow) → adds row ≡ false → row_again new row ≡ row
+row_kept new (Part row) is = grind arith
+row_kept new (PassedOver file why) is = refl
 
 -- ---- the rows of the first of the records
 
 -- a row, told again by its record
-abbrev goal_at : (List ℕ → Bool) → List AdmitRow → List (List ℕ) → ℕ → AdmitRow
+abbrev goal_at : (List ℕ → Bool) → List FileRow → List (List ℕ) → ℕ → FileRow
 goal_at f was records n = row_again (f (get_or records n [])) (row_at was n)
 
 -- The rows of the first k records are told again, and no other one is changed but so.
-pub record AreMarked (f : List ℕ → Bool) (was : List AdmitRow) (records : List (List ℕ)) (first_rows : List ℕ) (k : ℕ) (now : List AdmitRow) : Type 0 where
+pub record AreMarked (f : List ℕ → Bool) (was : List FileRow) (records : List (List ℕ)) (first_rows : List ℕ) (k : ℕ) (now : List FileRow) : Type 0 where
   pub long : length now ≡ length was
   pub first : (i n : ℕ) → i < k → slice_get first_rows i ≡ Some n → n < length was → row_at now n ≡ goal_at f was records n
   pub all : (n : ℕ) → n < length was → (row_at now n ≡ row_at was n) ⊎ (row_at now n ≡ goal_at f was records n)
 
-module _ (f : List ℕ → Bool) (was : List AdmitRow) (records : List (List ℕ)) where
-  pub marked_none : (first_rows : List ℕ) (now : List AdmitRow) → now ≡ was → AreMarked f was records first_rows 0 now
+module _ (f : List ℕ → Bool) (was : List FileRow) (records : List (List ℕ)) where
+  pub marked_none : (first_rows : List ℕ) (now : List FileRow) → now ≡ was → AreMarked f was records first_rows 0 now
   marked_none first_rows now is = record {
     long = ap length is;
     first = λ i n lt. absurd (omega (arith, lt));
-    all = λ n lt. inl (ap (λ (rows : List AdmitRow). row_at rows n) is);
+    all = λ n lt. inl (ap (λ (rows : List FileRow). row_at rows n) is);
   }
 
-  pub marked_more : (first_rows : List ℕ) (k p : ℕ) (now more : List AdmitRow) (new : Bool) → AreMarked f was records first_rows k now → slice_get first_rows k ≡ Some p → p < length was → new ≡ f (get_or records p [])
+  pub marked_more : (first_rows : List ℕ) (k p : ℕ) (now more : List FileRow) (new : Bool) → AreMarked f was records first_rows k now → slice_get first_rows k ≡ Some p → p < length was → new ≡ f (get_or records p [])
       → more ≡ set now p (row_again new (row_at now p)) → AreMarked f was records first_rows (k + 1) more
   marked_more first_rows k p now more new before at within new_is more_is = record {
     long = ap length more_is ∙ length-set now p (row_again new (row_at now p)) ∙ before.long;
@@ -177,12 +180,12 @@ module _ (f : List ℕ → Bool) (was : List AdmitRow) (records : List (List ℕ
 
 -- ---- all of them
 
-again_long : (f : List ℕ → Bool) (rows : List AdmitRow) (records : List (List ℕ)) → length (rows_again f rows records) ≡ length rows
+again_long : (f : List ℕ → Bool) (rows : List FileRow) (records : List (List ℕ)) → length (rows_again f rows records) ≡ length rows
 unfolding rows_again
 again_long f (row ∷ rows) (r ∷ records) = ap suc (again_long f rows records)
 again_long f rows records = refl
 
-again_at : (f : List ℕ → Bool) (rows : List AdmitRow) (records : List (List ℕ)) (n : ℕ) → length records ≡ length rows → n < length rows → row_at (rows_again f rows records) n ≡ row_again (f (get_or records n [])) (row_at rows n)
+again_at : (f : List ℕ → Bool) (rows : List FileRow) (records : List (List ℕ)) (n : ℕ) → length records ≡ length rows → n < length rows → row_at (rows_again f rows records) n ≡ row_again (f (get_or records n [])) (row_at rows n)
 unfolding rows_again
 again_at f [] records n long inside = absurd (omega (arith, inside))
 again_at f (row ∷ rows) [] n long inside = absurd (omega (arith, long))
@@ -195,7 +198,7 @@ pair_at records (x ∷ xs) [] k p all at = absurd all
 pair_at records (x ∷ xs) (y ∷ ys) zero p all at = rw (← same_Some x p at) all.0
 pair_at records (x ∷ xs) (y ∷ ys) (suc k) p all at = pair_at records xs ys k p all.1 at
 
-module _ (came : List (List ℕ)) (first_rows : List ℕ) (rows : List AdmitRow) (records : List (List ℕ)) (are_first : AreFirstRows came first_rows rows records) where
+module _ (came : List (List ℕ)) (first_rows : List ℕ) (rows : List FileRow) (records : List (List ℕ)) (are_first : AreFirstRows came first_rows rows records) where
   -- a number that stands beside a record is that of a row
   pub row_inside : (k p : ℕ) → slice_get first_rows k ≡ Some p → p < length rows
   row_inside k p at = let within = slice_get_within records p (get_or came k []) (pair_at records first_rows came k p are_first.beside at) in omega (arith, within, are_first.long)
@@ -207,14 +210,14 @@ module _ (came : List (List ℕ)) (first_rows : List ℕ) (rows : List AdmitRow)
   pub as_many : length came ≡ length first_rows
   as_many = pairs_long (λ (place : ℕ) (r : List ℕ). slice_get records place ≡ Some r) first_rows came are_first.beside
 
-  pub all_marked : (f : List ℕ → Bool) (k : ℕ) (now : List AdmitRow) → AreMarked f rows records first_rows k now → k ≡ length first_rows → now ≡ rows_again f rows records
+  pub all_marked : (f : List ℕ → Bool) (k : ℕ) (now : List FileRow) → AreMarked f rows records first_rows k now → k ≡ length first_rows → now ≡ rows_again f rows records
   all_marked f k now marked end =
       ext_get_or no_row now (rows_again f rows records) (marked.long ∙ sym (again_long f rows records)) (λ n lt.
       let inside : n < length rows = omega (arith, lt, marked.long) in
       by_row n inside ∙ sym (again_at f rows records n are_first.long inside))
     where
       by_row : (n : ℕ) → n < length rows → row_at now n ≡ row_again (f (get_or records n [])) (row_at rows n)
-      by_row n inside = elim (cases_Bool (was_added (row_at rows n).taken)) [
+      by_row n inside = elim (cases_Bool (adds (row_at rows n))) [
         | inl is ↦
             let at = are_first.each n (row_at rows n) (slice_get-get_or rows n no_row inside) is in
             marked.first at.0 n (omega (arith, slice_get_within first_rows at.0 n at.1, end)) at.1 inside

@@ -6,5 +6,6 @@ pub mod Begun
 pub mod Joined
 pub mod FirstRows
 pub mod Files
+pub mod Passing
 pub mod Taking
 pub mod Noted

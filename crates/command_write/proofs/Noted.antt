@@ -1,7 +1,6 @@
 -- Notes as they are added.
 use Rattle.std.proofs.Common.{arith, ◌≡◌, ◌<◌, ◌+◌, ◌++◌, ◌∷◌, [], ℕ, Bool, if◌then◌else◌, List, get_or, length, map, take, refl, sym, ap, ◌∙◌}
 use Rattle.std.proofs.lemmas.List.{flat_map_more, take_more}
-use Rattle.std.specs.FinSet as set
 use Rattle.std.specs.List.{AllByRecursion, filter, flat_map}
 use Rattle.sha2.specs.Sha256.{sha256}
 use Rattle.join_core.specs.Listing.{listing}
@@ -14,11 +13,8 @@ use Rattle.archive_core.specs.declared.operations.Operation.{Operation}
 use Rattle.archive_core.specs.declared.operations.Operation.TheVariants.{Admit, Retire}
 use Rattle.archive_core.proofs.Entries.{slice_of}
 use Rattle.archive_merge.specs.Arrivals.{arrival_of}
-use Rattle.text_reports.specs.declared.rows.AdmitRow.{AdmitRow}
-use Rattle.command_common.specs.Inputs.{Reader}
-use Rattle.command_write.specs.Admit.{HasTaken}
-use Rattle.command_write.specs.InnerNotes.{IsNoted, note_of}
-use Rattle.command_write.specs.Notes.{NotesRetired, has_slice, missing_notes, retired_note, retired_notes}
+use Rattle.command_write.specs.InnerNotes.{note_of}
+use Rattle.command_write.specs.Notes.{has_slice, missing_notes, retired_note, retired_notes}
 use Rattle.command_write.specs.declared.notes.Note.{Note}
 use Rattle.command_write.specs.declared.notes.Note.TheVariants.{Retired, Missing}
 
@@ -47,18 +43,6 @@ pub noted_more : (f : Operation → List Note) (old : List Note) (operations : L
 noted_more f old operations i operation lt at now before new more =
     more ∙ ap (λ ns. ns ++ f operation) before ∙ flat_map_more f old (take i operations) operation
     ∙ ap (λ xs. old ++ flat_map f xs) (ap (λ x. take i operations ++ x ∷ []) at ∙ sym (take_more operations i operation lt))
-
--- those of the files
-pub retired_noted : {R S : Type 0} (input : Reader R) (files : List (Reader S)) (came : Operations) (rows : List AdmitRow) → HasTaken files set.empty came rows → (old new : List Note) → IsNoted input came old new → NotesRetired input files old new
-retired_noted input files came rows taken old new noted = record {
-  before = noted.before;
-  texts = taken.texts;
-  is_content = noted.is_content;
-  archive = noted.archive;
-  files_are = taken.files_are;
-  accepted = taken.accepted;
-  added = noted.added ∙ ap (λ (o : Operations). old ++ retired_notes noted.before o) taken.content;
-}
 
 -- ---- a slice that is missing
 

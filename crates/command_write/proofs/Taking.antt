@@ -14,6 +14,8 @@ use Rattle.archive_admission.specs.declared.taken.Taken.TheVariants.{Added, Know
 use Rattle.archive_admission.proofs.Rows.{row_of}
 use Rattle.text_reports.specs.declared.rows.AdmitRow.{AdmitRow}
 use Rattle.command_write.specs.Admit.{file_rows}
+use Rattle.command_write.specs.PassedOver.{part_rows}
+use Rattle.command_write.specs.declared.file_rows.FileRow.TheVariants.{Part}
 use Rattle.command_write.specs.InnerArriving.{images_in, slice_rows, was_added}
 
 -- ---- one slice
@@ -30,10 +32,10 @@ known_row row key digest is = ap was_added is
 -- ---- one part, before others
 
 pub one_row : (o : Operations) (file number : ℕ) (part : Option (List ℕ)) (slices : List (Option (List ℕ))) (now : Operations) → now ≡ admitted o (images_in (part ∷ []))
-    → file_rows file number (slice_rows o (part ∷ [])) ++ file_rows file (number + 1) (slice_rows now slices) ≡ file_rows file number (slice_rows o (part ∷ slices))
+    → part_rows file number (slice_rows o (part ∷ [])) ++ part_rows file (number + 1) (slice_rows now slices) ≡ part_rows file number (slice_rows o (part ∷ slices))
 unfolding file_rows slice_rows
-one_row o file number None slices now is = ap (λ (q : Operations). record { file = file; slice = number; taken = Skipped } ∷ file_rows file (number + 1) (slice_rows q slices)) is
-one_row o file number (Some slice) slices now is = ap (λ (q : Operations). record { file = file; slice = number; taken = taken_of o slice } ∷ file_rows file (number + 1) (slice_rows q slices)) is
+one_row o file number None slices now is = ap (λ (q : Operations). Part (record { file = file; slice = number; taken = Skipped }) ∷ part_rows file (number + 1) (slice_rows q slices)) is
+one_row o file number (Some slice) slices now is = ap (λ (q : Operations). Part (record { file = file; slice = number; taken = taken_of o slice }) ∷ part_rows file (number + 1) (slice_rows q slices)) is
 
 pub one_image : (o : Operations) (part : Option (List ℕ)) (slices : List (Option (List ℕ))) (now : Operations) → now ≡ admitted o (images_in (part ∷ [])) → admitted now (images_in slices) ≡ admitted o (images_in (part ∷ slices))
 one_image o None slices now is = ap (λ (q : Operations). admitted q (images_in slices)) is

@@ -30,14 +30,6 @@ admit_rows o index [] = []
 admit_rows o index (file ∷ files) =
     file_rows index 0 (taken_rows o (parts file)) ++ admit_rows (admitted o (admissible file)) (index + 1) files
 
--- The files are accepted, and the content has their images now; these are their rows.
-pub record HasTaken {S : Type 0} (files : List (Reader S)) (old new : Operations) (rows : List AdmitRow) : Type 0 where
-  pub texts : List (List ℕ)
-  pub files_are : AllZip Holds files texts
-  pub accepted : AllByRecursion IsAcceptedFile texts
-  pub content : new ≡ admitted old (images_of texts)
-  pub rows_are : rows ≡ admit_rows old 0 texts
-
 -- IN is the text of a content and the files are accepted; this is the content with their images, and these are the
 -- lines of their rows.
 pub record MakesAdmitted {R S : Type 0} (input : Reader R) (files : List (Reader S)) (content : Operations)

@@ -1,6 +1,7 @@
 -- The slices of files, each once, and the rows that tell them: the words of inner functions. No contract of a public
 -- one has them.
-use Rattle.std.specs.Prelude.{◌≡◌, ℕ, List, [], ◌∷◌, Bool, true, false, Option, Some, None, map, length, if◌then◌else◌}
+use Rattle.std.specs.Prelude.{◌≡◌, ℕ, List, [], ◌∷◌, ◌++◌, Bool, true, false, Option, Some, None, Result, Ok, Err, map, length}
+use Rattle.std.specs.Prelude.{if◌then◌else◌}
 use Rattle.std.specs.Prelude.{slice_get}
 use Rattle.std.specs.List.{AllZip, flat_map}
 use Rattle.std.specs.FinSet as set
@@ -11,10 +12,17 @@ use Rattle.archive_admission.specs.File.{parts, slice_in}
 use Rattle.archive_admission.specs.Take.{admitted, taken_of}
 use Rattle.archive_admission.specs.declared.taken.Taken.{Taken}
 use Rattle.archive_admission.specs.declared.taken.Taken.TheVariants.{Added, Known, Skipped}
-use Rattle.text_reports.specs.declared.rows.AdmitRow.{AdmitRow}
-use Rattle.text_reports.specs.Report.{admit_lines}
+use Rattle.byte_openings.specs.declared.openings.Opening.{Opening}
+use Rattle.command_common.specs.declared.faults.CommandFault.{CommandFault}
+use Rattle.command_common.specs.declared.faults.Status.{Status}
+use Rattle.command_common.specs.declared.faults.Status.TheVariants.{Done, Refused}
+use Rattle.command_common.specs.declared.faults.Why.{Why}
 use Rattle.command_common.specs.Inputs.{Reader}
-use Rattle.command_write.specs.Admit.{HasTaken}
+use Rattle.command_write.specs.FileRows.{file_lines}
+use Rattle.command_write.specs.PassedOver.{Becomes, Outcome, images_by, images_from, rows_by, rows_of}
+use Rattle.command_write.specs.declared.arriving.Arrivals.{Arrivals}
+use Rattle.command_write.specs.declared.file_rows.FileRow.{FileRow}
+use Rattle.command_write.specs.declared.file_rows.FileRow.TheVariants.{Part, PassedOver}
 
 -- the images among the parts of a file
 abbrev pub images_in : List (Option (List ℕ)) → List (List ℕ)
@@ -37,15 +45,41 @@ record_in (Some slice) = admission_record slice
 abbrev pub records_in : List ℕ → List (List ℕ)
 records_in file = map record_in (map slice_in (parts file))
 
--- the records of the parts of files, one for each row
-abbrev pub records_of : List (List ℕ) → List (List ℕ)
-records_of files = flat_map records_in files
+-- the records that the rows of a file tell of, one for each; that of a file that is passed over is none, and nothing
+-- asks for it
+abbrev pub records_by : Outcome → List (List ℕ)
+records_by (Ok bytes) = records_in bytes
+records_by (Err why) = [] ∷ []
+
+-- whether a file is passed over
+abbrev pub is_passed : Outcome → Bool
+is_passed (Ok bytes) = false
+is_passed (Err why) = true
+
+-- how a command ends, by whether a file was passed over
+abbrev pub with_status : Bool → Result Status CommandFault → Result Status CommandFault
+with_status passed (Ok _) = Ok (if passed then Refused else Done)
+with_status passed (Err fault) = Err fault
+
+-- the records of the rows of files
+abbrev pub records_of : List Outcome → List (List ℕ)
+records_of outcomes = flat_map records_by outcomes
 
 -- whether a slice was added
 abbrev pub was_added : Taken → Bool
 was_added (Added key digest) = true
 was_added (Known key digest) = false
 was_added Skipped = false
+
+-- whether it is the row of a slice that was added
+abbrev pub adds : FileRow → Bool
+adds (Part row) = was_added row.taken
+adds (PassedOver file why) = false
+
+-- the row of a part of a file, by its number and what became of it, or of the file, which is passed over
+abbrev pub row_of : ℕ → Result (ℕ × Taken) Why → FileRow
+row_of file (Ok part) = Part (record { file = file; slice = part.0; taken = part.1 })
+row_of file (Err why) = PassedOver file why
 
 -- one that was added is known, if it is not new
 abbrev pub taken_again : Bool → Taken → Taken
@@ -54,30 +88,42 @@ taken_again new (Known key digest) = Known key digest
 taken_again new Skipped = Skipped
 
 -- the same of its row
-abbrev pub row_again : Bool → AdmitRow → AdmitRow
-row_again new row = record { file = row.file; slice = row.slice; taken = taken_again new row.taken }
+abbrev pub row_again : Bool → FileRow → FileRow
+row_again new (Part row) = Part (record { file = row.file; slice = row.slice; taken = taken_again new row.taken })
+row_again new (PassedOver file why) = PassedOver file why
 
 -- the same of rows, by which of their records are new
-unfoldable pub rows_again : (List ℕ → Bool) → List AdmitRow → List (List ℕ) → List AdmitRow
+unfoldable pub rows_again : (List ℕ → Bool) → List FileRow → List (List ℕ) → List FileRow
 rows_again is_new [] records = []
 rows_again is_new (row ∷ rows) [] = row ∷ rows
 rows_again is_new (row ∷ rows) (r ∷ records) = row_again (is_new r) row ∷ rows_again is_new rows records
 
 -- Of records that came, in their order, the numbers of the rows of which they are: one for each row that was added.
-pub record AreFirstRows (came : List (List ℕ)) (first_rows : List ℕ) (rows : List AdmitRow) (records : List (List ℕ))
+pub record AreFirstRows (came : List (List ℕ)) (first_rows : List ℕ) (rows : List FileRow) (records : List (List ℕ))
     : Type 0 where
   pub long : length records ≡ length rows
   pub beside : AllZip (λ (number : ℕ) (r : List ℕ). slice_get records number ≡ Some r) first_rows came
-  pub each : (number : ℕ) (row : AdmitRow) → slice_get rows number ≡ Some row → was_added row.taken ≡ true
+  pub each : (number : ℕ) (row : FileRow) → slice_get rows number ≡ Some row → adds row ≡ true
       → (i : ℕ) × (slice_get first_rows i ≡ Some number)
 
--- The files are accepted, and these are their images and their rows among themselves, and where the records of the
+-- The file of this number, of which this becomes, was added to what came: its images and its rows, over what came
+-- before them.
+pub record Brings (old new : Arrivals) (index : ℕ) (outcome : Outcome) : Type 0 where
+  pub came : new.came ≡ admitted old.came (images_by outcome)
+  pub rows : new.rows.items ≡ old.rows.items ++ rows_by old.came index outcome
+  pub are_first : (records : List (List ℕ))
+      → AreFirstRows (listing old.came) old.first_rows.items old.rows.items records
+      → AreFirstRows (listing new.came) new.first_rows.items new.rows.items (records ++ records_by outcome)
+
+-- These become of the files, and these are their images and their rows among themselves, and where the records of the
 -- images are among those of the rows.
-pub record HasCome {S : Type 0} (files : List (Reader S)) (came : Operations) (first_rows : List ℕ)
-    (rows : List AdmitRow) : Type 0 where
-  pub taken : HasTaken files set.empty came rows
-  pub are_first : AreFirstRows (listing came) first_rows rows (records_of taken.texts)
+pub record HasCome {S : Type 0} (opening : S → Opening) (files : List (Reader S)) (outcomes : List Outcome)
+    (came : Operations) (first_rows : List ℕ) (rows : List FileRow) : Type 0 where
+  pub become : AllZip (Becomes opening) files outcomes
+  pub content : came ≡ admitted set.empty (images_from outcomes)
+  pub rows_are : rows ≡ rows_of set.empty 0 outcomes
+  pub are_first : AreFirstRows (listing came) first_rows rows (records_of outcomes)
 
 -- the lines of rows, by which of their records are new
-abbrev pub lines_again : List AdmitRow → List (List ℕ) → (List ℕ → Bool) → List ℕ
-lines_again rows records is_new = admit_lines (rows_again is_new rows records)
+abbrev pub lines_again : List FileRow → List (List ℕ) → (List ℕ → Bool) → List ℕ
+lines_again rows records is_new = file_lines (rows_again is_new rows records)

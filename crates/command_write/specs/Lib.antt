@@ -12,4 +12,6 @@ pub mod Begun
 pub mod Joining
 pub mod Copying
 pub mod InnerTelling
+pub mod FileRows
+pub mod PassedOver
 pub mod InnerArriving

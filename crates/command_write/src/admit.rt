@@ -1,15 +1,21 @@
-//! `admit IN OUT FILE...`.
-ghost use Rattle.std.specs.Prelude.{◌≡◌, ◌++◌, ℕ, List, length, map, string_bytes, OnOk, IfOk, IfErr};
+//! `admit IN OUT FILE...`, which passes over FILEs that are refused, or is refused for the first of them.
+ghost use Rattle.std.specs.Prelude.{◌≡◌, ◌≢◌, ◌++◌, ℕ, List, length, map, string_bytes, Ok, Err, OnOk, IfOk, IfErr};
+ghost use Rattle.std.specs.List.{list_any};
 ghost use Rattle.join_core.specs.Listing.{listing};
-ghost use Rattle.archive_admission.specs.File.{admissible, parts, slice_in, IsAcceptedFile, IsTakeFault};
-ghost use Rattle.archive_admission.specs.Take.{admitted, taken_rows};
-ghost use Rattle.command_write.specs.Admit.{admit_as_it_comes, file_rows};
-ghost use Rattle.command_write.specs.InnerArriving.{AreFirstRows, HasCome, lines_again, records_in};
+ghost use Rattle.archive_admission.specs.File.{parts, slice_in, IsAcceptedFile, IsTakeFault};
+ghost use Rattle.byte_openings.specs.declared.openings.Opening.TheVariants.{Fine, OutOfMemory};
+ghost use Rattle.command_common.specs.declared.faults.Why.{Why};
+ghost use Rattle.command_write.specs.Admit.{admit_as_it_comes};
+ghost use Rattle.command_write.specs.PassedOver.{Becomes, EndsAdmit, EndsPassing, NotesAdmit, NotesRetiredPassing};
+ghost use Rattle.command_write.specs.PassedOver.{Outcome, admit_passing_as_it_comes, why_passed};
+ghost use Rattle.command_write.specs.InnerArriving.{AreFirstRows, Brings, HasCome, is_passed, lines_again, with_status};
 ghost use Rattle.archive_core.specs.Content.{Operations, changes};
 ghost use Rattle.archive_merge.specs.Arrivals.{arrival_of};
 ghost use Rattle.command_write.specs.InnerNotes.{IsNoted};
 ghost use Rattle.command_write.specs.InnerTelling.{telling};
 ghost use Rattle.command_write.specs.Notes.{NotesRetired, retired_notes};
+ghost use Rattle.command_common.specs.declared.faults.CommandFault.TheVariants.{Input};
+ghost use Rattle.command_common.specs.declared.faults.InputName.{InputName};
 ghost use Rattle.command_common.specs.declared.faults.InputName.TheVariants.{File};
 ghost use Rattle.command_write.specs.Begun.{EndsBegun};
 ghost use Rattle.command_common.specs.Ends.{EndsStreamed};
@@ -19,17 +25,19 @@ ghost use Rattle.command_common.specs.Inputs.{IsRefusedFile, ReadsInput, ReadsIn
 ghost use Rattle.command_common.specs.Outputs.{out_of, outs, writer};
 
 use crate::arriving::{Arrivals, tell_rows};
+use crate::file_rows::file_lines;
 use crate::notes::{Note, note_retired};
 use crate::telling::tell_operations;
+use archive_admission::laws::one_take_fault;
 use archive_admission::{TakeFault, slice_file};
 use archive_core::Slice;
 use archive_merge::Arrival;
 use byte_device::{Output, Sink, Source, Target};
+use byte_openings::{Opening, Opens};
 use command_common::{
     CommandFault, InputName, Status, Why, publish_draft, read_file, refused_behind,
 };
 use memory::{Heap, NoMemory};
-use text_reports::admit_lines;
 
 fn refusal_of_file(index: u64, fault: TakeFault) -> CommandFault
     ensures refused { (bytes : List ℕ) → IsTakeFault bytes fault
@@ -52,6 +60,21 @@ fn slice_bytes(index: u64, bytes: Vec<u8, Heap>) -> Result<Vec<Option<Slice>, He
     }
 }
 
+/// Reads the file of this number, and its slices.
+fn read_slices<S: Source>(
+    heap: &Heap,
+    index: u64,
+    file: &mut S,
+) -> Result<Vec<Option<Slice>, Heap>, CommandFault>
+    ensures { ReadsInput (reader S.left S.failures file.old file.new) result (λ file slices. (bytes : List ℕ)
+        × IsAcceptedFile bytes × Holds file bytes × (slices.items ≡ map slice_in (parts bytes)))
+        (IsRefusedFile index) }
+{
+    let bytes = read_file(heap.share(), index, file)?;
+    let slices = slice_bytes(index, bytes)?;
+    Ok(slices)
+}
+
 /// Takes the slices of the file of this number, and adds their rows.
 fn admit_file<S: Source>(
     heap: &Heap,
@@ -60,25 +83,18 @@ fn admit_file<S: Source>(
     file: &mut S,
 ) -> Result<(), CommandFault>
     ensures { ReadsInput (reader S.left S.failures file.old file.new) result (λ file _. (bytes : List ℕ)
-        × IsAcceptedFile bytes
-        × Holds file bytes
-        × (arrivals.new.came ≡ admitted arrivals.old.came (admissible bytes))
-        × (arrivals.new.rows.items
-        ≡ arrivals.old.rows.items ++ file_rows index 0 (taken_rows arrivals.old.came (parts bytes)))
-        × ((records : List (List ℕ))
-        → AreFirstRows (listing arrivals.old.came) arrivals.old.first_rows.items arrivals.old.rows.items records
-        → AreFirstRows (listing arrivals.new.came) arrivals.new.first_rows.items arrivals.new.rows.items
-        (records ++ records_in bytes))) (IsRefusedFile index) }
+        × IsAcceptedFile bytes × Holds file bytes × Brings arrivals.old arrivals.new index (Ok bytes))
+        (IsRefusedFile index) }
 {
-    let bytes = read_file(heap.share(), index, file)?;
-    let slices = slice_bytes(index, bytes)?;
+    let slices = read_slices(heap, index, file)?;
     arrivals.take_slices(index, slices)?;
     Ok(())
 }
 
 fn admit_files<S: Source>(heap: &Heap, files: &mut [S]) -> Result<Arrivals, CommandFault>
     ensures { let known = readers S.left S.failures files.old files.new in
-        ReadsInputs result (λ arrivals. HasCome known arrivals.came arrivals.first_rows.items arrivals.rows.items)
+        ReadsInputs result (λ arrivals. (texts : List (List ℕ)) × HasCome (λ _. Fine) known (map Ok texts) arrivals.came
+        arrivals.first_rows.items arrivals.rows.items)
         (IsFirstRefused File IsAccepted IsFileRefused known) (EachUnfailed known) }
 {
     let mut arrivals = Arrivals::none(heap);
@@ -86,6 +102,83 @@ fn admit_files<S: Source>(heap: &Heap, files: &mut [S]) -> Result<Arrivals, Comm
         admit_file(heap, &mut arrivals, index as u64, file)?;
     }
     Ok(arrivals)
+}
+
+/// Why an input is refused, unless memory is wanting.
+fn why_refused(fault: CommandFault) -> Result<Why, NoMemory>
+    ensures { IfOk result (λ why. (name : InputName) × (fault ≡ Input name why)) }
+{
+    match fault {
+        CommandFault::Input(_, why) => Ok(why),
+        _ => Err(NoMemory),
+    }
+}
+
+/// Why a file is passed over that is refused, unless there was no memory to open it.
+fn why_passed(opening: Opening, why: Why) -> Result<Why, NoMemory>
+    ensures why { IfOk result (λ told. told ≡ why_passed opening why) }
+    ensures opened { OnOk result (opening ≢ OutOfMemory) }
+{
+    match opening {
+        Opening::Fine => Ok(why),
+        Opening::Refused => Ok(Why::CannotOpen),
+        Opening::OutOfMemory => Err(NoMemory),
+    }
+}
+
+/// Adds the row of the file of this number, which is refused.
+fn pass_file<S: Source + Opens>(
+    arrivals: &mut Arrivals,
+    index: u64,
+    file: &S,
+    why: Why,
+) -> Result<(), NoMemory>
+    ensures { OnOk result ((told : Why) × (S.opening_of file.now ≢ OutOfMemory)
+        × (told ≡ why_passed (S.opening_of file.now) why) × Brings arrivals.old arrivals.new index (Err told)) }
+{
+    let told = why_passed(file.opening(), why)?;
+    arrivals.pass_over(index, told)?;
+    Ok(())
+}
+
+/// Takes the slices of the file of this number, and adds their rows, or passes it over, and adds its row. Returns whether
+/// it was passed over.
+fn take_file<S: Source + Opens>(
+    heap: &Heap,
+    arrivals: &mut Arrivals,
+    index: u64,
+    file: &mut S,
+) -> Result<bool, NoMemory>
+    ensures { IfOk result (λ passed. (outcome : Outcome)
+        × Becomes S.opening_of (reader S.left S.failures file.old file.new) outcome
+        × Brings arrivals.old arrivals.new index outcome × (passed ≡ is_passed outcome)) }
+{
+    match read_slices(heap, index, file) {
+        Ok(slices) => {
+            arrivals.take_slices(index, slices)?;
+            Ok(false)
+        }
+        Err(fault) => {
+            let why = why_refused(fault)?;
+            pass_file(arrivals, index, file, why)?;
+            Ok(true)
+        }
+    }
+}
+
+/// What is taken of the files, and whether one of them was passed over.
+fn take_files<S: Source + Opens>(heap: &Heap, files: &mut [S]) -> Result<(Arrivals, bool), NoMemory>
+    ensures { let known = readers S.left S.failures files.old files.new in
+        IfOk result (λ taken. (outcomes : List Outcome) × HasCome S.opening_of known outcomes taken.0.came
+        taken.0.first_rows.items taken.0.rows.items × (taken.1 ≡ list_any is_passed outcomes)) }
+{
+    let mut arrivals = Arrivals::none(heap);
+    let mut passed = false;
+    'files: for (index, file) in files.iter_mut().enumerate() {
+        let one = take_file(heap, &mut arrivals, index as u64, file)?;
+        passed |= one;
+    }
+    Ok((arrivals, passed))
 }
 
 /// The lines of the rows, told again by what each of the slices that came is to IN. Of each that IN retires a note is
@@ -114,7 +207,7 @@ fn tell_arrivals(
     note_retired(notes, came.operations(), arrived)?;
     let mut again = rows;
     tell_rows(&mut again, &first_rows, arrived);
-    admit_lines(heap, &again)
+    file_lines(heap, &again)
 }
 
 /// Writes IN's archive to OUT with the slices that came, and their rows and the sizes to the report: a slice that IN
@@ -144,16 +237,8 @@ fn write_admitted<R: Source, T: Target, P: Sink>(
     publish_draft(lines, sizes, out, report)
 }
 
-/// Writes IN's archive to OUT with the slices of each file, and a row a slice and the sizes to the report. The files
-/// are read first, in the order of the words, each to its end, and then IN is merged with their slices as it comes, in
-/// the memory of these, of one record and of 57 bytes for each retirement. Where a file is refused, IN is tested to its
-/// end before that is told. Of each slice of the files that IN retires a note is added, in the order of their records.
-///
-/// # Errors
-///
-/// `Input` for the first input that is refused, in the order of the words; `Output` and `Report` where that writer
-/// failed; `OutOfMemory`.
-pub fn run_admit<R: Source, S: Source, T: Target, P: Sink>(
+/// `admit` that is refused for a file that is.
+fn admit_all<R: Source, S: Source, T: Target, P: Sink>(
     heap: Heap,
     input: &mut R,
     files: &mut [S],
@@ -171,5 +256,75 @@ pub fn run_admit<R: Source, S: Source, T: Target, P: Sink>(
     match admit_files(&heap, files) {
         Ok(arrivals) => write_admitted(heap, input, arrivals, notes, out, report),
         Err(fault) => Err(refused_behind(heap, input, fault)),
+    }
+}
+
+/// The status of a command that ended well, of which this is known.
+fn with_status(passed: bool, ended: Result<Status, CommandFault>) -> Result<Status, CommandFault>
+    ensures { result ≡ with_status passed ended }
+{
+    match ended {
+        Ok(_) if passed => Ok(Status::Refused),
+        Ok(_) => Ok(Status::Done),
+        Err(fault) => Err(fault),
+    }
+}
+
+/// `admit` that passes over the files that are refused.
+fn admit_passing<R: Source, S: Source + Opens, T: Target, P: Sink>(
+    heap: Heap,
+    input: &mut R,
+    files: &mut [S],
+    notes: &mut Vec<Note, Heap>,
+    out: &mut Output<T::Draft, T>,
+    report: &mut P,
+) -> Result<Status, CommandFault>
+    ensures ends { let known = out_of (outs T.Draft.held T.Draft.failures T.published T.failures out.old out.new) in
+        EndsPassing (admit_passing_as_it_comes S.opening_of (reader R.left R.failures input.old input.new)
+        (readers S.left S.failures files.old files.new) known.draft) known
+        (writer P.held P.failures report.old report.new) result }
+    ensures noted { OnOk result (NotesRetiredPassing S.opening_of (reader R.left R.failures input.old input.new)
+        (readers S.left S.failures files.old files.new) notes.old.items notes.new.items) }
+{
+    one_take_fault();
+    match take_files(&heap, files) {
+        Ok((arrivals, passed)) => {
+            let ended = write_admitted(heap, input, arrivals, notes, out, report);
+            with_status(passed, ended)
+        }
+        Err(NoMemory) => Err(CommandFault::OutOfMemory),
+    }
+}
+
+/// Writes IN's archive to OUT with the slices of each file, and a row a slice and the sizes to the report. The files
+/// are read first, in the order of the words, each to its end, and then IN is merged with their slices as it comes, in
+/// the memory of these, of one record and of 57 bytes for each retirement. Of each slice of the files that IN retires a
+/// note is added, in the order of their records. A file that is refused is passed over with `keep_going`, and has a row
+/// that says why; the status is `Refused` then. Without it IN is tested to its end, and the command is refused.
+///
+/// # Errors
+///
+/// `Input` for IN or, without `keep_going`, for the first input that is refused, in the order of the words; `Output` and
+/// `Report` where that writer failed; `OutOfMemory`.
+pub fn run_admit<R: Source, S: Source + Opens, T: Target, P: Sink>(
+    heap: Heap,
+    keep_going: bool,
+    input: &mut R,
+    files: &mut [S],
+    notes: &mut Vec<Note, Heap>,
+    out: &mut Output<T::Draft, T>,
+    report: &mut P,
+) -> Result<Status, CommandFault>
+    ensures ends { EndsAdmit keep_going S.opening_of (reader R.left R.failures input.old input.new)
+        (readers S.left S.failures files.old files.new)
+        (out_of (outs T.Draft.held T.Draft.failures T.published T.failures out.old out.new))
+        (writer P.held P.failures report.old report.new) result }
+    ensures noted { OnOk result (NotesAdmit keep_going S.opening_of (reader R.left R.failures input.old input.new)
+        (readers S.left S.failures files.old files.new) notes.old.items notes.new.items) }
+{
+    if keep_going {
+        admit_passing(heap, input, files, notes, out, report)
+    } else {
+        admit_all(heap, input, files, notes, out, report)
     }
 }

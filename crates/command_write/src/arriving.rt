@@ -1,4 +1,4 @@
-//! The slices of files as they come, each once, and the rows that tell them.
+//! The slices of files as they come, each once, and the rows of these files.
 ghost use Rattle.std.specs.Prelude.{◌≡◌, ◌++◌, ◌∷◌, ℕ, ◌<◌, List, [], length, map, IfOk, OnOk};
 ghost use Rattle.std.specs.Prelude.{slice_index_or, slice_set};
 ghost use Rattle.std.specs.FinSet as set;
@@ -7,23 +7,27 @@ ghost use Rattle.archive_core.specs.Record.{admission_record};
 ghost use Rattle.archive_admission.specs.Take.{admitted, taken_of};
 ghost use Rattle.archive_merge.specs.Arrivals.{is_new};
 ghost use Rattle.text_reports.specs.declared.rows.AdmitRow.{AdmitRow};
-ghost use Rattle.command_write.specs.Admit.{file_rows};
-ghost use Rattle.command_write.specs.InnerArriving.{AreFirstRows, images_in, record_in, row_again, rows_again};
+ghost use Rattle.command_write.specs.declared.file_rows.FileRow.{FileRow};
+ghost use Rattle.command_write.specs.declared.file_rows.FileRow.TheVariants.{Part, PassedOver};
+ghost use Rattle.command_write.specs.InnerArriving.{AreFirstRows, images_in, record_in, row_again, row_of, rows_again};
 ghost use Rattle.command_write.specs.InnerArriving.{slice_rows, taken_again};
+ghost use Rattle.command_write.specs.PassedOver.{part_rows};
 
+use crate::file_rows::FileRow;
 use archive_admission::Taken;
 use archive_core::{Archive, Slice};
 use archive_index::PlainArchive;
 use archive_merge::Arrival;
+use command_common::Why;
 use memory::{Heap, NoMemory};
 use text_reports::AdmitRow;
 
-/// The slices that came, each once, the row of each part, and beside each slice the number of its first row.
+/// The slices that came, each once, the rows of their files, and beside each slice the number of its first row.
 #[derive(Drop)]
 pub struct Arrivals {
     pub came: PlainArchive,
     pub first_rows: Vec<u64, Heap>,
-    pub rows: Vec<AdmitRow, Heap>,
+    pub rows: Vec<FileRow, Heap>,
 }
 
 impl Arrivals {
@@ -46,7 +50,7 @@ impl Arrivals {
         ensures rows { OnOk result (self.new.rows.items ≡ self.old.rows.items) }
         ensures are_first { IfOk result (λ taken. (records : List (List ℕ)) (row : AdmitRow) → row.taken ≡ taken
             → AreFirstRows (listing self.old.came) self.old.first_rows.items self.old.rows.items records
-            → AreFirstRows (listing self.new.came) self.new.first_rows.items (self.old.rows.items ++ row ∷ [])
+            → AreFirstRows (listing self.new.came) self.new.first_rows.items (self.old.rows.items ++ Part row ∷ [])
             (records ++ admission_record slice ∷ [])) }
     {
         let key = slice.key();
@@ -65,13 +69,17 @@ impl Arrivals {
         }
     }
 
-    fn push_row(&mut self, file: u64, slice: u64, taken: Taken) -> Result<(), NoMemory>
-        ensures rows { OnOk result
-            (self.new.rows.items ≡ self.old.rows.items ++ record { file = file; slice = slice; taken = taken } ∷ []) }
+    /// Adds the row of a part of a file, or of the file, which is passed over.
+    fn push_row(&mut self, file: u64, told: Result<(u64, Taken), Why>) -> Result<(), NoMemory>
+        ensures rows { OnOk result (self.new.rows.items ≡ self.old.rows.items ++ row_of file told ∷ []) }
         ensures came { self.new.came ≡ self.old.came }
         ensures first_rows { self.new.first_rows.items ≡ self.old.first_rows.items }
     {
-        self.rows.push(AdmitRow { file, slice, taken })?;
+        let row = match told {
+            Ok((slice, taken)) => FileRow::Part(AdmitRow { file, slice, taken }),
+            Err(why) => FileRow::PassedOver { file, why },
+        };
+        self.rows.push(row)?;
         Ok(())
     }
 
@@ -79,7 +87,7 @@ impl Arrivals {
     fn take_part(&mut self, file: u64, number: u64, part: Option<Slice>) -> Result<(), NoMemory>
         ensures came { OnOk result (self.new.came ≡ admitted self.old.came (images_in (part ∷ []))) }
         ensures rows { OnOk result (self.new.rows.items
-            ≡ self.old.rows.items ++ file_rows file number (slice_rows self.old.came (part ∷ []))) }
+            ≡ self.old.rows.items ++ part_rows file number (slice_rows self.old.came (part ∷ []))) }
         ensures are_first { OnOk result ((records : List (List ℕ))
             → AreFirstRows (listing self.old.came) self.old.first_rows.items self.old.rows.items records
             → AreFirstRows (listing self.new.came) self.new.first_rows.items self.new.rows.items
@@ -88,9 +96,9 @@ impl Arrivals {
         match part {
             Some(slice) => {
                 let taken = self.take_slice(slice)?;
-                self.push_row(file, number, taken)
+                self.push_row(file, Ok((number, taken)))
             }
-            None => self.push_row(file, number, Taken::Skipped),
+            None => self.push_row(file, Ok((number, Taken::Skipped))),
         }
     }
 
@@ -102,7 +110,7 @@ impl Arrivals {
     ) -> Result<(), NoMemory>
         ensures came { OnOk result (self.new.came ≡ admitted self.old.came (images_in slices.items)) }
         ensures rows { OnOk result (self.new.rows.items
-            ≡ self.old.rows.items ++ file_rows file 0 (slice_rows self.old.came slices.items)) }
+            ≡ self.old.rows.items ++ part_rows file 0 (slice_rows self.old.came slices.items)) }
         ensures are_first { OnOk result ((records : List (List ℕ))
             → AreFirstRows (listing self.old.came) self.old.first_rows.items self.old.rows.items records
             → AreFirstRows (listing self.new.came) self.new.first_rows.items self.new.rows.items
@@ -114,6 +122,18 @@ impl Arrivals {
             number += 1;
         }
         Ok(())
+    }
+
+    /// Adds the row of the file of this number, which is passed over.
+    pub fn pass_over(&mut self, file: u64, why: Why) -> Result<(), NoMemory>
+        ensures came { self.new.came ≡ self.old.came }
+        ensures rows { OnOk result (self.new.rows.items ≡ self.old.rows.items ++ PassedOver file why ∷ []) }
+        ensures are_first { OnOk result ((records : List (List ℕ))
+            → AreFirstRows (listing self.old.came) self.old.first_rows.items self.old.rows.items records
+            → AreFirstRows (listing self.new.came) self.new.first_rows.items self.new.rows.items
+            (records ++ [] ∷ [])) }
+    {
+        self.push_row(file, Err(why))
     }
 }
 
@@ -134,26 +154,29 @@ fn taken_again(taken: Taken, new: bool) -> Taken
     }
 }
 
-fn row_again(row: AdmitRow, new: bool) -> AdmitRow
+fn row_again(row: FileRow, new: bool) -> FileRow
     ensures { result ≡ row_again new row }
 {
-    AdmitRow {
-        file: row.file,
-        slice: row.slice,
-        taken: taken_again(row.taken, new),
+    match row {
+        FileRow::Part(row) => FileRow::Part(AdmitRow {
+            file: row.file,
+            slice: row.slice,
+            taken: taken_again(row.taken, new),
+        }),
+        FileRow::PassedOver { file, why } => FileRow::PassedOver { file, why },
     }
 }
 
-fn tell_row(rows: &mut [AdmitRow], number: usize, new: bool)
+fn tell_row(rows: &mut [FileRow], number: usize, new: bool)
     requires { number < length rows.old }
-    ensures { (none : AdmitRow)
+    ensures { (none : FileRow)
         → rows.new ≡ slice_set rows.old number (row_again new (slice_index_or rows.old number none)) }
 {
     rows[number] = row_again(rows[number], new);
 }
 
 /// Tells the rows again of which slices came, by what each of these is to IN.
-pub fn tell_rows(rows: &mut [AdmitRow], first_rows: &[u64], told: &[Arrival])
+pub fn tell_rows(rows: &mut [FileRow], first_rows: &[u64], told: &[Arrival])
     requires { (came records : List (List ℕ)) × AreFirstRows came first_rows.now rows.old records
         × (length told.now ≡ length came) }
     ensures { (arrival : List ℕ → Arrival) (came records : List (List ℕ)) → AreFirstRows came first_rows.now rows.old records

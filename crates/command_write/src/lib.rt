@@ -3,7 +3,8 @@
 //! Each reads what comes in by its other words first, and writes OUT as its first input comes.
 //!
 //! - `new`, `admit`, `retire`, `merge`, `migrate`, `apply`, `summary`, `delta`: a command each;
-//! - `arriving`: the slices of files, each once, and the rows that tell them;
+//! - `arriving`: the slices of files, each once, and the rows of these files;
+//! - `file_rows`: those rows, and their lines;
 //! - `joining`: IN, merged with an archive that is at hand;
 //! - `telling`: IN, merged with operations that are at hand, and what each of these is to IN;
 //! - `notes`: what a command notes of what it was asked for and is not there;
@@ -23,6 +24,9 @@
 //!   merged. An operation changes a join if it changes either side. `admit` keeps beside each slice the number of the
 //!   row that first brought it. A slice that OPS retires after its admission stands beside its retirement in what IN is
 //!   merged with, as in a text of version 1: it counts as new if IN has neither, and does not come in.
+//! - With `--keep-going` a FILE that is refused is a row, so what stops `admit` is IN, OUT or want of memory. A reader that
+//!   fails fails for its own FILE; no clause speaks of what the readers of other FILEs do, but that those of accepted ones
+//!   do not fail. Whether a FILE could not be opened its reader says (`Opens`), since the report is written here.
 //! - `migrate` is such a merge with the 17 bytes of the archive that holds nothing.
 //! - A note is a value, added to a list of the caller's before OUT is published, so that nothing was done if memory is
 //!   wanting for it. A note names IN by its word in the help and not by its path.
@@ -34,6 +38,7 @@ mod apply;
 mod arriving;
 mod copying;
 mod delta;
+mod file_rows;
 mod joining;
 mod merge;
 mod migrate;

@@ -4,11 +4,11 @@ use Rattle.std.specs.List.{AllByRecursion, concat}
 use Rattle.std.proofs.lemmas.Bool.{and_parts, false_from_ne_true, or_right}
 use Rattle.std.proofs.lemmas.List.Sums.{fold-append}
 use Rattle.std.proofs.lemmas.Slice.Eq.{bytes_eq-Decides}
-use Rattle.cli_files.specs.FileCalls.{FileCall, Creates, Opens, Writes, Syncs, Renames, SyncsFolder, Removes, Finds, FindsLink, Leads, are_probes, drafting, is_probe, publishing, writing}
+use Rattle.cli_files.specs.FileCalls.{FileCall, Creates, Opens, Writes, Syncs, Renames, SyncsFolder, Removes, Finds, FindsLink, Leads, are_probes, drafting, is_probe, publishing, taking, writing}
 use Rattle.cli_files.specs.Publishing.{IsDescriptor, IsDraftRemoved, IsDrafted, IsReplaced, IsTargetOf, IsWrittenThrough, draft_mode, folder_of, there}
 use Rattle.cli_files.specs.declared.found.Found.{Found}
 use Rattle.cli_files.specs.declared.replaceable.Replaces.{Replaces}
-use Rattle.cli_files.proofs.Publishings.{target_probes, tested_probes}
+use Rattle.cli_files.proofs.Publishings.{taking_probes, target_probes, tested_probes}
 use Rattle.laws_archive.specs.Crashes.{DraftState, MayBeAt, Old, New, Torn, Touched, behind, no_draft, replay}
 
 -- Where it was renamed it has the whole text, and that is on the disk; the target itself was not touched.
@@ -128,8 +128,8 @@ module _ (draft target : List ℕ) (other : draft ≢ target) (probes : List Fil
 -- ---- what a crash leaves
 
 module _ (path text : List ℕ) (replaces : Replaces) (calls : List FileCall) (is : IsReplaced path replaces text calls) where
-  asked_first : are_probes is.probes ≡ true
-  asked_first = target_probes replaces path is.target is.probes is.target_is
+  asked_first : are_probes (is.probes ++ taking is.taken) ≡ true
+  asked_first = taking_probes is.probes is.taken (target_probes replaces path is.target is.probes is.target_is)
 
   are_tested : are_probes is.tests ≡ true
   are_tested = tested_probes replaces is.draft is.target is.tests is.tested
@@ -137,9 +137,9 @@ module _ (path text : List ℕ) (replaces : Replaces) (calls : List FileCall) (i
   whole_at : (done : ℕ) → IsWhole text (replay is.target (take done calls))
   whole_at done =
       subst (λ cs. IsWhole text (replay is.target (take done cs))) (sym is.calls_are)
-      (subst (λ t. IsWhole t (replay is.target (take done (front is.draft is.target is.beside.apart is.probes (draft_mode (there is.probes)) is.pieces is.tests asked_first are_tested
+      (subst (λ t. IsWhole t (replay is.target (take done (front is.draft is.target is.beside.apart (is.probes ++ taking is.taken) (draft_mode (there is.probes)) is.pieces is.tests asked_first are_tested
       ++ publishing is.draft is.target (folder_of is.target))))) is.whole
-      (placed is.draft is.target is.beside.apart is.probes (draft_mode (there is.probes)) is.pieces is.tests asked_first are_tested (folder_of is.target) done))
+      (placed is.draft is.target is.beside.apart (is.probes ++ taking is.taken) (draft_mode (there is.probes)) is.pieces is.tests asked_first are_tested (folder_of is.target) done))
 
   pub any_moment : (before left : Option (List ℕ)) (done : ℕ) → MayBeAt before (replay is.target (take done calls)) left
       → (left ≡ before) ⊎ (left ≡ Some text)
@@ -156,7 +156,7 @@ module _ (path text : List ℕ) (replaces : Replaces) (calls : List FileCall) (i
       leaves left _
       (subst (λ cs. IsWhole text (replay is.target cs)) (take_all (length calls) calls (omega arith)) (whole_at (length calls)))
       (ap (λ cs. (replay is.target cs).kept) is.calls_are
-      ∙ kept is.draft is.target is.beside.apart is.probes (draft_mode (there is.probes)) is.pieces is.tests asked_first are_tested (folder_of is.target)) may
+      ∙ kept is.draft is.target is.beside.apart (is.probes ++ taking is.taken) (draft_mode (there is.probes)) is.pieces is.tests asked_first are_tested (folder_of is.target)) may
     where
       leaves : (left : Option (List ℕ)) (d : DraftState) → IsWhole text d → d.kept ≡ true → MayBeAt before d left → left ≡ Some text
       leaves _ d whole kept (Old unkept) = cc
@@ -173,7 +173,7 @@ module _ (path text : List ℕ) (replaces : Replaces) (calls : List FileCall) (i
       by_case (inr (found, replaced, inr link)) =
           inr (subst (λ cs. Contains cs (Leads path is.target))
           (sym (is.calls_are
-          ∙ ap (λ probes. probes ++ drafting is.draft (draft_mode (there is.probes)) is.pieces ++ is.tests
+          ∙ ap (λ probes. probes ++ taking is.taken ++ drafting is.draft (draft_mode (there is.probes)) is.pieces ++ is.tests
           ++ publishing is.draft is.target (folder_of is.target))
           (link ∙ ap (λ f. f ++ FindsLink path ∷ Leads path is.target ∷ []) replaced.probes_are)))
           (3, grind arith, refl))
@@ -200,8 +200,9 @@ removed_leaves replaces path calls before left done is may =
         → IsStill (replay is.target (take done calls))
     still_at rest are off =
         subst (λ cs. IsStill (replay is.target (take done cs))) (sym (are ∙ ap (λ cs. cs ++ is.taken_back.0 ++ rest) drafted.calls_are))
-        (removed is.draft is.target drafted.beside.apart drafted.probes (draft_mode (there drafted.probes)) drafted.pieces is.taken_back.0
-        (target_probes replaces path is.target drafted.probes drafted.target_is) is.taken_back.1 rest done off)
+        (removed is.draft is.target drafted.beside.apart (drafted.probes ++ taking drafted.taken) (draft_mode (there drafted.probes)) drafted.pieces is.taken_back.0
+        (taking_probes drafted.probes drafted.taken (target_probes replaces path is.target drafted.probes drafted.target_is))
+        is.taken_back.1 rest done off)
 
     leaves : (left : Option (List ℕ)) (d : DraftState) → IsStill d → MayBeAt before d left → left ≡ before
     leaves _ d still (Old unkept) = refl

@@ -1,5 +1,5 @@
 -- What is told of frames is what `symbolicate` tells of each, and depends on the content alone.
-use Rattle.std.proofs.Common.{◌≡◌, ◌↔◌, ℕ, Bool, if◌then◌else◌, List, [], ◌∷◌, map, Ok, refl, sym, ap, ◌∙◌, subst, arith, append-nil}
+use Rattle.std.proofs.Common.{◌≡◌, ◌↔◌, ℕ, Bool, false, if◌then◌else◌, List, [], ◌∷◌, map, Ok, refl, sym, ap, ◌∙◌, subst, arith, append-nil}
 use Rattle.std.specs.List.{AllByRecursion, AllZip, flat_map, list_all}
 use Rattle.std.proofs.lemmas.List.Folds.{flat_map-map}
 use Rattle.archive_core.specs.Content.{Operations}
@@ -13,12 +13,13 @@ use Rattle.dwarf_source_frames.specs.AddressFrames.{AreFramesOf}
 use Rattle.dwarf_source_frames.specs.Frames.{FrameRecord}
 use Rattle.command_common.specs.declared.faults.Status.{Status}
 use Rattle.command_common.specs.declared.faults.Status.TheVariants.{Done, Partial}
-use Rattle.command_queries.specs.Frames.{IsFrameAnswered, TellsFrames, MakesFramed, Told, IsToldAlone, SymbolicatesEach, is_done}
+use Rattle.command_queries.specs.Frames.{IsFrameAnswered, TellsFrames, TellsFramesWith, MakesFramed, Told, IsToldAlone, SymbolicatesEach, is_done}
 use Rattle.command_common.specs.Inputs.{Reader, IsGiven}
 use Rattle.command_queries.specs.Symbolicate.{Answered, IsAnswered, TellsAddresses, is_symbol, answers_status, answers_text}
 use Rattle.laws_archive.specs.Joins.{IsGivenJoin}
 use Rattle.laws_archive.proofs.Joins.{holds_join, told_of_join}
 use Rattle.laws_archive.proofs.Given.{gives, is_given, one_value}
+use Rattle.laws_archive.proofs.SlicesTold.{frames_once}
 use Rattle.laws_archive.proofs.Viewed.{alike_told, one_seen, seen}
 
 -- ---- an answer alone
@@ -72,20 +73,20 @@ each_row lines input others o _ _ given all = absurd all
 
 -- ---- frames of archives that have this content together
 
-pub frames_of_join : {R S T : Type 0} (lines : Bool) (input : Reader R) (first : Reader S) (others : List (Reader T)) (bytes : List ℕ) (listed : List Frame) (o : Operations) (status : Status) (text : List ℕ)
-    → IsGiven input bytes → frames_of bytes ≡ Ok listed → IsGivenJoin first others o → MakesFramed lines input first others status text → TellsFrames lines o listed status text
-frames_of_join lines input first others bytes listed o status text is says given_join makes =
+pub frames_of_join : {R S T : Type 0} (lines slices : Bool) (input : Reader R) (first : Reader S) (others : List (Reader T)) (bytes : List ℕ) (listed : List Frame) (o : Operations) (status : Status) (text : List ℕ)
+    → IsGiven input bytes → frames_of bytes ≡ Ok listed → IsGivenJoin first others o → MakesFramed lines slices input first others status text → TellsFramesWith lines slices o listed status text
+frames_of_join lines slices input first others bytes listed o status text is says given_join makes =
     let also = is_given input bytes (λ b. frames_of b ≡ Ok makes.listed) is makes.frames_are in
     let frames = one_value (frames_of bytes) makes.listed listed also says in
-    subst (λ (fs : List Frame). TellsFrames lines o fs status text) frames (told_of_join first others o given_join (λ p. TellsFrames lines p makes.listed status text) makes.tells)
+    subst (λ (fs : List Frame). TellsFramesWith lines slices o fs status text) frames (told_of_join first others o given_join (λ p. TellsFramesWith lines slices p makes.listed status text) makes.tells)
 
 pub each_is : {R S T : Type 0} (lines : Bool) (input : Reader R) (first : Reader S) (others : List (Reader T)) (bytes : List ℕ) (listed : List Frame) (o : Operations) (status : Status) (text : List ℕ)
-    → IsGiven input bytes → frames_of bytes ≡ Ok listed → IsGivenJoin first others o → MakesFramed lines input first others status text ↔ SymbolicatesEach lines first others listed status text
+    → IsGiven input bytes → frames_of bytes ≡ Ok listed → IsGivenJoin first others o → MakesFramed lines false input first others status text ↔ SymbolicatesEach lines first others listed status text
 each_is lines input first others bytes listed o status text is says given_join = (to, back)
   where
-    to : MakesFramed lines input first others status text → SymbolicatesEach lines first others listed status text
+    to : MakesFramed lines false input first others status text → SymbolicatesEach lines first others listed status text
     to makes =
-        let tells = frames_of_join lines input first others bytes listed o status text is says given_join makes in
+        let tells : TellsFrames lines o listed status text = frames_of_join lines false input first others bytes listed o status text is says given_join makes in
         record {
           told = map alone_told tells.rows;
           alone = each_alone lines first others o listed tells.rows given_join tells.answered;
@@ -93,7 +94,7 @@ each_is lines input first others bytes listed o status text is says given_join =
           text_is = tells.text_is ∙ one_text tells.rows;
         }
 
-    back : SymbolicatesEach lines first others listed status text → MakesFramed lines input first others status text
+    back : SymbolicatesEach lines first others listed status text → MakesFramed lines false input first others status text
     back each =
         let rows = each_row lines first others o listed each.told given_join each.alone in
         let symbols = ap (list_all (λ (one : Told). is_done one.status)) rows.2 ∙ sym (all_done rows.0) in
@@ -129,11 +130,11 @@ module _ (one : (o : Operations) (key : SliceKey) (place : Where) (answer other 
       let told = alike_told a.rows b.rows (all_seen lines o frames a.rows b.rows a.answered b.answered) in
       (a.status_is ∙ told.0 ∙ sym b.status_is, a.text_is ∙ told.1 ∙ sym b.text_is)
 
-  pub one_made : {Q R S T U V : Type 0} (lines : Bool) (input : Reader Q) (first : Reader R) (others : List (Reader S)) (also : Reader T) (other : Reader U) (more : List (Reader V)) (bytes : List ℕ) (o : Operations)
+  pub one_made : {Q R S T U V : Type 0} (lines slices : Bool) (input : Reader Q) (first : Reader R) (others : List (Reader S)) (also : Reader T) (other : Reader U) (more : List (Reader V)) (bytes : List ℕ) (o : Operations)
       (status other_status : Status) (text other_text : List ℕ) → IsGiven input bytes → IsGiven also bytes → IsGivenJoin first others o → IsGivenJoin other more o
-      → MakesFramed lines input first others status text → MakesFramed lines also other more other_status other_text → (status ≡ other_status) × (text ≡ other_text)
-  one_made lines input first others also other more bytes o status other_status text other_text is also_is first_given other_given makes other_makes =
+      → MakesFramed lines slices input first others status text → MakesFramed lines slices also other more other_status other_text → (status ≡ other_status) × (text ≡ other_text)
+  one_made lines slices input first others also other more bytes o status other_status text other_text is also_is first_given other_given makes other_makes =
       let says = is_given input bytes (λ b. frames_of b ≡ Ok makes.listed) is makes.frames_are in
-      one_told lines o makes.listed status other_status text other_text
-      (frames_of_join lines input first others bytes makes.listed o status text is says first_given makes)
-      (frames_of_join lines also other more bytes makes.listed o other_status other_text also_is says other_given other_makes)
+      frames_once one_told lines slices o makes.listed status other_status text other_text
+      (frames_of_join lines slices input first others bytes makes.listed o status text is says first_given makes)
+      (frames_of_join lines slices also other more bytes makes.listed o other_status other_text also_is says other_given other_makes)

@@ -5,9 +5,8 @@ use Rattle.archive_records.specs.declared.format.Format.{Format}
 use Rattle.archive_records.specs.declared.format.Format.TheVariants as format
 use Rattle.archive_records.specs.declared.kind.TextKind.TheVariants.{Archive, Summary}
 use Rattle.index_format.specs.Text.{index_magic}
-use Rattle.cli_files.specs.FileCalls.{FileCall, Begins, Compares, Finds, FindsNothing, Gives}
+use Rattle.cli_files.specs.FileCalls.{FileCall, Begins, Compares, Finds, FindsNothing}
 use Rattle.cli_files.specs.Publishing.{BeginsSo, IsReplaced, IsTested, both_give}
-use Rattle.cli_files.specs.declared.found.Found.{Found}
 use Rattle.cli_files.specs.Replacing.{GivesWay, IsMagicOf}
 use Rattle.cli_files.specs.declared.replaceable.Replaces.{Replaces}
 use Rattle.cli_files.specs.declared.replaceable.Replaces.TheVariants.{ArchivesBelow, Summaries, Indexes, SameBytes}

@@ -8,6 +8,7 @@ pub mod Accepted
 pub mod Joins
 pub mod Least
 pub mod Viewed
+pub mod SlicesTold
 pub mod FramesTold
 pub mod OneRehearsal
 pub mod Crashes

@@ -3,7 +3,7 @@
 use Rattle.std.specs.Prelude.{◌≡◌, ℕ, Bool, true, false, ◌||◌, List, [], ◌++◌, fold, Option, Some}
 use Rattle.std.specs.Str.{bytes_eq}
 use Rattle.cli_files.specs.FileCalls.{FileCall, Creates, Opens, Writes, Syncs, Renames, SyncsFolder, Removes}
-use Rattle.cli_files.specs.FileCalls.{Finds, FindsNothing, FindsLink, FindsNoLink, Leads, Begins, Gives}
+use Rattle.cli_files.specs.FileCalls.{Finds, FindsNothing, FindsLink, FindsNoLink, FindsTaken, Leads, Begins, Gives}
 use Rattle.cli_files.specs.FileCalls.{Compares, WantsMemory, Refuses}
 
 -- The draft after some calls: its bytes, whether they are on the disk, whether it was renamed to the target, whether
@@ -25,6 +25,7 @@ behind target d (Finds path found) = d
 behind target d (FindsNothing path) = d
 behind target d (FindsLink path) = d
 behind target d (FindsNoLink path) = d
+behind target d (FindsTaken path) = d
 behind target d (Leads path to) = d
 behind target d (Begins path bytes) = d
 behind target d (Gives path bytes) = d

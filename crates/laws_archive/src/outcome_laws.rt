@@ -11,11 +11,15 @@ ghost use Rattle.archive_core.specs.Summary.{Entries};
 ghost use Rattle.archive_records.specs.Entry.{AreEntries};
 ghost use Rattle.archive_records.specs.Text.{IsOperationsText, summary_text, AreOperations, old_written, written};
 ghost use Rattle.archive_admission.specs.File.{IsAcceptedFile, parts};
-ghost use Rattle.command_write.specs.Admit.{admit, admit_rows, file_rows, images_of};
+ghost use Rattle.byte_openings.specs.declared.openings.Opening.{Opening};
+ghost use Rattle.command_common.specs.declared.faults.Status.TheVariants.{Done};
+ghost use Rattle.command_write.specs.Admit.{MakesAdmitted, admit, admit_rows, file_rows, images_of};
+ghost use Rattle.command_write.specs.PassedOver.{MakesPassing};
 ghost use Rattle.command_write.specs.Apply.{apply};
 ghost use Rattle.command_write.specs.Delta.{delta};
 ghost use Rattle.command_common.specs.Ends.{MakeOne, Ends, EndsStreamed};
-ghost use Rattle.command_common.specs.Inputs.{IsGiven, IsGivenArchive, Reader, RefusesDevicesAlone, IsDeviceFault};
+ghost use Rattle.command_common.specs.Inputs.{EachUnfailed, IsGiven, IsGivenArchive, Reader, RefusesDevicesAlone};
+ghost use Rattle.command_common.specs.Inputs.{IsDeviceFault};
 ghost use Rattle.command_write.specs.Merge.{merge, operations_of, MakesMerged};
 ghost use Rattle.command_write.specs.Migrate.{migrate, MakesMigrated};
 ghost use Rattle.command_write.specs.Retire.{retire};
@@ -128,6 +132,20 @@ pub fn accepted_inputs_are_not_refused<R: Source, S: Source>()
 {
     one_take_fault();
 }
+
+/// What `admit` makes that passes over files, with the status that all was done, is what it makes that is refused for
+/// one, and the other way round, where no reader of a file fails.
+pub fn none_passed_over<R: Source, S: Source>()
+    ensures done { (opening : S → Opening) (input : Reader R) (files : List (Reader S)) (o : Operations)
+        (lines : List ℕ)
+        → MakesPassing opening input files Done o lines
+        → MakesAdmitted input files o lines }
+    ensures accepted { (opening : S → Opening) (input : Reader R) (files : List (Reader S)) (o : Operations)
+        (lines : List ℕ)
+        → MakesAdmitted input files o lines
+        → EachUnfailed files
+        → MakesPassing opening input files Done o lines }
+{}
 
 /// The content that `admit` makes is IN's with the admissions of the files' images, in whatever order and however often
 /// the files stand among the words.

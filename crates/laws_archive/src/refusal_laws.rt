@@ -72,15 +72,15 @@ pub fn same_inputs_end_alike<O: Source, P: Source, Q: Source, R: Source, S: Sour
         → ArchivesHoldAlike archive others also more
         → EndAlike (name archive others sought) (name also more sought) }
     ensures symbolicate { (archive : Reader Q) (others : List (Reader R)) (also : Reader S) (more : List (Reader T))
-        (key : SliceKey) (load : Option ℕ) (lines : Bool) (addresses : List ℕ)
+        (key : SliceKey) (load : Option ℕ) (lines slices : Bool) (addresses : List ℕ)
         → ArchivesHoldAlike archive others also more
-        → EndAlike (symbolicate archive others key load lines addresses)
-        (symbolicate also more key load lines addresses) }
-    ensures frames { (lines : Bool) (input : Reader O) (archive : Reader Q) (others : List (Reader R))
+        → EndAlike (symbolicate archive others key load lines slices addresses)
+        (symbolicate also more key load lines slices addresses) }
+    ensures frames { (lines slices : Bool) (input : Reader O) (archive : Reader Q) (others : List (Reader R))
         (also : Reader P) (other : Reader S) (more : List (Reader T))
         → HoldAlike input also
         → ArchivesHoldAlike archive others other more
-        → EndAlike (frames lines input archive others) (frames lines also other more) }
+        → EndAlike (frames lines slices input archive others) (frames lines slices also other more) }
     ensures rehearse { (script : Reader O) (other : Reader P)
         → HoldAlike script other
         → EndAlike (rehearse script) (rehearse other) }

@@ -18,10 +18,10 @@ ghost use Rattle.command_common.specs.Found.{TellsFound};
 ghost use Rattle.command_common.specs.Inputs.{Gives, HoldsContent, IsGiven, IsGivenArchive, IsRefusedArchive, Reader};
 ghost use Rattle.command_common.specs.Inputs.{RefusesDevicesAlone, Unfailed};
 ghost use Rattle.command_queries.specs.Find.{MakesFound, find};
-ghost use Rattle.command_queries.specs.Frames.{MakesFramed, SymbolicatesEach, TellsFrames, frames};
+ghost use Rattle.command_queries.specs.Frames.{MakesFramed, SymbolicatesEach, TellsFramesWith, frames};
 ghost use Rattle.command_queries.specs.List.{MakesListed, list};
 ghost use Rattle.command_queries.specs.Name.{MakesNamed, TellsNamed, name};
-ghost use Rattle.command_queries.specs.Symbolicate.{MakesAnswered, TellsAddresses, symbolicate};
+ghost use Rattle.command_queries.specs.Symbolicate.{MakesAnswered, TellsAddresses, TellsAddressesWith, symbolicate};
 ghost use Rattle.archive_exchange.specs.Rehearse.{MakesRehearsed, rehearse, held_line};
 ghost use Rattle.laws_archive.specs.Joins.{AreDevicesAlone, IsGivenJoin, IsMergedFile, TellAlike, TellOne};
 ghost use Rattle.archive_exchange.specs.Reached.{reached};
@@ -46,27 +46,29 @@ pub fn accepted_inputs_are_not_refused<Q: Source, R: Source, S: Source>()
         → IsGivenJoin archive others o
         → AreDevicesAlone (name archive others sought).Refuses }
     ensures symbolicate { (archive : Reader R) (others : List (Reader S)) (o : Operations) (key : SliceKey)
-        (load : Option ℕ) (lines : Bool) (addresses : List ℕ)
+        (load : Option ℕ) (lines slices : Bool) (addresses : List ℕ)
         → IsGivenJoin archive others o
-        → AreDevicesAlone (symbolicate archive others key load lines addresses).Refuses }
-    ensures frames { (lines : Bool) (input : Reader Q) (archive : Reader R) (others : List (Reader S))
+        → AreDevicesAlone (symbolicate archive others key load lines slices addresses).Refuses }
+    ensures frames { (lines slices : Bool) (input : Reader Q) (archive : Reader R) (others : List (Reader S))
         (bytes : List ℕ) (listed : List Frame) (o : Operations)
         → IsGiven input bytes
         → frames_of bytes ≡ Ok listed
         → IsGivenJoin archive others o
-        → AreDevicesAlone (frames lines input archive others).Refuses }
+        → AreDevicesAlone (frames lines slices input archive others).Refuses }
     ensures rehearse { (script : Reader Q) (bytes : List ℕ) (sites : ℕ) (events : List Act)
         → IsGiven script bytes
         → script_of bytes ≡ Ok (sites, events)
         → AreDevicesAlone (rehearse script).Refuses }
 {}
 
-/// A content tells one status and one text of a UUID, of a name and of addresses, whatever archive keeps it.
+/// A content tells one status and one text of a UUID, of a name and of addresses, with the lines of the slices that
+/// answer and without, whatever archive keeps it.
 pub fn one_telling()
     ensures find { (o : Operations) (uuid : List ℕ) → TellOne (TellsFound o uuid) (TellsFound o uuid) }
     ensures name { (o : Operations) (sought : List ℕ) → TellOne (TellsNamed o sought) (TellsNamed o sought) }
-    ensures symbolicate { (o : Operations) (key : SliceKey) (load : Option ℕ) (lines : Bool) (addresses : List ℕ)
-        → TellOne (TellsAddresses o key load lines addresses) (TellsAddresses o key load lines addresses) }
+    ensures symbolicate { (o : Operations) (key : SliceKey) (load : Option ℕ) (lines slices : Bool) (addresses : List ℕ)
+        → TellOne (TellsAddressesWith o key load lines slices addresses)
+        (TellsAddressesWith o key load lines slices addresses) }
 {
     one_answer();
     one_find();
@@ -93,18 +95,18 @@ pub fn one_report<Q: Source, R: Source, S: Source, T: Source, U: Source, V: Sour
         → IsGivenJoin also more o
         → TellOne (MakesNamed archive others sought) (MakesNamed also more sought) }
     ensures symbolicate { (archive : Reader R) (others : List (Reader S)) (also : Reader T) (more : List (Reader U))
-        (o : Operations) (key : SliceKey) (load : Option ℕ) (lines : Bool) (addresses : List ℕ)
+        (o : Operations) (key : SliceKey) (load : Option ℕ) (lines slices : Bool) (addresses : List ℕ)
         → IsGivenJoin archive others o
         → IsGivenJoin also more o
-        → TellOne (MakesAnswered archive others key load lines addresses)
-        (MakesAnswered also more key load lines addresses) }
-    ensures frames { (lines : Bool) (input : Reader Q) (archive : Reader R) (others : List (Reader S))
+        → TellOne (MakesAnswered archive others key load lines slices addresses)
+        (MakesAnswered also more key load lines slices addresses) }
+    ensures frames { (lines slices : Bool) (input : Reader Q) (archive : Reader R) (others : List (Reader S))
         (also : Reader T) (other : Reader U) (more : List (Reader V)) (bytes : List ℕ) (o : Operations)
         → IsGiven input bytes
         → IsGiven also bytes
         → IsGivenJoin archive others o
         → IsGivenJoin other more o
-        → TellOne (MakesFramed lines input archive others) (MakesFramed lines also other more) }
+        → TellOne (MakesFramed lines slices input archive others) (MakesFramed lines slices also other more) }
     ensures rehearse { (script : Reader Q) (other : Reader R) (bytes : List ℕ)
         → IsGiven script bytes
         → IsGiven other bytes
@@ -127,13 +129,14 @@ pub fn asked_together<Q: Source, R: Source, S: Source, T: Source>()
         → IsMergedFile archive others file
         → TellAlike (MakesNamed archive others sought) (MakesNamed {S = S} file [] sought) }
     ensures symbolicate { (archive : Reader R) (others : List (Reader S)) (file : Reader T) (key : SliceKey)
-        (load : Option ℕ) (lines : Bool) (addresses : List ℕ)
+        (load : Option ℕ) (lines slices : Bool) (addresses : List ℕ)
         → IsMergedFile archive others file
-        → TellAlike (MakesAnswered archive others key load lines addresses)
-        (MakesAnswered {S = S} file [] key load lines addresses) }
-    ensures frames { (lines : Bool) (input : Reader Q) (archive : Reader R) (others : List (Reader S)) (file : Reader T)
+        → TellAlike (MakesAnswered archive others key load lines slices addresses)
+        (MakesAnswered {S = S} file [] key load lines slices addresses) }
+    ensures frames { (lines slices : Bool) (input : Reader Q) (archive : Reader R) (others : List (Reader S))
+        (file : Reader T)
         → IsMergedFile archive others file
-        → TellAlike (MakesFramed lines input archive others) (MakesFramed {T = S} lines input file []) }
+        → TellAlike (MakesFramed lines slices input archive others) (MakesFramed {T = S} lines slices input file []) }
 {}
 
 /// What is told of one archive is what its content tells.
@@ -144,13 +147,14 @@ pub fn one_archive<Q: Source, R: Source, S: Source>()
     ensures name { (archive : Reader R) (sought : List ℕ)
         → TellAlike (MakesNamed {S = S} archive [] sought)
         (λ status text. HoldsContent archive (λ o. TellsNamed o sought status text)) }
-    ensures symbolicate { (archive : Reader R) (key : SliceKey) (load : Option ℕ) (lines : Bool) (addresses : List ℕ)
-        → TellAlike (MakesAnswered {S = S} archive [] key load lines addresses)
-        (λ status text. HoldsContent archive (λ o. TellsAddresses o key load lines addresses status text)) }
-    ensures frames { (lines : Bool) (input : Reader Q) (archive : Reader R)
-        → TellAlike (MakesFramed {T = S} lines input archive [])
+    ensures symbolicate { (archive : Reader R) (key : SliceKey) (load : Option ℕ) (lines slices : Bool)
+        (addresses : List ℕ)
+        → TellAlike (MakesAnswered {S = S} archive [] key load lines slices addresses)
+        (λ status text. HoldsContent archive (λ o. TellsAddressesWith o key load lines slices addresses status text)) }
+    ensures frames { (lines slices : Bool) (input : Reader Q) (archive : Reader R)
+        → TellAlike (MakesFramed {T = S} lines slices input archive [])
         (λ status text. (listed : List Frame) × Gives input (λ bytes. frames_of bytes ≡ Ok listed)
-        × HoldsContent archive (λ o. TellsFrames lines o listed status text)) }
+        × HoldsContent archive (λ o. TellsFramesWith lines slices o listed status text)) }
 {}
 
 /// One archive is refused, or its reader does not fail, as where there is no list of others.
@@ -186,15 +190,16 @@ pub fn told_without_lines()
         (flat_map (λ row. answer_lines row.address row.answer []) told.rows) }
 {}
 
-/// The lines of a frame are those of `symbolicate` for it: `frames` ends so and writes this text if and only if these
-/// are the status and the text of `symbolicate` over the same archives, asked once for each frame of FRAMES.
+/// The lines of a frame are those of `symbolicate` for it: `frames`, not asked for the lines of slices, ends so and
+/// writes this text if and only if these are the status and the text of `symbolicate` over the same archives, asked
+/// once for each frame of FRAMES.
 pub fn each_is_symbolicated<R: Source, S: Source, T: Source>()
     ensures { (lines : Bool) (input : Reader R) (archive : Reader S) (others : List (Reader T)) (bytes : List ℕ)
         (listed : List Frame) (o : Operations)
         → IsGiven input bytes
         → frames_of bytes ≡ Ok listed
         → IsGivenJoin archive others o
-        → TellAlike (MakesFramed lines input archive others) (SymbolicatesEach lines archive others listed) }
+        → TellAlike (MakesFramed lines false input archive others) (SymbolicatesEach lines archive others listed) }
 {}
 
 /// Sites that the same operations reached, in one rehearsal or in two, have lines that are the same after their

@@ -32,7 +32,6 @@ use Rattle.std.proofs.lemmas.List.Elements.{Contains-get_or}
 use Rattle.std.proofs.lemmas.Map.Keys.{Less-from_sorted}
 use Rattle.join_core.specs.Listing.{listing}
 use Rattle.join_core.proofs.Listing.{listed}
-use Rattle.table_checked_pages.specs.Pages.{stored}
 use Rattle.archive_core.proofs.Members.{in_order}
 use Rattle.archive_core.proofs.Made.{bytes_same}
 use Rattle.archive_records.proofs.Contents.{members_listed, order}

@@ -3,3 +3,5 @@ pub mod Grouped
 pub mod Counted
 pub mod Named
 pub mod FrameTexts
+pub mod Kept
+pub mod Sliced

@@ -3,6 +3,7 @@ pub mod Rows
 pub mod Report
 pub mod Finds
 pub mod Slices
+pub mod InnerSlices
 pub mod Escapes
 pub mod Frames
 pub mod FrameLists

@@ -2,10 +2,10 @@
 use Rattle.std.specs.Prelude.{◌≡◌, ◌≢◌, ◌↔◌, ◌⊎◌, ℕ, List, ◌++◌, codes, Contains}
 use Rattle.std.specs.List.{flat_map}
 use Rattle.std.specs.List.Sorted.{IsStrictlySortedBy}
-use Rattle.std.specs.Ordering.{nat_cmp, on}
+use Rattle.std.specs.Ordering.{nat_cmp, on, then_cmp}
 use Rattle.std.specs.Cmp.Lexicographic.{slice_cmp}
 use Rattle.std.specs.declared.cmp.Ordering.{Ordering}
-use Rattle.archive_core.specs.Key.{IsKey, key_bytes}
+use Rattle.archive_core.specs.Key.{key_bytes}
 use Rattle.archive_core.specs.declared.keys.SliceKey.{SliceKey}
 use Rattle.archive_core.specs.declared.find.FindRow.{FindRow}
 use Rattle.archive_core.specs.declared.find.FindState.TheVariants.{Retired, Dsym}
@@ -36,13 +36,13 @@ HasNoCompanionAmong rows row =
 abbrev pub AnswersAmong : List FindRow → FindRow → Type 0
 AnswersAmong rows row = LivesAmong rows row × ((row.state ≡ Dsym) ⊎ HasNoCompanionAmong rows row)
 
--- rows by their keys, and under one key by the digests
-abbrev pub slice_row_cmp : FindRow → FindRow → Ordering
-slice_row_cmp = on (λ row. key_bytes row.key ++ row.digest.0) (slice_cmp nat_cmp)
-
 -- keys by their bytes
 abbrev pub slice_key_cmp : SliceKey → SliceKey → Ordering
 slice_key_cmp = on key_bytes (slice_cmp nat_cmp)
+
+-- rows by their keys, and under one key by the digests
+abbrev pub slice_row_cmp : FindRow → FindRow → Ordering
+slice_row_cmp = then_cmp (on (λ row. row.key) slice_key_cmp) (on (λ row. row.digest.0) (slice_cmp nat_cmp))
 
 -- no slice answers under the key
 abbrev pub absent_text : SliceKey → List ℕ

@@ -14,7 +14,7 @@ use text_values::Spelled;
 
 // What a line tells of a key.
 #[derive(Clone, Copy)]
-enum KeyForm {
+pub(crate) enum KeyForm {
     // The architecture, where all lines are under one UUID.
     Arch,
     // The UUID too.
@@ -117,7 +117,12 @@ fn group_len(rows: &[FindRow], key: &SliceKey) -> usize
     rows.iter().take_while(|row| is_key(&row.key, key)).count()
 }
 
-fn push_rows(text: &mut String<Heap>, form: KeyForm, rows: &[FindRow]) -> Result<(), NoMemory>
+// Writes a line a row.
+pub(crate) fn push_rows(
+    text: &mut String<Heap>,
+    form: KeyForm,
+    rows: &[FindRow],
+) -> Result<(), NoMemory>
     ensures { OnOk result (string_bytes text.new
         ≡ string_bytes text.old ++ flat_map (λ row. line (find_row_text form row)) rows.now) }
 {

@@ -4,6 +4,7 @@
 //! - `rows`: keys and the rows of reports;
 //! - `report`: reports, made whole in memory;
 //! - `finds`: the lines of `find` and of `list`;
+//! - `slices`: the lines of the slices that answer under keys;
 //! - `frames`: the lines of source frames;
 //! - `answers`: the lines of `symbolicate`;
 //! - `names`: the lines of `name`;
@@ -21,6 +22,7 @@ pub mod laws;
 mod names;
 mod report;
 mod rows;
+mod slices;
 mod texts;
 
 pub use answers::{Escaped, push_answer};
@@ -28,4 +30,5 @@ pub use finds::{find_lines, list_lines};
 pub use names::name_lines;
 pub use report::{admit_lines, apply_line, retire_line, summary_line, with_sizes};
 pub use rows::AdmitRow;
+pub use slices::slices_lines;
 pub use texts::Text;

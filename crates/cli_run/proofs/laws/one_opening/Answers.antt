@@ -1,5 +1,6 @@
 use Rattle.std.proofs.Common.{◌≡◌, ◌∙◌, Err, ap, subst}
 use Rattle.command_common.specs.declared.faults.CommandFault.TheVariants.{Input}
+use Rattle.cli_files.specs.InputStates.{opening_told}
 use Rattle.cli_run.specs.{Openings.IsRefusedByDisk, Plans.Executes, Plans.readers_by}
 use Rattle.cli_run.proofs.Openings.{also_told, at_turn, refused_so, told_as}
 use Rattle.cli_run.proofs.Spared.{spared}
@@ -10,9 +11,9 @@ returns g c = λ told also line plan another before behind first last out more r
     noted old new name why reason input there is are same same_other named named_there one so.
     let found = refused_so told behind is.at_turn name is.ended result is.tells
     (same ∙ ap (λ w. Err (Input name w)) so)
-    (λ at ended. spared plan (readers_by told.left told.failures before behind)
+    (λ at ended. spared (opening_told told) plan (readers_by told.left told.failures before behind)
     (readers_by told.whole told.failures before behind) out report at
-    (subst (λ r. Executes plan (readers_by told.left told.failures before behind)
+    (subst (λ r. Executes (opening_told told) plan (readers_by told.left told.failures before behind)
     (readers_by told.whole told.failures before behind) out report r) ended is.executes)) in
     let input_is : found.0 ≡ input = cc in
     also_told told also last name input there reason (subst (IsRefusedByDisk told) input_is found.2)

@@ -1,4 +1,5 @@
 use Rattle.std.proofs.Common.{subst}
+use Rattle.cli_files.specs.InputStates.{opening_told}
 use Rattle.cli_run.specs.Plans.{Executes, readers_by}
 use Rattle.cli_run.proofs.{Openings.refused_so, Spared.spared}
 use Rattle.cli_run.proofs.laws.refused_by_the_disk.Goals as goal
@@ -6,7 +7,7 @@ use Rattle.cli_run.proofs.laws.refused_by_the_disk.Goals as goal
 pub returns : goal.returns
 returns g c = λ told line plan before behind out report result notes noted name is same.
     refused_so told behind is.at_turn name is.ended result is.tells same
-    (λ at so. spared plan (readers_by told.left told.failures before behind)
+    (λ at so. spared (opening_told told) plan (readers_by told.left told.failures before behind)
     (readers_by told.whole told.failures before behind) out report at
-    (subst (λ r. Executes plan (readers_by told.left told.failures before behind)
+    (subst (λ r. Executes (opening_told told) plan (readers_by told.left told.failures before behind)
     (readers_by told.whole told.failures before behind) out report r) so is.executes))

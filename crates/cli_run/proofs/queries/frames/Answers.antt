@@ -10,7 +10,7 @@ returns-in_err-test_pairs g c =
     (not_none c.args.indexes.now c.if-is_empty.ensures) in
     let refused = err_from_is_err_and c.from_residual.result c.from_residual.ensures.1 in
     rw (refused.1, refused.2) (alone_refused g.S.Source.left whole g.S.Source.failures failures g.P.Sink.held
-    g.P.Sink.failures c.args.archives.now c.args.indexes.now _ _ _ _ c.in_err-test_pairs.ensures.other (frames_by _ _ _ _ _ some))
+    g.P.Sink.failures c.args.archives.now c.args.indexes.now _ _ _ _ c.in_err-test_pairs.ensures.other (frames_by _ _ _ _ _ _ some))
 
 pub returns : goal.returns
 returns g c =
@@ -21,4 +21,4 @@ returns g c =
     paired_kept g.S.Source.left whole g.S.Source.failures failures c.args.archives.now
     c.run_frames_at.new.archives c.args.indexes.now c.run_frames_at.new.indexes _ _ _ _
     c.in_ok-test_pairs.ensures.same c.run_frames_at.auto.archives c.run_frames_at.auto.indexes
-    (frames_by _ _ _ _ _ some) c.run_frames_at.ensures
+    (frames_by _ _ _ _ _ _ some) c.run_frames_at.ensures

@@ -27,8 +27,8 @@ returns-in_err-status g c =
     let p = err_from_is_err_and c.from_residual-in_err-status.result c.from_residual-in_err-status.ensures.1 in
     let listed = c.in_ok-frames.ensures in
     rw (p.1, p.2) (archives_refused _ (reader left failures c.args.crash.now c.read_crash.new.frames)
-    (reader left failures c.args.archive.now c.tell_frames.new.archive)
-    (readers left failures c.args.others.now c.tell_frames.new.others)
+    (reader left failures c.args.archive.now c.tell_with.new.archive)
+    (readers left failures c.args.others.now c.tell_with.new.others)
     (writer g.P.Sink.held g.P.Sink.failures c.args.report.now c.args.report.now) c.in_err-status.field-0.0
     (c.in_ok-frames.frames.items, listed.is) listed.unfailed c.in_err-status.ensures (Appends-none _, refl))
 

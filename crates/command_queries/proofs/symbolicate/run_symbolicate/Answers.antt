@@ -1,11 +1,11 @@
-use Rattle.std.proofs.Common.{ap, refl, ◌∙◌, arith}
+use Rattle.std.proofs.Common.{List, ℕ, if◌then◌else◌, ap, refl, subst, take, ◌∙◌}
 use Rattle.std.proofs.lemmas.Result.{err_from_is_err_and}
 use Rattle.byte_device.proofs.Known.{Appends-none}
-use Rattle.archive_core.specs.Key.{key_bytes}
 use Rattle.archive_core.specs.Part.{is_under}
-use Rattle.command_queries.proofs.Answered.{told_alike}
+use Rattle.command_common.specs.Together.{AreAlikeWhere}
+use Rattle.command_queries.proofs.SlicesTold.{addresses_with, content_tells}
 use Rattle.command_common.proofs.Endings.{reported}
-use Rattle.command_common.proofs.Parts.{together_refused, together_tells}
+use Rattle.command_common.proofs.Parts.{together_refused}
 use Rattle.command_queries.proofs.symbolicate.run_symbolicate.Goals as goal
 
 pub returns-in_err-kept : goal.returns-in_err-kept
@@ -15,8 +15,11 @@ returns-in_err-kept g c =
 
 pub returns : goal.returns
 returns g c =
+    let key = c.args.key.now in
+    let kept = g.A.Join.content c.in_ok-kept.kept in
+    let front = c.asked_front-front.ensures ∙ ap (λ (bytes : List ℕ). if c.args.slices then take 16 bytes else bytes) c.prefix_of-prefix.ensures.bytes in
     reported _ _ _ _ c.publish_report.result _ _ c.in_ok-kept.ensures.unfailed
-    (together_tells _ _ _ _ (λ o alike.
-    told_alike (g.A.Join.content c.in_ok-kept.kept) o c.args.key.now _ _ _ _ _
-    (alike (key_bytes c.args.key.now) (omega (arith, c.bytes_of-prefix.ensures.long)) (λ r h. ap (λ prefix. is_under prefix r) c.bytes_of-prefix.ensures.bytes ∙ h)) (rw c.deref.ensures c.in_ok-status.ensures)) c.in_ok-kept.ensures.is)
+    (content_tells _ _ _ _ (λ o content alike.
+    addresses_with c.args.slices kept o key c.args.load c.args.lines c.args.addresses.now _ _ content c.prefix_of-prefix.ensures.key
+    (subst (λ (bytes : List ℕ). AreAlikeWhere (is_under bytes) kept o) front alike) (rw c.deref.ensures c.in_ok-status.ensures)) c.in_ok-kept.ensures.is)
     c.publish_report.ensures

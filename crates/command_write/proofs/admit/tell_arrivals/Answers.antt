@@ -6,8 +6,8 @@ use Rattle.join_core.specs.Listing.{listing}
 use Rattle.archive_core.specs.Record.{record_bytes}
 use Rattle.archive_merge.specs.Arrivals.{arrival_of, is_new}
 use Rattle.archive_merge.proofs.Lost.{new_changes}
-use Rattle.text_reports.specs.Report.{admit_lines}
-use Rattle.text_reports.specs.declared.rows.AdmitRow.{AdmitRow}
+use Rattle.command_write.specs.FileRows.{file_lines}
+use Rattle.command_write.specs.declared.file_rows.FileRow.{FileRow}
 use Rattle.command_write.specs.InnerArriving.{rows_again}
 use Rattle.command_write.proofs.Noted.{all_noted}
 use Rattle.command_write.proofs.Taking.{always}
@@ -31,14 +31,14 @@ returns-clause-lines c =
     let rest = drop (length new) old.items in
     let long : old.len ≡ length new = omega (arith, old.ok.0, ap length value, c.tell_rows.auto.rows) in
     let all = ap (λ (n : ℕ). take n (new ++ rest)) long ∙ take-append_seam new rest in
-    IfOk-weaker c.admit_lines.result _ _ (λ lines is o records are_first arrived.
-    is ∙ ap admit_lines (c.deref-2.ensures.value ∙ all
+    IfOk-weaker c.file_lines.result _ _ (λ lines is o records are_first arrived.
+    is ∙ ap file_lines (c.deref-2.ensures.value ∙ all
     ∙ c.tell_rows.ensures (arrival_of o) (listing c.args.arrivals.came) records (rw (value, c.deref.ensures.value) are_first) arrived
-    ∙ ap (λ (rows : List AdmitRow). rows_again (λ r. is_new (arrival_of o r)) rows records) value
-    ∙ (λ i. rows_again (λ r. new_changes o r i) old.items records))) c.admit_lines.ensures
+    ∙ ap (λ (rows : List FileRow). rows_again (λ r. is_new (arrival_of o r)) rows records) value
+    ∙ (λ i. rows_again (λ r. new_changes o r i) old.items records))) c.file_lines.ensures
 
 pub returns-clause-noted : goal.returns-clause-noted
-returns-clause-noted c = always c.admit_lines.result (λ o arrived.
+returns-clause-noted c = always c.file_lines.result (λ o arrived.
     let listed = c.operations.ensures.listed in
     c.in_ok-note_retired.ensures (arrival_of o) (arrived ∙ ap (map (arrival_of o)) (sym listed))
     ∙ ap (λ ns. c.args.notes.now.items ++ ns) (all_noted o c.operations.result.now c.operations.ensures.are c.args.arrivals.came listed))

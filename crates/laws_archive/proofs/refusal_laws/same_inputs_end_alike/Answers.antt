@@ -12,7 +12,7 @@ use Rattle.command_common.specs.Archives.{AreRefused, AreUnfailed, HoldTogether,
 use Rattle.command_common.specs.Ends.{Query}
 use Rattle.command_common.specs.Inputs.{Reader, EachUntouched, HoldsArchive, IsArchive, IsArchiveRefused, IsDeviceFault, IsFirstRefused, IsGivenArchive, IsRefusedInOrder, IsRefusedInTurn}
 use Rattle.command_common.specs.Outputs.{Takes}
-use Rattle.command_queries.specs.Frames.{MakesFramed, RefusesFrames, TellsFrames, frames}
+use Rattle.command_queries.specs.Frames.{MakesFramed, RefusesFrames, TellsFramesWith, frames}
 use Rattle.laws_archive.specs.Joins.{IsGivenJoin, TellOne}
 use Rattle.laws_archive.specs.Refusals.{ArchivesHoldAlike, EachHoldAlike, EndAlike, HoldAlike, RefuseOne}
 use Rattle.laws_archive.proofs.Given.{is_given, one_value}
@@ -22,10 +22,11 @@ use Rattle.text_inputs.specs.Script.{acts, script_of}
 use Rattle.command_common.specs.Found.{TellsFound}
 use Rattle.command_queries.specs.List.{list}
 use Rattle.command_queries.specs.Name.{TellsNamed}
-use Rattle.command_queries.specs.Symbolicate.{TellsAddresses}
+use Rattle.command_queries.specs.Symbolicate.{TellsAddressesWith}
 use Rattle.archive_exchange.specs.Rehearse.{rehearse}
 use Rattle.laws_archive.proofs.FramesTold.{one_told as one_frame_told}
 use Rattle.laws_archive.proofs.OneRehearsal.{one_text}
+use Rattle.laws_archive.proofs.SlicesTold.{addresses_once, frames_once}
 use Rattle.laws_archive.proofs.Viewed.{one_told}
 use Rattle.laws_archive.proofs.refusal_laws.same_inputs_end_alike.Goals as goal
 
@@ -134,9 +135,9 @@ module _ {O P Q R S T : Type 0} (input : Reader O) (archive : Reader Q) (others 
   one_of_frames at name why another (inr a) (inl b) alone alone_too = absurd (alone_too (frames_accepted input also another alike a.0 b.0.1))
   one_of_frames at name why another (inr a) (inr b) alone alone_too = one_of_archives archive others other more archives at name why another a.2 b.2 alone alone_too
 
-  framed_fails : (lines : Bool) (status : Status) (text : List ℕ) (at : InputName) (why : Why) → MakesFramed lines input archive others status text → RefusesFrames also other more at why → IsDeviceFault why
-  framed_fails lines status text at why makes (inl b) = frames_accepted input also why alike (makes.listed, makes.frames_are) b.0.1
-  framed_fails lines status text at why makes (inr b) = held_fails archive others other more archives (λ o. TellsFrames lines o makes.listed status text) at why makes.tells b.2
+  framed_fails : (lines slices : Bool) (status : Status) (text : List ℕ) (at : InputName) (why : Why) → MakesFramed lines slices input archive others status text → RefusesFrames also other more at why → IsDeviceFault why
+  framed_fails lines slices status text at why makes (inl b) = frames_accepted input also why alike (makes.listed, makes.frames_are) b.0.1
+  framed_fails lines slices status text at why makes (inr b) = held_fails archive others other more archives (λ o. TellsFramesWith lines slices o makes.listed status text) at why makes.tells b.2
 
 pub returns : goal.returns
 returns g c = record {
@@ -151,19 +152,19 @@ returns g c = record {
       (λ status text at why a b. archives_agree.left other archive why (swapped archive other alike) (a.content, a.is_content, a.archive_is) b.1);
   name = λ archive others also more sought.
       asked_alike archive others also more (λ o status text. TellsNamed o sought status text) (λ o. named_once c.one_find_name.ensures.one o sought);
-  symbolicate = λ archive others also more key load lines addresses.
-      asked_alike archive others also more (λ o status text. TellsAddresses o key load lines addresses status text)
-      (λ o. one_told c.one_answer.ensures.one c.one_list_of_frames.ensures o key load lines addresses);
-  frames = λ lines input archive others also other more alike archives. ends_alike (frames lines input archive others) (frames lines also other more)
+  symbolicate = λ archive others also more key load lines slices addresses.
+      asked_alike archive others also more (λ o status text. TellsAddressesWith o key load lines slices addresses status text)
+      (λ o. addresses_once (one_told c.one_answer.ensures.one c.one_list_of_frames.ensures) o key load lines slices addresses);
+  frames = λ lines slices input archive others also other more alike archives. ends_alike (frames lines slices input archive others) (frames lines slices also other more)
       (λ status other_status text other_text a b.
       let k = carried input also (λ bytes. frames_of bytes ≡ Ok a.listed) alike a.frames_are in
       let same = one_value (frames_of k.0) b.listed a.listed (is_given also k.0 (λ bytes. frames_of bytes ≡ Ok b.listed) k.2 b.frames_are) k.3 in
-      let both = both_tell archive others other more archives (λ o. TellsFrames lines o a.listed status text) (λ o. TellsFrames lines o b.listed other_status other_text) a.tells b.tells in
-      one_frame_told c.one_answer.ensures.one c.one_list_of_frames.ensures lines both.0 a.listed status other_status text other_text both.1
-      (subst (λ (s : List Frame). TellsFrames lines both.0 s other_status other_text) same both.2))
+      let both = both_tell archive others other more archives (λ o. TellsFramesWith lines slices o a.listed status text) (λ o. TellsFramesWith lines slices o b.listed other_status other_text) a.tells b.tells in
+      frames_once (one_frame_told c.one_answer.ensures.one c.one_list_of_frames.ensures) lines slices both.0 a.listed status other_status text other_text both.1
+      (subst (λ (s : List Frame). TellsFramesWith lines slices both.0 s other_status other_text) same both.2))
       (one_of_frames input archive others also other more alike archives)
-      (framed_fails input archive others also other more alike archives lines)
-      (framed_fails also other more input archive others (swapped input also alike) (alike_too archive others other more archives) lines);
+      (framed_fails input archive others also other more alike archives lines slices)
+      (framed_fails also other more input archive others (swapped input also alike) (alike_too archive others other more archives) lines slices);
   rehearse = λ script other alike. ends_alike (rehearse script) (rehearse other)
       (λ status other_status text other_text a b.
       let k = carried script other (λ bytes. script_of bytes ≡ Ok (a.sites, acts a.events)) alike a.script_is in

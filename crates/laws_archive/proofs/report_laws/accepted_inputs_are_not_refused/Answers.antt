@@ -12,8 +12,8 @@ returns g c = record {
   find = λ archive others o uuid given. join_refused archive others o given;
   list = λ input o at why content given refused. archive_alone input o why content given refused.1;
   name = λ archive others o sought given. join_refused archive others o given;
-  symbolicate = λ archive others o key load lines addresses given. join_refused archive others o given;
-  frames = λ lines input archive others bytes listed o is says given at why refused. elim refused [
+  symbolicate = λ archive others o key load lines slices addresses given. join_refused archive others o given;
+  frames = λ lines slices input archive others bytes listed o is says given at why refused. elim refused [
     | inl p ↦ frames_accepted input input why (bytes, is, is) (listed, gives input bytes (λ text. frames_of text ≡ Ok listed) is says) p.0.1
     | inr p ↦ join_refused archive others o given at why p.2
   ];

@@ -1,6 +1,6 @@
 use Rattle.command_common.specs.Found.{TellsFound}
 use Rattle.command_queries.specs.Name.{TellsNamed}
-use Rattle.command_queries.specs.Symbolicate.{TellsAddresses}
+use Rattle.command_queries.specs.Symbolicate.{TellsAddressesWith}
 use Rattle.laws_archive.proofs.FramesTold.{one_made}
 use Rattle.laws_archive.proofs.Joins.{listed_once, told_once}
 use Rattle.laws_archive.proofs.OneRehearsal.{one_text}
@@ -11,10 +11,10 @@ returns g c = record {
   find = λ archive others also more o uuid. told_once archive others also more o (λ p. TellsFound p uuid) (c.one_telling.ensures.find o uuid);
   list = λ archive other o content given also_given. listed_once c.one_list.ensures.one archive other o content given also_given;
   name = λ archive others also more o sought. told_once archive others also more o (λ p. TellsNamed p sought) (c.one_telling.ensures.name o sought);
-  symbolicate = λ archive others also more o key load lines addresses.
-      told_once archive others also more o (λ p. TellsAddresses p key load lines addresses) (c.one_telling.ensures.symbolicate o key load lines addresses);
-  frames = λ lines input archive others also other more bytes o given also_given join also_join status other_status text other_text.
-      one_made c.one_answer.ensures.one c.one_list_of_frames.ensures lines input archive others also other more bytes o
+  symbolicate = λ archive others also more o key load lines slices addresses.
+      told_once archive others also more o (λ p. TellsAddressesWith p key load lines slices addresses) (c.one_telling.ensures.symbolicate o key load lines slices addresses);
+  frames = λ lines slices input archive others also other more bytes o given also_given join also_join status other_status text other_text.
+      one_made c.one_answer.ensures.one c.one_list_of_frames.ensures lines slices input archive others also other more bytes o
       status other_status text other_text given also_given join also_join;
   rehearse = λ script other bytes is also status other_status text other_text.
       one_text c.one_meaning.ensures.one script other bytes status other_status text other_text is also;

@@ -1,27 +1,27 @@
-use Rattle.std.proofs.Common.{refl}
+use Rattle.std.proofs.Common.{refl, map, Ok}
 use Rattle.std.proofs.lemmas.Result.{on_ok_weaker}
 use Rattle.byte_device.proofs.Known.{Appends-none}
+use Rattle.byte_openings.specs.declared.openings.Opening.TheVariants.{Fine}
 use Rattle.command_common.specs.Inputs.{reader}
 use Rattle.command_common.specs.Outputs.{out_of, outs, writer}
 use Rattle.command_write.specs.InnerArriving.{records_of}
 use Rattle.command_write.proofs.Begun.{told_behind}
-use Rattle.command_write.proofs.Files.{admitted_in_turn}
-use Rattle.command_write.proofs.Noted.{retired_noted}
-use Rattle.command_write.proofs.admit.run_admit.Goals as goal
+use Rattle.command_write.proofs.Files.{admitted_in_turn, retired_noted}
+use Rattle.command_write.proofs.admit.admit_all.Goals as goal
 
 pub write_admitted-requires : goal.write_admitted-requires
-write_admitted-requires g c = let h = c.in-Ok.ensures.is in (records_of h.taken.texts, h.are_first)
+write_admitted-requires g c = let h = c.in-Ok.ensures.is in (records_of (map Ok h.0), h.1.are_first)
 
 pub returns-in-Ok-clause-ends : goal.returns-in-Ok-clause-ends
 returns-in-Ok-clause-ends g c =
     let h = c.in-Ok.ensures.is in
     admitted_in_turn (reader g.R.Source.left g.R.Source.failures c.args.input.now c.write_admitted.new.input) _
     (out_of (outs g.T.Draft.Sink.held g.T.Draft.Sink.failures g.T.Target.published g.T.Target.failures c.args.out.now c.write_admitted.new.out))
-    (writer g.P.Sink.held g.P.Sink.failures c.args.report.now c.write_admitted.new.report) _ _ _ h c.in-Ok.ensures.unfailed c.write_admitted.result (c.write_admitted.ensures.ends (records_of h.taken.texts) h.are_first)
+    (writer g.P.Sink.held g.P.Sink.failures c.args.report.now c.write_admitted.new.report) (λ _. Fine) h.0 _ _ _ h.1 c.in-Ok.ensures.unfailed c.write_admitted.result (c.write_admitted.ensures.ends (records_of (map Ok h.0)) h.1.are_first)
 
 pub returns-in-Err-clause-ends : goal.returns-in-Err-clause-ends
 returns-in-Err-clause-ends g c =
     told_behind _ _ _ _ _ _ _ _ c.in-Err.fault c.refused_behind.result c.in-Err.ensures c.refused_behind.ensures ((Appends-none _, refl), (refl, refl)) (Appends-none _, refl)
 
 pub returns-in-Ok-clause-noted : goal.returns-in-Ok-clause-noted
-returns-in-Ok-clause-noted g c = on_ok_weaker c.write_admitted.result (retired_noted _ _ _ _ c.in-Ok.ensures.is.taken _ _) c.write_admitted.ensures.noted
+returns-in-Ok-clause-noted g c = let h = c.in-Ok.ensures.is in on_ok_weaker c.write_admitted.result (retired_noted (λ _. Fine) _ _ h.0 _ _ _ h.1 _ _) c.write_admitted.ensures.noted

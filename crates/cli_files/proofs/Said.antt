@@ -1,0 +1,121 @@
+-- Why OUT is refused, from what the system said.
+use Rattle.std.proofs.Common.{◌≡◌, ◌≢◌, ◌∙◌, ℕ, List, [], ◌∷◌, ◌++◌, Option, Some, None, false, true, refl, sym, ap, append_assoc, arith, inl, inr, is_some, length, subst}
+use Rattle.std.specs.IoError.{error_kind}
+use Rattle.std.specs.declared.io.Error.{Error}
+use Rattle.std.specs.declared.io.ErrorKind.TheVariants.{NotFound}
+use Rattle.cli_files.specs.FileCalls.{Begins, FileCall, Finds, FindsLink, FindsNoLink, FindsNothing, Leads, failed, first_bytes}
+use Rattle.archive_records.specs.declared.fault.MergeCause.{MergeCause}
+use Rattle.archive_records.specs.declared.fault.MergeCause.TheVariants.{Left, Right, Write}
+use Rattle.cli_files.specs.Refusals.{IsSaid, IsUncompared, IsUnread, is_failure}
+use Rattle.archive_records.specs.Kind.{magic_of}
+use Rattle.archive_records.specs.declared.format.Format.{Format}
+use Rattle.archive_records.specs.declared.format.Format.TheVariants.{Archive, OldArchive, Operations, Summary}
+use Rattle.cli_files.specs.declared.replaceable.Replaces.TheVariants.{ArchivesBelow}
+use Rattle.cli_files.specs.Publishing.{BeginsSo, IsTargetOf}
+use Rattle.cli_files.specs.Replacing.{IsOfKind}
+use Rattle.cli_files.specs.declared.replaceable.{Obstacle.Obstacle, OutFault.OutFault, Replaces.Replaces}
+use Rattle.cli_files.specs.declared.replaceable.Obstacle.TheVariants.{Damaged, Differs, Loses, OtherKind, Refused}
+use Rattle.cli_files.specs.declared.replaceable.OutFault.TheVariants.{NotCreated, NotReplaced, OutOfMemory}
+
+-- nothing is there
+pub absent_fails : (replaces : Replaces) (error : Error) (path : List ℕ) (before calls : List FileCall)
+    → calls ≡ before ++ FindsNothing path ∷ [] → error_kind error ≡ NotFound
+    → IsSaid replaces (NotCreated (Some error)) calls
+absent_fails replaces error path before calls is kind =
+    inl (before, path, is ∙ ap (λ k. before ++ failed path k ∷ []) (sym kind))
+
+-- a link is there, which leads to nothing
+pub leads_nowhere : (replaces : Replaces) (error : Error) (path : List ℕ) (before old calls : List FileCall)
+    → old ≡ before ++ FindsNothing path ∷ [] → calls ≡ old ++ FindsLink path ∷ [] → error_kind error ≡ NotFound
+    → IsSaid replaces (NotCreated (Some error)) calls
+leads_nowhere replaces error path before old calls was is kind =
+    inr (inl (
+      before,
+      path,
+      kind,
+      is ∙ ap (λ cs. cs ++ FindsLink path ∷ []) was
+          ∙ append_assoc before (FindsNothing path ∷ []) (FindsLink path ∷ []),
+    ))
+
+-- a file of another kind is there
+pub other_kind : (replaces : Replaces) (path : List ℕ) (beginning : Option (List ℕ)) (fault : OutFault) (calls : List FileCall)
+    → (beginning ≢ None → (before : List FileCall) × (calls ≡ before ++ Begins path (first_bytes beginning) ∷ []))
+    → (bytes : List ℕ) × (beginning ≡ Some bytes) × (fault ≡ NotReplaced (OtherKind bytes)) × (IsOfKind replaces bytes → ⊥)
+    → IsSaid replaces fault calls
+other_kind replaces path beginning fault calls read (bytes, begins, is, other) =
+    let last = read (λ none. cc) in
+    subst (λ f. IsSaid replaces f calls) (sym is)
+    (last.0, path, other, last.1 ∙ ap (λ b. last.0 ++ Begins path (first_bytes b) ∷ []) begins)
+
+no_archive : IsOfKind ArchivesBelow [] → ⊥
+no_archive (format, kind, is) = no_magic format (ap length is)
+  where
+    no_magic : (format : Format) → 0 ≡ length (magic_of format) → ⊥
+    no_magic Archive is = omega (arith, is)
+    no_magic OldArchive is = omega (arith, is)
+    no_magic Operations is = omega (arith, is)
+    no_magic Summary is = omega (arith, is)
+
+-- a file that is there begins as an archive does, and nothing was asked after that
+pub begun_uncompared : (target : List ℕ) (beginning : Option (List ℕ)) (old new tests : List FileCall)
+    → is_some beginning ≡ true → ((bytes : List ℕ) → beginning ≡ Some bytes → IsOfKind ArchivesBelow bytes)
+    → BeginsSo target (first_bytes beginning) tests → new ≡ old ++ tests → IsUncompared new
+begun_uncompared target None old new tests some kind begins after = cc some
+begun_uncompared target (Some bytes) old new tests some kind (inl (empty, is)) after =
+    absurd (no_archive (subst (IsOfKind ArchivesBelow) empty (kind bytes refl)))
+begun_uncompared target (Some bytes) old new tests some kind (inr (found, is)) after = (
+  old ++ Finds target found ∷ [],
+  target,
+  bytes,
+  kind bytes refl,
+  after ∙ ap (λ ts. old ++ ts) is ∙ sym (append_assoc old (Finds target found ∷ []) (Begins target bytes ∷ [])),
+)
+
+-- what was said last of a path that a draft may be made for is no failure
+pub target_last : (replaces : Replaces) (path target : List ℕ) (probes : List FileCall) → IsTargetOf replaces path target probes
+    → (before : List FileCall) × (said : FileCall) × (is_failure said ≡ false) × (probes ≡ before ++ said ∷ [])
+target_last replaces path target probes (inl none) = (FindsNothing path ∷ [], FindsNoLink path, refl, none.1)
+target_last replaces path target probes (inr (found, is, inl file)) = (found, FindsNoLink path, refl, file.1)
+target_last replaces path target probes (inr (found, is, inr link)) = (
+  found ++ FindsLink path ∷ [],
+  Leads path target,
+  refl,
+  link ∙ sym (append_assoc found (FindsLink path ∷ []) (Leads path target ∷ [])),
+)
+
+-- what was said last of an archive that was not compared is no failure
+pub uncompared_last : (calls : List FileCall) → IsUncompared calls
+    → (before : List FileCall) × (said : FileCall) × (is_failure said ≡ false) × (calls ≡ before ++ said ∷ [])
+uncompared_last calls (before, path, bytes, kind, is) = (before, Begins path bytes, refl, is)
+
+no_creation : (stop : MergeCause) (reason : Option Error) → IsUnread stop (NotCreated reason) → ⊥
+no_creation (Left stop) reason unread = unread
+no_creation (Right stop) reason unread = unread
+no_creation Write reason unread = unread
+
+no_kind : (stop : MergeCause) (bytes : List ℕ) → IsUnread stop (NotReplaced (OtherKind bytes)) → ⊥
+no_kind (Left stop) bytes unread = unread
+no_kind (Right stop) bytes unread = unread
+no_kind Write bytes unread = unread
+
+no_loss : (stop : MergeCause) (lost : ℕ) → IsUnread stop (NotReplaced (Loses lost)) → ⊥
+no_loss (Left stop) lost unread = unread
+no_loss (Right stop) lost unread = unread
+no_loss Write lost unread = unread
+
+no_difference : (stop : MergeCause) → IsUnread stop (NotReplaced Differs) → ⊥
+no_difference (Left stop) unread = unread
+no_difference (Right stop) unread = unread
+no_difference Write unread = unread
+
+-- reading one of two archives stopped, after what was said of them
+pub unread_said : (replaces : Replaces) (stop : MergeCause) (fault : OutFault) (calls : List FileCall)
+    → IsUnread stop fault → IsUncompared calls → IsSaid replaces fault calls
+unread_said replaces stop OutOfMemory calls unread last = uncompared_last calls last
+unread_said replaces stop (NotReplaced Damaged) calls unread last = last
+unread_said replaces stop (NotReplaced (Refused None)) calls unread last = last
+unread_said replaces stop (NotReplaced (Refused (Some error))) calls unread last = inr last
+unread_said replaces stop (NotReplaced (OtherKind bytes)) calls unread last = absurd (no_kind stop bytes unread)
+unread_said replaces stop (NotReplaced (Loses lost)) calls unread last = absurd (no_loss stop lost unread)
+unread_said replaces stop (NotReplaced Differs) calls unread last = absurd (no_difference stop unread)
+unread_said replaces stop (NotCreated reason) calls unread last = absurd (no_creation stop reason unread)

@@ -1,0 +1,90 @@
+-- Why OUT is refused, as the system said it last.
+use Rattle.std.specs.Prelude.{◌≡◌, ◌≢◌, ◌≤◌, ◌⊎◌, ℕ, Bool, true, false, List, [], ◌∷◌, ◌++◌, length}
+use Rattle.std.specs.Prelude.{Option, Some, None}
+use Rattle.std.specs.IoError.{error_kind}
+use Rattle.std.specs.declared.io.Error.{Error}
+use Rattle.std.specs.declared.io.ErrorKind.TheVariants as kind
+use Rattle.archive_records.specs.Fault.{IsOfText}
+use Rattle.archive_records.specs.declared.fault.MergeCause.{MergeCause}
+use Rattle.archive_records.specs.declared.fault.MergeCause.TheVariants.{Left, Right, Write}
+use Rattle.archive_records.specs.declared.fault.RecordFaultKind.TheVariants as record_fault
+use Rattle.cli_files.specs.FileCalls.{Begins, Compares, FileCall, FindsLink, FindsNothing, Refuses}
+use Rattle.cli_files.specs.FileCalls.{Removes, failed, taking}
+use Rattle.cli_files.specs.Publishing.{AreOther}
+use Rattle.cli_files.specs.Replacing.{IsOfKind}
+use Rattle.cli_files.specs.declared.replaceable.{Obstacle.Obstacle, OutFault.OutFault, Replaces.Replaces}
+use Rattle.cli_files.specs.declared.replaceable.Obstacle.TheVariants as obstacle
+use Rattle.cli_files.specs.declared.replaceable.OutFault.TheVariants as fault
+use Rattle.cli_files.specs.declared.replaceable.Replaces.TheVariants.{ArchivesBelow}
+
+-- the last call failed so
+abbrev pub Fails : Error → List FileCall → Type 0
+Fails error calls =
+    (before : List FileCall) × (path : List ℕ) × (calls ≡ before ++ failed path (error_kind error) ∷ [])
+
+-- At a path is a link that leads to nothing.
+abbrev pub LeadsNowhere : Error → List FileCall → Type 0
+LeadsNowhere error calls =
+    (before : List FileCall) × (path : List ℕ) × (error_kind error ≡ kind.NotFound)
+    × (calls ≡ before ++ FindsNothing path ∷ FindsLink path ∷ [])
+
+-- Of the hundred paths that a draft may have each is taken, but for the target's own.
+abbrev pub HasNoName : Error → List FileCall → Type 0
+HasNoName error calls =
+    (before : List FileCall) × (taken : List (List ℕ)) × (99 ≤ length taken) × (error_kind error ≡ kind.AlreadyExists)
+    × (calls ≡ before ++ taking taken)
+
+-- The file there begins as an archive does, and nothing came of its comparison with the draft.
+abbrev pub IsUncompared : List FileCall → Type 0
+IsUncompared calls =
+    (before : List FileCall) × (path : List ℕ) × (bytes : List ℕ) × IsOfKind ArchivesBelow bytes
+    × (calls ≡ before ++ Begins path bytes ∷ [])
+
+-- Of two archives, of which the left one is the draft, this comes where reading them stops so.
+abbrev pub IsUnread : MergeCause → OutFault → Type 0
+IsUnread (Left stop) fault.OutOfMemory = stop.kind ≡ record_fault.OutOfMemory
+IsUnread (Right stop) fault.OutOfMemory = stop.kind ≡ record_fault.OutOfMemory
+IsUnread (Right stop) (fault.NotReplaced obstacle.Damaged) = IsOfText stop.kind
+IsUnread (Right stop) (fault.NotReplaced (obstacle.Refused reason)) = stop.kind ≡ record_fault.Device
+IsUnread (Left stop) (fault.NotReplaced (obstacle.Refused reason)) = stop.kind ≢ record_fault.OutOfMemory
+IsUnread Write (fault.NotReplaced (obstacle.Refused reason)) = Unit {0}
+IsUnread stop refusal = ⊥
+
+-- what is at the target is in the way, as the last calls say
+abbrev pub IsInTheWay : Replaces → Obstacle → List FileCall → Type 0
+IsInTheWay replaces (obstacle.OtherKind bytes) calls =
+    (before : List FileCall) × (path : List ℕ) × (IsOfKind replaces bytes → ⊥) × (calls ≡ before ++ Begins path bytes ∷ [])
+IsInTheWay replaces (obstacle.Loses lost) calls =
+    (before : List FileCall) × (draft : List ℕ) × (target : List ℕ) × (lost ≢ 0)
+    × (calls ≡ before ++ Compares draft target lost ∷ [])
+IsInTheWay replaces obstacle.Damaged calls = IsUncompared calls
+IsInTheWay replaces obstacle.Differs calls =
+    (before : List FileCall) × (draft : List ℕ) × (target : List ℕ) × (tests : List FileCall) × AreOther draft target tests
+    × (calls ≡ before ++ tests)
+IsInTheWay replaces (obstacle.Refused None) calls = IsUncompared calls
+IsInTheWay replaces (obstacle.Refused (Some error)) calls = Fails error calls ⊎ IsUncompared calls
+
+-- a call that failed, and not for want of memory
+abbrev pub is_failure : FileCall → Bool
+is_failure (FindsNothing path) = true
+is_failure (Refuses path) = true
+is_failure _ = false
+
+-- OUT is refused so, as the last calls say; for want of memory only if none failed for another reason.
+abbrev pub IsSaid : Replaces → OutFault → List FileCall → Type 0
+IsSaid replaces (fault.NotCreated None) calls = ⊥
+IsSaid replaces (fault.NotCreated (Some error)) calls = Fails error calls ⊎ LeadsNowhere error calls ⊎ HasNoName error calls
+IsSaid replaces (fault.NotReplaced obstacle) calls = IsInTheWay replaces obstacle calls
+IsSaid replaces fault.OutOfMemory calls =
+    (before : List FileCall) × (said : FileCall) × (is_failure said ≡ false) × (calls ≡ before ++ said ∷ [])
+
+-- A draft was removed, and why that is so stands before it.
+abbrev pub IsRemovedFor : Replaces → OutFault → List ℕ → List FileCall → Type 0
+IsRemovedFor replaces fault draft calls =
+    (asked : List FileCall) × IsSaid replaces fault asked × (calls ≡ asked ++ Removes draft ∷ [])
+
+-- OUT, which has this path, if it has one, is refused so: it has none, or the system said why, and a draft was removed.
+abbrev pub IsRefused : Replaces → Option (List ℕ) → OutFault → List FileCall → Type 0
+IsRefused replaces path refusal calls =
+    ((path ≡ None) × (refusal ≡ fault.NotCreated None) × (calls ≡ [])) ⊎ IsSaid replaces refusal calls
+    ⊎ ((draft : List ℕ) × IsRemovedFor replaces refusal draft calls)

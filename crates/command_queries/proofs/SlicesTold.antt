@@ -1,0 +1,284 @@
+-- What is told of the slices under UUIDs: which records are read, and that what was kept tells what the join does.
+use Rattle.std.proofs.Common.{◌≡◌, ℕ, ◌+◌, ◌<◌, Bool, ◌||◌, if◌then◌else◌, true, false, Option, List, [], ◌∷◌, ◌++◌, length, map, take, drop, get_or, Result, Ok, Err, is_ok, refl, sym, ap, ◌∙◌, subst, arith, inl, inr, length-append}
+use Rattle.std.specs.Cmp.{tied_itself}
+use Rattle.std.specs.Cmp.Lexicographic.{slice_cmp, nat_list_cmp_total}
+use Rattle.std.specs.List.{All, AllByRecursion, AllZip, Contains, HoldsAt, dedup, list_any}
+use Rattle.std.specs.List.Sorted.{IsBinarySearchResult, IsPartitionPoint, IsPermutation, IsSearchInRange, IsSorted, IsSortedByKey, IsStrictlySortedBy}
+use Rattle.std.specs.Ordering.{eq_by_cmp, is_eq, nat_cmp}
+use Rattle.std.specs.Str.{bytes_eq}
+use Rattle.std.specs.declared.cmp.Ordering.{Ordering}
+use Rattle.std.specs.declared.cmp.Ordering.TheVariants.{Less, Equal, Greater}
+use Rattle.std.proofs.lemmas.Bool.{cases_lt, false_from_ne_true}
+use Rattle.std.proofs.lemmas.Cmp.{eq_by_cmp_equiv}
+use Rattle.std.proofs.lemmas.List.{flat_map_more, take-take, take_at, take_more}
+use Rattle.std.proofs.lemmas.List.Elements.{All-cons, All-contains, All-nil}
+use Rattle.std.proofs.lemmas.List.Folds.{Any-from_list_any, list_any-from_Any, list_any_at}
+use Rattle.std.proofs.lemmas.List.Kept.{Any-dedup, Contains-from_dedup, IsStrictlySortedBy-dedup}
+use Rattle.std.proofs.lemmas.List.Sorted.{Contains-permutation, IsPermutation-sym, searchable_from_sorted}
+use Rattle.std.proofs.lemmas.Slice.Eq.{bytes_eq-Decides}
+use Rattle.archive_core.specs.Content.{Operations, IsContent, joined}
+use Rattle.archive_core.specs.Find.{IsFinds}
+use Rattle.archive_core.specs.Key.{IsKey, key_bytes}
+use Rattle.archive_core.specs.Lookup.{answer_view}
+use Rattle.archive_core.specs.Part.{AreAlikeUnder, is_under}
+use Rattle.archive_core.specs.declared.find.FindRow.{FindRow}
+use Rattle.archive_core.specs.declared.keys.SliceKey.{SliceKey}
+use Rattle.archive_core.proofs.Made.{bytes_same, joined_content}
+use Rattle.archive_core.proofs.Members.{in_cons, in_front, in_map, in_rest, pairs_more, to_map}
+use Rattle.archive_core.proofs.Compare.{length_key_bytes}
+use Rattle.archive_core.proofs.Picked.{finds_alike}
+use Rattle.archive_read.specs.Keys.{AnswersAs}
+use Rattle.text_inputs.specs.declared.frame.Frame.{Frame}
+use Rattle.text_reports.specs.Slices.{AnswersAmong, TellsSlices}
+use Rattle.text_reports.proofs.Kept.{neighbours}
+use Rattle.command_common.specs.declared.faults.Status.{Status}
+use Rattle.command_common.specs.Archives.{HoldTogether, merged}
+use Rattle.command_common.specs.Inputs.{Reader}
+use Rattle.command_common.specs.Together.{AreAlikeWhere}
+use Rattle.command_common.proofs.Alike.{answers_alike}
+use Rattle.command_queries.specs.Frames.{IsFrameAnswered, TellsFrames, frame_keys}
+use Rattle.command_queries.specs.Slices.{IsAnsweringRow, TellsSlicesAfter}
+use Rattle.command_queries.specs.InnerSlices.{AreRowsUnder, AreUuidsOf, TellsRowsAfter, WithRows, is_under_one}
+use Rattle.command_queries.specs.Symbolicate.{Answered, TellsAddresses, TellsAddressesWith, asked_of}
+use Rattle.command_queries.proofs.Answered.{told_alike}
+use Rattle.command_queries.proofs.RowsAnswering.{answer_answers, answers_answer}
+use Rattle.command_queries.proofs.Sourced.{sourced_as}
+
+-- ---- whether a record is under one of the UUIDs
+
+module _ (prefix : List ℕ) where
+  abbrev pub place_of : List ℕ → Ordering
+  place_of uuid = slice_cmp nat_cmp uuid prefix
+
+  abbrev is_it : List ℕ → Bool
+  is_it uuid = bytes_eq uuid prefix
+
+  tied : (uuid : List ℕ) → is_it uuid ≡ true → place_of uuid ≡ Equal
+  tied uuid is = ap (λ (bytes : List ℕ). slice_cmp nat_cmp bytes prefix) ((bytes_eq-Decides uuid prefix).0 is) ∙ tied_itself nat_list_cmp_total prefix
+
+  found_at : (uuids : List (List ℕ)) (i : ℕ) → i < length uuids → HoldsAt (λ (uuid : List ℕ). place_of uuid ≡ Equal) uuids i → list_any is_it uuids ≡ true
+  found_at [] i lt at = absurd (omega (arith, lt))
+  found_at (one ∷ uuids) i lt at = list_any_at is_it (one ∷ uuids) i one lt ((bytes_eq-Decides _ prefix).1 (bytes_same _ prefix (at one)))
+
+  found_nowhere : (uuids : List (List ℕ)) (i : ℕ) → IsPartitionPoint (λ (uuid : List ℕ). place_of uuid ≡ Less) (λ (uuid : List ℕ). place_of uuid ≡ Greater) uuids i → list_any is_it uuids ≡ false
+  found_nowhere uuids i parts = false_from_ne_true (list_any is_it uuids) (λ is.
+      let any = Any-from_list_any is_it uuids is in
+      elim (cases_lt any.0 i) [
+        | inl below ↦ cc (tied any.1 any.4, any.3, parts.0 any.0 any.1 (omega arith) below)
+        | inr above ↦ cc (tied any.1 any.4, any.3, parts.1 any.0 any.1 above any.2)
+      ])
+
+  -- what a binary search of them finds
+  pub found_uuid : (uuids : List (List ℕ)) (r : Result ℕ ℕ) → IsSortedByKey (λ (uuid : List ℕ). uuid) (slice_cmp nat_cmp) uuids → IsSearchInRange r (length uuids)
+      → IsBinarySearchResult place_of uuids r → is_ok r ≡ list_any is_it uuids
+  found_uuid uuids (Ok i) sorted lt at = sym (found_at uuids i lt at)
+  found_uuid uuids (Err i) sorted le parted = sym (found_nowhere uuids i (parted (searchable_from_sorted nat_list_cmp_total (λ (uuid : List ℕ). uuid) uuids prefix sorted)))
+
+pub uuid_picked : (uuids : List (List ℕ)) (uuid r : List ℕ) → Contains uuids uuid → length uuid ≡ 16 → is_under uuid r ≡ true → is_under_one uuids r ≡ true
+unfolding is_under
+uuid_picked uuids uuid r there long under =
+    let same : bytes_eq uuid (take 16 (drop 1 r)) ≡ true = ap (λ (n : ℕ). bytes_eq uuid (take n (drop 1 r))) (sym long) ∙ under in
+    list_any-from_Any (λ (one : List ℕ). bytes_eq one (take 16 (drop 1 r))) uuids (there.0, uuid, there.1, there.2, same)
+
+-- what is under a longer front is under a shorter one
+under_front : (front rest r : List ℕ) → is_under (front ++ rest) r ≡ true → is_under front r ≡ true
+unfolding is_under
+under_front front rest r under =
+    let whole = (bytes_eq-Decides (front ++ rest) (take (length (front ++ rest)) (drop 1 r))).0 under in
+    let cut : front ≡ take (length front) (drop 1 r) =
+    sym (take_at front rest (length front) refl) ∙ ap (take (length front)) whole
+    ∙ take-take (length front) (length (front ++ rest)) (drop 1 r) (omega (arith, length-append front rest)) in
+    (bytes_eq-Decides front (take (length front) (drop 1 r))).1 cut
+
+under_uuid : (key : SliceKey) (r : List ℕ) → is_under (key_bytes key) r ≡ true → is_under key.uuid r ≡ true
+unfolding key_bytes
+under_uuid key r under = under_front key.uuid _ r under
+
+-- ---- the UUIDs of keys, each once
+
+eq_true : (o : Ordering) → is_eq o ≡ true → o ≡ Equal
+eq_true Equal e = refl
+eq_true o e = absurd (cc e)
+
+module _ (keys : List SliceKey) (uuids sorted kept : List (List ℕ)) (each : uuids ≡ map (λ (key : SliceKey). key.uuid) keys) (moved : IsPermutation uuids sorted)
+    (once : kept ≡ dedup (eq_by_cmp (slice_cmp nat_cmp)) sorted) where
+  pub uuids_are : AreUuidsOf keys kept
+  uuids_are = λ uuid. (
+    λ there.
+        let before = Contains-permutation sorted uuids uuid (IsPermutation-sym uuids sorted moved)
+        (Contains-from_dedup (eq_by_cmp (slice_cmp nat_cmp)) sorted uuid (subst (λ (l : List (List ℕ)). Contains l uuid) once there)) in
+        let one = in_map (λ (key : SliceKey). key.uuid) keys uuid (subst (λ (l : List (List ℕ)). Contains l uuid) each before) in
+        (one.0, one.1, sym one.2),
+    λ has.
+        let before : Contains uuids uuid = subst (λ (l : List (List ℕ)). Contains l uuid) (sym each) (subst (Contains (map (λ (key : SliceKey). key.uuid) keys)) has.2 (to_map (λ (key : SliceKey). key.uuid) keys has.0 has.1)) in
+        let any = Any-dedup (eq_by_cmp_equiv nat_list_cmp_total) sorted uuid (Contains-permutation uuids sorted uuid moved before) in
+        let other : Contains kept any.1 = subst (λ (l : List (List ℕ)). Contains l any.1) (sym once) (any.0, any.2, any.3) in
+        subst (Contains kept) (sym (bytes_same uuid any.1 (eq_true _ any.4))) other,
+  )
+
+pub uuids_sorted : (sorted kept : List (List ℕ)) → IsSorted (slice_cmp nat_cmp) sorted → kept ≡ dedup (eq_by_cmp (slice_cmp nat_cmp)) sorted → IsSortedByKey (λ (uuid : List ℕ). uuid) (slice_cmp nat_cmp) kept
+uuids_sorted sorted kept up once =
+    neighbours nat_list_cmp_total (λ (uuid : List ℕ). uuid) kept
+    (subst (IsStrictlySortedBy (slice_cmp nat_cmp)) (sym once) (IsStrictlySortedBy-dedup nat_list_cmp_total (λ x y. refl) sorted up))
+
+-- one search more
+pub search_more : (o : Operations) (uuids : List (List ℕ)) (i : ℕ) (uuid : List ℕ) (pool rows grown : List FindRow) → i < length uuids → uuid ≡ get_or uuids i uuid → IsFinds o uuid rows
+    → grown ≡ pool ++ rows → AreRowsUnder o (take i uuids) pool → AreRowsUnder o (take (i + 1) uuids) grown
+search_more o uuids i uuid pool rows grown within is finds grown_is before = record {
+  lists = before.lists ++ rows ∷ [];
+  finds = subst (λ (l : List (List ℕ)). AllZip (IsFinds o) l (before.lists ++ rows ∷ [])) (sym (take_more uuids i uuid within ∙ ap (λ (u : List ℕ). take i uuids ++ u ∷ []) (sym is)))
+      (pairs_more (IsFinds o) (take i uuids) before.lists uuid rows before.finds finds);
+  pool_is = grown_is ∙ ap (λ (l : List FindRow). l ++ rows) before.pool_is ∙ flat_map_more (λ (l : List FindRow). l) [] before.lists rows;
+}
+
+-- ---- what was kept tells what the join does
+
+merged_is : (o : Operations) (contents : List Operations) → IsContent o → AllByRecursion IsContent contents → IsContent (merged o contents)
+merged_is o [] content are = content
+merged_is o (p ∷ contents) content are = merged_is (joined o p) contents (joined_content o p content are.0) are.1
+
+-- what is true of each content that is alike is true of the join
+pub content_tells : {R S : Type 0} (archive : Reader R) (others : List (Reader S)) (IsAlike IsTrue : Operations → Type 0) → ((o : Operations) → IsContent o → IsAlike o → IsTrue o)
+    → HoldTogether archive others IsAlike → HoldTogether archive others IsTrue
+content_tells archive others IsAlike IsTrue tells held = record {
+  content = held.content;
+  contents = held.contents;
+  is_content = held.is_content;
+  are_contents = held.are_contents;
+  archive_is = held.archive_is;
+  others_are = held.others_are;
+  is_true = tells (merged held.content held.contents) (merged_is held.content held.contents held.is_content held.are_contents) held.is_true;
+}
+
+lists_alike : (o p : Operations) (uuids : List (List ℕ)) (lists : List (List FindRow)) → ((uuid : List ℕ) → Contains uuids uuid → AreAlikeUnder uuid o p) → AllZip (IsFinds o) uuids lists → AllZip (IsFinds p) uuids lists
+lists_alike o p [] [] alike all = tt
+lists_alike o p (uuid ∷ uuids) (rows ∷ lists) alike all =
+    (finds_alike o p uuid rows (alike uuid (in_front uuid uuids)) all.0, lists_alike o p uuids lists (λ other there. alike other (in_rest uuid uuids other there)) all.1)
+lists_alike o p [] (rows ∷ lists) alike all = absurd all
+lists_alike o p (uuid ∷ uuids) [] alike all = absurd all
+
+rows_alike : (o p : Operations) (uuids : List (List ℕ)) (pool : List FindRow) → ((uuid : List ℕ) → Contains uuids uuid → AreAlikeUnder uuid o p) → AreRowsUnder o uuids pool → AreRowsUnder p uuids pool
+rows_alike o p uuids pool alike rows = record { lists = rows.lists; finds = lists_alike o p uuids rows.lists alike rows.finds; pool_is = rows.pool_is }
+
+answered_alike : (lines : Bool) (o p : Operations) (frames : List Frame) (rows : List Answered) → ((frame : Frame) → Contains frames frame → AnswersAs frame.key o p)
+    → AllZip (IsFrameAnswered lines o) frames rows → AllZip (IsFrameAnswered lines p) frames rows
+answered_alike lines o p [] [] alike all = tt
+answered_alike lines o p (frame ∷ frames) (row ∷ rows) alike all = (
+  (all.0.0, sourced_as o p frame.key lines (asked_of frame.load row.address) (answer_view row.answer) row.frames (alike frame (in_front frame frames)) all.0.1),
+  answered_alike lines o p frames rows (λ other there. alike other (in_rest frame frames other there)) all.1,
+)
+answered_alike lines o p [] (row ∷ rows) alike all = absurd all
+answered_alike lines o p (frame ∷ frames) [] alike all = absurd all
+
+frames_alike : (lines : Bool) (o p : Operations) (frames : List Frame) (status : Status) (text : List ℕ) → ((frame : Frame) → Contains frames frame → AnswersAs frame.key o p)
+    → TellsFrames lines o frames status text → TellsFrames lines p frames status text
+frames_alike lines o p frames status text alike told = record {
+  rows = told.rows;
+  answered = answered_alike lines o p frames told.rows alike told.answered;
+  status_is = told.status_is;
+  text_is = told.text_is;
+}
+
+slices_same : (P Q : FindRow → Type 0) (keys : List SliceKey) (text : List ℕ) → ((row : FindRow) → P row → Q row) → ((row : FindRow) → Q row → P row) → TellsSlices P keys text → TellsSlices Q keys text
+slices_same P Q keys text to from told = record {
+  rows = told.rows;
+  absent = told.absent;
+  ascending = told.ascending;
+  exactly = λ row. (λ there. to row ((told.exactly row).0 there), λ is. (told.exactly row).1 (from row is));
+  absent_ascending = told.absent_ascending;
+  absent_exactly = λ key. (
+    λ there. let of = (told.absent_exactly key).0 there in (of.0, λ row is. of.1 row (from row is)),
+    λ h. (told.absent_exactly key).1 (h.0, λ row is. h.1 row (to row is)),
+  );
+  text_is = told.text_is;
+}
+
+module _ (kept o : Operations) (keys : List SliceKey) (uuids : List (List ℕ)) (content : IsContent o) (keyed : All IsKey keys) (are : AreUuidsOf keys uuids)
+    (alike : AreAlikeWhere (is_under_one uuids) kept o) where
+  whole_uuid : (uuid : List ℕ) → Contains uuids uuid → length uuid ≡ 16
+  whole_uuid uuid there =
+      let one = (are uuid).0 there in
+      let whole = All-contains IsKey keys one.0 keyed one.1 in
+      ap length (sym one.2) ∙ whole.uuid
+
+  under_one : (uuid : List ℕ) → Contains uuids uuid → AreAlikeUnder uuid kept o
+  under_one uuid there =
+      let long = whole_uuid uuid there in
+      alike uuid (omega (arith, long)) (λ r under. uuid_picked uuids uuid r there long under)
+
+  -- under each key they answer alike
+  pub answers_of : (key : SliceKey) → Contains keys key → AnswersAs key kept o
+  answers_of key there =
+      let whole = All-contains IsKey keys key keyed there in
+      let asked : Contains uuids key.uuid = (are key.uuid).1 (key, there, refl) in
+      let long = length_key_bytes key whole.uuid in
+      answers_alike kept o key (alike (key_bytes key) (omega (arith, long)) (λ r under. uuid_picked uuids key.uuid r asked whole.uuid (under_uuid key r under)))
+
+  -- rows that were kept tell the slices that answer in the join
+  pub tells_after : (Tells Told : Status → List ℕ → Type 0) (status : Status) (text : List ℕ) → ((answers : List ℕ) → Tells status answers → Told status answers)
+      → TellsRowsAfter Tells kept uuids keys status text → TellsSlicesAfter Told (IsAnsweringRow o keys) keys status text
+  tells_after Tells Told status text to after =
+      let rows = rows_alike kept o uuids after.rows.pool under_one after.rows.rows in
+      record {
+        answers = after.answers;
+        told = to after.answers after.told;
+        slices = after.slices;
+        tells_slices = slices_same (AnswersAmong after.rows.pool) (IsAnsweringRow o keys) keys after.slices
+            (answers_answer o keys uuids after.rows.pool content keyed are rows) (answer_answers o keys uuids after.rows.pool content keyed are rows) after.rows.tells;
+        text_is = after.text_is;
+      }
+
+-- the same of frames, with their keys
+pub frames_after : (lines : Bool) (kept o : Operations) (frames : List Frame) (keys : List SliceKey) (uuids : List (List ℕ)) (status : Status) (text : List ℕ)
+    → IsContent o → keys ≡ frame_keys frames → All IsKey keys → AreUuidsOf keys uuids → AreAlikeWhere (is_under_one uuids) kept o
+    → TellsRowsAfter (TellsFrames lines kept frames) kept uuids keys status text → TellsSlicesAfter (TellsFrames lines o frames) (IsAnsweringRow o (frame_keys frames)) (frame_keys frames) status text
+frames_after lines kept o frames keys uuids status text content same keyed are alike after =
+    subst (λ (ks : List SliceKey). TellsSlicesAfter (TellsFrames lines o frames) (IsAnsweringRow o ks) ks status text) same
+    (tells_after kept o keys uuids content keyed are alike (TellsFrames lines kept frames) (TellsFrames lines o frames) status text
+    (λ answers told. frames_alike lines kept o frames status answers
+    (λ frame there. answers_of kept o keys uuids content keyed are alike frame.key (subst (λ (ks : List SliceKey). Contains ks frame.key) (sym same) (to_map (λ (one : Frame). one.key) frames frame there))) told) after)
+
+-- ---- one key
+
+only : (key : SliceKey) (uuid : List ℕ) → Contains (key.uuid ∷ []) uuid → key.uuid ≡ uuid
+only key uuid there = elim (in_cons key.uuid [] uuid there) [
+  | inl same ↦ same
+  | inr none ↦ absurd (omega (arith, none.1))
+]
+
+only_key : (key other : SliceKey) → Contains (key ∷ []) other → key ≡ other
+only_key key other there = elim (in_cons key [] other there) [
+  | inl same ↦ same
+  | inr none ↦ absurd (omega (arith, none.1))
+]
+
+own_uuid : (key : SliceKey) → AreUuidsOf (key ∷ []) (key.uuid ∷ [])
+own_uuid key = λ uuid. (
+  λ there. (key, in_front key [], only key uuid there),
+  λ has. subst (Contains (key.uuid ∷ [])) (ap (λ (k : SliceKey). k.uuid) (only_key key has.0 has.1) ∙ has.2) (in_front key.uuid []),
+)
+
+or_only : (b : Bool) → (b || false) ≡ true → b ≡ true
+or_only true e = refl
+or_only false e = e
+
+one_picked : (uuid r : List ℕ) → length uuid ≡ 16 → is_under_one (uuid ∷ []) r ≡ true → is_under uuid r ≡ true
+unfolding is_under
+one_picked uuid r long picked = ap (λ (n : ℕ). bytes_eq uuid (take n (drop 1 r))) long ∙ or_only (bytes_eq uuid (take 16 (drop 1 r))) picked
+
+front_uuid : (key : SliceKey) → length key.uuid ≡ 16 → take 16 (key_bytes key) ≡ key.uuid
+unfolding key_bytes
+front_uuid key long = take_at key.uuid _ 16 long
+
+pub addresses_with : (slices : Bool) (kept o : Operations) (key : SliceKey) (load : Option ℕ) (lines : Bool) (addresses : List ℕ) (status : Status) (text : List ℕ) → IsContent o → IsKey key
+    → AreAlikeWhere (is_under (if slices then take 16 (key_bytes key) else key_bytes key)) kept o
+    → WithRows slices (TellsAddresses kept key load lines addresses) kept (key.uuid ∷ []) (key ∷ []) status text → TellsAddressesWith o key load lines slices addresses status text
+addresses_with false kept o key load lines addresses status text content is_key alike told =
+    told_alike kept o key load lines addresses status text (alike (key_bytes key) (omega (arith, length_key_bytes key is_key.uuid)) (λ r under. under)) told
+addresses_with true kept o key load lines addresses status text content is_key alike told =
+    let by_uuid : AreAlikeWhere (is_under key.uuid) kept o = subst (λ (front : List ℕ). AreAlikeWhere (is_under front) kept o) (front_uuid key is_key.uuid) alike in
+    let by_one : AreAlikeWhere (is_under_one (key.uuid ∷ [])) kept o = λ prefix short all. by_uuid prefix short (λ r under. one_picked key.uuid r is_key.uuid (all r under)) in
+    let whole = All-cons IsKey key [] is_key (All-nil IsKey) in
+    tells_after kept o (key ∷ []) (key.uuid ∷ []) content whole (own_uuid key) by_one (TellsAddresses kept key load lines addresses) (TellsAddresses o key load lines addresses) status text
+    (λ answers before. told_alike kept o key load lines addresses status answers
+    (by_uuid (key_bytes key) (omega (arith, length_key_bytes key is_key.uuid)) (λ r under. under_uuid key r under)) before) told

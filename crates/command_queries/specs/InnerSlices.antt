@@ -1,0 +1,46 @@
+-- The rows under UUIDs that a content has: the words of inner functions. No contract of a public one has them.
+use Rattle.std.specs.Prelude.{◌≡◌, ◌↔◌, ℕ, List, ◌++◌, Bool, true, false, Contains, drop, take}
+use Rattle.std.specs.List.{AllZip, flat_map, list_any}
+use Rattle.std.specs.Str.{bytes_eq}
+use Rattle.archive_core.specs.Content.{Operations}
+use Rattle.archive_core.specs.Find.{IsFinds}
+use Rattle.archive_core.specs.declared.find.FindRow.{FindRow}
+use Rattle.archive_core.specs.declared.keys.SliceKey.{SliceKey}
+use Rattle.text_reports.specs.Slices.{AnswersAmong, TellsSlices}
+use Rattle.command_common.specs.declared.faults.Status.{Status}
+
+-- the bytes after the tag of a record begin with one of these UUIDs
+abbrev pub is_under_one : List (List ℕ) → List ℕ → Bool
+is_under_one uuids r = list_any (λ uuid. bytes_eq uuid (take 16 (drop 1 r))) uuids
+
+-- these are the UUIDs of these keys, in any order and with any repeats
+abbrev pub AreUuidsOf : List SliceKey → List (List ℕ) → Type 0
+AreUuidsOf keys uuids = (uuid : List ℕ)
+    → Contains uuids uuid ↔ ((key : SliceKey) × Contains keys key × (key.uuid ≡ uuid))
+
+-- Rows that searches of the content tell under these UUIDs, one search after another.
+pub record AreRowsUnder (o : Operations) (uuids : List (List ℕ)) (pool : List FindRow) : Type 0 where
+  pub lists : List (List FindRow)
+  pub finds : AllZip (IsFinds o) uuids lists
+  pub pool_is : pool ≡ flat_map (λ rows. rows) lists
+
+-- The lines of the slices that answer, as such rows have it.
+pub record TellsRowsUnder (o : Operations) (uuids : List (List ℕ)) (keys : List SliceKey) (text : List ℕ) : Type 0 where
+  pub pool : List FindRow
+  pub rows : AreRowsUnder o uuids pool
+  pub tells : TellsSlices (AnswersAmong pool) keys text
+
+-- Answers, and after them the lines of the slices that answer, as such rows have it.
+pub record TellsRowsAfter (Tells : Status → List ℕ → Type 0) (o : Operations) (uuids : List (List ℕ))
+    (keys : List SliceKey) (status : Status) (text : List ℕ) : Type 0 where
+  pub answers : List ℕ
+  pub told : Tells status answers
+  pub slices : List ℕ
+  pub rows : TellsRowsUnder o uuids keys slices
+  pub text_is : text ≡ answers ++ slices
+
+-- answers, and after them such lines if these are wanted
+abbrev pub WithRows : Bool → (Status → List ℕ → Type 0) → Operations → List (List ℕ) → List SliceKey → Status → List ℕ
+    → Type 0
+WithRows false Tells o uuids keys status text = Tells status text
+WithRows true Tells o uuids keys status text = TellsRowsAfter Tells o uuids keys status text
