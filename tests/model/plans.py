@@ -9,8 +9,8 @@ ANY_NUMBER = 1 << 62
 
 
 class Taken(NamedTuple):
-    """What a command takes: its words by their names, in their order, of which the last may stand several times, with
-    a star after it; whether it asks several archives by `--with`; how often `--index` may stand; and which flags may."""
+    """What a command takes: its words by their names, in their order, of which the last may be there several times,
+    with a star after it; whether it asks several archives by `--with`; how often `--index` may be there; its flags."""
 
     words: Sequence[str]
     is_asking: bool

@@ -158,10 +158,16 @@ class Room:
         same("archive", bytes_of(self.archive), wanted)
 
     def begin_anew(self, text: Optional[bytes] = None) -> None:
-        """Removes the archive with all beside it, and puts these bytes in its place, if any."""
+        """Removes the archive with all beside it, and puts these bytes in its place, if any. A program whose caller was
+        killed just now may remove its own draft meanwhile."""
+
+        def pass_over(_function: Any, _path: str, failure: Any) -> None:
+            if not isinstance(failure[1], FileNotFoundError):
+                raise failure[1]
+
         for path in self.path.glob("site.sym*"):
             if path.is_dir():
-                shutil.rmtree(path)
+                shutil.rmtree(path, onerror=pass_over)
             else:
                 path.unlink()
         if text is not None:
