@@ -156,6 +156,15 @@ keys_kept keys sorted kept bytes are moved once = λ b. (
       subst (Contains (map key_bytes kept)) (sym (one.2 ∙ bytes_same (key_bytes one.0) (key_bytes any.0) any.2)) (to_map key_bytes kept any.0 any.1),
 )
 
+-- bytes that are kept once each
+pub bytes_kept : (all sorted kept bytes : List (List ℕ)) → all ≡ bytes → IsPermutation all sorted → kept ≡ dedup (eq_by_cmp (slice_cmp nat_cmp)) sorted → HaveSameMembers kept bytes
+bytes_kept all sorted kept bytes are moved once = λ b. (
+  λ there. subst (λ (l : List (List ℕ)). Contains l b) are (of_kept nat_list_cmp_total all sorted kept moved once b there),
+  λ there.
+      let one = to_kept nat_list_cmp_total all sorted kept moved once b (subst (λ (l : List (List ℕ)). Contains l b) (sym are) there) in
+      subst (Contains kept) (sym (bytes_same b one.0 one.2)) one.1,
+)
+
 -- ---- those of a key
 
 with_key : (key : SliceKey) (one : AskedPlace) → key_bytes one.key ≡ key_bytes key → has_key key one ≡ true

@@ -65,12 +65,31 @@ module _ {D : Type 0} (whole : D → Option (List ℕ)) (failures : D → ℕ) (
       subst (λ (p : Where). IsAnswerAmong texts all (key_bytes key) lines p (answer_at answers number) (shown_at lines answers number)) is
       (law texts all (key_bytes key) answering lines places answers.columns.items number place are (asks.says texts have) (slice_get_within places number place at))
 
-  -- a fault is told
-  pub fault_told : (fault : AnswerFault) → AsksAmong whole failures lines answering old new (Err fault) AreColumns → IsRefusal (IsUntoldBy whole failures lines (key_bytes key ∷ []) all old new) (NoneFailed failures old new) (command_fault fault)
-  fault_told (faults.Damaged input number) asks = record { key = key_bytes key; key_is = one_key (key_bytes key); answering = answering; are = are; fault = faults.Damaged input number; told_as = refl; says = asks.says; counts = asks.counts }
-  fault_told (faults.NoLines input number) asks = record { key = key_bytes key; key_is = one_key (key_bytes key); answering = answering; are = are; fault = faults.NoLines input number; told_as = refl; says = asks.says; counts = asks.counts }
-  fault_told (faults.Device input offset) asks = record { key = key_bytes key; key_is = one_key (key_bytes key); answering = answering; are = are; fault = faults.Device input offset; told_as = refl; says = asks.says; counts = asks.counts }
-  fault_told faults.OutOfMemory asks = asks.counts
+  -- a fault refuses all keys, or the key alone if slices are wanted
+  abbrev IsKeyOutcome : Bool → Option KeyTold → Type 0
+  IsKeyOutcome slices told = MatchOption told (AreTied (key_bytes key) all) (IsKeyTold (HaveTexts whole old) all key lines slices places) × (each_known whole new ≡ each_known whole old)
+
+  refuses_all : (slices : Bool) (fault : AnswerFault) (at : InputName) (why : Why) → command_fault fault ≡ Input at why → RefusesAll slices fault → AsksAmong whole failures lines answering old new (Err fault) AreColumns
+      → IsUntoldBy whole failures lines slices (key_bytes key ∷ []) all old new at why
+  refuses_all slices fault at why told refuses asks = record { key = key_bytes key; key_is = one_key (key_bytes key); answering = answering; are = are; fault = fault; told_as = told; refuses = refuses; says = asks.says; counts = asks.counts }
+
+  refuses_key : (fault : AnswerFault) (at : InputName) (why : Why) → command_fault fault ≡ Input at why → IsOfKey lines fault → each_known failures new ≡ each_known failures old → AsksAmong whole failures lines answering old new (Err fault) AreColumns
+      → AreRead (IsKeyOutcome true (Some (Refused at why))) (NoneFailed failures old new)
+  refuses_key fault at why told of_key none asks = record {
+    is = ((refl, record { answering = answering; are = are; fault = fault; told_as = told; of_key = of_key; says = asks.says }), asks.keeps);
+    unfailed = none;
+  }
+
+  pub fault_told : (slices : Bool) (fault : AnswerFault) → AsksAmong whole failures lines answering old new (Err fault) AreColumns
+      → ReadsInputs (told_fault slices fault) (IsKeyOutcome slices) (IsUntoldBy whole failures lines slices (key_bytes key ∷ []) all old new) (NoneFailed failures old new)
+  fault_told false (faults.Damaged input number) asks = refuses_all false (faults.Damaged input number) (Index input) (why.Damaged number) refl tt asks
+  fault_told false (faults.NoLines input number) asks = refuses_all false (faults.NoLines input number) (Index input) (why.NoLines number) refl tt asks
+  fault_told false (faults.Device input offset) asks = refuses_all false (faults.Device input offset) (Index input) _ refl tt asks
+  fault_told false faults.OutOfMemory asks = asks.counts
+  fault_told true (faults.Damaged input number) asks = refuses_key (faults.Damaged input number) (Index input) (why.Damaged number) refl tt asks.counts asks
+  fault_told true (faults.NoLines input number) asks = refuses_key (faults.NoLines input number) (Index input) (why.NoLines number) refl asks.counts.0 asks.counts.1 asks
+  fault_told true (faults.Device input offset) asks = refuses_all true (faults.Device input offset) (Index input) _ refl tt asks
+  fault_told true faults.OutOfMemory asks = asks.counts
 
 -- ---- under several keys
 
@@ -79,26 +98,38 @@ module _ {D : Type 0} (whole : D → Option (List ℕ)) (failures : D → ℕ) (
   texts_first texts have = subst (λ (ds : List (Option (List ℕ))). AllZip HasText ds texts) (sym texts_kept) have
 
   -- what is true of later states is true of the first
-  pub true_first : (one : KeyAnswers) → IsToldUnder (HaveTexts whole mid) all lines one → IsToldUnder (HaveTexts whole first) all lines one
-  true_first one told = λ texts have. told texts (texts_first texts have)
+  key_first : (key : SliceKey) (slices : Bool) (places : List Where) (told : KeyTold) → IsKeyTold (HaveTexts whole mid) all key lines slices places told → IsKeyTold (HaveTexts whole first) all key lines slices places told
+  key_first key slices places (Told answers) is = λ texts have. is texts (texts_first texts have)
+  key_first key slices places (Refused at why) (wanted, is) = (wanted, record {
+    answering = is.answering;
+    are = is.are;
+    fault = is.fault;
+    told_as = is.told_as;
+    of_key = is.of_key;
+    says = λ texts have. is.says texts (texts_first texts have);
+  })
+
+  pub true_first : (slices : Bool) (one : KeyAnswers) → IsToldUnder (HaveTexts whole mid) all lines slices one → IsToldUnder (HaveTexts whole first) all lines slices one
+  true_first slices one told = key_first one.key slices one.places.items one.told told
 
   -- what is not told under some keys is not told under others, among which they are
-  pub untold_first : (counts_kept : each_known failures mid ≡ each_known failures first) (new : List D) (keys others : List (List ℕ))
+  pub untold_first : (slices : Bool) (counts_kept : each_known failures mid ≡ each_known failures first) (new : List D) (keys others : List (List ℕ))
       (fault : CommandFault) → ((key : List ℕ) → Contains keys key → Contains others key)
-      → IsRefusal (IsUntoldBy whole failures lines keys all mid new) (NoneFailed failures mid new) fault
-      → IsRefusal (IsUntoldBy whole failures lines others all first new) (NoneFailed failures first new) fault
-  untold_first counts_kept new keys others (Input at why) among r = record {
+      → IsRefusal (IsUntoldBy whole failures lines slices keys all mid new) (NoneFailed failures mid new) fault
+      → IsRefusal (IsUntoldBy whole failures lines slices others all first new) (NoneFailed failures first new) fault
+  untold_first slices counts_kept new keys others (Input at why) among r = record {
     key = r.key;
     key_is = among r.key r.key_is;
     answering = r.answering;
     are = r.are;
     fault = r.fault;
     told_as = r.told_as;
+    refuses = r.refuses;
     says = λ texts have. r.says texts (texts_first texts have);
     counts = subst (λ (olds : List ℕ). BlamesAmong lines r.answering olds (each_known failures new) r.fault) counts_kept r.counts;
   }
-  untold_first counts_kept new keys others OutOfMemory among r = r ∙ counts_kept
-  untold_first counts_kept new keys others fault among r = absurd r
+  untold_first slices counts_kept new keys others OutOfMemory among r = r ∙ counts_kept
+  untold_first slices counts_kept new keys others fault among r = absurd r
 
 -- the keys that are asked are those of frames
 pub among_frames : (frames : List Frame) (asked : List AskedPlace) → AreAskedOf frames asked → (key : List ℕ)
@@ -115,49 +146,100 @@ among_frames frames asked of key there =
 pub none_shown : (lines : Bool) (answers : Answers) (number : ℕ) → lines ≡ false → shown_at lines answers number ≡ []
 none_shown lines answers number none = subst (λ (l : Bool). shown_at l answers number ≡ []) (sym none) refl
 
-pub more_frames : (told : List KeyAnswers) (lines : Bool) (frames : List Frame) (i : ℕ) (frame : Frame) (status next : Status) (text printed : List ℕ) (answer : Answer) (one : KeyAnswers) (number : ℕ) → i < length frames → frame ≡ get_or frames i frame
-    → ShowsFrames told lines (take i frames) status text → StandsAt told (key_bytes frame.key) (asked_of frame.load frame.address) one number → answer_view answer ≡ answer_at one.answers number
-    → next ≡ (if is_symbol answer then status else Partial) → printed ≡ text ++ answer_lines frame.address answer (shown_at lines one.answers number) → ShowsFrames told lines (take (i + 1) frames) next printed
-more_frames told lines frames i frame status next text printed answer one number lt is shown stands told_is next_is printed_is =
-    let its : List (List FrameRecord) = shown_at lines one.answers number in
-    let row : Answered = record { address = frame.address; answer = answer; frames = its } in
+-- the status with one reply more
+status_of : (any each : Bool) (reply : Option Answered) → (if any || is_refused reply then Refused' else if each && is_found reply then Done else Partial) ≡ status_replied (if any then Refused' else if each then Done else Partial) reply
+status_of true each None = refl
+status_of true each (Some row) = refl
+status_of false each None = refl
+status_of false true (Some row) = refl
+status_of false false (Some row) = refl
+
+replies_more : (replies : List Reply) (reply : Reply) → replies_status (replies ++ reply ∷ []) ≡ status_replied (replies_status replies) reply.answered
+replies_more replies reply =
+    let any = list_any-append (λ (r : Reply). is_refused r.answered) replies (reply ∷ []) ∙ ap (λ (b : Bool). list_any (λ (r : Reply). is_refused r.answered) replies || b) (or_none (is_refused reply.answered)) in
+    let each = list_all-append (λ (r : Reply). is_found r.answered) replies (reply ∷ []) ∙ ap (λ (b : Bool). list_all (λ (r : Reply). is_found r.answered) replies && b) (and_all (is_found reply.answered)) in
+    (λ i. if any i then Refused' else if each i then Done else Partial)
+    ∙ status_of (list_any (λ (r : Reply). is_refused r.answered) replies) (list_all (λ (r : Reply). is_found r.answered) replies) reply.answered
+  where
+    or_none : (b : Bool) → (b || false) ≡ b
+    or_none b = grind arith
+
+    and_all : (b : Bool) → (b && true) ≡ b
+    and_all b = grind arith
+
+pub more_frames : (told : List KeyAnswers) (lines : Bool) (frames : List Frame) (i : ℕ) (frame : Frame) (status next : Status) (text printed : List ℕ) (one : KeyAnswers) (number : ℕ) → i < length frames → frame ≡ get_or frames i frame
+    → ShowsFrames told lines (take i frames) status text → StandsAt told (key_bytes frame.key) (asked_of frame.load frame.address) one number → IsPrinted lines one.told frame.address number status next text printed
+    → ShowsFrames told lines (take (i + 1) frames) next printed
+more_frames told lines frames i frame status next text printed one number lt is shown stands done =
+    let reply : Reply = record { address = frame.address; answered = done.reply } in
     let seen : take (i + 1) frames ≡ take i frames ++ frame ∷ [] = take_more frames i frame lt ∙ ap (λ (f : Frame). take i frames ++ f ∷ []) (sym is) in
     record {
-      rows = shown.rows ++ row ∷ [];
-      answered = subst (λ (fs : List Frame). AllZip (IsFrameTold told lines) fs (shown.rows ++ row ∷ [])) (sym seen)
-          (pairs_more (IsFrameTold told lines) (take i frames) shown.rows frame row shown.answered (refl, record { one = one; number = number; stands = stands; answer_is = told_is; frames_are = refl }));
-      status_is = next_is ∙ ap (λ (s : Status). if is_symbol answer then s else Partial) shown.status_is ∙ status_more shown.rows row;
-      text_is = printed_is ∙ ap (λ (t : List ℕ). t ++ answer_lines frame.address answer its) shown.text_is ∙ flat_map_more (λ (row : Answered). answer_lines row.address row.answer row.frames) [] shown.rows row;
+      replies = shown.replies ++ reply ∷ [];
+      answered = subst (λ (fs : List Frame). AllZip (IsFrameTold told lines) fs (shown.replies ++ reply ∷ [])) (sym seen)
+          (pairs_more (IsFrameTold told lines) (take i frames) shown.replies frame reply shown.answered (refl, record { one = one; number = number; stands = stands; reply_is = done.reply_is }));
+      status_is = done.status_is ∙ ap (λ (s : Status). status_replied s done.reply) shown.status_is ∙ sym (replies_more shown.replies reply);
+      text_is = done.text_is ∙ ap (λ (t : List ℕ). t ++ reply_text frame.address done.reply) shown.text_is ∙ flat_map_more (λ (r : Reply). reply_text r.address r.answered) [] shown.replies reply;
     }
 
-module _ {AreTexts : List (List ℕ) → Type 0} {all : List (List (List ℕ))} {lines : Bool} {asked : List AskedPlace} {told : List KeyAnswers}
-    (are : AreTold AreTexts all lines asked told) (frames : List Frame) where
-  -- something is told of each
-  pub told_each : AreAskedOf frames asked → HaveToldEach told frames
-  told_each of frame there =
-      let one = of.whole frame there in
-      subst (λ (p : Where). HasTold told (key_bytes frame.key) p) one.3 (subst (λ (b : List ℕ). HasTold told b one.0.place) one.2 (are.whole one.0 one.1))
+-- ---- what is refused
 
-  by_tables : (frame : Frame) (row : Answered) → IsFrameTold told lines frame row → IsFrameByTables AreTexts all lines frame row
-  by_tables frame row (address_is, is) = (
-    address_is,
-    record {
-      answer_is = λ texts given.
-          let one = All-contains (IsToldUnder AreTexts all lines) told is.one are.are_true is.stands.is_one in
-          rw (address_is, is.answer_is, is.frames_are, ← is.stands.key_is) (one texts given is.number (asked_of frame.load frame.address) is.stands.place_is);
-      none_shown = λ none. is.frames_are ∙ none_shown lines is.one.answers is.number none;
-    },
-  )
+-- the refusals ascend as what is told does
+refused_after : (key : SliceKey) (told : List KeyAnswers) → AllByRecursion (λ (one : KeyAnswers). key_cmp key one.key ≡ Less) told → AllByRecursion (λ (refusal : KeyRefusal). key_cmp key refusal.key ≡ Less) (refusals_in told)
+refused_after key [] all = tt
+refused_after key (one ∷ told) all = by one.told
+  where
+    by : (t : KeyTold) → AllByRecursion (λ (refusal : KeyRefusal). key_cmp key refusal.key ≡ Less) (cons_option (refusal_in one.key t) (refusals_in told))
+    by (Told answers) = refused_after key told all.1
+    by (Refused at why) = (all.0, refused_after key told all.1)
 
-  -- what is shown of frames is what tables tell of them
-  pub frames_by_tables : (status : Status) (text : List ℕ) → ShowsFrames told lines frames status text
-      → TellTablesOfFrames AreTexts all lines frames status text
-  frames_by_tables status text shown = record {
-    rows = shown.rows;
-    answered = zip_as (IsFrameTold told lines) (IsFrameByTables AreTexts all lines) frames shown.rows by_tables shown.answered;
-    status_is = shown.status_is;
-    text_is = shown.text_is;
-  }
+pub refusals_ascend : (told : List KeyAnswers) → IsStrictlySortedBy (λ a b. key_cmp a.key b.key) told → IsStrictlySortedBy (λ a b. key_cmp a.key b.key) (refusals_in told)
+unfolding IsStrictlySortedBy
+refusals_ascend [] up = tt
+refusals_ascend (one ∷ told) up = by one.told
+  where
+    by : (t : KeyTold) → IsStrictlySortedBy (λ a b. key_cmp a.key b.key) (cons_option (refusal_in one.key t) (refusals_in told))
+    by (Told answers) = refusals_ascend told up.1
+    by (Refused at why) = (refused_after one.key told up.0, refusals_ascend told up.1)
+
+-- each refusal is of something that is told, and each of these a refusal
+pub record IsRefusedIn (told : List KeyAnswers) (refusal : KeyRefusal) : Type 0 where
+  pub one : KeyAnswers
+  pub is_one : Contains told one
+  pub key_is : one.key ≡ refusal.key
+  pub told_is : one.told ≡ Refused refusal.at refusal.why
+
+pub of_told : (told : List KeyAnswers) (refusal : KeyRefusal) → Contains (refusals_in told) refusal → IsRefusedIn told refusal
+of_told [] refusal there = absurd (omega (arith, there.1))
+of_told (one ∷ told) refusal there = by one.told refl there
+  where
+    later : Contains (refusals_in told) refusal → IsRefusedIn (one ∷ told) refusal
+    later more = let r = of_told told refusal more in record { one = r.one; is_one = in_rest one told r.one r.is_one; key_is = r.key_is; told_is = r.told_is }
+
+    by : (t : KeyTold) → one.told ≡ t → Contains (cons_option (refusal_in one.key t) (refusals_in told)) refusal → IsRefusedIn (one ∷ told) refusal
+    by (Told answers) is more = later more
+    by (Refused at why) is more = elim (in_cons (record { key = one.key; at = at; why = why }) (refusals_in told) refusal more) [
+      | inl same ↦ record {
+        one = one;
+        is_one = in_front one told;
+        key_is = ap (λ (r : KeyRefusal). r.key) same;
+        told_is = is ∙ ap (λ (r : KeyRefusal). Refused r.at r.why) same;
+      }
+      | inr there ↦ later there
+    ]
+
+pub to_refusals : (told : List KeyAnswers) (one : KeyAnswers) (at : InputName) (why : Why) → Contains told one → one.told ≡ Refused at why → Contains (refusals_in told) (record { key = one.key; at = at; why = why })
+to_refusals [] one at why there is = absurd (omega (arith, there.1))
+to_refusals (first ∷ told) one at why there is = elim (in_cons first told one there) [
+  | inl same ↦
+      let own : first.told ≡ Refused at why = ap (λ (k : KeyAnswers). k.told) same ∙ is in
+      rw own (subst (λ (k : SliceKey). Contains (record { key = first.key; at = at; why = why } ∷ refusals_in told) (record { key = k; at = at; why = why })) (ap (λ (k : KeyAnswers). k.key) same)
+      (in_front (record { key = first.key; at = at; why = why }) (refusals_in told)))
+  | inr later ↦ by first.told (to_refusals told one at why later is)
+]
+  where
+    by : (t : KeyTold) → Contains (refusals_in told) (record { key = one.key; at = at; why = why }) → Contains (cons_option (refusal_in first.key t) (refusals_in told)) (record { key = one.key; at = at; why = why })
+    by (Told answers) more = more
+    by (Refused a w) more = in_rest (record { key = first.key; at = a; why = w }) (refusals_in told) (record { key = one.key; at = at; why = why }) more
 
 -- ---- addresses
 

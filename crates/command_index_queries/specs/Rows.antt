@@ -1,10 +1,11 @@
 -- The rows that an index tells.
-use Rattle.std.specs.Prelude.{◌≡◌, List, ℕ, Bool, take, drop, slice_index}
-use Rattle.std.specs.List.{AllZip}
+use Rattle.std.specs.Prelude.{◌≡◌, List, ℕ, Bool, true, Contains, take, drop, slice_index}
+use Rattle.std.specs.List.{AllZip, list_any}
 use Rattle.std.specs.List.Sorted.{IsPermutation, IsSortedBy, IsStableBy}
 use Rattle.std.specs.Ordering.{nat_cmp, is_lt}
 use Rattle.std.specs.Cmp.Lexicographic.{slice_cmp}
 use Rattle.archive_core.specs.Key.{IsKey, key_bytes}
+use Rattle.archive_core.specs.Part.{is_under}
 use Rattle.archive_core.specs.Summary.{Entries}
 use Rattle.archive_core.specs.declared.find.FindRow.{FindRow}
 use Rattle.index_format.specs.Entry.{dsym_byte, offset_in, tag_byte}
@@ -36,3 +37,14 @@ pub record AreIndexRows (prefix : List ℕ) (entries : Entries) (rows : List Fin
   pub each : AllZip IsEntryRow placed told
   pub by_key : IsSortedBy has_lower_key rows
   pub stable : IsStableBy has_lower_key told rows
+
+-- These are the rows of those of the entries that pass, in any order and with any repeats.
+pub record AreRowsAmong (passes : List ℕ → Bool) (entries : List (List ℕ)) (rows : List FindRow) : Type 0 where
+  pub of_entries : (row : FindRow) → Contains rows row
+      → (entry : List ℕ) × Contains entries entry × (passes entry ≡ true) × IsEntryRow entry row
+  pub whole : (entry : List ℕ) → Contains entries entry → passes entry ≡ true
+      → (row : FindRow) × Contains rows row × IsEntryRow entry row
+
+-- the key of an entry begins with one of these
+abbrev pub is_under_one : List (List ℕ) → List ℕ → Bool
+is_under_one prefixes entry = list_any (λ prefix. is_under prefix entry) prefixes

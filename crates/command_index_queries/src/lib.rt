@@ -5,7 +5,8 @@
 //! - `prefixes`: [`KeyPrefix`], what a key begins with; `parts`: what an index names there, read and joined;
 //! - `together`: indexes of several archives, read ([`read_indexes`]), and the slices that they name
 //!   ([`read_prefixes`]);
-//! - `rows`: the rows that an index tells; `summaries`: the summary that it tells;
+//! - `rows`: the rows that an index tells, and those of a UUID alone ([`rows_with_uuid`]); `summaries`: the summary that
+//!   it tells;
 //! - `find`, `list`, `summary`: commands that read entries alone, and the archive's length; `find` over several archives
 //!   reads the slices of the UUID.
 //!
@@ -27,6 +28,7 @@ mod together;
 
 pub use find::{run_find_at, run_find_together};
 pub use list::run_list_at;
-pub use prefixes::KeyPrefix;
+pub use prefixes::{KeyPrefix, uuid_bytes};
+pub use rows::rows_with_uuid;
 pub use summary::run_summary_at;
 pub use together::{read_indexes, read_prefixes};

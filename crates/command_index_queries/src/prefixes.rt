@@ -17,7 +17,7 @@ pub enum KeyPrefix {
 }
 
 /// The bytes of a UUID.
-pub(crate) fn uuid_bytes(uuid: Uuid) -> [u8; 16]
+pub fn uuid_bytes(uuid: Uuid) -> [u8; 16]
     ensures bytes { result ≡ uuid }
     ensures long { length uuid ≡ 16 }
 {

@@ -1,17 +1,21 @@
 //! The rows that an index tells.
 
-ghost use Rattle.std.specs.Prelude.{◌≡◌, ◌<◌, ◌^◌, IfOk, OnOk, filter, length, map};
+ghost use Rattle.std.specs.Prelude.{◌≡◌, ◌<◌, ◌≤◌, ◌^◌, All, IfOk, OnOk, filter, length, map, true};
 ghost use Rattle.std.specs.List.{AllZip};
 ghost use Rattle.std.specs.List.Sorted.{IsPermutation, IsSortedBy, IsStableBy};
 ghost use Rattle.archive_core.specs.Key.{IsKey};
 ghost use Rattle.archive_core.specs.Part.{is_under};
-ghost use Rattle.index_format.specs.Entry.{offset_in, placed_bytes};
+ghost use Rattle.index_format.specs.Entry.{has_tag, offset_in, placed_bytes};
+ghost use Rattle.index_format.specs.Runs.{is_tagged};
 ghost use Rattle.index_format.specs.Text.{placed_of};
-ghost use Rattle.command_index_queries.specs.Rows.{AreIndexRows, IsEntryRow, has_lower_key, stands_before};
+ghost use Rattle.command_index_queries.specs.Rows.{AreIndexRows, AreRowsAmong, IsEntryRow, has_lower_key, stands_before};
 
+use crate::prefixes::uuid_bytes;
 use archive_core::{Digest, FindRow, FindState, SliceKey, compare_keys};
-use index_format::{Index, IndexEntry, is_under};
+use archive_records::{ADMISSION, RETIREMENT};
+use index_format::{Index, IndexEntry, is_under, run_under};
 use memory::{Heap, NoMemory};
+use uuid::Uuid;
 
 /// The row with these parts.
 fn row_with(key: SliceKey, digest: Digest, state: FindState) -> FindRow
@@ -106,5 +110,37 @@ pub(crate) fn rows_under(
     sort_by_offset(&mut placed);
     let mut rows = rows_of(heap.share(), &placed)?;
     put_by_key(&mut rows)?;
+    Ok(rows)
+}
+
+/// The rows of the entries of one tag under a prefix, which are found by halving. None of the others is looked at.
+fn rows_tagged(
+    heap: Heap,
+    tag: u8,
+    prefix: &[u8],
+    index: &Index,
+) -> Result<Vec<FindRow, Heap>, NoMemory>
+    requires { length prefix.now ≤ 24 }
+    ensures rows { IfOk result (λ rows. AreRowsAmong (is_tagged tag prefix.now) index.now rows.items) }
+    ensures tags { All (λ entry. has_tag entry ≡ true) index.now }
+{
+    let entries = index.entries();
+    let (start, stop) = run_under(entries, tag, prefix);
+    rows_of(heap, &entries[start..stop])
+}
+
+/// The rows of the entries of an index under a UUID: of its retirements, and then of its admissions. They are found by
+/// halving, so they cost what is found.
+pub fn rows_with_uuid(
+    heap: &Heap,
+    uuid: Uuid,
+    index: &Index,
+) -> Result<Vec<FindRow, Heap>, NoMemory>
+    ensures { IfOk result (λ rows. AreRowsAmong (is_under uuid) index.now rows.items) }
+{
+    let prefix = uuid_bytes(uuid);
+    let mut rows = rows_tagged(heap.share(), RETIREMENT, &prefix, index)?;
+    let mut admitted = rows_tagged(heap.share(), ADMISSION, &prefix, index)?;
+    rows.append(&mut admitted)?;
     Ok(rows)
 }

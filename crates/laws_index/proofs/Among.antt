@@ -119,10 +119,10 @@ module _ (os : List Operations) (texts : List (List ℕ)) (indexes : List (List 
   }
 
   -- an entry is among all
-  to_all : (x : EntryAt) → IsAmong indexes x → Contains (all_of indexes) x.entry
+  pub to_all : (x : EntryAt) → IsAmong indexes x → Contains (all_of indexes) x.entry
   to_all x among = to_flat_map (λ (es : List (List ℕ)). es) indexes among.entries x.entry (listed_at indexes x.input among.entries among.index_is) (listed_at among.entries x.number x.entry among.entry_is)
 
-  from_all : (e : List ℕ) → Contains (all_of indexes) e → (x : EntryAt) × IsAmong indexes x × (x.entry ≡ e)
+  pub from_all : (e : List ℕ) → Contains (all_of indexes) e → (x : EntryAt) × IsAmong indexes x × (x.entry ≡ e)
   from_all e c =
       let f = in_flat_map (λ (es : List (List ℕ)). es) indexes e c in
       let x : EntryAt = record { input = f.1.0; number = f.2.0; entry = e } in
@@ -164,7 +164,7 @@ module _ (os : List Operations) (texts : List (List ℕ)) (indexes : List (List 
           record { o = f.0; text = f.1; entries = f.2; place = c.0; file = f.3; entry_at = there; is = e.2; record_is = its },
         )
 
-    content : IsContent (all_joined os)
+    pub content : IsContent (all_joined os)
     content = all_content os (contents_of os texts all.files)
 
     -- ---- retirements

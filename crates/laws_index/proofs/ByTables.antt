@@ -1,5 +1,5 @@
 -- What the tables in the indexes of contents tell is what the join of these contents tells.
-use Rattle.std.proofs.Common.{◌≡◌, ◌⊎◌, ℕ, ◌≤◌, Bool, List, [], ◌∷◌, length, get_or, Contains, Option, refl, sym, subst, inl, inr, arith}
+use Rattle.std.proofs.Common.{◌≡◌, ◌⊎◌, ℕ, ◌≤◌, Bool, true, List, [], ◌∷◌, length, get_or, Contains, Option, refl, sym, ap, ◌∙◌, subst, inl, inr, arith}
 use Rattle.std.specs.List.{AllZip}
 use Rattle.std.proofs.lemmas.List.Elements.{All-weaker, Contains-get_or, recursion_from_All}
 use Rattle.archive_core.specs.Content.{Operations}
@@ -7,9 +7,9 @@ use Rattle.archive_core.specs.Key.{IsKey, key_bytes}
 use Rattle.archive_core.specs.Lookup.{answer_view}
 use Rattle.archive_core.specs.declared.keys.SliceKey.{SliceKey}
 use Rattle.archive_core.proofs.Compare.{length_key_bytes}
-use Rattle.archive_core.proofs.Members.{in_front, in_map, in_rest}
-use Rattle.command_queries.specs.Frames.{IsFrameAnswered, TellsFrames}
-use Rattle.command_queries.specs.Symbolicate.{Answered, IsAnswered, TellsAddresses, asked_of}
+use Rattle.archive_core.proofs.Members.{in_cons, in_front, in_map, in_rest}
+use Rattle.command_queries.specs.Frames.{IsFrameAnswered, TellsFrames, TellsFramesWith, frame_keys}
+use Rattle.command_queries.specs.Symbolicate.{Answered, IsAnswered, TellsAddresses, TellsAddressesWith, asked_of}
 use Rattle.command_queries.proofs.Answered.{told_alike}
 use Rattle.command_common.specs.Inputs.{IsDeviceFault, IsGiven, Reader}
 use Rattle.command_common.specs.declared.faults.InputName.{InputName}
@@ -22,10 +22,11 @@ use Rattle.laws_index.proofs.Joined.{joined_alone, tells_alone}
 use Rattle.laws_index.proofs.Right as told
 use Rattle.index_lookup.specs.Among.{EntryAt}
 use Rattle.command_index_queries.specs.Together.{AreReadWith, IsReadWith}
-use Rattle.command_index_frames.specs.Asking.{AreGiven, AreRefusedAsking, AreUntold, IsAnsweredByTables, IsUnreadTable}
-use Rattle.command_index_frames.specs.Frames.{AreToldAt, IsFrameByTables, TellsFramesBySlices, TellsFramesByTables, keys_of}
+use Rattle.command_index_frames.specs.Asking.{AreGiven, AreRefusedAsking, AreUntold, IsAnsweredByTables, IsUnreadTable, TellTables}
+use Rattle.command_index_frames.specs.Frames.{AreToldAt, IsFrameByTables, TellTablesOfFrames, TellsFramesBySlices, TellsFramesByTables, keys_of}
 use Rattle.command_index_frames.specs.Symbolicate.{TellsBySlices, TellsByTables, symbolicate_at}
 use Rattle.laws_index.specs.Contents.{AreIndexed, AreIndexesGiven, AreOwnIndexes, IsForLines, IsIndexGiven, IsIndexed, IsOwnIndex}
+use Rattle.laws_index.proofs.AnsweringRows.{with_slices_told}
 use Rattle.laws_index.proofs.ByIndex.{frames_told, held_alike}
 use Rattle.laws_index.proofs.Accepted.{held_text, first_by_device, later_by_device, first_third, for_first}
 
@@ -66,23 +67,43 @@ module _ {I P : Type 0} (inputs : List (Reader I)) (archives : List (Reader P)) 
     )
     frames_rows lines frames rows keys zip = absurd zip
 
-module _ {I P : Type 0} (inputs : List (Reader I)) (archives : List (Reader P)) (os : List Operations) (are : AreIndexesGiven inputs os) (tell : DigestsTell os) where
-  pub told_by_tables : (key : SliceKey) (load : Option ℕ) (lines : Bool) (addresses : List ℕ) (status : Status) (text : List ℕ) → IsKey key → TellsByTables inputs archives key load lines addresses status text → TellsAddresses (all_joined os) key load lines addresses status text
-  told_by_tables key load lines addresses status text is_key by = record {
-    rows = by.tells.rows;
-    addresses_are = by.tells.addresses_are;
-    answered = recursion_from_All _ _ (All-weaker _ _ (λ row answered. row_told inputs archives by.all by.read os (texts_of inputs os are) tell key load lines row is_key answered) by.tells.rows by.tells.answered);
-    status_is = by.tells.status_is;
-    text_is = by.tells.text_is;
-  }
+-- the keys that are asked have UUIDs of 16 bytes
+one_long : (key other : SliceKey) → IsKey key → Contains (key ∷ []) other → length other.uuid ≡ 16
+one_long key other is_key there = elim (in_cons key [] other there) [
+  | inl same ↦ subst (λ (k : SliceKey). length k.uuid ≡ 16) same is_key.uuid
+  | inr more ↦ absurd (omega (arith, more.1))
+]
 
-  pub framed_by_tables : (lines : Bool) (listed : List Frame) (status : Status) (text : List ℕ) → ((frame : Frame) → Contains listed frame → IsKey frame.key) → TellsFramesByTables lines inputs archives listed status text → TellsFrames lines (all_joined os) listed status text
-  framed_by_tables lines listed status text keys by = record {
-    rows = by.tells.rows;
-    answered = frames_rows inputs archives by.all by.read os (texts_of inputs os are) tell lines listed by.tells.rows keys by.tells.answered;
-    status_is = by.tells.status_is;
-    text_is = by.tells.text_is;
-  }
+keys_long : (listed : List Frame) → ((frame : Frame) → Contains listed frame → IsKey frame.key) → (key : SliceKey) → Contains (frame_keys listed) key → length key.uuid ≡ 16
+keys_long listed keys key there =
+    let found = in_map (λ (frame : Frame). frame.key) listed key there in
+    ap (λ (k : SliceKey). length k.uuid) found.2 ∙ (keys found.0 found.1).uuid
+
+module _ {I P : Type 0} (inputs : List (Reader I)) (archives : List (Reader P)) (os : List Operations) (are : AreIndexesGiven inputs os) (tell : DigestsTell os) where
+  pub told_by_tables : (key : SliceKey) (load : Option ℕ) (lines slices : Bool) (addresses : List ℕ) (status : Status) (text : List ℕ) → IsKey key → TellsByTables inputs archives key load lines slices addresses status text → TellsAddressesWith (all_joined os) key load lines slices addresses status text
+  told_by_tables key load lines slices addresses status text is_key by =
+      let its = texts_of inputs os are in
+      with_slices_told os its.texts by.all (indexes_are inputs archives by.all by.read os its.texts its.given its.files) (key ∷ []) slices (λ wanted other there. one_long key other is_key there)
+      (TellTables (AreGiven inputs) by.all key load lines addresses) (TellsAddresses (all_joined os) key load lines addresses)
+      (λ s t told. record {
+        rows = told.rows;
+        addresses_are = told.addresses_are;
+        answered = recursion_from_All _ _ (All-weaker _ _ (λ row answered. row_told inputs archives by.all by.read os its tell key load lines row is_key answered) told.rows told.answered);
+        status_is = told.status_is;
+        text_is = told.text_is;
+      }) status text by.tells
+
+  pub framed_by_tables : (lines slices : Bool) (listed : List Frame) (status : Status) (text : List ℕ) → ((frame : Frame) → Contains listed frame → IsKey frame.key) → TellsFramesByTables lines slices inputs archives listed status text → TellsFramesWith lines slices (all_joined os) listed status text
+  framed_by_tables lines slices listed status text keys by =
+      let its = texts_of inputs os are in
+      with_slices_told os its.texts by.all (indexes_are inputs archives by.all by.read os its.texts its.given its.files) (frame_keys listed) slices (λ wanted key there. keys_long listed keys key there)
+      (TellTablesOfFrames (AreGiven inputs) by.all lines listed) (TellsFrames lines (all_joined os) listed)
+      (λ s t told. record {
+        rows = told.rows;
+        answered = frames_rows inputs archives by.all by.read os its tell lines listed told.rows keys told.answered;
+        status_is = told.status_is;
+        text_is = told.text_is;
+      }) status text by.tells
 
 -- ---- one index
 
@@ -90,38 +111,50 @@ module _ {I P : Type 0} (input : Reader I) (archive : Reader P) (o : Operations)
   joined_one : all_joined (o ∷ []) ≡ o
   joined_one = joined_alone o is.2.content.itself
 
-  pub told_alone : (key : SliceKey) (load : Option ℕ) (lines : Bool) (addresses : List ℕ) (status : Status) (text : List ℕ) → IsKey key → TellsByTables (input ∷ []) (archive ∷ []) key load lines addresses status text → TellsAddresses o key load lines addresses status text
-  told_alone key load lines addresses status text is_key by =
-      subst (λ (made : Operations). TellsAddresses made key load lines addresses status text) joined_one
-      (told_by_tables (input ∷ []) (archive ∷ []) (o ∷ []) (is, tt) (tells_alone o) key load lines addresses status text is_key by)
+  pub told_alone : (key : SliceKey) (load : Option ℕ) (lines slices : Bool) (addresses : List ℕ) (status : Status) (text : List ℕ) → IsKey key → TellsByTables (input ∷ []) (archive ∷ []) key load lines slices addresses status text → TellsAddressesWith o key load lines slices addresses status text
+  told_alone key load lines slices addresses status text is_key by =
+      subst (λ (made : Operations). TellsAddressesWith made key load lines slices addresses status text) joined_one
+      (told_by_tables (input ∷ []) (archive ∷ []) (o ∷ []) (is, tt) (tells_alone o) key load lines slices addresses status text is_key by)
 
-  pub framed_alone : (lines : Bool) (listed : List Frame) (status : Status) (text : List ℕ) → ((frame : Frame) → Contains listed frame → IsKey frame.key) → TellsFramesByTables lines (input ∷ []) (archive ∷ []) listed status text → TellsFrames lines o listed status text
-  framed_alone lines listed status text keys by =
-      subst (λ (made : Operations). TellsFrames lines made listed status text) joined_one
-      (framed_by_tables (input ∷ []) (archive ∷ []) (o ∷ []) (is, tt) (tells_alone o) lines listed status text keys by)
+  pub framed_alone : (lines slices : Bool) (listed : List Frame) (status : Status) (text : List ℕ) → ((frame : Frame) → Contains listed frame → IsKey frame.key) → TellsFramesByTables lines slices (input ∷ []) (archive ∷ []) listed status text → TellsFramesWith lines slices o listed status text
+  framed_alone lines slices listed status text keys by =
+      subst (λ (made : Operations). TellsFramesWith lines slices made listed status text) joined_one
+      (framed_by_tables (input ∷ []) (archive ∷ []) (o ∷ []) (is, tt) (tells_alone o) lines slices listed status text keys by)
 
 -- ---- by slices
 
 module _ {I P : Type 0} (inputs : List (Reader I)) (archives : List (Reader P)) (os : List Operations) (are : AreIndexed inputs archives os) where
-  pub told_by_slices : (key : SliceKey) (load : Option ℕ) (lines : Bool) (addresses : List ℕ) (status : Status) (text : List ℕ) → length (key_bytes key) ≤ 24 → TellsBySlices inputs archives key load lines addresses status text
-      → TellsAddresses (all_joined os) key load lines addresses status text
-  told_by_slices key load lines addresses status text short by =
-      told_alike by.makes.content (all_joined os) key load lines addresses status text
-      (held_alike (key_bytes key ∷ []) inputs archives os by.makes.content (short, tt) are by.makes.held (key_bytes key) (0, omega arith, refl)) by.makes.tells
+  pub given_indexes : AreIndexesGiven inputs os
+  given_indexes = first_third IsIndexed IsIndexGiven inputs archives os (λ x y z is. is.0) are
 
-  pub framed_by_slices : (lines : Bool) (listed : List Frame) (status : Status) (text : List ℕ) → ((key : List ℕ) → Contains (keys_of listed) key → length key ≤ 24) → TellsFramesBySlices lines inputs archives listed status text
-      → TellsFrames lines (all_joined os) listed status text
-  framed_by_slices lines listed status text short by =
+  -- the entries that were read are those of the contents
+  read_indexes : (held all : List (List (List ℕ))) → held ≡ all → AreReadWith inputs archives held → AreIndexes os (texts_of inputs os given_indexes).texts all
+  read_indexes held all same read =
+      let its = texts_of inputs os given_indexes in
+      subst (AreIndexes os its.texts) same (indexes_are inputs archives held read os its.texts its.given its.files)
+
+  pub told_by_slices : (key : SliceKey) (load : Option ℕ) (lines slices : Bool) (addresses : List ℕ) (status : Status) (text : List ℕ) → length (key_bytes key) ≤ 24 → (slices ≡ true → IsKey key)
+      → TellsBySlices inputs archives key load lines slices addresses status text → TellsAddressesWith (all_joined os) key load lines slices addresses status text
+  told_by_slices key load lines slices addresses status text short is_key by =
+      let its = texts_of inputs os given_indexes in
+      with_slices_told os its.texts by.all (read_indexes by.makes.held.all by.all by.all_is by.makes.held.read) (key ∷ []) slices (λ wanted other there. one_long key other (is_key wanted) there)
+      (TellsAddresses by.makes.content key load lines addresses) (TellsAddresses (all_joined os) key load lines addresses)
+      (λ s t told. told_alike by.makes.content (all_joined os) key load lines addresses s t
+      (held_alike (key_bytes key ∷ []) inputs archives os by.makes.content (short, tt) are by.makes.held (key_bytes key) (0, omega arith, refl)) told) status text by.makes.tells
+
+  pub framed_by_slices : (lines slices : Bool) (listed : List Frame) (status : Status) (text : List ℕ) → ((key : List ℕ) → Contains (keys_of listed) key → length key ≤ 24)
+      → (slices ≡ true → (frame : Frame) → Contains listed frame → IsKey frame.key) → TellsFramesBySlices lines slices inputs archives listed status text → TellsFramesWith lines slices (all_joined os) listed status text
+  framed_by_slices lines slices listed status text short keys by =
+      let its = texts_of inputs os given_indexes in
       let few =
       recursion_from_All (λ (f : List ℕ). length f ≤ 24) by.keys
       (λ i d lt. short (get_or by.keys i d) ((by.are_keys (get_or by.keys i d)).0 (Contains-get_or by.keys i d lt))) in
-      frames_told lines by.makes.content (all_joined os) listed status text
-      (λ key there. held_alike by.keys inputs archives os by.makes.content few are by.makes.held key ((by.are_keys key).1 there)) by.makes.tells
+      with_slices_told os its.texts by.all (read_indexes by.makes.held.all by.all by.all_is by.makes.held.read) (frame_keys listed) slices (λ wanted key there. keys_long listed (keys wanted) key there)
+      (TellsFrames lines by.makes.content listed) (TellsFrames lines (all_joined os) listed)
+      (λ s t told. frames_told lines by.makes.content (all_joined os) listed s t
+      (λ key there. held_alike by.keys inputs archives os by.makes.content few are by.makes.held key ((by.are_keys key).1 there)) told) status text by.makes.tells
 
   -- ---- either way
-
-  pub given_indexes : AreIndexesGiven inputs os
-  given_indexes = first_third IsIndexed IsIndexGiven inputs archives os (λ x y z is. is.0) are
 
   short_key : (key : SliceKey) → IsKey key → length (key_bytes key) ≤ 24
   short_key key is_key = omega (arith, length_key_bytes key is_key.uuid)
@@ -131,15 +164,15 @@ module _ {I P : Type 0} (inputs : List (Reader I)) (archives : List (Reader P)) 
       let found = in_map (λ (frame : Frame). key_bytes frame.key) listed key there in
       subst (λ (k : List ℕ). length k ≤ 24) (sym found.2) (short_key found.0.key (keys found.0 found.1))
 
-  pub told_either : (key : SliceKey) (load : Option ℕ) (lines : Bool) (addresses : List ℕ) (status : Status) (text : List ℕ) → DigestsTell os → IsKey key → (symbolicate_at inputs archives key load lines addresses).Makes status text
-      → TellsAddresses (all_joined os) key load lines addresses status text
-  told_either key load lines addresses status text tell is_key (inl by) = told_by_tables inputs archives os given_indexes tell key load lines addresses status text is_key by
-  told_either key load lines addresses status text tell is_key (inr by) = told_by_slices key load lines addresses status text (short_key key is_key) by
+  pub told_either : (key : SliceKey) (load : Option ℕ) (lines slices : Bool) (addresses : List ℕ) (status : Status) (text : List ℕ) → DigestsTell os → IsKey key → (symbolicate_at inputs archives key load lines slices addresses).Makes status text
+      → TellsAddressesWith (all_joined os) key load lines slices addresses status text
+  told_either key load lines slices addresses status text tell is_key (inl by) = told_by_tables inputs archives os given_indexes tell key load lines slices addresses status text is_key by
+  told_either key load lines slices addresses status text tell is_key (inr by) = told_by_slices key load lines slices addresses status text (short_key key is_key) (λ wanted. is_key) by
 
-  pub framed_either : (lines : Bool) (listed : List Frame) (status : Status) (text : List ℕ) → DigestsTell os → ((frame : Frame) → Contains listed frame → IsKey frame.key) → AreToldAt lines inputs archives listed status text
-      → TellsFrames lines (all_joined os) listed status text
-  framed_either lines listed status text tell keys (inl by) = framed_by_tables inputs archives os given_indexes tell lines listed status text keys by
-  framed_either lines listed status text tell keys (inr by) = framed_by_slices lines listed status text (keys_short listed keys) by
+  pub framed_either : (lines slices : Bool) (listed : List Frame) (status : Status) (text : List ℕ) → DigestsTell os → ((frame : Frame) → Contains listed frame → IsKey frame.key) → AreToldAt lines slices inputs archives listed status text
+      → TellsFramesWith lines slices (all_joined os) listed status text
+  framed_either lines slices listed status text tell keys (inl by) = framed_by_tables inputs archives os given_indexes tell lines slices listed status text keys by
+  framed_either lines slices listed status text tell keys (inr by) = framed_by_slices lines slices listed status text (keys_short listed keys) (λ wanted. keys) by
 
 -- ---- what is refused
 

@@ -6,6 +6,7 @@ pub mod Ascent
 pub mod IndexRows
 pub mod Accepted
 pub mod ByIndex
+pub mod AnsweringRows
 pub mod ByTables
 pub mod FrameKeys
 pub mod Extracted

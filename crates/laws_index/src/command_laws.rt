@@ -2,7 +2,7 @@
 //! law.
 
 ghost use Rattle.std.specs.Prelude.{◌≡◌, ◌≤◌, ◌<◌, ◌^◌, ◌⊎◌, ◌∷◌, [], ℕ, List, Bool, Option, Contains, Ok, length};
-ghost use Rattle.std.specs.Prelude.{Some};
+ghost use Rattle.std.specs.Prelude.{Some, true};
 ghost use Rattle.std.specs.List.{AllByRecursion};
 ghost use Rattle.archive_core.specs.Content.{IsContent, Operations};
 ghost use Rattle.archive_core.specs.Key.{IsKey, key_bytes};
@@ -15,8 +15,8 @@ ghost use Rattle.archive_core.specs.declared.keys.SliceKey.{SliceKey};
 ghost use Rattle.archive_records.specs.Text.{summary_text, written};
 ghost use Rattle.index_format.specs.Index.{index};
 ghost use Rattle.command_common.specs.Found.{TellsFound, found_status};
-ghost use Rattle.command_queries.specs.Frames.{TellsFrames};
-ghost use Rattle.command_queries.specs.Symbolicate.{TellsAddresses};
+ghost use Rattle.command_queries.specs.Frames.{TellsFramesWith};
+ghost use Rattle.command_queries.specs.Symbolicate.{TellsAddressesWith};
 ghost use Rattle.text_inputs.specs.Frames.{frames_of};
 ghost use Rattle.text_inputs.specs.declared.frame.Frame.{Frame};
 ghost use Rattle.command_common.specs.Inputs.{IsDeviceFault, IsGiven, Reader};
@@ -102,51 +102,53 @@ pub fn found_by_indexes<I: Placed, P: Placed>()
         → TellsFound (all_joined os) uuid status text }
 {}
 
-/// So does `symbolicate`, with lines and without: by tables whatever bytes the archives have, if no two different
-/// slices of several contents have one SHA-256; and by slices, where two are tied.
+/// So does `symbolicate`, with lines and without, and with the lines of the slices that answer: by tables whatever bytes
+/// the archives have, if no two different slices of several contents have one SHA-256; and by slices, where two are tied.
 pub fn answered_by_indexes<I: Placed, P: Placed>()
     ensures tables { (inputs : List (Reader I)) (archives : List (Reader P)) (os : List Operations) (key : SliceKey)
-        (load : Option ℕ) (lines : Bool) (addresses : List ℕ) (status : Status) (text : List ℕ)
+        (load : Option ℕ) (lines slices : Bool) (addresses : List ℕ) (status : Status) (text : List ℕ)
         → AreIndexesGiven inputs os → DigestsTell os → IsKey key
-        → TellsByTables inputs archives key load lines addresses status text
-        → TellsAddresses (all_joined os) key load lines addresses status text }
+        → TellsByTables inputs archives key load lines slices addresses status text
+        → TellsAddressesWith (all_joined os) key load lines slices addresses status text }
     ensures alone { (input : Reader I) (archive : Reader P) (o : Operations) (key : SliceKey) (load : Option ℕ)
-        (lines : Bool) (addresses : List ℕ) (status : Status) (text : List ℕ) → IsIndexGiven input o → IsKey key
-        → TellsByTables (input ∷ []) (archive ∷ []) key load lines addresses status text
-        → TellsAddresses o key load lines addresses status text }
+        (lines slices : Bool) (addresses : List ℕ) (status : Status) (text : List ℕ) → IsIndexGiven input o → IsKey key
+        → TellsByTables (input ∷ []) (archive ∷ []) key load lines slices addresses status text
+        → TellsAddressesWith o key load lines slices addresses status text }
     ensures slices { (inputs : List (Reader I)) (archives : List (Reader P)) (os : List Operations) (key : SliceKey)
-        (load : Option ℕ) (lines : Bool) (addresses : List ℕ) (status : Status) (text : List ℕ)
-        → length (key_bytes key) ≤ 24 → AreIndexed inputs archives os
-        → TellsBySlices inputs archives key load lines addresses status text
-        → TellsAddresses (all_joined os) key load lines addresses status text }
+        (load : Option ℕ) (lines slices : Bool) (addresses : List ℕ) (status : Status) (text : List ℕ)
+        → length (key_bytes key) ≤ 24 → (slices ≡ true → IsKey key) → AreIndexed inputs archives os
+        → TellsBySlices inputs archives key load lines slices addresses status text
+        → TellsAddressesWith (all_joined os) key load lines slices addresses status text }
     ensures either { (inputs : List (Reader I)) (archives : List (Reader P)) (os : List Operations) (key : SliceKey)
-        (load : Option ℕ) (lines : Bool) (addresses : List ℕ) (status : Status) (text : List ℕ)
+        (load : Option ℕ) (lines slices : Bool) (addresses : List ℕ) (status : Status) (text : List ℕ)
         → AreIndexed inputs archives os → DigestsTell os → IsKey key
-        → (symbolicate_at inputs archives key load lines addresses).Makes status text
-        → TellsAddresses (all_joined os) key load lines addresses status text }
+        → (symbolicate_at inputs archives key load lines slices addresses).Makes status text
+        → TellsAddressesWith (all_joined os) key load lines slices addresses status text }
 {}
 
 /// So does `frames`. The frames that a text says have such keys as this asks.
 pub fn framed_by_indexes<I: Placed, P: Placed>()
-    ensures tables { (inputs : List (Reader I)) (archives : List (Reader P)) (os : List Operations) (lines : Bool)
+    ensures tables { (inputs : List (Reader I)) (archives : List (Reader P)) (os : List Operations) (lines slices : Bool)
         (listed : List Frame) (status : Status) (text : List ℕ) → AreIndexesGiven inputs os → DigestsTell os
         → ((frame : Frame) → Contains listed frame → IsKey frame.key)
-        → TellsFramesByTables lines inputs archives listed status text
-        → TellsFrames lines (all_joined os) listed status text }
-    ensures alone { (input : Reader I) (archive : Reader P) (o : Operations) (lines : Bool) (listed : List Frame)
+        → TellsFramesByTables lines slices inputs archives listed status text
+        → TellsFramesWith lines slices (all_joined os) listed status text }
+    ensures alone { (input : Reader I) (archive : Reader P) (o : Operations) (lines slices : Bool) (listed : List Frame)
         (status : Status) (text : List ℕ) → IsIndexGiven input o
         → ((frame : Frame) → Contains listed frame → IsKey frame.key)
-        → TellsFramesByTables lines (input ∷ []) (archive ∷ []) listed status text
-        → TellsFrames lines o listed status text }
-    ensures slices { (inputs : List (Reader I)) (archives : List (Reader P)) (os : List Operations) (lines : Bool)
+        → TellsFramesByTables lines slices (input ∷ []) (archive ∷ []) listed status text
+        → TellsFramesWith lines slices o listed status text }
+    ensures slices { (inputs : List (Reader I)) (archives : List (Reader P)) (os : List Operations) (lines slices : Bool)
         (listed : List Frame) (status : Status) (text : List ℕ)
-        → ((key : List ℕ) → Contains (keys_of listed) key → length key ≤ 24) → AreIndexed inputs archives os
-        → TellsFramesBySlices lines inputs archives listed status text
-        → TellsFrames lines (all_joined os) listed status text }
-    ensures either { (inputs : List (Reader I)) (archives : List (Reader P)) (os : List Operations) (lines : Bool)
+        → ((key : List ℕ) → Contains (keys_of listed) key → length key ≤ 24)
+        → (slices ≡ true → (frame : Frame) → Contains listed frame → IsKey frame.key) → AreIndexed inputs archives os
+        → TellsFramesBySlices lines slices inputs archives listed status text
+        → TellsFramesWith lines slices (all_joined os) listed status text }
+    ensures either { (inputs : List (Reader I)) (archives : List (Reader P)) (os : List Operations) (lines slices : Bool)
         (listed : List Frame) (status : Status) (text : List ℕ) → AreIndexed inputs archives os → DigestsTell os
         → ((frame : Frame) → Contains listed frame → IsKey frame.key)
-        → AreToldAt lines inputs archives listed status text → TellsFrames lines (all_joined os) listed status text }
+        → AreToldAt lines slices inputs archives listed status text
+        → TellsFramesWith lines slices (all_joined os) listed status text }
     ensures keys { (bytes : List ℕ) (listed : List Frame) (frame : Frame) → frames_of bytes ≡ Ok listed
         → Contains listed frame → IsKey frame.key }
 {}

@@ -34,15 +34,15 @@ returns-in_err-read g c =
     (λ u. (listed.unfailed, u)) c.in_err-read.ensures.read)
     (Appends-none _, refl))
 
-pub tell_frames-requires-clause-same : goal.tell_frames-requires-clause-same
-tell_frames-requires-clause-same g c =
+pub tell_frames_and_slices-requires-clause-same : goal.tell_frames_and_slices-requires-clause-same
+tell_frames_and_slices-requires-clause-same g c =
     ap length c.deref-2.ensures.value ∙ as_many
     (readers g.I.Placed.whole g.I.Placed.failures c.args.indexes.now c.read_indexes.new.indexes) g.P.Placed.whole g.P.Placed.failures
     c.args.archives.now c.read_indexes.new.archives c.in_ok-read.read.items c.in_ok-read.ensures.read.is c.read_indexes.auto.archives
     ∙ c.read_indexes.auto.archives ∙ sym c.requires ∙ sym c.read_indexes.auto.indexes
 
-pub tell_frames-requires-clause-many : goal.tell_frames-requires-clause-many
-tell_frames-requires-clause-many g c =
+pub tell_frames_and_slices-requires-clause-many : goal.tell_frames_and_slices-requires-clause-many
+tell_frames_and_slices-requires-clause-many g c =
     ap length c.deref-2.ensures.value ∙ as_many
     (readers g.I.Placed.whole g.I.Placed.failures c.args.indexes.now c.read_indexes.new.indexes) g.P.Placed.whole g.P.Placed.failures
     c.args.archives.now c.read_indexes.new.archives c.in_ok-read.read.items c.in_ok-read.ensures.read.is c.read_indexes.auto.archives
@@ -53,10 +53,10 @@ returns-in_err-status g c =
     let gives = rw (← c.deref.ensures.value) at c.in_ok-frames.ensures.is in
     let read = rw (← c.deref-2.ensures.value) at c.in_ok-read.ensures.read in
     let refusal = frames_refused g.I.Placed.whole g.I.Placed.failures g.P.Placed.whole g.P.Placed.failures c.args.indexes.now c.read_indexes.new.indexes
-    c.tell_frames.new.indexes
-    c.args.archives.now c.read_indexes.new.archives c.tell_frames.new.archives c.deref-2.result.now c.tell_frames.auto.indexes c.tell_frames.auto.archives
+    c.tell_frames_and_slices.new.indexes
+    c.args.archives.now c.read_indexes.new.archives c.tell_frames_and_slices.new.archives c.deref-2.result.now c.tell_frames_and_slices.auto.indexes c.tell_frames_and_slices.auto.archives
     read c.in_ok-read.ensures.kept
-    c.args.lines c.deref.result.now c.in_err-status.field-0.0 c.in_err-status.ensures in
+    c.args.lines c.args.slices c.deref.result.now c.in_err-status.field-0.0 c.in_err-status.ensures in
     rw (p.1, p.2)
     (together_refused _ _ _ _ c.in_err-status.field-0.0
     (refusal_of _ _ _ _ c.in_err-status.field-0.0
@@ -68,10 +68,10 @@ returns g c =
     let gives = rw (← c.deref.ensures.value) at c.in_ok-frames.ensures.is in
     let read = rw (← c.deref-2.ensures.value) at c.in_ok-read.ensures.read in
     let told = frames_told g.I.Placed.whole g.I.Placed.failures g.P.Placed.whole g.P.Placed.failures c.args.indexes.now c.read_indexes.new.indexes
-    c.tell_frames.new.indexes
-    c.args.archives.now c.read_indexes.new.archives c.tell_frames.new.archives c.deref-2.result.now c.tell_frames.auto.indexes c.tell_frames.auto.archives
+    c.tell_frames_and_slices.new.indexes
+    c.args.archives.now c.read_indexes.new.archives c.tell_frames_and_slices.new.archives c.deref-2.result.now c.tell_frames_and_slices.auto.indexes c.tell_frames_and_slices.auto.archives
     read c.in_ok-read.ensures.kept
-    c.args.lines c.deref.result.now c.in_ok-status.status c.in_ok-status.text.items c.in_ok-status.ensures in
+    c.args.lines c.args.slices c.deref.result.now c.in_ok-status.status c.in_ok-status.text.items c.in_ok-status.ensures in
     let is = rw (← c.deref-3.ensures.value) at told.is in
     reported _ _ _ _ c.publish_bytes.result _ _ (c.in_ok-frames.ensures.unfailed, told.unfailed)
     (record { listed = c.deref.result.now; frames_are = gives; told = is }) c.publish_bytes.ensures
