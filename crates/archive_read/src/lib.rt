@@ -16,6 +16,8 @@
 //!   how much of a faulty input was read is not promised.
 //! - Questions are answered key by key, as the records under each come.
 //! - [`read_names`] hashes a slice only if it has the name.
+//! - [`read_part`] takes slices out of the reader, and keeps the last one aside until the next record was compared with
+//!   it.
 #![tactic(auto)]
 
 mod checking;

@@ -24,6 +24,15 @@ cmp_parts (x ∷ a) b (y ∷ c) d le short =
     let le' : length a ≤ length c = omega arith in
     ap (ordering_then (nat_cmp x y)) (cmp_parts a b c d le' (λ lt. short (omega arith))) ∙ then_assoc (nat_cmp x y) (slice_cmp nat_cmp a c) (slice_cmp nat_cmp b d)
 
+-- the same where the second has the shorter front
+pub cmp_front : (a b c d : List ℕ) → length c ≤ length a → (length c < length a → d ≡ []) → slice_cmp nat_cmp (a ++ b) (c ++ d) ≡ ordering_then (slice_cmp nat_cmp a c) (slice_cmp nat_cmp b d)
+cmp_front [] b [] d le short = refl
+cmp_front [] b (y ∷ c) d le short = absurd (omega arith)
+cmp_front (x ∷ a) b [] d le short = rw (short (omega arith)) refl
+cmp_front (x ∷ a) b (y ∷ c) d le short =
+    let le' : length c ≤ length a = omega arith in
+    ap (ordering_then (nat_cmp x y)) (cmp_front a b c d le' (λ lt. short (omega arith))) ∙ then_assoc (nat_cmp x y) (slice_cmp nat_cmp a c) (slice_cmp nat_cmp b d)
+
 pub bytes_so_far_laid : (items m : List ℕ) (at : ℕ) → at ≤ length items → take (at + length m) (take at items ++ (m ++ drop (at + length m) items)) ≡ take at items ++ m
 bytes_so_far_laid items m at le =
     ap (take (at + length m)) (sym (append_assoc (take at items) m (drop (at + length m) items))) ∙ take_at (take at items ++ m) (drop (at + length m) items) (at + length m) (omega (arith, length-append (take at items) m, length-take at items))
@@ -39,7 +48,7 @@ then_decided d x y p = grind arith
 then_equal : (a b : Ordering) → ordering_then a b ≡ Equal → a ≡ Equal
 then_equal a b e = grind arith
 
-then_differs : (d x : Ordering) → d ≢ Equal → d ≡ ordering_then d x
+pub then_differs : (d x : Ordering) → d ≢ Equal → d ≡ ordering_then d x
 then_differs d x p = grind arith
 
 -- the last record's front and what came, which grew by m

@@ -6,7 +6,7 @@ pub filling-preserved : goal.filling-preserved
 filling-preserved g c =
     let at = c.filling.filled in
     let xs = c.deref_mut.result.now in
-    let len = c.make_room.new.bytes.len in
+    let len = c.lengthen.new.bytes.len in
     let value = ap length c.deref_mut.ensures.value in
     let room = c.in_default.ensures.room in
     let in_front : at ≤ length xs = omega arith in

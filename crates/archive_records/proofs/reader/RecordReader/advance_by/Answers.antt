@@ -1,14 +1,17 @@
 use Rattle.std.proofs.Common.{ℕ, List, Option, Bor, option_map, inl, inr, refl, ap, sym, subst, arith, ◌∙◌, ◌+◌}
 use Rattle.std.specs.Io.KnownBytes.{Consumes}
 use Rattle.archive_records.specs.Kind.{kind_of}
-use Rattle.archive_records.specs.Reader.{bytes_so_far, IsFoundIn, KeepsIn, Position, with_shared}
+use Rattle.archive_records.specs.Reader.{bytes_so_far, IsFoundIn, KeepsIn, Position, last_after, with_shared}
 use Rattle.archive_records.proofs.Blamed.{bounds_kept}
 use Rattle.archive_records.proofs.FaultKinds.{cut_off, memory_blames}
 use Rattle.archive_records.proofs.Forms.{item-found}
 use Rattle.archive_records.proofs.FoundOut.{found_last, nothing_last}
 use Rattle.archive_records.proofs.Steps.{step_refused, refused_blames}
 use Rattle.archive_records.proofs.Undecided.{kept_uncovered}
-use Rattle.archive_records.proofs.reader.RecordReader.advance_beside.Goals as goal
+use Rattle.archive_records.proofs.reader.RecordReader.advance_by.Goals as goal
+
+abbrev slice_of : Option (Bor (List ℕ)) → Option (List ℕ)
+slice_of = option_map (λ s. s.now)
 
 abbrev shared_of : Option (Bor (List (List ℕ))) → Option (List (List ℕ))
 shared_of = option_map (λ s. s.now)
@@ -42,7 +45,7 @@ pub returns-in-Err-keep : goal.returns-in-Err-keep
 returns-in-Err-keep g c =
     let step = rw c.in-Ok-Item.field-0-is at c.in-Ok-Item.ensures.step in
     let refused = rw (c.deref.ensures.value, step.whole) at c.in-Err-keep.ensures.refused in
-    let before : Position = record { file = c.self.inside.file; last = c.self.inside.buffer.bytes.items; count = c.self.inside.count; offset = c.self.inside.offset; retired = with_shared (shared_of c.args.shared) c.self.inside.retired; dropped = c.self.inside.dropped } in
+    let before : Position = record { file = c.self.inside.file; last = last_after (slice_of c.args.taken) c.self.inside.buffer.bytes.items; count = c.self.inside.count; offset = c.self.inside.offset; retired = with_shared (shared_of c.args.shared) c.self.inside.retired; dropped = c.self.inside.dropped } in
     let stop = step_refused (g.R.Source.left c.args.r.now) (g.R.Source.left c.read_next.new.r) before c.read_next.new.buffer.bytes.items (bytes_so_far c.read_next.new.buffer) c.in-Err-keep.kind step.whole c.read_next.ensures.taken c.self.invariant.0.few (item-found c.self.inside.file _ c.in-Ok-Item.found step.found_is) step.follows refused in
     rw (← c.self.view_is) (
       stop.0,
