@@ -1,5 +1,6 @@
 -- Whether a record may stand after the one that it was read over.
-use Rattle.std.proofs.Common.{◌≡◌, ℕ, ◌≤◌, Bool, List, [], ◌∷◌, ◌++◌, length, take, drop, Result, Ok, Err, refl, sym, ap, ◌∙◌, arith, length-take, take-append-drop}
+use Rattle.std.proofs.Common.{◌≡◌, ℕ, ◌≤◌, Bool, List, [], ◌∷◌, ◌++◌, length, take, drop, Result, Ok, Err, refl, sym}
+use Rattle.std.proofs.Common.{ap, ◌∙◌, arith, length-take, take-append-drop}
 use Rattle.std.proofs.lemmas.List.{append-nil, take_all}
 use Rattle.std.proofs.Math.ListN.{drop_of_length-le}
 use Rattle.std.specs.declared.cmp.Ordering.{Ordering}
@@ -34,17 +35,26 @@ module _ (file : Format) where
   pub allowed_is : (last : List ℕ) (b : Buffer) → b.at ≤ length b.bytes.items → Over last b → allows file b.order ≡ may_follow file last (bytes_so_far b)
   unfolding may_follow
   allowed_is last b le o =
-      let parts : slice_cmp nat_cmp (take b.at last ++ drop b.at last) (bytes_so_far b ++ []) ≡ ordering_then (slice_cmp nat_cmp (take b.at last) (bytes_so_far b)) (slice_cmp nat_cmp (drop b.at last) []) =
+      let parts : slice_cmp nat_cmp (take b.at last ++ drop b.at last) (bytes_so_far b ++ [])
+      ≡ ordering_then (slice_cmp nat_cmp (take b.at last) (bytes_so_far b))
+      (slice_cmp nat_cmp (drop b.at last) []) =
       cmp_parts (take b.at last) (drop b.at last) (bytes_so_far b) [] (omega (arith, length-take b.at last, length-bytes_so_far b le))
       (λ lt. drop_of_length-le last (omega (arith, length-take b.at last, length-bytes_so_far b le))) in
-      let whole : slice_cmp nat_cmp last (bytes_so_far b) ≡ ordering_then (slice_cmp nat_cmp (take b.at last) (bytes_so_far b)) (slice_cmp nat_cmp (drop b.at last) []) =
-      ap (λ (t : List ℕ). slice_cmp nat_cmp t (bytes_so_far b)) (sym (take-append-drop b.at last)) ∙ ap (slice_cmp nat_cmp (take b.at last ++ drop b.at last)) (sym (append-nil (bytes_so_far b))) ∙ parts in
+      let whole : slice_cmp nat_cmp last (bytes_so_far b)
+      ≡ ordering_then (slice_cmp nat_cmp (take b.at last) (bytes_so_far b))
+      (slice_cmp nat_cmp (drop b.at last) []) =
+      ap (λ (t : List ℕ). slice_cmp nat_cmp t (bytes_so_far b)) (sym (take-append-drop b.at last))
+      ∙ ap (slice_cmp nat_cmp (take b.at last ++ drop b.at last)) (sym (append-nil (bytes_so_far b))) ∙ parts in
       ap (allows file) o.order ∙ sym (not_after file (slice_cmp nat_cmp (take b.at last) (bytes_so_far b)) (drop b.at last)) ∙ ap (allows file) (sym whole)
 
-  pub next_over : (r : Result Bool RecordFaultKind) (last : List ℕ) (count : ℕ) (b : Buffer) (bytes new : List ℕ) (allowed : Bool) → b.at ≤ length b.bytes.items → Over last b → framed file (bytes_so_far b) ≡ Ok b.at
+  pub next_over : (r : Result Bool RecordFaultKind) (last : List ℕ) (count : ℕ) (b : Buffer) (bytes new : List ℕ)
+      (allowed : Bool) → b.at ≤ length b.bytes.items → Over last b → framed file (bytes_so_far b) ≡ Ok b.at
       → allowed ≡ allows file b.order → bytes ≡ new → new ≡ bytes_so_far b
-      → ((low : List ℕ) → allowed ≡ may_follow file low bytes → MatchResult r (λ _. tested file low count bytes (length bytes) ≡ Ok (length bytes)) (λ kind. tested file low count bytes (length bytes) ≡ Err (seen_as kind)))
-      → MatchResult r (λ _. next file last count (take b.at new) ≡ Ok (length (take b.at new))) (λ kind. next file last count (take b.at new) ≡ Err (seen_as kind))
+      → ((low : List ℕ) → allowed ≡ may_follow file low bytes
+      → MatchResult r (λ _. tested file low count bytes (length bytes) ≡ Ok (length bytes))
+      (λ kind. tested file low count bytes (length bytes) ≡ Err (seen_as kind)))
+      → MatchResult r (λ _. next file last count (take b.at new) ≡ Ok (length (take b.at new)))
+      (λ kind. next file last count (take b.at new) ≡ Err (seen_as kind))
   next_over r last count b bytes new allowed le o f a is n t =
       let l : length (bytes_so_far b) ≡ b.at = length-bytes_so_far b le in
       let same : take b.at new ≡ bytes_so_far b = ap (take b.at) n ∙ take_all b.at (bytes_so_far b) (omega arith) in

@@ -86,8 +86,8 @@ pub trait Placed {
     // How often a call failed.
     ghost failures: { Self → ℕ };
 
-    /// Takes bytes from the place on into the first bytes of `buf` and says how many: at least one where `buf` is not empty,
-    /// and 0 only at or past the end.
+    /// Takes bytes from the place on into the first bytes of `buf` and says how many: at least one where `buf` is not
+    /// empty, and 0 only at or past the end.
     fn take_at(&mut self, at: u64, buf: &mut [u8]) -> Result<usize, Failed>
         ensures bound { IfOk result (λ n. n ≤ length buf.new) }
         ensures bytes { IfOk result (λ n. TakenAt (whole self.old) at n buf.new) }

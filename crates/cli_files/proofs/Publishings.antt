@@ -1,16 +1,22 @@
 -- What was called for OUT, one call more at a time.
-use Rattle.std.proofs.Common.{◌≡◌, ◌∙◌, ◌⊎◌, ℕ, true, false, ◌&&◌, List, [], ◌∷◌, ◌++◌, length, map, Ok, Option, Some, None, refl, sym, ap, inl, inr, append_assoc, append-nil, arith, subst, ◌<◌, ◌+◌, ◌==◌, take, ◌≤◌}
+use Rattle.std.proofs.Common.{◌≡◌, ◌∙◌, ◌⊎◌, ℕ, true, false, ◌&&◌, List, [], ◌∷◌, ◌++◌, length, map, Ok, Option, Some}
+use Rattle.std.proofs.Common.{None, refl, sym, ap, inl, inr, append_assoc, append-nil, arith, subst, ◌<◌, ◌+◌, ◌==◌}
+use Rattle.std.proofs.Common.{take, ◌≤◌}
 use Rattle.std.proofs.lemmas.List.{length-append, length-take-le, map-append}
 use Rattle.std.proofs.lemmas.Bool.{and_parts}
 use Rattle.std.proofs.lemmas.Grind.{not_there}
 use Rattle.std.specs.List.{concat}
 use Rattle.archive_records.proofs.Puts.{concat-push}
-use Rattle.cli_files.specs.FileCalls.{FileCall, Begins, Compares, Finds, FindsLink, FindsNoLink, FindsNothing, Gives, Leads, Creates, Opens, Writes, Syncs, Removes, are_probes, bytes_in, drafting, is_probe, publishing, writing}
+use Rattle.cli_files.specs.FileCalls.{FileCall, Begins, Compares, Finds, FindsLink, FindsNoLink, FindsNothing, Gives}
+use Rattle.cli_files.specs.FileCalls.{Leads, Creates, Opens, Writes, Syncs, Removes, are_probes, bytes_in, drafting}
+use Rattle.cli_files.specs.FileCalls.{is_probe, publishing, writing}
 use Rattle.cli_files.specs.OutFiles.{IsSoFar, Stage, Through, Drafted, WritesTo, draft_account, has_calls, is_drafted, is_settled, takes_bytes}
 use Rattle.cli_files.proofs.Same.{both_probes, probes_append}
 use Rattle.cli_files.specs.declared.out_file.OutState.{OutState}
 use Rattle.cli_files.specs.declared.out_file.OutState.TheVariants as state
-use Rattle.cli_files.specs.Publishing.{BeginsSo, FindsReplaced, HandsOn, IsBeside, IsDescriptor, IsDrafted, IsPublished, IsRemoved, IsTakenBack, IsTargetOf, IsTested, IsWritable, IsWrittenThrough, account, both_give, draft_mode, folder_of, number_of, place, there, took_nothing}
+use Rattle.cli_files.specs.Publishing.{BeginsSo, FindsReplaced, HandsOn, IsBeside, IsDescriptor, IsDrafted, IsPublished}
+use Rattle.cli_files.specs.Publishing.{IsRemoved, IsTakenBack, IsTargetOf, IsTested, IsWritable, IsWrittenThrough}
+use Rattle.cli_files.specs.Publishing.{account, both_give, draft_mode, folder_of, number_of, place, there, took_nothing}
 use Rattle.cli_files.specs.Replacing.{GivesWay}
 use Rattle.cli_files.specs.declared.found.Found.{Found}
 use Rattle.cli_files.specs.declared.replaceable.Replaces.{Replaces}

@@ -126,8 +126,8 @@ IsEmptyAt path calls =
     (calls ≡ FindsNothing path ∷ []) ⊎ ((found : Found) × (found.size ≡ 0) × (calls ≡ Finds path found ∷ []))
 
 -- The draft may take the place of what is at the target, which is nothing, or empty, or of the kind that the draft is;
--- an archive there is one of which the draft has or covers each record. Where the draft is a slice, what is there has no
--- other bytes.
+-- an archive there is one of which the draft has or covers each record. Where the draft is a slice, what is there has
+-- no other bytes.
 abbrev pub IsTested : Replaces → List ℕ → List ℕ → List FileCall → Type 0
 IsTested SameBytes draft target tests = IsEmptyAt target tests ⊎ AreSame draft target tests
 IsTested ArchivesBelow draft target tests =
@@ -156,7 +156,8 @@ pub record IsReplaced (path : List ℕ) (replaces : Replaces) (text : List ℕ) 
   pub tests : List FileCall
   pub tested : IsTested replaces draft target tests
   pub whole : concat pieces ≡ text
-  pub calls_are : calls ≡ probes ++ drafting draft (draft_mode (there probes)) pieces ++ tests ++ publishing draft target (folder_of target)
+  pub calls_are : calls ≡ probes ++ drafting draft (draft_mode (there probes)) pieces ++ tests
+      ++ publishing draft target (folder_of target)
 
 -- Pieces of the text went to what is at the path, which is no regular file, or a descriptor.
 pub record IsWrittenThrough (path text : List ℕ) (calls : List FileCall) : Type 0 where
@@ -201,8 +202,8 @@ HandsOn path replaces calls = (p : List ℕ) × (path ≡ Some p) × IsPublished
 
 -- ---- what is known
 
--- OUT has the path that the command has for it, if any, and the system said of each input that it is another file; or it
--- has none, and is never created, since the system said that an input is its own file.
+-- OUT has the path that the command has for it, if any, and the system said of each input that it is another file; or
+-- it has none, and is never created, since the system said that an input is its own file.
 abbrev pub IsPath : Option (List ℕ) → List (List ℕ) → List FileCall → Option (List ℕ) → Type 0
 IsPath asked inputs compared path =
     ((path ≡ asked) × IfSome asked (λ out. AreApart out inputs compared))

@@ -25,7 +25,8 @@ use Rattle.index_lookup.proofs.Columns.{zip_as}
 use Rattle.command_index_queries.specs.Several.{AreRefusedLater, AreUnfailedTogether, MakesTogether}
 use Rattle.command_index_queries.specs.Together.{AreAllKept, AreReadWith, HoldNamed, IsKept}
 use Rattle.command_index_queries.proofs.Groups.{later_readers, read_earlier, unfailed_through}
-use Rattle.command_index_frames.specs.Asking.{AreGiven, AreRefusedAsking, AreTiedUnder, AreUntold, IsAnsweredByTables, IsChanged, IsLineless, IsUntoldUnder, IsUnreadTable, TellTables}
+use Rattle.command_index_frames.specs.Asking.{AreGiven, AreRefusedAsking, AreTiedUnder, AreUntold, IsAnsweredByTables}
+use Rattle.command_index_frames.specs.Asking.{IsChanged, IsLineless, IsUntoldUnder, IsUnreadTable, TellTables}
 use Rattle.command_index_frames.specs.Frames.{AreToldAt, IsFrameByTables, TellTablesOfFrames, keys_of}
 use Rattle.command_index_frames.specs.InnerAsking.{AreHeldUnder, AreRefusedUnder, IsUntoldBy, NoneFailed, command_fault}
 use Rattle.command_index_frames.specs.Symbolicate.{symbolicate_at}
@@ -86,7 +87,9 @@ module _ {I P : Type 0} (left : I → Option (List ℕ)) (failures : I → ℕ) 
 
   fault_of : (answering : List EntryAt) (fault : AnswerFault) (at : InputName) (why : Why) → command_fault fault ≡ Input at why
       → ((texts : List (List ℕ)) → HaveTexts left mid texts → IsUntoldAmong texts answering fault)
-      → BlamesAmong lines answering (each_known failures mid) (each_known failures new) fault → IsChanged named answering at why ⊎ (IsLineless lines named answering at why ⊎ IsUnreadTable named answering at why)
+      → BlamesAmong lines answering (each_known failures mid) (each_known failures new) fault
+      → IsChanged named answering at why ⊎ (IsLineless lines named answering at why
+      ⊎ IsUnreadTable named answering at why)
   fault_of answering (answer.Damaged input number) at why told says counts = inl (record {
     input = input;
     number = number;
@@ -112,7 +115,9 @@ module _ {I P : Type 0} (left : I → Option (List ℕ)) (failures : I → ℕ) 
         at_is = cc;
         why_is = cc;
         asked = counts.0;
-        failed = fails_alone left failures old new input failed.old failed.new (ap (λ (ds : List ℕ). slice_get ds input) (sym counts_kept) ∙ failed.old_is) failed.failed (failed.others ∙ ap (λ (ds : List ℕ). slice_set ds input failed.new) counts_kept);
+        failed = fails_alone left failures old new input failed.old failed.new
+            (ap (λ (ds : List ℕ). slice_get ds input) (sym counts_kept) ∙ failed.old_is) failed.failed
+            (failed.others ∙ ap (λ (ds : List ℕ). slice_set ds input failed.new) counts_kept);
       }))
   fault_of answering answer.OutOfMemory at why told says counts = absurd (cc told)
 

@@ -6,8 +6,8 @@
 //! - `together`: indexes of several archives, read ([`read_indexes`]), and the slices that they name
 //!   ([`read_prefixes`]);
 //! - `rows`: the rows that an index tells; `summaries`: the summary that it tells;
-//! - `find`, `list`, `summary`: commands that read entries alone, and the archive's length; `find` over several archives
-//!   reads the slices of the UUID.
+//! - `find`, `list`, `summary`: commands that read entries alone, and the archive's length; `find` over several
+//!   archives reads the slices of the UUID.
 //!
 //! # Why it is so
 //!

@@ -1,4 +1,4 @@
--- What `frames` tells of the frames of a crash.
+-- The report of `frames` for the frames of a crash.
 use Rattle.std.specs.Prelude.{◌≡◌, ℕ, List, [], ◌∷◌, Bool, true, false, Ok, ◌⊎◌, if◌then◌else◌}
 use Rattle.std.specs.List.{AllZip, flat_map, list_all}
 use Rattle.archive_core.specs.Content.{Operations}

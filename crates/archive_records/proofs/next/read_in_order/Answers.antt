@@ -29,10 +29,14 @@ returns-clause-taken g c =
     subst (Consumes (g.R.Source.left c.args.r.now) (g.R.Source.left c.read_record.new.r)) (sym same) c.in_ok-read_record.ensures.taken
 
 -- either way of the test
-holds : (file : Format) (r : Result Bool RecordFaultKind) (last bytes : List ℕ) (count : ℕ) (b : Buffer) → bytes ≡ bytes_so_far b → b.bytes.items ≡ bytes_so_far b
-    → MatchResult r (λ _. next file last count (bytes_so_far b) ≡ Ok (length (bytes_so_far b))) (λ kind. next file last count (bytes_so_far b) ≡ Err (seen_as kind))
+holds : (file : Format) (r : Result Bool RecordFaultKind) (last bytes : List ℕ) (count : ℕ) (b : Buffer) → bytes
+    ≡ bytes_so_far b → b.bytes.items ≡ bytes_so_far b
+    → MatchResult r (λ _. next file last count (bytes_so_far b) ≡ Ok (length (bytes_so_far b)))
+    (λ kind. next file last count (bytes_so_far b) ≡ Err (seen_as kind))
     → IfOk r (λ end. end ≡ is_end bytes) → IfOk r (λ end. end ≡ true → bytes ≡ end_record count)
-    → MatchResult r (λ end. HoldsNext file last count b × (end ≡ is_end (bytes_so_far b)) × (end ≡ true → bytes_so_far b ≡ end_record count)) (λ kind. next file last count (bytes_so_far b) ≡ Err (seen_as kind))
+    → MatchResult r (λ end. HoldsNext file last count b × (end ≡ is_end (bytes_so_far b))
+    × (end ≡ true → bytes_so_far b ≡ end_record count))
+    (λ kind. next file last count (bytes_so_far b) ≡ Err (seen_as kind))
 holds file (Ok end) last bytes count b is whole n end_told end_is = (record { is_next = n; whole = whole }, end_told ∙ ap is_end is, λ e. sym is ∙ end_is e)
 holds file (Err kind) last bytes count b is whole n end_told end_is = n
 
@@ -42,9 +46,13 @@ returns-clause-next g c =
     let items = c.truncate.ensures.items in
     let whole = items ∙ sym (cut_same b.bytes.items c.truncate.new.self.items b.at items) in
     let read = c.in_ok-read_record.ensures in
-    holds c.args.file c.test.result c.args.buffer.now.bytes.items c.deref.result.now c.args.count (record { bytes = c.truncate.new.self; at = b.at; order = b.order }) (c.deref.ensures.value ∙ whole) whole
-    (next_over c.args.file c.test.result c.args.buffer.now.bytes.items c.args.count b c.deref.result.now c.truncate.new.self.items c.allows.result read.within read.over read.framed c.allows.ensures c.deref.ensures.value items c.test.ensures.tested)
+    holds c.args.file c.test.result c.args.buffer.now.bytes.items c.deref.result.now c.args.count
+    (record { bytes = c.truncate.new.self; at = b.at; order = b.order }) (c.deref.ensures.value ∙ whole) whole
+    (next_over c.args.file c.test.result c.args.buffer.now.bytes.items c.args.count b c.deref.result.now
+    c.truncate.new.self.items c.allows.result read.within read.over read.framed c.allows.ensures
+    c.deref.ensures.value items c.test.ensures.tested)
     c.test.ensures.end c.test.ensures.end_is
 
 pub returns-clause-reader : goal.returns-clause-reader
-returns-clause-reader g c = tested_blames g.R.Source.left g.R.Source.failures c.args.r.now c.read_record.new.r c.test.result c.in_ok-read_record.ensures.reader c.test.ensures.not_part
+returns-clause-reader g c = tested_blames g.R.Source.left g.R.Source.failures c.args.r.now c.read_record.new.r
+    c.test.result c.in_ok-read_record.ensures.reader c.test.ensures.not_part

@@ -18,5 +18,7 @@ returns g c =
     reported _ _ _ _ c.publish_report.result _ _ c.in_ok-kept.ensures.unfailed
     (together_tells _ _ _ _ (λ o alike.
     told_alike (g.A.Join.content c.in_ok-kept.kept) o c.args.key.now _ _ _ _ _
-    (alike (key_bytes c.args.key.now) (omega (arith, c.bytes_of-prefix.ensures.long)) (λ r h. ap (λ prefix. is_under prefix r) c.bytes_of-prefix.ensures.bytes ∙ h)) (rw c.deref.ensures c.in_ok-status.ensures)) c.in_ok-kept.ensures.is)
+    (alike (key_bytes c.args.key.now) (omega (arith, c.bytes_of-prefix.ensures.long))
+    (λ r h. ap (λ prefix. is_under prefix r) c.bytes_of-prefix.ensures.bytes ∙ h))
+    (rw c.deref.ensures c.in_ok-status.ensures)) c.in_ok-kept.ensures.is)
     c.publish_report.ensures

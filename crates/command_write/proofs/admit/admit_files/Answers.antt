@@ -26,7 +26,8 @@ files-preserved g c =
     record {
       taken = come_more _ _ c.files.index _ _ _ _ _ _ _ got.0 (read_to _ _ _ _ _ lt c.files.auto.files) (one_more _ _ _ _ _ _ _ lt c.files.auto.files is)
           c.files.invariant.taken got.1 (rw (← c.index-files-index.is) at got.2) got.3 got.4 got.5;
-      unfailed = unfailed_more _ _ _ _ _ _ _ lt c.files.auto.files is c.files.invariant.unfailed (rw (← c.index-files-index.is) at c.in_ok-admit_file.ensures.unfailed);
+      unfailed = unfailed_more _ _ _ _ _ _ _ lt c.files.auto.files is c.files.invariant.unfailed
+          (rw (← c.index-files-index.is) at c.in_ok-admit_file.ensures.unfailed);
       rest = rest_kept c.files.files c.args.files.now c.files.index c.admit_file.new.file c.files.invariant.rest;
     }
 
@@ -34,7 +35,9 @@ pub returns-in_err-admit_file : goal.returns-in_err-admit_file
 returns-in_err-admit_file g c =
     let lt : c.files.index < length c.args.files.now = omega arith in
     let is = same_at c.files.files c.args.files.now c.files.index c.index-files-index.result c.files.invariant.rest c.index-files-index.is in
-    rw (failed c.from_residual.result _ c.from_residual.ensures.1) (refused_at _ _ (λ n. File n) IsAccepted IsFileRefused _ _ _ _ _ _ lt c.files.auto.files is (taken_accepted _ _ _ _ c.files.invariant.taken.taken) c.files.invariant.rest c.files.invariant.unfailed
+    rw (failed c.from_residual.result _ c.from_residual.ensures.1)
+    (refused_at _ _ (λ n. File n) IsAccepted IsFileRefused _ _ _ _ _ _ lt c.files.auto.files is
+    (taken_accepted _ _ _ _ c.files.invariant.taken.taken) c.files.invariant.rest c.files.invariant.unfailed
     (rw (← c.index-files-index.is) at c.in_err-admit_file.ensures))
 
 pub returns : goal.returns

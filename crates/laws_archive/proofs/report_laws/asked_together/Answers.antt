@@ -12,7 +12,17 @@ returns g c = record {
   symbolicate = λ archive others file key load lines addresses m status text.
       as_merged archive others file m (λ p. TellsAddresses p key load lines addresses status text);
   frames = λ lines input archive others file m status text. (
-    λ t. record { listed = t.listed; frames_are = t.frames_are; tells = (as_merged archive others file m (λ p. TellsFrames lines p t.listed status text)).0 t.tells },
-    λ t. record { listed = t.listed; frames_are = t.frames_are; tells = (as_merged archive others file m (λ p. TellsFrames lines p t.listed status text)).1 t.tells },
+    λ t. record {
+      listed = t.listed;
+      frames_are = t.frames_are;
+      tells =
+          (as_merged archive others file m (λ p. TellsFrames lines p t.listed status text)).0 t.tells;
+    },
+    λ t. record {
+      listed = t.listed;
+      frames_are = t.frames_are;
+      tells =
+          (as_merged archive others file m (λ p. TellsFrames lines p t.listed status text)).1 t.tells;
+    },
   );
 }

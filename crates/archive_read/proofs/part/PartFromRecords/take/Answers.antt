@@ -12,5 +12,9 @@ returns-then-not-picks g c = λ select records apart is.
 pub returns : goal.returns
 returns g c = on_ok_weaker c.take_record.result (λ taken select records apart is.
     let held = g.A.Join.content c.args.self.now.archive in
-    let passes = ap (λ (f : List ℕ → Bool). f c.args.reader.now.last) (sym is.0) ∙ sym (rw c.last.ensures at c.picks.ensures) ∙ c.if-not-picks.false in
-    (is.0, picked_more (g.S.Selects.picked select.now) records c.args.reader.now.last held is.1 passes apart (g.A.Join.content c.take_record.new.archive) (taken ∙ ap (with_record held) c.record.ensures.bytes))) c.take_record.ensures
+    let passes = ap (λ (f : List ℕ → Bool). f c.args.reader.now.last) (sym is.0) ∙ sym (rw c.last.ensures at c.picks.ensures) ∙ c.if-not-picks.false in (
+      is.0,
+      picked_more (g.S.Selects.picked select.now) records c.args.reader.now.last held is.1 passes apart
+          (g.A.Join.content c.take_record.new.archive) (taken ∙ ap (with_record held) c.record.ensures.bytes),
+    ))
+    c.take_record.ensures
