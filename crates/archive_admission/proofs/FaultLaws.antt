@@ -91,7 +91,8 @@ module _ (sound : NoneFaulty) (one_fault : (bytes : List ℕ) (f g : SliceFault)
   not_nothing i why refused none = one_kept (parts file) (refused.part, there (parts file) i refused.part refused.is, refused.begins) none
 
   not_accepted : (i : ℕ) (why : SliceFault) → IsRefusedPart file i why → IsAcceptedFile file → ⊥
-  not_accepted i why refused accepted = sound refused.part why (kept_is IsValid (parts file) i refused.part accepted.valid refused.is refused.begins) refused.refused
+  not_accepted i why refused accepted = sound refused.part why
+      (kept_is IsValid (parts file) i refused.part accepted.valid refused.is refused.begins) refused.refused
 
   not_fat : (f : FatFault) → (is_fat (kind_of file) ≡ true) × IsFatFault file f → HasParts file → ⊥
   not_fat f wrong has = no_fat file f (has.table wrong.0) wrong.1

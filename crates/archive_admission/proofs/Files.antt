@@ -33,7 +33,8 @@ pub all_valid : (xs : List (List ℕ)) → All IsGood xs → All IsValid (filter
 all_valid xs good = λ k d lt. All-filter is_admissible IsGood xs good k d lt (filter_passes is_admissible xs k d lt)
 
 -- what is said of all that a filter keeps holds of each
-pub kept_is : (P : List ℕ → Type 0) (xs : List (List ℕ)) (j : ℕ) (x : List ℕ) → All P (filter is_admissible xs) → slice_get xs j ≡ Some x → is_admissible x ≡ true → P x
+pub kept_is : (P : List ℕ → Type 0) (xs : List (List ℕ)) (j : ℕ) (x : List ℕ) → All P (filter is_admissible xs)
+    → slice_get xs j ≡ Some x → is_admissible x ≡ true → P x
 kept_is P xs j x all is begins =
     All-contains P (filter is_admissible xs) x all (to_filter is_admissible xs x (there xs j x is) begins)
 
@@ -52,7 +53,9 @@ none_kept xs out =
 pub accepted_by : (file : List ℕ) → HasParts file → All IsGood (parts file) → HasOne (parts file) → IsAcceptedFile file
 accepted_by file has valid one = record { parts_are = has; valid = all_valid (parts file) valid; some = one_kept (parts file) one }
 
-pub refused_by : (file : List ℕ) (i : ℕ) (x : List ℕ) (why : SliceFault) → NoneFaulty → HasParts file → All IsGood (take i (parts file)) → slice_get (parts file) i ≡ Some x → is_admissible x ≡ true → IsSliceFault x why → IsTakeFault file (Slice i why)
+pub refused_by : (file : List ℕ) (i : ℕ) (x : List ℕ) (why : SliceFault) → NoneFaulty → HasParts file
+    → All IsGood (take i (parts file)) → slice_get (parts file) i ≡ Some x → is_admissible x ≡ true → IsSliceFault x why
+    → IsTakeFault file (Slice i why)
 refused_by file i x why sound has valid is begins wrong = (
   has,
   record {
@@ -85,7 +88,9 @@ one_more : (P : List ℕ → Type 0) (xs : List (List ℕ)) (i : ℕ) (x : List 
 one_more P xs i x is before here =
     All-more P xs i x (slice_get_within xs i x is) before (subst P (sym (get_or_from_slice_get xs i x x is)) here)
 
-pub checked_more : (xs : List (List ℕ)) (i : ℕ) (x : List ℕ) (found begins : Bool) → IsChecked xs i found → slice_get xs i ≡ Some x → begins ≡ is_admissible x → (is_admissible x ≡ true → IsValid x) → IsChecked xs (i + 1) (found || begins)
+pub checked_more : (xs : List (List ℕ)) (i : ℕ) (x : List ℕ) (found begins : Bool) → IsChecked xs i found
+    → slice_get xs i ≡ Some x → begins ≡ is_admissible x → (is_admissible x ≡ true → IsValid x)
+    → IsChecked xs (i + 1) (found || begins)
 checked_more xs i x found begins before is begins_is valid = record {
   valid = one_more IsGood xs i x is before.valid valid;
   some = some found begins before.some begins_is;

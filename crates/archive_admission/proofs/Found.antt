@@ -41,7 +41,8 @@ found_more parts i part found facts before is here room = record {
 }
 
 -- of a universal file u that has the bytes of the file
-pub found_all : (file u : List ℕ) (n : ℕ) (found : List (Option SliceFacts)) → u ≡ file → n ≡ length (slices u) → AreFoundBelow (slices u) n found → AreFound (slices file) found
+pub found_all : (file u : List ℕ) (n : ℕ) (found : List (Option SliceFacts)) → u ≡ file → n ≡ length (slices u)
+    → AreFoundBelow (slices u) n found → AreFound (slices file) found
 found_all file u n found bytes all below =
     subst (λ bs. AreFound (slices bs) found) bytes
     (λ i part is. let low : i < length (slices u) = slice_get_within (slices u) i part is in below.each i part (omega (arith, all)) is)

@@ -36,7 +36,8 @@ content_more xs i x old mid new rows before is new_is =
     ∙ ap (λ (zs : List (List ℕ)). admitted old (filter is_admissible zs)) (sym (front_more xs i x is))
 
 pub taking_more : (xs : List (List ℕ)) (i : ℕ) (x : List ℕ) (old mid new : Operations) (rows more : List Taken) (row : Taken)
-    → IsTaking xs i old mid rows → slice_get xs i ≡ Some x → new ≡ admitted mid (filter is_admissible (x ∷ [])) → row ∷ [] ≡ taken_rows mid (x ∷ []) → more ≡ rows ++ row ∷ []
+    → IsTaking xs i old mid rows → slice_get xs i ≡ Some x → new ≡ admitted mid (filter is_admissible (x ∷ [])) → row
+    ∷ [] ≡ taken_rows mid (x ∷ []) → more ≡ rows ++ row ∷ []
     → IsTaking xs (i + 1) old new more
 taking_more xs i x old mid new rows more row before is new_is row_is more_is = record {
   content = content_more xs i x old mid new rows before is new_is;
@@ -65,7 +66,8 @@ module _ (file : List ℕ) where
   pub stopped_before : (i : ℕ) (old mid new : Operations) (rows : List Taken) → IsTaking (parts file) i old mid rows → new ≡ mid → HoldsFirstParts file old new
   stopped_before i old mid new rows before same = in_part file i old new (same ∙ before.content)
 
-  pub stopped_behind : (i : ℕ) (x : List ℕ) (old mid new : Operations) (rows : List Taken) → IsTaking (parts file) i old mid rows → slice_get (parts file) i ≡ Some x
+  pub stopped_behind : (i : ℕ) (x : List ℕ) (old mid new : Operations) (rows : List Taken)
+      → IsTaking (parts file) i old mid rows → slice_get (parts file) i ≡ Some x
       → new ≡ admitted mid (filter is_admissible (x ∷ [])) → HoldsFirstParts file old new
   stopped_behind i x old mid new rows before is new_is =
       in_part file (i + 1) old new (content_more (parts file) i x old mid new rows before is new_is)

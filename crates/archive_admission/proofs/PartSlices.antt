@@ -1,5 +1,6 @@
 -- The slices of the parts of a file, one part more at a time.
-use Rattle.std.proofs.Common.{◌≡◌, ℕ, ◌+◌, ◌<◌, Bool, true, false, List, [], ◌∷◌, ◌++◌, length, map, take, Option, Some, None, slice_get, refl, sym, ap, subst, ◌∙◌, arith}
+use Rattle.std.proofs.Common.{◌≡◌, ℕ, ◌+◌, ◌<◌, Bool, true, false, List, [], ◌∷◌, ◌++◌, length, map, take, Option, Some}
+use Rattle.std.proofs.Common.{None, slice_get, refl, sym, ap, subst, ◌∙◌, arith}
 use Rattle.std.specs.Prelude.{if◌then◌else◌}
 use Rattle.std.proofs.lemmas.List.{map-append, take_more}
 use Rattle.std.proofs.lemmas.Option.{get_or_from_slice_get, slice_get_within}
@@ -49,15 +50,18 @@ thin_part a file is as_is =
     subst (λ (b : AcceptedFile). parts (file_of b) ≡ file ∷ []) (sym is)
     (parts_thin file (subst (λ (b : AcceptedFile). IsAcceptedAs (file_of b) b) is as_is).0)
 
-pub fat_parts : (a : AcceptedFile) (file : List ℕ) (found : List (Option SliceFacts)) → a ≡ universal_file file found → IsAcceptedAs (file_of a) a → parts (file_of a) ≡ slices file
+pub fat_parts : (a : AcceptedFile) (file : List ℕ) (found : List (Option SliceFacts)) → a ≡ universal_file file found
+    → IsAcceptedAs (file_of a) a → parts (file_of a) ≡ slices file
 fat_parts a file found is as_is =
     subst (λ (b : AcceptedFile). parts (file_of b) ≡ slices file) (sym is)
     (parts_fat file (subst (λ (b : AcceptedFile). IsAcceptedAs (file_of b) b) is as_is).0)
 
-pub fat_found : (a : AcceptedFile) (file : List ℕ) (found : List (Option SliceFacts)) → a ≡ universal_file file found → IsAcceptedAs (file_of a) a → AreFound (slices file) found
+pub fat_found : (a : AcceptedFile) (file : List ℕ) (found : List (Option SliceFacts)) → a ≡ universal_file file found
+    → IsAcceptedAs (file_of a) a → AreFound (slices file) found
 fat_found a file found is as_is = (subst (λ (b : AcceptedFile). IsAcceptedAs (file_of b) b) is as_is).2
 
-pub thin_at : (a : AcceptedFile) (file slice : List ℕ) (index : ℕ) → a ≡ thin_file file → IsAcceptedAs (file_of a) a → index < length (parts (file_of a)) → slice ≡ file
+pub thin_at : (a : AcceptedFile) (file slice : List ℕ) (index : ℕ) → a ≡ thin_file file → IsAcceptedAs (file_of a) a
+    → index < length (parts (file_of a)) → slice ≡ file
     → (part : List ℕ) × (slice_get (parts (file_of a)) index ≡ Some part) × (Some slice ≡ slice_in part)
 thin_at a file slice index is as_is within same =
     let one = thin_part a file is as_is in
@@ -67,11 +71,15 @@ thin_at a file slice index is as_is within same =
 
 -- ---- one part more
 
-pub one_alone : (file : List ℕ) (none all : List (Option (List ℕ))) → kind_of file ≡ Thin → none ≡ [] → all ≡ none ++ Some file ∷ [] → all ≡ map slice_in (parts file)
+pub one_alone : (file : List ℕ) (none all : List (Option (List ℕ))) → kind_of file ≡ Thin → none ≡ [] → all ≡ none
+    ++ Some file ∷ [] → all ≡ map slice_in (parts file)
 one_alone file none all thin none_is all_is =
     all_is ∙ rw (none_is, parts_thin file thin) (ap (λ (s : Option (List ℕ)). s ∷ []) (thin_slice file thin))
 
-pub one_more : (xs : List (List ℕ)) (i : ℕ) (x : List ℕ) (before more : List (Option (List ℕ))) (slice : Option (List ℕ)) → before ≡ map slice_in (take i xs) → slice_get xs i ≡ Some x → slice ≡ slice_in x → more ≡ before ++ slice ∷ []
+pub one_more : (xs : List (List ℕ)) (i : ℕ) (x : List ℕ) (before more : List (Option (List ℕ)))
+    (slice : Option (List ℕ)) → before ≡ map slice_in (take i xs) → slice_get xs i ≡ Some x → slice ≡ slice_in x → more
+    ≡ before ++ slice ∷ []
     → more ≡ map slice_in (take (i + 1) xs)
 one_more xs i x before more slice before_is is slice_is more_is =
-    more_is ∙ rw (before_is, slice_is, take_more xs i x (slice_get_within xs i x is), get_or_from_slice_get xs i x x is) (sym (map-append slice_in (take i xs) (x ∷ [])))
+    more_is ∙ rw (before_is, slice_is, take_more xs i x (slice_get_within xs i x is), get_or_from_slice_get xs i x x is)
+    (sym (map-append slice_in (take i xs) (x ∷ [])))

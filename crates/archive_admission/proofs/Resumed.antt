@@ -11,12 +11,14 @@ use Rattle.archive_admission.specs.File.{admissible}
 use Rattle.archive_admission.specs.Take.{admitted, HoldsFirstParts}
 use Rattle.archive_admission.proofs.Rows.{admitted-append}
 
-pub admitted_alike : (o : Operations) (images others : List (List ℕ)) → IsMade o → ((image : List ℕ) → Contains images image ↔ Contains others image) → admitted o images ≡ admitted o others
+pub admitted_alike : (o : Operations) (images others : List (List ℕ)) → IsMade o
+    → ((image : List ℕ) → Contains images image ↔ Contains others image) → admitted o images ≡ admitted o others
 admitted_alike o images others is same =
     taken_in_any_order o (map admission_record images) (map admission_record others) is
     (λ r. (carried images others (λ image. (same image).0) r, carried others images (λ image. (same image).1) r))
   where
-    carried : (xs ys : List (List ℕ)) → ((image : List ℕ) → Contains xs image → Contains ys image) → (r : List ℕ) → Contains (map admission_record xs) r → Contains (map admission_record ys) r
+    carried : (xs ys : List (List ℕ)) → ((image : List ℕ) → Contains xs image → Contains ys image) → (r : List ℕ)
+        → Contains (map admission_record xs) r → Contains (map admission_record ys) r
     carried xs ys all r has =
         let (image, there, is) = in_map admission_record xs r has in
         subst (Contains (map admission_record ys)) (sym is) (to_map admission_record ys image (all image there))

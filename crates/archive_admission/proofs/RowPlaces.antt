@@ -14,14 +14,16 @@ use Rattle.archive_admission.specs.Take.{admitted, taken_of, taken_rows}
 use Rattle.archive_admission.specs.declared.taken.Taken.{Taken}
 use Rattle.archive_admission.specs.declared.taken.Taken.TheVariants.{Added, Known, Skipped}
 
-count_by : (n : ℕ) (here there : Taken) (rows others : List Taken) (b : Bool) → length rows ≡ n → length others ≡ n → length (if b then here ∷ rows else there ∷ others) ≡ suc n
+count_by : (n : ℕ) (here there : Taken) (rows others : List Taken) (b : Bool) → length rows ≡ n → length others ≡ n
+    → length (if b then here ∷ rows else there ∷ others) ≡ suc n
 count_by n here there rows others b e f = grind arith
 
 pub rows_number : (o : Operations) (xs : List (List ℕ)) → length (taken_rows o xs) ≡ length xs
 unfolding taken_rows
 rows_number o [] = refl
 rows_number o (x ∷ xs) =
-    count_by (length xs) (taken_of o x) Skipped (taken_rows (admitted o (x ∷ [])) xs) (taken_rows o xs) (is_admissible x) (rows_number (admitted o (x ∷ [])) xs) (rows_number o xs)
+    count_by (length xs) (taken_of o x) Skipped (taken_rows (admitted o (x ∷ [])) xs) (taken_rows o xs)
+    (is_admissible x) (rows_number (admitted o (x ∷ [])) xs) (rows_number o xs)
 
 -- the rows after the first
 behind : (o : Operations) (x : List ℕ) (kept : List (List ℕ)) (rest : Operations → List Taken) (i : ℕ) (row : Operations → Taken) (b : Bool)
@@ -34,7 +36,8 @@ first_row : (row there : Taken) (rows others : List Taken) (b c : Bool) → b �
     → slice_get (if b then row ∷ rows else there ∷ others) 0 ≡ Some (if c then row else there)
 first_row row there rows others b c same = grind arith
 
-pub skipped_at : (o : Operations) (xs : List (List ℕ)) (i : ℕ) (part : List ℕ) → slice_get xs i ≡ Some part → is_admissible part ≡ false → slice_get (taken_rows o xs) i ≡ Some Skipped
+pub skipped_at : (o : Operations) (xs : List (List ℕ)) (i : ℕ) (part : List ℕ) → slice_get xs i ≡ Some part
+    → is_admissible part ≡ false → slice_get (taken_rows o xs) i ≡ Some Skipped
 unfolding taken_rows
 skipped_at o [] i part is out = cc
 skipped_at o (x ∷ xs) zero part is out =
@@ -59,11 +62,14 @@ known_by : (o : Operations) (part : List ℕ) → changes o (admission_record pa
 unfolding taken_of
 known_by o part same = ap (λ (b : Bool). if b then Added (key_of part) (record { 0 = sha256 part }) else Known (key_of part) (record { 0 = sha256 part })) same
 
-pub there_is_known : (o : Operations) (part : List ℕ) → set.contains o (admission_record part) ≡ true → taken_of o part ≡ Known (key_of part) (record { 0 = sha256 part })
+pub there_is_known : (o : Operations) (part : List ℕ) → set.contains o (admission_record part) ≡ true → taken_of o part
+    ≡ Known (key_of part) (record { 0 = sha256 part })
 there_is_known o part there = known_by o part (known_changes o (admission_record part) (or_left _ _ there))
 
 -- and so is one that a retirement covers
 pub covered_is_known : (o : Operations) (part : List ℕ) → IsValid part → set.contains o (retirement_record (key_of part) (sha256 part)) ≡ true
     → taken_of o part ≡ Known (key_of part) (record { 0 = sha256 part })
 covered_is_known o part valid retired =
-    known_by o part (known_changes o (admission_record part) (or_right (set.contains o (admission_record part)) _ (ap (set.contains o) (covering_admission part valid) ∙ retired)))
+    known_by o part (known_changes o (admission_record part)
+    (or_right (set.contains o (admission_record part)) _
+    (ap (set.contains o) (covering_admission part valid) ∙ retired)))

@@ -35,7 +35,8 @@ taken_row o part row e is = ap (λ (t : Taken). t ∷ []) is ∙ ap (λ (b : Boo
 
 pub admitted-append : (o : Operations) (xs ys : List (List ℕ)) → admitted o (xs ++ ys) ≡ admitted (admitted o xs) ys
 admitted-append o xs ys =
-    ap (λ (rs : List (List ℕ)). fold with_record o rs) (map-append admission_record xs ys) ∙ fold-append with_record o (map admission_record xs) (map admission_record ys)
+    ap (λ (rs : List (List ℕ)). fold with_record o rs) (map-append admission_record xs ys)
+    ∙ fold-append with_record o (map admission_record xs) (map admission_record ys)
 
 -- the first rows, with those of the parts after them
 rows_by : (o : Operations) (x : List ℕ) (kept : List (List ℕ)) (rest all : Operations → List Taken) (more : List (List ℕ)) (b : Bool)
@@ -45,7 +46,8 @@ rows_by : (o : Operations) (x : List ℕ) (kept : List (List ℕ)) (rest all : O
 rows_by o x kept rest all more true step = ap (λ (rows : List Taken). taken_of o x ∷ rows) (step (admitted o (x ∷ [])))
 rows_by o x kept rest all more false step = ap (λ (rows : List Taken). Skipped ∷ rows) (step o)
 
-pub taken_rows-append : (o : Operations) (xs ys : List (List ℕ)) → taken_rows o (xs ++ ys) ≡ taken_rows o xs ++ taken_rows (admitted o (filter is_admissible xs)) ys
+pub taken_rows-append : (o : Operations) (xs ys : List (List ℕ)) → taken_rows o (xs ++ ys) ≡ taken_rows o xs
+    ++ taken_rows (admitted o (filter is_admissible xs)) ys
 unfolding taken_rows
 taken_rows-append o [] ys = refl
 taken_rows-append o (x ∷ xs) ys =

@@ -1,4 +1,4 @@
--- What an accepted file was accepted as.
+-- The form in which an accepted file was accepted.
 use Rattle.std.specs.Prelude.{◌≡◌, ℕ, List, Option, None, Some, true, false, slice_get, slice_index_or}
 use Rattle.fat_slices.specs.Kind.{kind_of, is_fat}
 use Rattle.fat_slices.specs.Slices.{slices}

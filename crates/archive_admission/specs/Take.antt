@@ -1,4 +1,4 @@
--- What an archive's content becomes where a file is taken, and the rows that tell it.
+-- The content of an archive after a file is taken, and the rows that report it.
 use Rattle.std.specs.Prelude.{◌≡◌, ◌≤◌, ℕ, List, [], ◌∷◌, length, map, take, if◌then◌else◌}
 use Rattle.sha2.specs.Sha256.{sha256}
 use Rattle.archive_core.specs.Valid.{key_of}

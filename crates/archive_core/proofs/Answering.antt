@@ -1,5 +1,6 @@
 -- How many slices answer, as rows tell it.
-use Rattle.std.proofs.Common.{◌≡◌, ◌==◌, ℕ, ◌+◌, Bool, true, false, ◌&&◌, not, cond, if◌then◌else◌, List, [], ◌∷◌, map, refl, sym, ap, ◌∙◌, inl, inr, arith, subst, length}
+use Rattle.std.proofs.Common.{◌≡◌, ◌==◌, ℕ, ◌+◌, Bool, true, false, ◌&&◌, not, cond, if◌then◌else◌, List, [], ◌∷◌, map}
+use Rattle.std.proofs.Common.{refl, sym, ap, ◌∙◌, inl, inr, arith, subst, length}
 use Rattle.std.specs.declared.cmp.Ordering.TheVariants.{Less, Equal}
 use Rattle.std.specs.Ordering.{nat_cmp, on}
 use Rattle.std.specs.Cmp.{tied_itself, nat_cmp_total, on_total, then_total, IsTotalOrder}
@@ -97,7 +98,8 @@ module _ (dsym : Bool) (arch : ArchKey) where
       ∙ sym (fold-map (λ n row. n + cond (is_kind_row dsym arch row) 1 0) row_of 0 xs)
 
   -- what is chosen is admitted under the architecture, and of the kind
-  in_chosen : (xs : List Operation) (slice : List ℕ) → Contains (chosen xs) slice → Contains xs (Admit slice) × ((key_of slice).arch ≡ arch) × (is_kind dsym slice ≡ true)
+  in_chosen : (xs : List Operation) (slice : List ℕ) → Contains (chosen xs) slice → Contains xs (Admit slice)
+      × ((key_of slice).arch ≡ arch) × (is_kind dsym slice ≡ true)
   unfolding chosen kept
   in_chosen xs slice h =
       let found = in_map slice_in (kept xs) slice h in
@@ -106,19 +108,22 @@ module _ (dsym : Bool) (arch : ArchKey) where
       rw found.2 (subst (Contains xs) is.0 there.0, is.1, is.2)
 
   -- and all of these are chosen
-  to_chosen : (xs : List Operation) (slice : List ℕ) → Contains xs (Admit slice) → (key_of slice).arch ≡ arch → is_kind dsym slice ≡ true → Contains (chosen xs) slice
+  to_chosen : (xs : List Operation) (slice : List ℕ) → Contains xs (Admit slice) → (key_of slice).arch ≡ arch
+      → is_kind dsym slice ≡ true → Contains (chosen xs) slice
   unfolding chosen kept
   to_chosen xs slice h a t =
       to_map slice_in (kept xs) (Admit slice) (to_filter (λ a. is_kind_row dsym arch (row_of a)) xs (Admit slice) h
       (and_from _ _ (is_arch_of (key_of slice).arch arch a) (told_kind dsym (is_dsym_image slice) ∙ t)))
 
   -- slices of one architecture stand by their records
-  by_record : (a b : Operation) → is_kind_row dsym arch (row_of a) ≡ true → is_kind_row dsym arch (row_of b) ≡ true → find_cmp a b ≡ Less → slice_cmp nat_cmp (admission_record (slice_in a)) (admission_record (slice_in b)) ≡ Less
+  by_record : (a b : Operation) → is_kind_row dsym arch (row_of a) ≡ true → is_kind_row dsym arch (row_of b) ≡ true
+      → find_cmp a b ≡ Less → slice_cmp nat_cmp (admission_record (slice_in a)) (admission_record (slice_in b)) ≡ Less
   by_record a b s t h =
       let first = of_kind dsym arch a s in
       let second = of_kind dsym arch b t in
       let up : find_cmp (Admit (slice_in a)) (Admit (slice_in b)) ≡ Less = (λ i. find_cmp (sym first.0 i) (sym second.0 i)) ∙ h in
-      let tied : arch_cmp (key_of (slice_in a)).arch (key_of (slice_in b)).arch ≡ Equal = (λ i. arch_cmp (first.1 i) (second.1 i)) ∙ tied_itself arch_total arch in
+      let tied : arch_cmp (key_of (slice_in a)).arch (key_of (slice_in b)).arch
+      ≡ Equal = (λ i. arch_cmp (first.1 i) (second.1 i)) ∙ tied_itself arch_total arch in
       cc
 
   -- what is chosen ascends by its records
@@ -137,8 +142,10 @@ live_is_valid o key slice content is_key live = elim (content.records (admission
   | inl admits ↦
       let long : length (key_bytes (key_of slice)) ≡ 24 = length_key_bytes (key_of slice) (ap (λ k. length k.uuid) live.under ∙ is_key.uuid) in
       let same : admission slice ≡ admission admits.slice = cc (admits.is) in
-      let behind_key = (same_parts (key_bytes (key_of slice)) (key_bytes (key_of admits.slice)) _ _ (long ∙ sym (length-key_of admits.slice admits.valid)) same).1 in
-      subst IsValid (sym (same_parts (to_be_bytes w64 (length slice)) (to_be_bytes w64 (length admits.slice)) slice admits.slice refl behind_key).1) admits.valid
+      let behind_key = (same_parts (key_bytes (key_of slice)) (key_bytes (key_of admits.slice)) _ _
+      (long ∙ sym (length-key_of admits.slice admits.valid)) same).1 in
+      subst IsValid (sym (same_parts (to_be_bytes w64 (length slice)) (to_be_bytes w64 (length admits.slice)) slice
+      admits.slice refl behind_key).1) admits.valid
   | inr retires ↦ cc (retires.is)
 ]
 
@@ -157,7 +164,8 @@ module _ (o : Operations) (key : SliceKey) (rows : List FindRow) (content : IsCo
   )
 
   -- the slices of a kind answer that goes before the other, where there is one of that kind
-  answer : (dsym : Bool) → ((slice : List ℕ) → IsLive o key slice → is_kind dsym slice ≡ true → (companion : List ℕ) → IsLive o key companion → is_dsym_image companion ≡ true → is_dsym_image slice ≡ true)
+  answer : (dsym : Bool) → ((slice : List ℕ) → IsLive o key slice → is_kind dsym slice ≡ true → (companion : List ℕ)
+      → IsLive o key companion → is_dsym_image companion ≡ true → is_dsym_image slice ≡ true)
       → ((slice : List ℕ) → IsAnswering o key slice → is_kind dsym slice ≡ true) → AreAnswering o key (chosen dsym key.arch finds.operations)
   answer dsym first kind = record {
     ascending = ascending_chosen dsym key.arch finds.operations finds.ascending;
@@ -172,8 +180,15 @@ module _ (o : Operations) (key : SliceKey) (rows : List FindRow) (content : IsCo
 
   -- the companions answer, and without one the other slices
   answered : (companions : List (List ℕ)) → chosen true key.arch finds.operations ≡ companions
-      → (slices : List (List ℕ)) × AreAnswering o key slices × (length slices ≡ cond (length companions == 0) (length (chosen false key.arch finds.operations)) (length companions))
-  answered [] is = (chosen false key.arch finds.operations, answer false (λ _ _ _ companion live t. absurd (no_companion companion live t)) (λ slice h. ap not (false_from_ne_true _ (no_companion slice h.live))), refl)
+      → (slices : List (List ℕ)) × AreAnswering o key slices
+      × (length slices ≡ cond (length companions == 0) (length (chosen false key.arch finds.operations))
+      (length companions))
+  answered [] is = (
+    chosen false key.arch finds.operations,
+    answer false (λ _ _ _ companion live t. absurd (no_companion companion live t))
+        (λ slice h. ap not (false_from_ne_true _ (no_companion slice h.live))),
+    refl,
+  )
     where
       no_companion : (companion : List ℕ) → IsLive o key companion → is_dsym_image companion ≡ true → ⊥
       no_companion companion live t =
@@ -193,6 +208,7 @@ module _ (o : Operations) (key : SliceKey) (rows : List FindRow) (content : IsCo
         found.0,
         found.1,
         found.2
-            ∙ (λ i. cond (count_chosen true key.arch finds.operations i == 0) (count_chosen false key.arch finds.operations i) (count_chosen true key.arch finds.operations i))
+            ∙ (λ i. cond (count_chosen true key.arch finds.operations i == 0)
+            (count_chosen false key.arch finds.operations i) (count_chosen true key.arch finds.operations i))
             ∙ ap (λ l. answering_count l key.arch) (sym finds.rows_are),
       )

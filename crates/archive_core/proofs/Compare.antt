@@ -11,14 +11,19 @@ pub then_assoc : (a b c : Ordering) → ordering_then (ordering_then a b) c ≡ 
 then_assoc a b c = grind arith
 
 -- parts of one length come first
-pub slice_cmp-append : (xs ys us vs : List ℕ) → length xs ≡ length ys → slice_cmp nat_cmp (xs ++ us) (ys ++ vs) ≡ ordering_then (slice_cmp nat_cmp xs ys) (slice_cmp nat_cmp us vs)
+pub slice_cmp-append : (xs ys us vs : List ℕ) → length xs ≡ length ys → slice_cmp nat_cmp (xs ++ us) (ys ++ vs)
+    ≡ ordering_then (slice_cmp nat_cmp xs ys) (slice_cmp nat_cmp us vs)
 slice_cmp-append [] [] us vs e = refl
 slice_cmp-append [] (y ∷ ys) us vs e = absurd (omega arith)
 slice_cmp-append (x ∷ xs) [] us vs e = absurd (omega arith)
-slice_cmp-append (x ∷ xs) (y ∷ ys) us vs e = ap (ordering_then (nat_cmp x y)) (slice_cmp-append xs ys us vs (omega arith)) ∙ sym (then_assoc (nat_cmp x y) (slice_cmp nat_cmp xs ys) (slice_cmp nat_cmp us vs))
+slice_cmp-append (x ∷ xs) (y ∷ ys) us vs e = ap (ordering_then (nat_cmp x y))
+    (slice_cmp-append xs ys us vs (omega arith)) ∙ sym
+    (then_assoc (nat_cmp x y) (slice_cmp nat_cmp xs ys) (slice_cmp nat_cmp us vs))
 
 -- texts of three parts, the first two of one length each, compare part by part
-pub three_parts : (a b c x y z : List ℕ) → length a ≡ length x → length b ≡ length y → slice_cmp nat_cmp (a ++ (b ++ c)) (x ++ (y ++ z)) ≡ ordering_then (ordering_then (slice_cmp nat_cmp a x) (slice_cmp nat_cmp b y)) (slice_cmp nat_cmp c z)
+pub three_parts : (a b c x y z : List ℕ) → length a ≡ length x → length b ≡ length y
+    → slice_cmp nat_cmp (a ++ (b ++ c)) (x ++ (y ++ z))
+    ≡ ordering_then (ordering_then (slice_cmp nat_cmp a x) (slice_cmp nat_cmp b y)) (slice_cmp nat_cmp c z)
 three_parts a b c x y z e f =
     slice_cmp-append a x (b ++ c) (y ++ z) e
     ∙ ap (ordering_then (slice_cmp nat_cmp a x)) (slice_cmp-append b y c z f)

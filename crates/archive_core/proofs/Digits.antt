@@ -32,7 +32,8 @@ in_digits (x ∷ xs) (y ∷ ys) p q e a b =
     ∙ ap (λ r. ordering_then r (slice_cmp nat_cmp xs ys)) (next_digit p q x y a.0 b.0)
     ∙ then_assoc (nat_cmp p q) (nat_cmp x y) (slice_cmp nat_cmp xs ys)
 
-read_alike : (xs ys : List ℕ) (m n : ℕ) → m ≡ read xs 0 → n ≡ read ys 0 → length xs ≡ length ys → AllByRecursion (λ b. b < 256) xs → AllByRecursion (λ b. b < 256) ys
+read_alike : (xs ys : List ℕ) (m n : ℕ) → m ≡ read xs 0 → n ≡ read ys 0 → length xs ≡ length ys
+    → AllByRecursion (λ b. b < 256) xs → AllByRecursion (λ b. b < 256) ys
     → nat_cmp m n ≡ slice_cmp nat_cmp xs ys
 read_alike xs ys m n e f long a b = (λ i. nat_cmp (e i) (f i)) ∙ in_digits xs ys 0 0 long a b
 
@@ -47,7 +48,11 @@ cmp_sixteen xs ys a b is_a is_b = read_alike xs ys _ _ (sixteen xs a) (sixteen y
 
 -- and a number of 32 bits or of 64
 pub cmp_four : (m n : ℕ) → m < 2 ^ 32 → n < 2 ^ 32 → nat_cmp m n ≡ slice_cmp nat_cmp (to_be_bytes w32 m) (to_be_bytes w32 n)
-cmp_four m n a b = read_alike (to_be_bytes w32 m) (to_be_bytes w32 n) m n (omega (arith, from_be_bytes-to_be_bytes_4 m a)) (omega (arith, from_be_bytes-to_be_bytes_4 n b)) refl (omega arith) (omega arith)
+cmp_four m n a b = read_alike (to_be_bytes w32 m) (to_be_bytes w32 n) m n
+    (omega (arith, from_be_bytes-to_be_bytes_4 m a)) (omega (arith, from_be_bytes-to_be_bytes_4 n b)) refl (omega arith)
+    (omega arith)
 
 pub cmp_eight : (m n : ℕ) → m < 2 ^ 64 → n < 2 ^ 64 → nat_cmp m n ≡ slice_cmp nat_cmp (to_be_bytes w64 m) (to_be_bytes w64 n)
-cmp_eight m n a b = read_alike (to_be_bytes w64 m) (to_be_bytes w64 n) m n (omega (arith, from_be_bytes-to_be_bytes_8 m a)) (omega (arith, from_be_bytes-to_be_bytes_8 n b)) refl (omega arith) (omega arith)
+cmp_eight m n a b = read_alike (to_be_bytes w64 m) (to_be_bytes w64 n) m n
+    (omega (arith, from_be_bytes-to_be_bytes_8 m a)) (omega (arith, from_be_bytes-to_be_bytes_8 n b)) refl (omega arith)
+    (omega arith)

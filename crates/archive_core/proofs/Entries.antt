@@ -47,7 +47,8 @@ pub length-entry : (r : List ℕ) → IsRecord r → length (entry r) ≡ 57
 length-entry r (inl a) =
     ap (λ (s : List ℕ). length (entry s)) a.is ∙ ap length (admission_entry a.slice a.valid)
     ∙ omega (arith, length-append (key_bytes (key_of a.slice)) (sha256 a.slice), length-key_of a.slice a.valid, length-sha256 a.slice)
-length-entry r (inr b) = ap (λ (s : List ℕ). length (entry s)) b.is ∙ ap length (retirement_entry b.key b.digest) ∙ length-retirement_record b.key b.digest b.is_key b.long
+length-entry r (inr b) = ap (λ (s : List ℕ). length (entry s)) b.is ∙ ap length (retirement_entry b.key b.digest)
+    ∙ length-retirement_record b.key b.digest b.is_key b.long
 
 -- the entry of a retirement is of no other record
 pub retirement_of_entry : (key : SliceKey) (digest r : List ℕ) → IsRecord r → entry r ≡ entry (retirement_record key digest) → r ≡ retirement_record key digest
@@ -60,7 +61,8 @@ pub admissions_of_entry : (slice r : List ℕ) → IsValid slice → IsRecord r 
 admissions_of_entry slice r valid (inl a) e =
     let same : key_bytes (key_of a.slice) ++ sha256 a.slice ≡ key_bytes (key_of slice) ++ sha256 slice =
     cc (admission_entry a.slice a.valid, a.is, admission_entry slice valid) in
-    let parts = same_parts (key_bytes (key_of a.slice)) (key_bytes (key_of slice)) (sha256 a.slice) (sha256 slice) (length-key_of a.slice a.valid ∙ sym (length-key_of slice valid)) same in
+    let parts = same_parts (key_bytes (key_of a.slice)) (key_bytes (key_of slice)) (sha256 a.slice) (sha256 slice)
+    (length-key_of a.slice a.valid ∙ sym (length-key_of slice valid)) same in
     (a, parts.0, parts.1)
 admissions_of_entry slice r valid (inr b) e = cc (admission_entry slice valid, b.is, retirement_entry b.key b.digest)
 

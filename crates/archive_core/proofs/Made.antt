@@ -6,7 +6,11 @@ use Rattle.std.specs.Cmp.{both_ways}
 use Rattle.std.specs.Cmp.Lexicographic.{slice_cmp, nat_list_cmp_total}
 use Rattle.std.specs.FinSet as set
 use Rattle.std.specs.FinSet.{contains, union, contains-union, contains-insert, contains-empty, same_set}
-pub use Rattle.archive_core.specs.Order.{bytes_same, and_left, and_right, and_true, and_false, not_true, either, or_left, or_right, by_test, contains_made, from_made, uncovered, uncovered_admission, kept, covers_same, free, made_again, made_antisymmetric, below_reflexive, below_transitive, below_antisymmetric, below_made, below_left, below_right, joined_below, joined_content}
+pub use Rattle.archive_core.specs.Order.{bytes_same, and_left, and_right, and_true, and_false, not_true, either}
+pub use Rattle.archive_core.specs.Order.{or_left, or_right, by_test, contains_made, from_made, uncovered}
+pub use Rattle.archive_core.specs.Order.{uncovered_admission, kept, covers_same, free, made_again, made_antisymmetric}
+pub use Rattle.archive_core.specs.Order.{below_reflexive, below_transitive, below_antisymmetric, below_made, below_left}
+pub use Rattle.archive_core.specs.Order.{below_right, joined_below, joined_content}
 use Rattle.archive_core.specs.Content.{Operations, is_admission, covering, is_covered, content_of, IsMade, IsBelow, joined}
 
 -- Two sets that have the same retirements, and of the admissions the same that no retirement covers.
@@ -27,7 +31,8 @@ made_is_alike o = record {
 }
 
 -- with more members too
-alike_more : (s t u v : Operations) (more : List ℕ → Bool) → ((r : List ℕ) → contains u r ≡ (more r || contains s r)) → ((r : List ℕ) → contains v r ≡ (more r || contains t r)) → IsAlike s t → IsAlike u v
+alike_more : (s t u v : Operations) (more : List ℕ → Bool) → ((r : List ℕ) → contains u r ≡ (more r || contains s r))
+    → ((r : List ℕ) → contains v r ≡ (more r || contains t r)) → IsAlike s t → IsAlike u v
 alike_more s t u v more in_u in_v alike = record {
   retirements = λ r n. cc (in_u r, in_v r, alike.retirements r n);
   live = λ r a c. grind (arith, in_u r, in_v r, in_u (covering r), alike.live r a);
@@ -35,11 +40,14 @@ alike_more s t u v more in_u in_v alike = record {
 
 -- with one more operation
 pub alike_insert : (s t : Operations) (q : List ℕ) → IsAlike s t → IsAlike (set.insert s q) (set.insert t q)
-alike_insert s t q = alike_more s t _ _ (λ r. eq_by_cmp (slice_cmp nat_cmp) r q) (contains-insert nat_list_cmp_total s q) (contains-insert nat_list_cmp_total t q)
+alike_insert s t q = alike_more s t _ _ (λ r. eq_by_cmp (slice_cmp nat_cmp) r q)
+    (contains-insert nat_list_cmp_total s q) (contains-insert nat_list_cmp_total t q)
 
 -- and with the operations of a third set
 pub alike_union : (s t u : Operations) → IsAlike s t → IsAlike (union s u) (union t u)
-alike_union s t u = alike_more s t _ _ (contains u) (λ r. contains-union nat_list_cmp_total s u r ∙ or_comm (contains s r) (contains u r)) (λ r. contains-union nat_list_cmp_total t u r ∙ or_comm (contains t r) (contains u r))
+alike_union s t u = alike_more s t _ _ (contains u) (λ r. contains-union nat_list_cmp_total s u r
+    ∙ or_comm (contains s r) (contains u r)) (λ r. contains-union nat_list_cmp_total t u r
+    ∙ or_comm (contains t r) (contains u r))
 
 pub alike_union_right : (u s t : Operations) → IsAlike s t → IsAlike (union u s) (union u t)
 alike_union_right u s t = alike_more s t _ _ (contains u) (contains-union nat_list_cmp_total u s) (contains-union nat_list_cmp_total u t)

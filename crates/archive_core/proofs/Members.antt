@@ -1,5 +1,6 @@
 -- What is among a list, its values and its parts, lists with the same members, and a list put in order.
-use Rattle.std.proofs.Common.{◌≡◌, ◌↔◌, ◌<◌, true, List, sym, ◌∙◌, ◌⊎◌, ◌+◌, zero, suc, Bool, false, [], ◌∷◌, ◌++◌, length, get_or, map, filter, refl, ap, inl, inr, arith, subst, add-one}
+use Rattle.std.proofs.Common.{◌≡◌, ◌↔◌, ◌<◌, true, List, sym, ◌∙◌, ◌⊎◌, ◌+◌, zero, suc, Bool, false, [], ◌∷◌, ◌++◌}
+use Rattle.std.proofs.Common.{length, get_or, map, filter, refl, ap, inl, inr, arith, subst, add-one}
 use Rattle.std.specs.declared.cmp.Ordering.{Ordering}
 use Rattle.std.specs.Ordering.{eq_by_cmp, is_eq, is_lt, on, ordering_reverse}
 use Rattle.std.specs.Cmp.{IsTotalOrder, tied_itself}
@@ -15,7 +16,9 @@ use Rattle.join_core.proofs.Members.{one_key}
 use Rattle.join_core.proofs.Place.{along}
 use Rattle.std.specs.declared.cmp.Ordering.TheVariants.{Less}
 use Rattle.std.specs.List.Sorted.{IsSorted, IsStrictlySortedBy}
-use Rattle.std.proofs.lemmas.List.Elements.{All-from_recursion, All-contains, All-contains_itself, All-filter, filter_passes, Contains-get_or, Contains-append_left, Contains-append_right, Contains-append_cases}
+use Rattle.std.proofs.lemmas.List.Elements.{All-from_recursion, All-contains, All-contains_itself, All-filter}
+use Rattle.std.proofs.lemmas.List.Elements.{filter_passes, Contains-get_or, Contains-append_left, Contains-append_right}
+use Rattle.std.proofs.lemmas.List.Elements.{Contains-append_cases}
 
 module _ {K : Type 0} {R : K → K → Ordering} (o : IsTotalOrder R) (same : IsAntisymmetric R) where
   -- a set's list has its members
@@ -69,7 +72,9 @@ module _ {X : Type 0} where
   ]
 
   -- among elements that have a fact, an order that follows from another ascends where that does
-  pub ascending_finer : (P : X → Type 0) (R S : X → X → Ordering) → ((x y : X) → P x → P y → R x y ≡ Less → S x y ≡ Less) → (xs : List X) → AllByRecursion P xs → IsStrictlySortedBy R xs → IsStrictlySortedBy S xs
+  pub ascending_finer : (P : X → Type 0) (R S : X → X → Ordering)
+      → ((x y : X) → P x → P y → R x y ≡ Less → S x y ≡ Less) → (xs : List X) → AllByRecursion P xs
+      → IsStrictlySortedBy R xs → IsStrictlySortedBy S xs
   unfolding IsStrictlySortedBy
   ascending_finer P R S finer [] have up = tt
   ascending_finer P R S finer (x ∷ xs) have up = (each xs have.1 up.0, ascending_finer P R S finer xs have.1 up.1)
@@ -101,19 +106,23 @@ module _ {X : Type 0} where
     above : (z a : X) (zs : List X) → AllByRecursion (λ w. R z w ≡ Less) zs → Contains zs a → R z a ≡ Less
     above z a zs all there = All-contains (λ w. R z w ≡ Less) zs a (All-from_recursion (λ w. R z w ≡ Less) zs all) there
 
-    behind : (x y : X) (xs ys : List X) → x ≡ y → AllByRecursion (λ w. R x w ≡ Less) xs → ((a : X) → Contains (x ∷ xs) a → Contains (y ∷ ys) a) → (a : X) → Contains xs a → Contains ys a
+    behind : (x y : X) (xs ys : List X) → x ≡ y → AllByRecursion (λ w. R x w ≡ Less) xs
+        → ((a : X) → Contains (x ∷ xs) a → Contains (y ∷ ys) a) → (a : X) → Contains xs a → Contains ys a
     behind x y xs ys e low to a h = elim (in_cons y ys a (to a (in_rest x xs a h))) [
       | inl is ↦ absurd (cc (tied_itself o a, above x a xs low h))
       | inr there ↦ there
     ]
 
     -- two ascending lists with the same members are one
-    pub one_with_members : (xs ys : List X) → IsStrictlySortedBy R xs → IsStrictlySortedBy R ys → ((a : X) → Contains xs a → Contains ys a) → ((a : X) → Contains ys a → Contains xs a) → xs ≡ ys
+    pub one_with_members : (xs ys : List X) → IsStrictlySortedBy R xs → IsStrictlySortedBy R ys
+        → ((a : X) → Contains xs a → Contains ys a) → ((a : X) → Contains ys a → Contains xs a) → xs ≡ ys
     unfolding IsStrictlySortedBy
     one_with_members [] [] up_xs up_ys to back = refl
     one_with_members [] (y ∷ ys) up_xs up_ys to back = let none = back y (in_front y ys) in absurd (omega arith)
     one_with_members (x ∷ xs) [] up_xs up_ys to back = let none = to x (in_front x xs) in absurd (omega arith)
-    one_with_members (x ∷ xs) (y ∷ ys) up_xs up_ys to back = λ i. head i ∷ one_with_members xs ys up_xs.1 up_ys.1 (behind x y xs ys head up_xs.0 to) (behind y x ys xs (sym head) up_ys.0 back) i
+    one_with_members (x ∷ xs) (y ∷ ys) up_xs up_ys to back = λ i. head i
+        ∷ one_with_members xs ys up_xs.1 up_ys.1 (behind x y xs ys head up_xs.0 to)
+        (behind y x ys xs (sym head) up_ys.0 back) i
       where
         head : x ≡ y
         head = elim (in_cons y ys x (to x (in_front x xs))) [
@@ -130,7 +139,8 @@ filter_map_swap p f [] = refl
 filter_map_swap p f (x ∷ xs) = grind (arith, filter_map_swap p f xs)
 
 -- a relation of two lists, with one element more in each
-pub pairs_more : {X Y : Type 0} (R : X → Y → Type 0) (xs : List X) (ys : List Y) (x : X) (y : Y) → AllZip R xs ys → R x y → AllZip R (xs ++ x ∷ []) (ys ++ y ∷ [])
+pub pairs_more : {X Y : Type 0} (R : X → Y → Type 0) (xs : List X) (ys : List Y) (x : X) (y : Y) → AllZip R xs ys
+    → R x y → AllZip R (xs ++ x ∷ []) (ys ++ y ∷ [])
 pairs_more R [] [] x y all one = (one, tt)
 pairs_more R [] (_ ∷ _) x y all one = absurd all
 pairs_more R (_ ∷ _) [] x y all one = absurd all

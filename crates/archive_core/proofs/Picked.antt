@@ -25,7 +25,8 @@ use Rattle.archive_core.proofs.Made.{bytes_same, made_part, and_left, and_true}
 -- ---- what begins so
 
 begins : (prefix bytes rest : List ℕ) → bytes ≡ prefix ++ rest → bytes_eq prefix (take (length prefix) bytes) ≡ true
-begins prefix bytes rest e = (bytes_eq-Decides prefix (take (length prefix) bytes)).1 (sym (ap (take (length prefix)) e ∙ take_at prefix rest (length prefix) refl))
+begins prefix bytes rest e = (bytes_eq-Decides prefix (take (length prefix) bytes)).1
+    (sym (ap (take (length prefix)) e ∙ take_at prefix rest (length prefix) refl))
 
 pub admission_under : (prefix rest slice : List ℕ) → key_bytes (key_of slice) ≡ prefix ++ rest → is_under prefix (admission_record slice) ≡ true
 unfolding is_under admission
@@ -33,16 +34,19 @@ admission_under prefix rest slice e =
     let more : List ℕ = to_be_bytes w64 (length slice) ++ slice in
     begins prefix (admission slice) (rest ++ more) (ap (λ (t : List ℕ). t ++ more) e ∙ append_assoc prefix rest more)
 
-pub retirement_under : (prefix rest : List ℕ) (key : SliceKey) (digest : List ℕ) → key_bytes key ≡ prefix ++ rest → is_under prefix (retirement_record key digest) ≡ true
+pub retirement_under : (prefix rest : List ℕ) (key : SliceKey) (digest : List ℕ) → key_bytes key ≡ prefix ++ rest
+    → is_under prefix (retirement_record key digest) ≡ true
 unfolding is_under
-retirement_under prefix rest key digest e = begins prefix (key_bytes key ++ digest) (rest ++ digest) (ap (λ (t : List ℕ). t ++ digest) e ∙ append_assoc prefix rest digest)
+retirement_under prefix rest key digest e = begins prefix (key_bytes key ++ digest) (rest ++ digest)
+    (ap (λ (t : List ℕ). t ++ digest) e ∙ append_assoc prefix rest digest)
 
 -- ---- contents that are alike there
 
 pub alike_back : (prefix : List ℕ) (o p : Operations) → AreAlikeUnder prefix o p → AreAlikeUnder prefix p o
 alike_back prefix o p same = λ r h. sym (same r h)
 
-live_alike : (prefix rest : List ℕ) (o p : Operations) (key : SliceKey) (slice : List ℕ) → key_bytes key ≡ prefix ++ rest → AreAlikeUnder prefix o p → IsLive o key slice → IsLive p key slice
+live_alike : (prefix rest : List ℕ) (o p : Operations) (key : SliceKey) (slice : List ℕ) → key_bytes key ≡ prefix
+    ++ rest → AreAlikeUnder prefix o p → IsLive o key slice → IsLive p key slice
 live_alike prefix rest o p key slice e same live = record {
   admitted = sym (same (admission_record slice) (admission_under prefix rest slice (ap key_bytes live.under ∙ e))) ∙ live.admitted;
   under = live.under;
@@ -55,10 +59,13 @@ module _ (o p : Operations) (key : SliceKey) (same : AreAlikeUnder (key_bytes ke
   answering_alike : (slice : List ℕ) → IsAnswering o key slice → IsAnswering p key slice
   answering_alike slice is = record {
     live = live_alike (key_bytes key) [] o p key slice (sym (append-nil (key_bytes key))) same is.live;
-    companions_first = λ companion live. is.companions_first companion (live_alike (key_bytes key) [] p o key companion (sym (append-nil (key_bytes key))) (alike_back (key_bytes key) o p same) live);
+    companions_first = λ companion live. is.companions_first companion
+        (live_alike (key_bytes key) [] p o key companion (sym (append-nil (key_bytes key)))
+        (alike_back (key_bytes key) o p same) live);
   }
 
-are_alike : (o p : Operations) (key : SliceKey) (slices : List (List ℕ)) → AreAlikeUnder (key_bytes key) o p → AreAnswering o key slices → AreAnswering p key slices
+are_alike : (o p : Operations) (key : SliceKey) (slices : List (List ℕ)) → AreAlikeUnder (key_bytes key) o p
+    → AreAnswering o key slices → AreAnswering p key slices
 are_alike o p key slices same is = record {
   ascending = is.ascending;
   exactly = λ slice. (
@@ -67,7 +74,8 @@ are_alike o p key slices same is = record {
   );
 }
 
-pub answer_alike : (o p : Operations) (key : SliceKey) (asked : Where) (answer : AnswerRecord) → AreAlikeUnder (key_bytes key) o p → IsAnswer o key asked answer → IsAnswer p key asked answer
+pub answer_alike : (o p : Operations) (key : SliceKey) (asked : Where) (answer : AnswerRecord)
+    → AreAlikeUnder (key_bytes key) o p → IsAnswer o key asked answer → IsAnswer p key asked answer
 answer_alike o p key asked answer same is = record { slices = is.slices; answering = are_alike o p key is.slices same is.answering; answer_is = is.answer_is }
 
 pub conflict_alike : (o p : Operations) (key : SliceKey) → AreAlikeUnder (key_bytes key) o p → IsConflict o key → IsConflict p key
@@ -136,7 +144,8 @@ names_alike o p name rows same is = record {
 pub contains_part : (o : Operations) (picks : List ℕ → Bool) (r : List ℕ) → set.contains (part o picks) r ≡ (set.contains o r && picks r)
 contains_part o picks r = contains-retain o picks r (λ x e. ap picks (sym (bytes_same r x e)))
 
-pub part_alike : (o : Operations) (picks : List ℕ → Bool) (prefix : List ℕ) → ((r : List ℕ) → is_under prefix r ≡ true → picks r ≡ true) → AreAlikeUnder prefix (part o picks) o
+pub part_alike : (o : Operations) (picks : List ℕ → Bool) (prefix : List ℕ)
+    → ((r : List ℕ) → is_under prefix r ≡ true → picks r ≡ true) → AreAlikeUnder prefix (part o picks) o
 part_alike o picks prefix all = λ r h. cc (contains_part o picks r, all r h, and_true (set.contains o r))
 
 pub part_content : (o : Operations) (picks : List ℕ → Bool) → IsContent o → IsContent (part o picks)

@@ -1,5 +1,6 @@
 -- Records: how long they are, that none begins another, and that each stands for one operation.
-use Rattle.std.proofs.Common.{◌≡◌, ℕ, ◌+◌, ◌^◌, ◌<◌, List, [], ◌++◌, length, take, drop, refl, sym, ap, ◌∙◌, inl, inr, arith, append_assoc, length-append, w32, w64}
+use Rattle.std.proofs.Common.{◌≡◌, ℕ, ◌+◌, ◌^◌, ◌<◌, List, [], ◌++◌, length, take, drop, refl, sym, ap, ◌∙◌, inl, inr}
+use Rattle.std.proofs.Common.{arith, append_assoc, length-append, w32, w64}
 use Rattle.std.specs.Int.{to_be_bytes, from_be_bytes}
 use Rattle.std.proofs.lemmas.List.{append-nil, take_at, drop_at, nil_from_length}
 use Rattle.std.proofs.lemmas.Nat.{from_be_bytes-to_be_bytes_4, from_be_bytes-to_be_bytes_8}
@@ -28,7 +29,12 @@ length-key_of slice valid = length_key_bytes (key_of slice) (uuid_of-length slic
 pub length-admission_record : (slice : List ℕ) → IsValid slice → length (admission_record slice) ≡ 33 + length slice
 unfolding admission
 length-admission_record slice valid =
-    omega (arith, length-append (key_bytes (key_of slice)) (to_be_bytes w64 (length slice) ++ slice), length-append (to_be_bytes w64 (length slice)) slice, length-key_of slice valid)
+    omega (
+      arith,
+      length-append (key_bytes (key_of slice)) (to_be_bytes w64 (length slice) ++ slice),
+      length-append (to_be_bytes w64 (length slice)) slice,
+      length-key_of slice valid,
+    )
 
 -- a retirement's record has 57 bytes
 pub length-retirement_record : (key : SliceKey) (digest : List ℕ) → IsKey key → length digest ≡ 32 → length (retirement_record key digest) ≡ 57
@@ -39,12 +45,15 @@ length-retirement_record key digest is_key long =
 same_admissions : (a b rest : List ℕ) → IsValid a → IsValid b → admission b ≡ admission a ++ rest → (b ≡ a) × (rest ≡ [])
 unfolding admission
 same_admissions a b rest valid_a valid_b e =
-    let split : key_bytes (key_of b) ++ (to_be_bytes w64 (length b) ++ b) ≡ key_bytes (key_of a) ++ (to_be_bytes w64 (length a) ++ (a ++ rest)) = e ∙ append_assoc (key_bytes (key_of a)) _ rest ∙ ap (λ s. key_bytes (key_of a) ++ s) (append_assoc (to_be_bytes w64 (length a)) a rest) in
+    let split : key_bytes (key_of b) ++ (to_be_bytes w64 (length b) ++ b) ≡ key_bytes (key_of a)
+    ++ (to_be_bytes w64 (length a) ++ (a ++ rest)) = e ∙ append_assoc (key_bytes (key_of a)) _ rest
+    ∙ ap (λ s. key_bytes (key_of a) ++ s) (append_assoc (to_be_bytes w64 (length a)) a rest) in
     let behind_key = (same_parts _ _ _ _ (length-key_of b valid_b ∙ sym (length-key_of a valid_a)) split).1 in
     let parts = same_parts (to_be_bytes w64 (length b)) (to_be_bytes w64 (length a)) b (a ++ rest) refl behind_key in
     let short_a : length a < 2 ^ 32 = length-image a valid_a.image in
     let short_b : length b < 2 ^ 32 = length-image b valid_b.image in
-    let long : length b ≡ length a = sym (from_be_bytes-to_be_bytes_8 (length b) (omega arith)) ∙ ap (from_be_bytes w64) parts.0 ∙ from_be_bytes-to_be_bytes_8 (length a) (omega arith) in
+    let long : length b ≡ length a = sym (from_be_bytes-to_be_bytes_8 (length b) (omega arith))
+    ∙ ap (from_be_bytes w64) parts.0 ∙ from_be_bytes-to_be_bytes_8 (length a) (omega arith) in
     let none : rest ≡ [] = nil_from_length rest (omega (arith, long, ap length parts.1, length-append a rest)) in
     (parts.1 ∙ ap (λ s. a ++ s) none ∙ append-nil a, none)
 
@@ -54,16 +63,28 @@ no_record_begins r s rest (inl a) (inl b) e = (same_admissions a.slice b.slice r
 no_record_begins r s rest (inl a) (inr b) e = cc (a.is, b.is)
 no_record_begins r s rest (inr a) (inl b) e = cc (a.is, b.is)
 no_record_begins r s rest (inr a) (inr b) e =
-    nil_from_length rest (omega (arith, length-retirement_record a.key a.digest a.is_key a.long, length-retirement_record b.key b.digest b.is_key b.long, ap length a.is, ap length b.is, ap length e, length-append r rest))
+    nil_from_length rest (omega (
+      arith,
+      length-retirement_record a.key a.digest a.is_key a.long,
+      length-retirement_record b.key b.digest b.is_key b.long,
+      ap length a.is,
+      ap length b.is,
+      ap length e,
+      length-append r rest,
+    ))
 
 -- keys with the same bytes are the same
 pub one_key : (k l : SliceKey) → IsKey k → IsKey l → key_bytes k ≡ key_bytes l → k ≡ l
 unfolding key_bytes
 one_key k l is_k is_l e =
     let uuid = same_parts k.uuid l.uuid _ _ (is_k.uuid ∙ sym is_l.uuid) e in
-    let arch = same_parts (to_be_bytes w32 k.arch.cputype) (to_be_bytes w32 l.arch.cputype) (to_be_bytes w32 k.arch.cpusubtype) (to_be_bytes w32 l.arch.cpusubtype) refl uuid.1 in
-    let cputype : k.arch.cputype ≡ l.arch.cputype = sym (from_be_bytes-to_be_bytes_4 k.arch.cputype is_k.cputype) ∙ ap (from_be_bytes w32) arch.0 ∙ from_be_bytes-to_be_bytes_4 l.arch.cputype is_l.cputype in
-    let cpusubtype : k.arch.cpusubtype ≡ l.arch.cpusubtype = sym (from_be_bytes-to_be_bytes_4 k.arch.cpusubtype is_k.cpusubtype) ∙ ap (from_be_bytes w32) arch.1 ∙ from_be_bytes-to_be_bytes_4 l.arch.cpusubtype is_l.cpusubtype in
+    let arch = same_parts (to_be_bytes w32 k.arch.cputype) (to_be_bytes w32 l.arch.cputype)
+    (to_be_bytes w32 k.arch.cpusubtype) (to_be_bytes w32 l.arch.cpusubtype) refl uuid.1 in
+    let cputype : k.arch.cputype ≡ l.arch.cputype = sym (from_be_bytes-to_be_bytes_4 k.arch.cputype is_k.cputype)
+    ∙ ap (from_be_bytes w32) arch.0 ∙ from_be_bytes-to_be_bytes_4 l.arch.cputype is_l.cputype in
+    let cpusubtype : k.arch.cpusubtype ≡ l.arch.cpusubtype =
+    sym (from_be_bytes-to_be_bytes_4 k.arch.cpusubtype is_k.cpusubtype) ∙ ap (from_be_bytes w32) arch.1
+    ∙ from_be_bytes-to_be_bytes_4 l.arch.cpusubtype is_l.cpusubtype in
     λ i. record { uuid = uuid.0 i; arch = record { cputype = cputype i; cpusubtype = cpusubtype i } }
 
 -- different operations have different records

@@ -1,5 +1,7 @@
 -- What searches among retirements find, and what is there with one more.
-use Rattle.std.proofs.Common.{◌≡◌, ℕ, zero, suc, ◌+◌, ◌==◌, Bool, true, false, ◌||◌, cond, List, [], ◌∷◌, ◌++◌, length, length-drop, get_or, take, drop, Result, Ok, Err, refl, sym, ap, ◌∙◌, arith, inl, inr, ◌⊎◌}
+use Rattle.std.proofs.Common.{◌≡◌, ℕ, zero, suc, ◌+◌, ◌==◌, Bool, true, false, ◌||◌, cond, List, [], ◌∷◌, ◌++◌, length}
+use Rattle.std.proofs.Common.{length-drop, get_or, take, drop, Result, Ok, Err, refl, sym, ap, ◌∙◌, arith, inl, inr}
+use Rattle.std.proofs.Common.{◌⊎◌}
 use Rattle.std.proofs.lemmas.Bool.{false≢true, cases_lt}
 use Rattle.std.proofs.lemmas.Bool.Decides.{nat_tests}
 use Rattle.std.proofs.lemmas.Cmp.{eq_by_cmp_equiv}
@@ -50,13 +52,16 @@ prefixes_sorted : (n : ℕ) (xs : List (List ℕ)) → IsStrictlySortedBy order 
 prefixes_sorted n xs h i d _ lt = begins_below n _ _ (Less-from_sorted order xs i (i + 1) d h (omega arith) lt)
 
 -- a search by how they begin finds one where one is there
-pub prefix_there : (xs : List (List ℕ)) (prefix : List ℕ) (r : Result ℕ ℕ) → IsStrictlySortedBy order xs → IsSearchInRange r (length xs) → IsBinarySearchResult (λ x. order (take 25 x) prefix) xs r
+pub prefix_there : (xs : List (List ℕ)) (prefix : List ℕ) (r : Result ℕ ℕ) → IsStrictlySortedBy order xs
+    → IsSearchInRange r (length xs) → IsBinarySearchResult (λ x. order (take 25 x) prefix) xs r
     → (c : List ℕ) → take 25 c ≡ prefix → contains (set_of xs) c ≡ true → is_ok r ≡ true
 prefix_there xs prefix (Ok i) up lt at c e h = refl
 prefix_there xs prefix (Err i) up le parted c e h =
     let found = (in_made nat_list_cmp_total bytes_same xs c).1 h in
     let parts = parted (searchable_from_sorted nat_list_cmp_total (take 25) xs prefix (prefixes_sorted 25 xs up)) in
-    let tied : order (take 25 (get_or xs found.0 c)) prefix ≡ Equal = ap (λ (t : List ℕ). order (take 25 t) prefix) found.2 ∙ ap (λ (t : List ℕ). order t prefix) e ∙ tied_itself nat_list_cmp_total prefix in
+    let tied : order (take 25 (get_or xs found.0 c)) prefix
+    ≡ Equal = ap (λ (t : List ℕ). order (take 25 t) prefix) found.2 ∙ ap (λ (t : List ℕ). order t prefix) e
+    ∙ tied_itself nat_list_cmp_total prefix in
     elim (cases_lt found.0 i) [
       | inl lt ↦ cc (parts.0 found.0 c (omega arith) lt)
       | inr ge ↦ cc (parts.1 found.0 c ge found.1)
@@ -67,7 +72,8 @@ begins_at_most : (n : ℕ) (x y : List ℕ) → is_gt (order x y) ≡ false → 
 begins_at_most n x y h = grind (arith, begins_below n x y, bytes_same x y, tied_itself nat_list_cmp_total (take n y))
 
 -- what lies between two that begin alike begins so
-pub begins_between : (n : ℕ) (low x high prefix : List ℕ) → take n low ≡ prefix → take n high ≡ prefix → is_gt (order low x) ≡ false → is_gt (order x high) ≡ false → is_eq (order (take n x) prefix) ≡ true
+pub begins_between : (n : ℕ) (low x high prefix : List ℕ) → take n low ≡ prefix → take n high ≡ prefix
+    → is_gt (order low x) ≡ false → is_gt (order x high) ≡ false → is_eq (order (take n x) prefix) ≡ true
 begins_between n low x high prefix l h above below = between (order (take n x) prefix) (order prefix (take n x)) (nat_list_cmp_total.antisymm prefix (take n x))
     (ap (λ (t : List ℕ). is_lt (order (take n x) t)) (sym l) ∙ begins_at_most n low x above)
     (ap (λ (t : List ℕ). is_lt (order t (take n x))) (sym h) ∙ begins_at_most n x high below)
@@ -92,10 +98,12 @@ same_prefix [] x y = refl
 same_prefix (a ∷ ass) x y = rw (tied_itself nat_cmp_total a) (same_prefix ass x y)
 
 -- a prefix with zeros after it is at most what begins so
-pub least_begins : (prefix zeros r : List ℕ) → length prefix ≡ 25 → length zeros ≡ 32 → list_all (λ n. n == 0) zeros ≡ true → take 25 r ≡ prefix → length r ≡ 57 → is_gt (order (prefix ++ zeros) r) ≡ false
+pub least_begins : (prefix zeros r : List ℕ) → length prefix ≡ 25 → length zeros ≡ 32 → list_all (λ n. n == 0) zeros
+    ≡ true → take 25 r ≡ prefix → length r ≡ 57 → is_gt (order (prefix ++ zeros) r) ≡ false
 least_begins prefix zeros r f z each begins long =
     let whole : prefix ++ drop 25 r ≡ r = ap (λ (t : List ℕ). t ++ drop 25 r) (sym begins) ∙ take-append-drop 25 r in
-    ap (λ (t : List ℕ). is_gt (order (prefix ++ zeros) t)) (sym whole) ∙ ap is_gt (same_prefix prefix zeros (drop 25 r)) ∙ zeros_least zeros (drop 25 r) (omega (arith, z, length-drop 25 r, long)) each
+    ap (λ (t : List ℕ). is_gt (order (prefix ++ zeros) t)) (sym whole) ∙ ap is_gt (same_prefix prefix zeros (drop 25 r))
+    ∙ zeros_least zeros (drop 25 r) (omega (arith, z, length-drop 25 r, long)) each
 
 -- ---- what is there
 
@@ -132,13 +140,25 @@ held_by ks k = sym (contains-from_list nat_list_cmp_total ks k)
 pub first_more : (xs ys zs : List (List ℕ)) (x : List ℕ) → set_of zs ≡ set.insert (set_of xs) x → set_of (zs ++ ys) ≡ set.insert (set_of (xs ++ ys)) x
 first_more xs ys zs x more = same_set nat_list_cmp_total bytes_same _ _ (λ q.
     let grown : contains (set_of zs) q ≡ contains (set.insert (set_of xs) x) q = ap (λ s. contains s q) more in
-    grind (arith, in_both zs ys q, in_both xs ys q, contains-insert nat_list_cmp_total (set_of xs) x q, contains-insert nat_list_cmp_total (set_of (xs ++ ys)) x q))
+    grind (
+      arith,
+      in_both zs ys q,
+      in_both xs ys q,
+      contains-insert nat_list_cmp_total (set_of xs) x q,
+      contains-insert nat_list_cmp_total (set_of (xs ++ ys)) x q,
+    ))
 
 -- so is one more in the second
 pub second_more : (xs ys zs : List (List ℕ)) (x : List ℕ) → set_of zs ≡ set.insert (set_of ys) x → set_of (xs ++ zs) ≡ set.insert (set_of (xs ++ ys)) x
 second_more xs ys zs x more = same_set nat_list_cmp_total bytes_same _ _ (λ q.
     let grown : contains (set_of zs) q ≡ contains (set.insert (set_of ys) x) q = ap (λ s. contains s q) more in
-    grind (arith, in_both xs zs q, in_both xs ys q, contains-insert nat_list_cmp_total (set_of ys) x q, contains-insert nat_list_cmp_total (set_of (xs ++ ys)) x q))
+    grind (
+      arith,
+      in_both xs zs q,
+      in_both xs ys q,
+      contains-insert nat_list_cmp_total (set_of ys) x q,
+      contains-insert nat_list_cmp_total (set_of (xs ++ ys)) x q,
+    ))
 
 -- ---- one less
 
@@ -157,16 +177,28 @@ sorted_without old new r (inl same) up = rw same up
 sorted_without old new r (inr more) up = sorted_front new r (rw more at up)
 
 -- with the record itself all are there that were
-pub others_stay : (old new ys : List (List ℕ)) (r : List ℕ) → (new ≡ old) ⊎ (old ≡ new ++ r ∷ []) → set.insert (set_of (new ++ ys)) r ≡ set.insert (set_of (old ++ ys)) r
+pub others_stay : (old new ys : List (List ℕ)) (r : List ℕ) → (new ≡ old) ⊎ (old ≡ new ++ r ∷ [])
+    → set.insert (set_of (new ++ ys)) r ≡ set.insert (set_of (old ++ ys)) r
 others_stay old new ys r (inl same) = ap (λ (t : List (List ℕ)). set.insert (set_of (t ++ ys)) r) same
 others_stay old new ys r (inr more) =
-    let one : set_of (old ++ ys) ≡ set.insert (set_of (new ++ ys)) r = first_more new ys old r (ap set_of more ∙ from_list_push nat_list_cmp_total bytes_same new r) in
-    let there : contains (set_of (old ++ ys)) r ≡ true = ap (λ s. contains s r) one ∙ contains-insert nat_list_cmp_total (set_of (new ++ ys)) r r ∙ or_left _ (contains (set_of (new ++ ys)) r) (ap is_eq (tied_itself nat_list_cmp_total r)) in
+    let one : set_of (old ++ ys) ≡ set.insert (set_of (new ++ ys)) r =
+    first_more new ys old r (ap set_of more ∙ from_list_push nat_list_cmp_total bytes_same new r) in
+    let there : contains (set_of (old ++ ys)) r ≡ true = ap (λ s. contains s r) one
+    ∙ contains-insert nat_list_cmp_total (set_of (new ++ ys)) r r
+    ∙ or_left _ (contains (set_of (new ++ ys)) r) (ap is_eq (tied_itself nat_list_cmp_total r)) in
     sym one ∙ sym (insert_present nat_list_cmp_total bytes_same (set_of (old ++ ys)) r there)
 
 -- a set of std with one key more has that and those that it had
 pub inserted : (old new : List (List ℕ)) (k : List ℕ)
-    → ((q : List ℕ) → list_any (λ x. eq_by_cmp order q x) new ≡ cond (eq_by_cmp order k q) true (list_any (λ x. eq_by_cmp order q x) old)) → set_of new ≡ set.insert (set_of old) k
+    → ((q : List ℕ) → list_any (λ x. eq_by_cmp order q x) new
+    ≡ cond (eq_by_cmp order k q) true (list_any (λ x. eq_by_cmp order q x) old)) → set_of new
+    ≡ set.insert (set_of old) k
 inserted old new k each = same_set nat_list_cmp_total bytes_same _ _ (λ q.
     let turned : eq_by_cmp order k q ≡ eq_by_cmp order q k = (eq_by_cmp_equiv nat_list_cmp_total).symm k q in
-    grind (arith, contains-from_list nat_list_cmp_total new q, each q, contains-from_list nat_list_cmp_total old q, contains-insert nat_list_cmp_total (set_of old) k q))
+    grind (
+      arith,
+      contains-from_list nat_list_cmp_total new q,
+      each q,
+      contains-from_list nat_list_cmp_total old q,
+      contains-insert nat_list_cmp_total (set_of old) k q,
+    ))

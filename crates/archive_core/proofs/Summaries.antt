@@ -10,7 +10,8 @@ use Rattle.archive_core.specs.Record.{IsRecord}
 use Rattle.archive_core.specs.Content.{Operations, is_admission, key_and_digest, covering, is_covered, IsMade, IsContent, IsBelow, joined}
 use Rattle.archive_core.specs.Summary.{Entries, entry, summary, is_known, delta, DigestsTell}
 use Rattle.archive_core.proofs.Members.{in_listing, in_made, in_map, to_map}
-use Rattle.archive_core.proofs.Made.{bytes_same, by_test, and_left, below_subset, below_made_known, below_left, below_right, below_transitive, joined_below, made_part}
+use Rattle.archive_core.proofs.Made.{bytes_same, by_test, and_left, below_subset, below_made_known, below_left}
+use Rattle.archive_core.proofs.Made.{below_right, below_transitive, joined_below, made_part}
 use Rattle.archive_core.proofs.Entries.{entry_tells, retirement_entry}
 
 -- an entry of the summary is that of a member
@@ -24,7 +25,8 @@ member_of_entry o e h =
 pub entry_of_member : (o : Operations) (r : List ℕ) → set.contains o r ≡ true → set.contains (summary o) (entry r) ≡ true
 unfolding summary
 entry_of_member o r h =
-    (in_made nat_list_cmp_total bytes_same (map entry (listing o)) (entry r)).0 (to_map entry (listing o) r ((in_listing nat_list_cmp_total bytes_same o r).1 h))
+    (in_made nat_list_cmp_total bytes_same (map entry (listing o)) (entry r)).0
+    (to_map entry (listing o) r ((in_listing nat_list_cmp_total bytes_same o r).1 h))
 
 -- a summary has the entries of the members, and no other
 pub summary_is : (o : Operations) (e : List ℕ) → (set.contains (summary o) e ≡ true) ↔ ((r : List ℕ) × (set.contains o r ≡ true) × (entry r ≡ e))
@@ -58,10 +60,12 @@ delta_content o s a = record { itself = delta_made o s a.itself; records = λ r 
 pub told_by_digests : (o p : Operations) (r s : List ℕ) → IsContent o → IsContent p → DigestsTell o p
     → set.contains o r ≡ true → set.contains p s ≡ true → entry r ≡ entry s → r ≡ s
 told_by_digests o p r s a b tells in_o in_p e =
-    entry_tells r s (a.records r in_o) (b.records s in_p) e (λ x y is_x is_y. tells x y (sym (ap (set.contains o) is_x) ∙ in_o) (sym (ap (set.contains p) is_y) ∙ in_p))
+    entry_tells r s (a.records r in_o) (b.records s in_p) e
+    (λ x y is_x is_y. tells x y (sym (ap (set.contains o) is_x) ∙ in_o) (sym (ap (set.contains p) is_y) ∙ in_p))
 
 -- an operation whose entry another content's summary has is in that content
-pub named_there : (o p : Operations) (r : List ℕ) → IsContent o → IsContent p → DigestsTell o p → set.contains o r ≡ true → set.contains (summary p) (entry r) ≡ true → set.contains p r ≡ true
+pub named_there : (o p : Operations) (r : List ℕ) → IsContent o → IsContent p → DigestsTell o p → set.contains o r
+    ≡ true → set.contains (summary p) (entry r) ≡ true → set.contains p r ≡ true
 named_there o p r a b tells in_o named =
     let found : (q : List ℕ) × (set.contains p q ≡ true) × (entry q ≡ entry r) = member_of_entry p (entry r) named in
     ap (set.contains p) (told_by_digests o p r found.0 a b tells in_o found.1 (sym found.2)) ∙ found.1
@@ -75,24 +79,28 @@ entry_of_retirement : (r : List ℕ) → IsRecord r → is_admission r ≡ false
 entry_of_retirement r (inl admits) n = cc (ap is_admission admits.is)
 entry_of_retirement r (inr retires) n = cc (retires.is, retirement_entry retires.key retires.digest)
 
-known_there : (o p : Operations) (r : List ℕ) → IsContent o → IsContent p → DigestsTell o p → set.contains o r ≡ true → is_known p (entry r) ≡ true → (set.contains p r || is_covered p r) ≡ true
+known_there : (o p : Operations) (r : List ℕ) → IsContent o → IsContent p → DigestsTell o p → set.contains o r ≡ true
+    → is_known p (entry r) ≡ true → (set.contains p r || is_covered p r) ≡ true
 known_there o p r a b tells in_o known =
     grind (arith, named_there o p r a b tells in_o, entry_of_covered r, entry_of_retirement r (a.records r in_o))
 
 -- what is in a content or covered there is so in a greater one
-known_more : (p q : Operations) (r : List ℕ) → (set.contains p r || is_covered p r) ≡ true → (set.contains (set.union p q) r || is_covered (set.union p q) r) ≡ true
+known_more : (p q : Operations) (r : List ℕ) → (set.contains p r || is_covered p r) ≡ true
+    → (set.contains (set.union p q) r || is_covered (set.union p q) r) ≡ true
 known_more p q r known =
     grind (arith, contains-union nat_list_cmp_total p q r, contains-union nat_list_cmp_total p q (covering r))
 
 -- an operation is known, or in the delta
-known_or_in_delta : (o p : Operations) (s : Entries) → IsContent o → IsContent p → DigestsTell o p → ((e : List ℕ) → set.contains s e ≡ true → is_known p e ≡ true)
+known_or_in_delta : (o p : Operations) (s : Entries) → IsContent o → IsContent p → DigestsTell o p
+    → ((e : List ℕ) → set.contains s e ≡ true → is_known p e ≡ true)
     → (r : List ℕ) → set.contains o r ≡ true → (set.contains (set.union p (delta o s)) r || is_covered (set.union p (delta o s)) r) ≡ true
 known_or_in_delta o p s a b tells has r in_o = by_test _ (set.contains s (entry r))
     (λ named. known_more p (delta o s) r (known_there o p r a b tells in_o (has (entry r) named)))
     (λ missing. grind (arith, contains_delta o s r, contains-union nat_list_cmp_total p (delta o s) r))
 
 -- a content to which each entry of a summary is known, joined with the delta against that summary, is above what the delta was made of
-pub brought_above : (o p : Operations) (s : Entries) → IsContent o → IsContent p → DigestsTell o p → ((e : List ℕ) → set.contains s e ≡ true → is_known p e ≡ true) → IsBelow o (joined p (delta o s))
+pub brought_above : (o p : Operations) (s : Entries) → IsContent o → IsContent p → DigestsTell o p
+    → ((e : List ℕ) → set.contains s e ≡ true → is_known p e ≡ true) → IsBelow o (joined p (delta o s))
 brought_above o p s a b tells has = below_made_known o (set.union p (delta o s)) (known_or_in_delta o p s a b tells has)
 
 -- and no more than that and it hold together

@@ -1,5 +1,6 @@
 -- What operations give that are taken one after another, and what a retirement keeps out.
-use Rattle.std.proofs.Common.{◌≡◌, ◌↔◌, ℕ, suc, ◌+◌, ◌≤◌, if◌then◌else◌, List, [], ◌∷◌, true, false, ◌||◌, ◌&&◌, length, map, refl, sym, ap, ◌∙◌, inl, inr, subst, arith}
+use Rattle.std.proofs.Common.{◌≡◌, ◌↔◌, ℕ, suc, ◌+◌, ◌≤◌, if◌then◌else◌, List, [], ◌∷◌, true, false, ◌||◌, ◌&&◌, length}
+use Rattle.std.proofs.Common.{map, refl, sym, ap, ◌∙◌, inl, inr, subst, arith}
 use Rattle.std.specs.Prelude.{not, fold, Contains}
 use Rattle.std.proofs.lemmas.Bool.{true≢false, cases_Bool, or_parts}
 use Rattle.std.specs.Ordering.{nat_cmp, eq_by_cmp}
@@ -12,10 +13,14 @@ use Rattle.std.proofs.Math.ListN.{length-map}
 use Rattle.join_core.proofs.Members.{from_list_same, inserts_are_union}
 use Rattle.join_core.proofs.Place.{insert_present}
 use Rattle.archive_core.specs.Record.{record_bytes, retirement_record}
-use Rattle.archive_core.specs.Content.{Operations, is_admission, covering, is_covered, content_of, IsMade, IsContent, IsBelow, with_record, with_records, changes, new_among, joined, HaveSameMembers, IsLive, IsTakenInPart}
+use Rattle.archive_core.specs.Content.{Operations, is_admission, covering, is_covered, content_of, IsMade, IsContent}
+use Rattle.archive_core.specs.Content.{IsBelow, with_record, with_records, changes, new_among, joined, HaveSameMembers}
+use Rattle.archive_core.specs.Content.{IsLive, IsTakenInPart}
 use Rattle.archive_core.specs.declared.operations.Operation.{Operation}
 use Rattle.archive_core.specs.declared.keys.SliceKey.{SliceKey}
-use Rattle.archive_core.proofs.Made.{bytes_same, made_of_uncovered, uncovered_of_made, either, or_right, by_test, contains_made, IsAlike, made_alike, made_is_alike, alike_insert, joined_made_right, made_again, below_reflexive, below_transitive, below_made}
+use Rattle.archive_core.proofs.Made.{bytes_same, made_of_uncovered, uncovered_of_made, either, or_right, by_test}
+use Rattle.archive_core.proofs.Made.{contains_made, IsAlike, made_alike, made_is_alike, alike_insert, joined_made_right}
+use Rattle.archive_core.proofs.Made.{made_again, below_reflexive, below_transitive, below_made}
 
 -- an operation that is there, or covered there, changes nothing, and another one changes the content
 pub known_changes : (o : Operations) (r : List ℕ) → (set.contains o r || is_covered o r) ≡ true → changes o r ≡ false
@@ -80,7 +85,9 @@ taken_are_joined o rs is =
 
 -- and neither their order nor repeats count
 pub taken_in_any_order : (o : Operations) (rs ss : List (List ℕ)) → IsMade o → HaveSameMembers rs ss → with_records o rs ≡ with_records o ss
-taken_in_any_order o rs ss is same = taken_are_joined o rs is ∙ ap (λ s. joined o (content_of s)) (from_list_same nat_list_cmp_total bytes_same rs ss same) ∙ sym (taken_are_joined o ss is)
+taken_in_any_order o rs ss is same = taken_are_joined o rs is
+    ∙ ap (λ s. joined o (content_of s)) (from_list_same nat_list_cmp_total bytes_same rs ss same)
+    ∙ sym (taken_are_joined o ss is)
 
 -- what is taken is a content
 pub made_taken : (o : Operations) (rs : List (List ℕ)) → IsMade o → IsMade (with_records o rs)
@@ -104,13 +111,16 @@ pub record IsUnderWay (old now : Operations) (all left : List Operation) : Type 
 pub at_first : (o : Operations) (all left : List Operation) → left ≡ all → IsUnderWay o o all left
 at_first o all left is = rw is (record { above_old = below_reflexive o; content = refl })
 
-pub one_taken : (old now next : Operations) (all left rest : List Operation) (operation : Operation) → IsUnderWay old now all left → left ≡ operation ∷ rest → next ≡ with_record now (record_bytes operation) → IsUnderWay old next all rest
+pub one_taken : (old now next : Operations) (all left rest : List Operation) (operation : Operation)
+    → IsUnderWay old now all left → left ≡ operation ∷ rest → next ≡ with_record now (record_bytes operation)
+    → IsUnderWay old next all rest
 one_taken old now next all left rest operation way is next_is = rw next_is (record {
   above_old = below_transitive old now (with_record now (record_bytes operation)) way.above_old (below_with now (record_bytes operation));
   content = ap (λ (l : List Operation). with_records now (map record_bytes l)) (sym is) ∙ way.content;
 })
 
-pub taken_in_part : (old now new : Operations) (all left : List Operation) → IsContent now → IsUnderWay old now all left → new ≡ now → IsTakenInPart old (map record_bytes all) new
+pub taken_in_part : (old now new : Operations) (all left : List Operation) → IsContent now → IsUnderWay old now all left
+    → new ≡ now → IsTakenInPart old (map record_bytes all) new
 taken_in_part old now new all left is way same = rw same (record {
   content = is;
   above_old = way.above_old;
@@ -118,7 +128,8 @@ taken_in_part old now new all left is way same = rw same (record {
 })
 
 -- above a content that retires a slice, none has it live
-pub never_live_again : (o p : Operations) (key : SliceKey) (slice : List ℕ) → set.contains o (retirement_record key (sha256 slice)) ≡ true → IsBelow o p → IsLive p key slice → ⊥
+pub never_live_again : (o p : Operations) (key : SliceKey) (slice : List ℕ)
+    → set.contains o (retirement_record key (sha256 slice)) ≡ true → IsBelow o p → IsLive p key slice → ⊥
 never_live_again o p key slice retired below live = true≢false (sym (below.retirements (retirement_record key (sha256 slice)) refl retired) ∙ live.kept)
 
 -- of records no more are new than there are
@@ -140,29 +151,47 @@ pub record IsCounted (old now : Operations) (all left : List Operation) (new : �
   pub way : IsUnderWay old now all left
   pub counted : new + new_among now (map record_bytes left) ≡ new_among old (map record_bytes all)
 
-pub one_counted : (old now next : Operations) (all left rest : List Operation) (operation : Operation) (new more : ℕ) → IsCounted old now all left new → left ≡ operation ∷ rest → next ≡ with_record now (record_bytes operation)
+pub one_counted : (old now next : Operations) (all left rest : List Operation) (operation : Operation) (new more : ℕ)
+    → IsCounted old now all left new → left ≡ operation ∷ rest → next ≡ with_record now (record_bytes operation)
     → more ≡ new + (if changes now (record_bytes operation) then 1 else 0) → IsCounted old next all rest more
 one_counted old now next all left rest operation new more at is next_is more_is = record {
   way = one_taken old now next all left rest operation at.way is next_is;
-  counted = rw next_is (omega (arith, more_is, at.counted, ap (λ (l : List Operation). new_among now (map record_bytes l)) is, new_in_turn now (record_bytes operation) (map record_bytes rest)));
+  counted = rw next_is (omega (
+    arith,
+    more_is,
+    at.counted,
+    ap (λ (l : List Operation). new_among now (map record_bytes l)) is,
+    new_in_turn now (record_bytes operation) (map record_bytes rest),
+  ));
 }
 
-pub all_counted : (old now : Operations) (all left : List Operation) (new : ℕ) → IsCounted old now all left new → length left ≡ 0 → new ≡ new_among old (map record_bytes all)
+pub all_counted : (old now : Operations) (all left : List Operation) (new : ℕ) → IsCounted old now all left new
+    → length left ≡ 0 → new ≡ new_among old (map record_bytes all)
 all_counted old now all [] new at none = omega (arith, at.counted, new_of_none now)
 all_counted old now all (x ∷ xs) new at none = absurd (omega arith)
 
 -- no more than there were operations
-pub counted_below : (old now : Operations) (all left rest : List Operation) (operation : Operation) (new : ℕ) → IsCounted old now all left new → left ≡ operation ∷ rest
+pub counted_below : (old now : Operations) (all left rest : List Operation) (operation : Operation) (new : ℕ)
+    → IsCounted old now all left new → left ≡ operation ∷ rest
     → new + (if changes now (record_bytes operation) then 1 else 0) ≤ length all
 counted_below old now all left rest operation new at is =
     let most = new_within old (map record_bytes all) in
-    omega (arith, most, length-map all record_bytes, at.counted, ap (λ (l : List Operation). new_among now (map record_bytes l)) is, new_in_turn now (record_bytes operation) (map record_bytes rest))
+    omega (
+      arith,
+      most,
+      length-map all record_bytes,
+      at.counted,
+      ap (λ (l : List Operation). new_among now (map record_bytes l)) is,
+      new_in_turn now (record_bytes operation) (map record_bytes rest),
+    )
 
 -- ---- admissions drop none
 
 -- an admission covers nothing
 covers_no_more : (o : Operations) (r q : List ℕ) → is_admission r ≡ true → is_covered (set.insert o r) q ≡ is_covered o q
-covers_no_more o r q a = ap (λ b. is_admission q && b) (contains-insert nat_list_cmp_total o r (covering q) ∙ ap (λ b. b || set.contains o (covering q)) (apart (covering q) r refl a))
+covers_no_more o r q a = ap (λ b. is_admission q && b)
+    (contains-insert nat_list_cmp_total o r (covering q)
+    ∙ ap (λ b. b || set.contains o (covering q)) (apart (covering q) r refl a))
 
 -- so with one that is not covered a content makes itself
 pub made_with_admission : (o : Operations) (r : List ℕ) → IsMade o → is_admission r ≡ true → is_covered o r ≡ false → IsMade (set.insert o r)
@@ -179,7 +208,8 @@ len_with o r content_of a = elim (cases_Bool (set.contains o r || is_covered o r
       ∙ rw (parts.0, new_changes o r parts.0 parts.1) (omega arith)
 ]
 
-pub grown : (o : Operations) (rs : List (List ℕ)) → IsMade o → ((r : List ℕ) → Contains rs r → is_admission r ≡ true) → set.len (with_records o rs) ≡ set.len o + new_among o rs
+pub grown : (o : Operations) (rs : List (List ℕ)) → IsMade o → ((r : List ℕ) → Contains rs r → is_admission r ≡ true)
+    → set.len (with_records o rs) ≡ set.len o + new_among o rs
 grown o [] content_of all = omega (arith, new_of_none o)
 grown o (r ∷ rs) content_of all =
     let one = len_with o r content_of (all r (0, omega arith, refl)) in

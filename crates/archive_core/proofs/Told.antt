@@ -26,7 +26,9 @@ use Rattle.archive_core.proofs.Members.{in_made, in_filter, to_filter, in_map, t
 
 -- the order of rows is a total order
 pub find_total : IsTotalOrder find_cmp
-find_total = then_total (on_total (λ operation. (key_in operation).arch) (then_total (on_total (λ arch. arch.cputype) nat_cmp_total) (on_total (λ arch. arch.cpusubtype) nat_cmp_total))) (on_texts record_bytes)
+find_total = then_total (on_total (λ operation. (key_in operation).arch)
+    (then_total (on_total (λ arch. arch.cputype) nat_cmp_total) (on_total (λ arch. arch.cpusubtype) nat_cmp_total)))
+    (on_texts record_bytes)
 
 -- what the second order tells apart is not tied
 pub untied : (r s : Ordering) → is_eq s ≡ false → is_eq (ordering_then r s) ≡ false
@@ -37,11 +39,14 @@ pub untied_records : (a b : Operation) → eq_by_cmp (on record_bytes (slice_cmp
 untied_records a b = untied (arch_cmp (key_in a).arch (key_in b).arch) (slice_cmp nat_cmp (record_bytes a) (record_bytes b))
 
 -- an operation among others has its record among theirs
-pub record_there : (operations : List Operation) (a : Operation) → Contains operations a → contains (from_list {R = slice_cmp nat_cmp} (map record_bytes operations)) (record_bytes a) ≡ true
+pub record_there : (operations : List Operation) (a : Operation) → Contains operations a
+    → contains (from_list {R = slice_cmp nat_cmp} (map record_bytes operations)) (record_bytes a) ≡ true
 record_there operations a h = (in_made nat_list_cmp_total bytes_same (map record_bytes operations) (record_bytes a)).0 (to_map record_bytes operations a h)
 
 -- and where its record is among theirs, it is one of them
-pub operation_there : (operations : List Operation) (a : Operation) → AllByRecursion IsOperation operations → IsOperation a → contains (from_list {R = slice_cmp nat_cmp} (map record_bytes operations)) (record_bytes a) ≡ true → Contains operations a
+pub operation_there : (operations : List Operation) (a : Operation) → AllByRecursion IsOperation operations
+    → IsOperation a → contains (from_list {R = slice_cmp nat_cmp} (map record_bytes operations)) (record_bytes a) ≡ true
+    → Contains operations a
 operation_there operations a known is_a h =
     let found = in_map record_bytes operations (record_bytes a) ((in_made nat_list_cmp_total bytes_same (map record_bytes operations) (record_bytes a)).1 h) in
     let is_one = All-contains IsOperation operations found.0 (All-from_recursion IsOperation operations known) found.1 in
@@ -53,20 +58,30 @@ pub record AreTold (R : Operation → Operation → Ordering) (P : Operation →
   pub exactly : (a : Operation) → Contains told a ↔ (IsOperation a × P a)
 
 -- those of a content that pass a test, sorted, are told where the test decides the fact
-module _ (o : Operations) (R : Operation → Operation → Ordering) (total : IsTotalOrder R) (apart : (a b : Operation) → eq_by_cmp (on record_bytes (slice_cmp nat_cmp)) a b ≡ false → eq_by_cmp R a b ≡ false)
-    (test : Operation → Bool) (P : Operation → Type 0) (by_test : (a : Operation) → IsOperation a → contains o (record_bytes a) ≡ true → test a ≡ true → P a) (of_fact : (a : Operation) → P a → (contains o (record_bytes a) ≡ true) × (test a ≡ true)) where
-  pub told_sorted : (operations told : List Operation) → IsHeld operations → from_list (map record_bytes operations) ≡ o → IsPermutation (filter test operations) told → IsSorted R told → AreTold R P told
+module _ (o : Operations) (R : Operation → Operation → Ordering) (total : IsTotalOrder R)
+    (apart : (a b : Operation) → eq_by_cmp (on record_bytes (slice_cmp nat_cmp)) a b ≡ false → eq_by_cmp R a b ≡ false)
+    (test : Operation → Bool) (P : Operation → Type 0)
+    (by_test : (a : Operation) → IsOperation a → contains o (record_bytes a) ≡ true → test a ≡ true → P a)
+    (of_fact : (a : Operation) → P a → (contains o (record_bytes a) ≡ true) × (test a ≡ true)) where
+  pub told_sorted : (operations told : List Operation) → IsHeld operations → from_list (map record_bytes operations) ≡ o
+      → IsPermutation (filter test operations) told → IsSorted R told → AreTold R P told
   told_sorted operations told held is permuted sorted =
-      let by_record = IsStrictlySortedBy-filter (on record_bytes (slice_cmp nat_cmp)) test operations (ascending_by (slice_cmp nat_cmp) record_bytes operations held.ascending) in
-      let differ = distinct_finer (eq_by_cmp (on record_bytes (slice_cmp nat_cmp))) (eq_by_cmp R) apart (filter test operations) (IsDistinct-from_sorted (on record_bytes (slice_cmp nat_cmp)) (filter test operations) by_record) in
+      let by_record = IsStrictlySortedBy-filter (on record_bytes (slice_cmp nat_cmp)) test operations
+      (ascending_by (slice_cmp nat_cmp) record_bytes operations held.ascending) in
+      let differ = distinct_finer (eq_by_cmp (on record_bytes (slice_cmp nat_cmp))) (eq_by_cmp R) apart
+      (filter test operations) (IsDistinct-from_sorted (on record_bytes (slice_cmp nat_cmp))
+      (filter test operations) by_record) in
       record {
-        ascending = ascending_from_distinct total told sorted (IsDistinct-IsPermutation (eq_by_cmp R) (eq_by_cmp_equiv total).symm (filter test operations) told permuted differ);
+        ascending = ascending_from_distinct total told sorted
+            (IsDistinct-IsPermutation (eq_by_cmp R) (eq_by_cmp_equiv total).symm (filter test operations) told permuted
+            differ);
         exactly = λ a. (to a, back a);
       }
     where
       to : (a : Operation) → Contains told a → IsOperation a × P a
       to a h =
-          let kept = in_filter test operations a (Contains-permutation told (filter test operations) a (IsPermutation-sym (filter test operations) told permuted) h) in
+          let kept = in_filter test operations a (Contains-permutation told (filter test operations) a
+          (IsPermutation-sym (filter test operations) told permuted) h) in
           let known = All-contains IsOperation operations a (All-from_recursion IsOperation operations held.are) kept.0 in
           (known, by_test a known (ap (λ s. contains s (record_bytes a)) (sym is) ∙ record_there operations a kept.0) kept.1)
 
@@ -100,7 +115,9 @@ all_pass (x ∷ xs) = ap (λ l. x ∷ l) (all_pass xs)
 pub list_sorted : (o : Operations) (operations told : List Operation) → IsContent o → IsHeld operations → from_list (map record_bytes operations) ≡ o
     → IsPermutation operations told → IsSorted list_cmp told → IsList o (map row_of told)
 list_sorted o operations told content held is permuted sorted =
-    let are = told_sorted o list_cmp list_total untied_in_list (λ a. true) (IsListed o) (λ a one there _. listed_of_content o a content one there) (content_of_listed o) operations told held is (subst (λ l. IsPermutation l told) (sym (all_pass operations)) permuted) sorted in
+    let are = told_sorted o list_cmp list_total untied_in_list (λ a. true) (IsListed o)
+    (λ a one there _. listed_of_content o a content one there) (content_of_listed o) operations told held is
+    (subst (λ l. IsPermutation l told) (sym (all_pass operations)) permuted) sorted in
     record { operations = told; ascending = are.ascending; exactly = are.exactly; rows_are = refl }
 
 -- what is told under a UUID is under it

@@ -11,7 +11,8 @@ use Rattle.archive_core.proofs.Made.{either, or_left, or_right, from_made, made_
 use Rattle.archive_core.proofs.Entries.{covering_admission}
 
 -- a valid slice is covered just where the retirement of its key and digest is there
-pub covered_slice : (o : Operations) (slice : List ℕ) → IsValid slice → is_covered o (admission_record slice) ≡ contains o (retirement_record (key_of slice) (sha256 slice))
+pub covered_slice : (o : Operations) (slice : List ℕ) → IsValid slice → is_covered o (admission_record slice)
+    ≡ contains o (retirement_record (key_of slice) (sha256 slice))
 covered_slice o slice valid = ap (contains o) (covering_admission slice valid)
 
 -- what a set of records makes is a content
@@ -19,7 +20,8 @@ pub made_content : (o : Operations) → ((r : List ℕ) → contains o r ≡ tru
 made_content o records = record { itself = made_again o; records = λ r h. records r (from_made o r h) }
 
 -- in a content each slice that is admitted is live
-pub live_in_content : (o : Operations) (slice : List ℕ) → IsContent o → IsValid slice → contains o (admission_record slice) ≡ true → IsLive o (key_of slice) slice
+pub live_in_content : (o : Operations) (slice : List ℕ) → IsContent o → IsValid slice
+    → contains o (admission_record slice) ≡ true → IsLive o (key_of slice) slice
 live_in_content o slice content valid there = record {
   admitted = there;
   under = refl;
@@ -31,7 +33,8 @@ pub live_above : (o p : Operations) (slice : List ℕ) → IsContent p → IsVal
     → IsLive p (key_of slice) slice ⊎ (contains p (retirement_record (key_of slice) (sha256 slice)) ≡ true)
 live_above o p slice content valid below live =
     let free : contains o (covering (admission_record slice)) ≡ false = ap (contains o) (covering_admission slice valid) ∙ live.kept in
-    either (IsLive p (key_of slice) slice ⊎ (contains p (retirement_record (key_of slice) (sha256 slice)) ≡ true)) (contains p (admission_record slice)) (contains p (covering (admission_record slice)))
+    either (IsLive p (key_of slice) slice ⊎ (contains p (retirement_record (key_of slice) (sha256 slice)) ≡ true))
+    (contains p (admission_record slice)) (contains p (covering (admission_record slice)))
     (λ there. inl (live_in_content p slice content valid there))
     (λ covered. inr (ap (contains p) (sym (covering_admission slice valid)) ∙ covered))
     (below.live (admission_record slice) refl live.admitted free)
@@ -54,6 +57,8 @@ below_of_words o p content retired lives = record {
   ];
 }
   where
-    of_live : (slice : List ℕ) → IsValid slice → IsLive p (key_of slice) slice ⊎ (contains p (retirement_record (key_of slice) (sha256 slice)) ≡ true) → (contains p (admission_record slice) || contains p (covering (admission_record slice))) ≡ true
+    of_live : (slice : List ℕ) → IsValid slice → IsLive p (key_of slice) slice
+        ⊎ (contains p (retirement_record (key_of slice) (sha256 slice)) ≡ true)
+        → (contains p (admission_record slice) || contains p (covering (admission_record slice))) ≡ true
     of_live slice valid (inl live) = or_left _ _ live.admitted
     of_live slice valid (inr covered) = or_right _ _ (ap (contains p) (covering_admission slice valid) ∙ covered)

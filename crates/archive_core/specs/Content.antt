@@ -1,5 +1,5 @@
--- What an archive holds: operations of which none is an admission that a retirement covers, the order on such sets, and
--- what is live in one.
+-- The content of an archive: operations of which none is an admission that a retirement covers, the order on such sets,
+-- and the live slices of one.
 use Rattle.std.specs.Prelude.{◌≡◌, ◌↔◌, ℕ, ◌+◌, List, [], ◌∷◌, ◌++◌, Bool, true, false, not, ◌&&◌, ◌||◌, ◌==◌}
 use Rattle.std.specs.Prelude.{if◌then◌else◌, fold, take, drop, slice_index, Contains}
 use Rattle.std.specs.Ordering.{nat_cmp}

@@ -1,4 +1,4 @@
--- What a search for a UUID tells: the retirements and the live slices under it.
+-- The answer of a search for a UUID: the retirements and the live slices under it.
 use Rattle.std.specs.Prelude.{◌≡◌, ◌↔◌, ℕ, Bool, true, false, not, List, ◌==◌, ◌&&◌, if◌then◌else◌, map, count_by}
 use Rattle.std.specs.Prelude.{Contains}
 use Rattle.std.specs.Ordering.{nat_cmp, on, then_cmp}

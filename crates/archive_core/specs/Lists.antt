@@ -1,4 +1,4 @@
--- What a list of all that an archive has tells: the retirements and the live slices under every UUID.
+-- The list of an archive: the retirements and the live slices under every UUID.
 use Rattle.std.specs.Prelude.{◌≡◌, ◌↔◌, ℕ, List, map, filter, Contains}
 use Rattle.std.specs.Ordering.{nat_cmp, on, then_cmp}
 use Rattle.std.specs.Str.{bytes_eq}

@@ -1,4 +1,4 @@
--- What a lookup answers: what the answering slices of a key tell of a place.
+-- The answer of a lookup: the symbols that the answering slices of a key have for a place.
 use Rattle.std.specs.Prelude.{◌≡◌, ◌≤◌, ◌+◌, ◌-◌, ◌^◌, ◌&&◌, ℕ, nat_le, nat_lt, List, [], ◌∷◌, length}
 use Rattle.std.specs.Prelude.{map, Option, Some, None, MatchOption, option_and_then, if◌then◌else◌}
 use Rattle.std.specs.List.{AllZip}

@@ -1,4 +1,4 @@
--- What a search for a name tells: where symbols of that name stand in live slices.
+-- The answer of a search for a name: the places of symbols of that name in live slices.
 use Rattle.std.specs.Prelude.{◌≡◌, ◌↔◌, ℕ, List, map, Contains}
 use Rattle.std.specs.Ordering.{nat_cmp, on, then_cmp}
 use Rattle.std.specs.declared.cmp.Ordering.{Ordering}

@@ -1,4 +1,4 @@
--- The order on contents, and a join of each two: what every archive says of `Join`.
+-- The order on contents, and a join of each two: the facts of `Join` for archives.
 use Rattle.std.specs.Prelude.{◌≡◌, ℕ, List, Bool, true, false, not, ◌&&◌, ◌||◌}
 use mathlib.Core.Path.{refl, sym, ap, ◌∙◌}
 use Rattle.std.proofs.Common.{arith}

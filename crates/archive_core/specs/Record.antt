@@ -7,7 +7,8 @@ use Rattle.archive_core.specs.declared.keys.SliceKey.{SliceKey}
 use Rattle.archive_core.specs.declared.operations.Operation.{Operation}
 use Rattle.archive_core.specs.declared.operations.Operation.TheVariants.{Admit, Retire}
 use Rattle.archive_core.specs.declared.operations.Record.{Record}
-use Rattle.archive_core.specs.declared.operations.Record.TheVariants.{Admit as Borrowed_Admit, Retire as Borrowed_Retire}
+use Rattle.archive_core.specs.declared.operations.Record.TheVariants.{Admit as Borrowed_Admit}
+use Rattle.archive_core.specs.declared.operations.Record.TheVariants.{Retire as Borrowed_Retire}
 
 -- an admission's record after its tag: the key, the length in 8 bytes, the slice
 unfoldable pub admission : List ℕ → List ℕ

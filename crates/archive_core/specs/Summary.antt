@@ -1,4 +1,4 @@
--- What a summary names of a content, and the part of a content that it does not name.
+-- The entries that a summary has of a content, and the part of a content that it does not name.
 use Rattle.std.specs.Prelude.{◌≡◌, ℕ, List, ◌∷◌, Bool, true, not, ◌||◌, if◌then◌else◌, map, drop}
 use Rattle.std.specs.Ordering.{nat_cmp}
 use Rattle.std.specs.Cmp.Lexicographic.{slice_cmp}

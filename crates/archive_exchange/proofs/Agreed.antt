@@ -37,10 +37,15 @@ module _ {F : Type 0} (sites : ℕ) (events : List (Event F)) where
       let none : gift sites events n i ≡ set.empty =
       cond_both (is_of sites events i n) _ _ (λ g. g ≡ set.empty) (λ of_i. (idle_here n i h of_i).1) (λ _. refl) in
       held_on sites events (λ o. o ≡ holding sites events n i) n i
-      (λ stop. cc (and_right (is_of sites events i n) (is_stop (slice_get events n)) stop, (idle_here n i h (and_left (is_of sites events i n) (is_stop (slice_get events n)) stop)).0))
+      (λ stop. cc (
+        and_right (is_of sites events i n) (is_stop (slice_get events n)) stop,
+        (idle_here n i h (and_left (is_of sites events i n) (is_stop (slice_get events n)) stop)).0,
+      ))
       (λ _. ap (joined (holding sites events n i)) none ∙ ap content_of (union_nothing (holding sites events n i)) ∙ holding_content sites events n i)
 
-  idle_range : (n m i : ℕ) → n ≤ m → ((k : ℕ) → n ≤ k → k < m → (is_changing (slice_get events k) && i == site_or (slice_get events k)) ≡ false) → holding sites events m i ≡ holding sites events n i
+  idle_range : (n m i : ℕ) → n ≤ m → ((k : ℕ) → n ≤ k → k < m
+      → (is_changing (slice_get events k) && i == site_or (slice_get events k)) ≡ false) → holding sites events m i
+      ≡ holding sites events n i
   idle_range zero zero i h q = refl
   idle_range (suc n) zero i h q = absurd (omega arith)
   idle_range n (suc m) i h q =
@@ -57,10 +62,12 @@ module _ {F : Type 0} (sites : ℕ) (events : List (Event F)) where
     late f h l = idle_range (suc d) f i h (λ k a b. q.quiet k (omega arith) (omega arith) (λ e. absurd (omega (arith, e))))
 
     once : holding sites events (suc high) i ≡ joined (holding sites events low i) (came sites events i x a r d is)
-    once = late (suc high) (omega arith) (omega arith) ∙ delivered sites events i x a r d is ∙ ap (λ o. joined o (came sites events i x a r d is)) (early d from (omega arith))
+    once = late (suc high) (omega arith) (omega arith) ∙ delivered sites events i x a r d is
+        ∙ ap (λ o. joined o (came sites events i x a r d is)) (early d from (omega arith))
 
     -- what is held then stands between
-    pub between : (f : ℕ) → low ≤ f → f ≤ suc high → (IsBelow (holding sites events low i) (holding sites events f i)) × (IsBelow (holding sites events f i) (holding sites events (suc high) i))
+    pub between : (f : ℕ) → low ≤ f → f ≤ suc high → (IsBelow (holding sites events low i) (holding sites events f i))
+        × (IsBelow (holding sites events f i) (holding sites events (suc high) i))
     between f h l =
         let grown : IsBelow (holding sites events low i) (holding sites events (suc high) i) = rw once (below_left _ _) in
         elim (cases_lt d f) [
@@ -69,7 +76,8 @@ module _ {F : Type 0} (sites : ℕ) (events : List (Event F)) where
         ]
 
   -- one of two sites that answered each other ends below the other
-  half : (i j a r d b s e low high : ℕ) → IsExchange sites events i j a r d → IsExchange sites events j i b s e → IsQuiet events i low high d → IsQuiet events j low high e → IsEntryTelling sites events
+  half : (i j a r d b s e low high : ℕ) → IsExchange sites events i j a r d → IsExchange sites events j i b s e
+      → IsQuiet events i low high d → IsQuiet events j low high e → IsEntryTelling sites events
       → low ≤ a → low ≤ b → d ≤ high → e ≤ high → IsBelow (holding sites events (suc high) i) (holding sites events (suc high) j)
   half i j a r d b s e low high one other qi qj telling la lb dh eh =
       let r1 : a < r = one.first in let r2 : r < d = one.second in
@@ -81,9 +89,11 @@ module _ {F : Type 0} (sites : ℕ) (events : List (Event F)) where
       (below_transitive _ _ _ (lifted sites events j i b s e other telling) (between j i b s e low high other qj le eh (suc e) (omega arith) (omega arith)).1))
       (below_transitive _ _ _ (delta_below (holding sites events r j) _) (between j i b s e low high other qj le eh r (omega arith) (omega arith)).1))
 
-  pub agreed : (i j a r d b s e : ℕ) → IsExchange sites events i j a r d → IsExchange sites events j i b s e → IsQuiet events i (min a b) (max d e) d → IsQuiet events j (min a b) (max d e) e → IsEntryTelling sites events
+  pub agreed : (i j a r d b s e : ℕ) → IsExchange sites events i j a r d → IsExchange sites events j i b s e
+      → IsQuiet events i (min a b) (max d e) d → IsQuiet events j (min a b) (max d e) e → IsEntryTelling sites events
       → holding sites events (suc (max d e)) i ≡ holding sites events (suc (max d e)) j
   agreed i j a r d b s e one other qi qj telling =
-      made_antisymmetric (holding sites events (suc (max d e)) i) (holding sites events (suc (max d e)) j) (holding_content sites events (suc (max d e)) i) (holding_content sites events (suc (max d e)) j)
+      made_antisymmetric (holding sites events (suc (max d e)) i) (holding sites events (suc (max d e)) j)
+      (holding_content sites events (suc (max d e)) i) (holding_content sites events (suc (max d e)) j)
       (half i j a r d b s e (min a b) (max d e) one other qi qj telling (omega arith) (omega arith) (omega arith) (omega arith))
       (half j i b s e a r d (min a b) (max d e) other one qj qi telling (omega arith) (omega arith) (omega arith) (omega arith))

@@ -34,18 +34,22 @@ module _ (own stop save : ℕ → Bool) (give : ℕ → Operations) where
 
   pub reach_next : (n : ℕ) → stop n ≡ false → reach (suc n) ≡ set.union (reach n) (if own n then give n else set.empty)
   reach_next n h =
-      let before : union_below n (λ k. if own k && kept k (suc n) then give k else set.empty) ≡ reach n = union_below_same n _ _ (λ k l. grind (arith, nat_tests)) in
+      let before : union_below n (λ k. if own k && kept k (suc n) then give k else set.empty)
+      ≡ reach n = union_below_same n _ _ (λ k l. grind (arith, nat_tests)) in
       let here : kept n (suc n) ≡ true = each_none (λ s. not (stop s) || some_between n s save) n (suc n) (omega arith) in
       rw (before, here) (grind arith)
 
   pub reach_stop : (n : ℕ) → stop n ≡ true → give n ≡ set.empty → reach (suc n) ≡ keep n
   reach_stop n h e =
-      let before : union_below n (λ k. if own k && kept k (suc n) then give k else set.empty) ≡ keep n = union_below_same n _ _ (λ k l. grind (arith, nat_tests)) in
+      let before : union_below n (λ k. if own k && kept k (suc n) then give k else set.empty)
+      ≡ keep n = union_below_same n _ _ (λ k l. grind (arith, nat_tests)) in
       rw before (grind (arith, union_nothing))
 
-  keep_by : (n : ℕ) (f : ℕ → Bool) → ((k : ℕ) → k < n → (some_between k (suc n) save && kept k (suc n)) ≡ f k) → keep (suc n) ≡ union_below n (λ k. if own k && f k then give k else set.empty)
+  keep_by : (n : ℕ) (f : ℕ → Bool) → ((k : ℕ) → k < n → (some_between k (suc n) save && kept k (suc n)) ≡ f k)
+      → keep (suc n) ≡ union_below n (λ k. if own k && f k then give k else set.empty)
   keep_by n f same =
-      let before : union_below n (λ k. if own k && (some_between k (suc n) save && kept k (suc n)) then give k else set.empty) ≡ union_below n (λ k. if own k && f k then give k else set.empty) =
+      let before : union_below n (λ k. if own k && (some_between k (suc n) save && kept k (suc n)) then give k
+      else set.empty) ≡ union_below n (λ k. if own k && f k then give k else set.empty) =
       union_below_same n _ _ (λ k l. let e = same k l in grind arith) in
       let here : some_between n (suc n) save ≡ false = some_none save n (suc n) (omega arith) in
       rw (before, here) (grind (arith, union_nothing))

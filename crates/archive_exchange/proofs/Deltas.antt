@@ -28,7 +28,8 @@ at_end [] x = refl
 at_end (y ∷ xs) x = at_end xs x
 
 -- a site has what the delta against a content's summary gives, and the content: it has all
-apart : (r : List ℕ) (o a : Operations) → ((s : List ℕ) → set.contains a s ≡ true → entry s ≡ entry r → r ≡ s) → set.contains o r ≡ true → (set.contains (delta o (summary a)) r ≡ true) ⊎ (set.contains a r ≡ true)
+apart : (r : List ℕ) (o a : Operations) → ((s : List ℕ) → set.contains a s ≡ true → entry s ≡ entry r → r ≡ s)
+    → set.contains o r ≡ true → (set.contains (delta o (summary a)) r ≡ true) ⊎ (set.contains a r ≡ true)
 apart r o a telling h =
     let in_delta = contains_delta o (summary a) r in
     by_test _ (set.contains (summary a) (entry r))
@@ -40,7 +41,9 @@ module _ {F : Type 0} (sites : ℕ) (events : List (Event F)) where
   number_of n = ap length (told_by sites events n) ∙ length-map (senders sites events n) (sent sites events)
 
   -- the message of event a is at its number from then on
-  pub sender_at : (a n : ℕ) → a < n → is_accepted sites events (senders sites events a) (slice_get events a) ≡ true → is_sending (slice_get events a) ≡ true → slice_get (senders sites events n) (message_number sites events a) ≡ Some a
+  pub sender_at : (a n : ℕ) → a < n → is_accepted sites events (senders sites events a) (slice_get events a) ≡ true
+      → is_sending (slice_get events a) ≡ true → slice_get (senders sites events n) (message_number sites events a)
+      ≡ Some a
   sender_at a zero h fine sends = absurd (omega arith)
   sender_at a (suc n) h fine sends =
       elim (cases_eq a n) [
@@ -77,20 +80,25 @@ module _ {F : Type 0} (sites : ℕ) (events : List (Event F)) where
 
     pub delivered : holding sites events (suc k) i ≡ joined (holding sites events k i) came
     delivered = held_on sites events (λ o. o ≡ joined (holding sites events k i) came) k i
-        (λ stop. let no : is_stop (slice_get events k) ≡ false = ap is_stop is.deliver in cc (and_right (is_of sites events i k) (is_stop (slice_get events k)) stop)) (λ _. ap (joined (holding sites events k i)) gift_came)
+        (λ stop. let no : is_stop (slice_get events k) ≡ false = ap is_stop is.deliver
+        in cc (and_right (is_of sites events i k) (is_stop (slice_get events k)) stop))
+        (λ _. ap (joined (holding sites events k i)) gift_came)
 
     -- what was asked with was saved
     saves_asked : saves sites events i a ≡ true
     saves_asked = rw (ask_yes, is.ask, eq-eqb i i refl) refl
 
     pub asked_stays : IsBelow (holding sites events a i) (holding sites events k i)
-    asked_stays = subst (λ (o : Operations). IsBelow o (holding sites events k i)) (saved_next sites events (λ o. o ≡ holding sites events a i) a i (λ _. refl) (λ no. cc saves_asked))
+    asked_stays = subst (λ (o : Operations). IsBelow o (holding sites events k i))
+        (saved_next sites events (λ o. o ≡ holding sites events a i) a i (λ _. refl) (λ no. cc saves_asked))
         (saved_under_held sites events (suc a) k i (let l = is.first in let m = is.second in omega arith))
 
     pub lifted : IsEntryTelling sites events → IsBelow (holding sites events r x) (holding sites events (suc k) i)
     lifted telling = subst (IsBelow (holding sites events r x)) (sym delivered)
         (gathered (holding sites events r x) came (holding sites events a i) (joined (holding sites events k i) came)
         (delta_made (holding sites events r x) _ (holding_content sites events r x)) (holding_content sites events a i)
-        (λ o h. apart o (holding sites events r x) (holding sites events a i) (λ s in_a e. telling o s ((all_issued sites events r x).0 o h) ((all_issued sites events a i).0 s in_a) (sym e)) h)
+        (λ o h. apart o (holding sites events r x) (holding sites events a i)
+        (λ s in_a e. telling o s ((all_issued sites events r x).0 o h) ((all_issued sites events a i).0 s in_a)
+        (sym e)) h)
         (below_right (holding sites events k i) came)
         (below_transitive _ _ _ asked_stays (below_left (holding sites events k i) came)))

@@ -39,4 +39,12 @@ one_more messages i outcomes x before text numbered now lt is text_is numbered_i
     let front : take (i + 1) outcomes ≡ take i outcomes ++ x ∷ [] = rw (add-one, take-suc outcomes i x lt, ← is) refl in
     let at : 0 + length (take i outcomes) ≡ i = omega (arith, length-take i outcomes) in
     let lines = event_lines messages 0 (take i outcomes) in
-    rw (now_is, numbered_is, text_is, regrouped (before ++ lines) (decimal i) (outcome_text messages x), front, lines_push messages 0 (take i outcomes) x, at) (append_assoc before lines (one_line messages i x))
+    rw (
+      now_is,
+      numbered_is,
+      text_is,
+      regrouped (before ++ lines) (decimal i) (outcome_text messages x),
+      front,
+      lines_push messages 0 (take i outcomes) x,
+      at,
+    ) (append_assoc before lines (one_line messages i x))

@@ -35,7 +35,8 @@ use Rattle.archive_exchange.proofs.Gained.{content_gain, recorded_take, recorded
 use Rattle.archive_exchange.proofs.Magics.{gives_no_summary, not_an_archive, not_a_summary}
 
 -- an event of a site that is there is refused for what is at the site alone
-here : (e : Event TakeFault) (sites : List SiteState) (old : SiteState) (w : World) → slice_get sites (site_of e) ≡ Some old → fault_of (length sites) w e ≡ fault_at_site w.messages e
+here : (e : Event TakeFault) (sites : List SiteState) (old : SiteState) (w : World) → slice_get sites (site_of e)
+    ≡ Some old → fault_of (length sites) w e ≡ fault_at_site w.messages e
 here e sites old w at =
     ap (λ b. if b then fault_at_site w.messages e else Some model.NoSite) (lt-ltb (site_of e) (length sites) (slice_get_within sites (site_of e) old at))
 
@@ -86,7 +87,8 @@ took i file (Ok given) texts old new a none is accepted held saved tell =
     record {
       none = refl;
       shows = shows_held sites texts w i old new (with_records (w.held i) (records (map part_record (parts file)))) at sh
-          (held ∙ sym (ap (with_records old.held) (records_seen (parts file))) ∙ ap (λ o. with_records o (records (map part_record (parts file)))) (sh.each i old at).held)
+          (held ∙ sym (ap (with_records old.held) (records_seen (parts file)))
+          ∙ ap (λ o. with_records o (records (map part_record (parts file)))) (sh.each i old at).held)
           saved (content_gain (w.held i) (records (map part_record (parts file))) (sh.held i) (recorded_take i file accepted));
       tells = tell _ (ap (λ o. model.Took (model.rows o (map part_record (parts file)))) (sym (sh.each i old at).held));
     }))
@@ -107,29 +109,37 @@ pub retired : (i : ℕ) (r : List ℕ) (texts : List (List ℕ)) (old new : Site
 retired i r texts old new b is held saved answer = follow_by (model.Retire i r) old new texts texts (told.Retired b) (λ sites w at sh.
     record {
       none = refl;
-      shows = shows_held sites texts w i old new (with_record (w.held i) r) at sh (held ∙ ap (λ o. with_record o r) (sh.each i old at).held) saved (content_gain (w.held i) (r ∷ []) (sh.held i) (recorded_retire i r is));
+      shows = shows_held sites texts w i old new (with_record (w.held i) r) at sh
+          (held ∙ ap (λ o. with_record o r) (sh.each i old at).held) saved
+          (content_gain (w.held i) (r ∷ []) (sh.held i) (recorded_retire i r is));
       tells = ap (λ (c : Bool). model.Retired c) (sym (answer ∙ ap (λ o. changes o r) (sh.each i old at).held));
     })
 
-pub sent_full : (i : ℕ) (old : SiteState) (texts later : List (List ℕ)) → later ≡ texts ++ written old.held ∷ [] → Follows (model.Full i) old old texts later (told.Sent (length texts))
+pub sent_full : (i : ℕ) (old : SiteState) (texts later : List (List ℕ)) → later ≡ texts ++ written old.held ∷ []
+    → Follows (model.Full i) old old texts later (told.Sent (length texts))
 sent_full i old texts later is = follow_by (model.Full i) old old texts later (told.Sent (length texts)) (λ sites w at sh.
     record {
       none = refl;
-      shows = rw (set_same sites i old at, is ∙ ap (λ o. texts ++ written o ∷ []) (sh.each i old at).held) (shows_sent sites texts w (Content (w.held i)) sh (sh.held i));
+      shows = rw (set_same sites i old at, is ∙ ap (λ o. texts ++ written o ∷ []) (sh.each i old at).held)
+          (shows_sent sites texts w (Content (w.held i)) sh (sh.held i));
       tells = ap (λ (n : ℕ). model.Sent n) (sym (sent_number sites texts w sh));
     })
 
-pub asked : (i : ℕ) (old new : SiteState) (texts later : List (List ℕ)) → new.held ≡ old.held → new.saved ≡ written old.held → later ≡ texts ++ summary_text (summary old.held) ∷ []
+pub asked : (i : ℕ) (old new : SiteState) (texts later : List (List ℕ)) → new.held ≡ old.held → new.saved
+    ≡ written old.held → later ≡ texts ++ summary_text (summary old.held) ∷ []
     → Follows (model.Ask i) old new texts later (told.Sent (length texts))
 asked i old new texts later held saved is = follow_by (model.Ask i) old new texts later (told.Sent (length texts)) (λ sites w at sh.
     record {
       none = refl;
-      shows = rw (is, (sh.each i old at).held) (shows_sent (slice_set sites i new) texts (with_saved w i) (Summary (summary (w.held i))) (shows_saved sites texts w i old new at sh held saved) (AreEntries-summary (w.held i) (sh.held i)));
+      shows = rw (is, (sh.each i old at).held) (shows_sent (slice_set sites i new) texts (with_saved w i)
+          (Summary (summary (w.held i))) (shows_saved sites texts w i old new at sh held saved)
+          (AreEntries-summary (w.held i) (sh.held i)));
       tells = ap (λ (n : ℕ). model.Sent n) (sym (sent_number sites texts w sh));
     })
 
 -- a reply to a message that is there
-pub replied : (i m : ℕ) (old : SiteState) (texts later : List (List ℕ)) (text reply : List ℕ) → slice_get texts m ≡ Some text → RepliesTo text old.held reply → later ≡ texts ++ reply ∷ []
+pub replied : (i m : ℕ) (old : SiteState) (texts later : List (List ℕ)) (text reply : List ℕ) → slice_get texts m
+    ≡ Some text → RepliesTo text old.held reply → later ≡ texts ++ reply ∷ []
     → Follows (model.Reply i m) old old texts later (told.Sent (length texts))
 replied i m old texts later text reply got replies is = follow_by (model.Reply i m) old old texts later (told.Sent (length texts)) (λ sites w at sh.
     elim (message_at sites texts w m text sh got) [
@@ -144,7 +154,8 @@ replied i m old texts later text reply got replies is = follow_by (model.Reply i
           }
     ])
 
-pub not_replied : (i m : ℕ) (old : SiteState) (texts : List (List ℕ)) (text : List ℕ) (f : RecordFault) → slice_get texts m ≡ Some text → IsReplyFault text (reply.NotASummary f)
+pub not_replied : (i m : ℕ) (old : SiteState) (texts : List (List ℕ)) (text : List ℕ) (f : RecordFault)
+    → slice_get texts m ≡ Some text → IsReplyFault text (reply.NotASummary f)
     → Follows (model.Reply i m) old old texts texts (told.Refused (fault.NotASummary f))
 not_replied i m old texts text f got refused = refuse_by (model.Reply i m) old texts (told.Refused (fault.NotASummary f)) (λ sites w at sh.
     elim (message_at sites texts w m text sh got) [
@@ -157,7 +168,8 @@ not_replied i m old texts text f got refused = refuse_by (model.Reply i m) old t
     ])
 
 -- a delivery of a message that is there
-pub delivered : (i m : ℕ) (old new : SiteState) (texts : List (List ℕ)) (text : List ℕ) → slice_get texts m ≡ Some text → HasJoined text old new → Follows (model.Deliver i m) old new texts texts told.Delivered
+pub delivered : (i m : ℕ) (old new : SiteState) (texts : List (List ℕ)) (text : List ℕ) → slice_get texts m ≡ Some text
+    → HasJoined text old new → Follows (model.Deliver i m) old new texts texts told.Delivered
 delivered i m old new texts text got joins = follow_by (model.Deliver i m) old new texts texts told.Delivered (λ sites w at sh.
     elim (message_at sites texts w m text sh got) [
       | inl c ↦
@@ -165,13 +177,15 @@ delivered i m old new texts text got joins = follow_by (model.Deliver i m) old n
           record {
             none = ap (λ x. model.deliver_fault {F = TakeFault} x) c.1;
             shows = rw c.1 (shows_held sites texts w i old new (joined (w.held i) c.0) at sh
-                (joins.held ∙ ap (λ p. joined old.held p) is ∙ ap (λ p. joined p c.0) (sh.each i old at).held) joins.saved (joined_content (w.held i) c.0 (sh.held i) c.3));
+                (joins.held ∙ ap (λ p. joined old.held p) is ∙ ap (λ p. joined p c.0) (sh.each i old at).held)
+                joins.saved (joined_content (w.held i) c.0 (sh.held i) c.3));
             tells = refl;
           }
       | inr s ↦ absurd (gives_no_summary joins.message text s.0 joins.gives.is s.2)
     ])
 
-pub not_delivered : (i m : ℕ) (old : SiteState) (texts : List (List ℕ)) (text : List ℕ) (f : RecordFault) → slice_get texts m ≡ Some text → IsDeliverFault text (deliver.Refused f)
+pub not_delivered : (i m : ℕ) (old : SiteState) (texts : List (List ℕ)) (text : List ℕ) (f : RecordFault)
+    → slice_get texts m ≡ Some text → IsDeliverFault text (deliver.Refused f)
     → Follows (model.Deliver i m) old old texts texts (told.Refused (fault.Refused f))
 not_delivered i m old texts text f got refused = refuse_by (model.Deliver i m) old texts (told.Refused (fault.Refused f)) (λ sites w at sh.
     elim (message_at sites texts w m text sh got) [
@@ -183,24 +197,30 @@ not_delivered i m old texts text f got refused = refuse_by (model.Deliver i m) o
       }
     ])
 
-pub saves : (i : ℕ) (old new : SiteState) (texts : List (List ℕ)) → new.held ≡ old.held → new.saved ≡ written old.held → Follows (model.Save i) old new texts texts told.Saved
+pub saves : (i : ℕ) (old new : SiteState) (texts : List (List ℕ)) → new.held ≡ old.held → new.saved ≡ written old.held
+    → Follows (model.Save i) old new texts texts told.Saved
 saves i old new texts held saved = follow_by (model.Save i) old new texts texts told.Saved (λ sites w at sh.
     record { none = refl; shows = shows_saved sites texts w i old new at sh held saved; tells = refl })
 
-pub stops : (i : ℕ) (old new : SiteState) (texts : List (List ℕ)) → IsArchiveTextOf old.saved new.held → new.saved ≡ old.saved → Follows (model.Stop i) old new texts texts told.Stopped
+pub stops : (i : ℕ) (old new : SiteState) (texts : List (List ℕ)) → IsArchiveTextOf old.saved new.held → new.saved
+    ≡ old.saved → Follows (model.Stop i) old new texts texts told.Stopped
 stops i old new texts says saved = follow_by (model.Stop i) old new texts texts told.Stopped (λ sites w at sh.
     record {
       none = refl;
-      shows = shows_held sites texts w i old new (w.saved i) at sh (one_content old.saved new.held (w.saved i) says.content (sh.saved i) (inl says.is) (inl (sh.each i old at).saved)) saved (sh.saved i);
+      shows = shows_held sites texts w i old new (w.saved i) at sh
+          (one_content old.saved new.held (w.saved i) says.content (sh.saved i) (inl says.is)
+          (inl (sh.each i old at).saved)) saved (sh.saved i);
       tells = refl;
     })
 
 -- the same, told by an equal outcome
-pub follows_as : (e : Event TakeFault) (old new : SiteState) (texts later : List (List ℕ)) (a b : Outcome) → b ≡ a → Follows e old new texts later a → Follows e old new texts later b
+pub follows_as : (e : Event TakeFault) (old new : SiteState) (texts later : List (List ℕ)) (a b : Outcome) → b ≡ a
+    → Follows e old new texts later a → Follows e old new texts later b
 follows_as e old new texts later a b is follows = rw is follows
 
 -- the same, where the site stays as it was
-pub kept_as : (e : Event TakeFault) (old new : SiteState) (texts later : List (List ℕ)) (a : Outcome) → new ≡ old → Follows e old old texts later a → Follows e old new texts later a
+pub kept_as : (e : Event TakeFault) (old new : SiteState) (texts later : List (List ℕ)) (a : Outcome) → new ≡ old
+    → Follows e old old texts later a → Follows e old new texts later a
 kept_as e old new texts later a is follows = rw is follows
 
 pub deliver_ne : (d : DeliverFault) (f : RecordFault) → d ≡ deliver.Refused f → d ≢ deliver.OutOfMemory

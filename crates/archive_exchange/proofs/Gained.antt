@@ -50,19 +50,29 @@ pub all_in : (rs : List (List ℕ)) → All IsRecord rs → (x : List ℕ) → s
 all_in rs all x h = All-contains IsRecord rs x all (Contains-from_any same_bytes x rs (sym (contains-from_list nat_list_cmp_total rs x) ∙ h))
 
 -- a content that gains records is one
-pub content_gain : (o : Operations) (rs : List (List ℕ)) → IsContent o → ((x : List ℕ) → set.contains (set_of rs) x ≡ true → IsRecord x) → IsContent (with_records o rs)
+pub content_gain : (o : Operations) (rs : List (List ℕ)) → IsContent o
+    → ((x : List ℕ) → set.contains (set_of rs) x ≡ true → IsRecord x) → IsContent (with_records o rs)
 content_gain o rs is all = record {
   itself = made_taken o rs is.itself;
   records = λ x h.
-      let both : set.contains (set.union o (set_of rs)) x ≡ true = from_made (set.union o (set_of rs)) x (sym (ap (λ (p : Operations). set.contains p x) (taken_gain o rs is.itself)) ∙ h) in
-      either (IsRecord x) (set.contains o x) (set.contains (set_of rs) x) (is.records x) (all x) (sym (contains-union nat_list_cmp_total o (set_of rs) x) ∙ both);
+      let both : set.contains (set.union o (set_of rs)) x
+      ≡ true = from_made (set.union o (set_of rs)) x
+      (sym (ap (λ (p : Operations). set.contains p x) (taken_gain o rs is.itself)) ∙ h) in
+      either (IsRecord x) (set.contains o x) (set.contains (set_of rs) x) (is.records x) (all x)
+      (sym (contains-union nat_list_cmp_total o (set_of rs) x) ∙ both);
 }
 
 -- what an accepted file and a retirement issue are records
 pub recorded_take : (i : ℕ) (file : List ℕ) → IsAcceptedFile file → IsRecorded (model.Take i (Ok (map part_record (parts file))))
 recorded_take i file accepted r h =
     all_in (map admission_record (admissible file))
-    (All-map IsRecord admission_record (admissible file) (λ k d lt. inl (record { slice = slice_index_or (admissible file) k d; valid = accepted.valid k d lt; is = refl })))
+    (All-map IsRecord admission_record (admissible file)
+    (λ k d lt. inl (record {
+      slice = slice_index_or (admissible file) k d;
+      valid = accepted.valid k d lt;
+      is =
+          refl;
+    })))
     r (ap (λ l. set.contains (set_of l) r) (sym (records_seen (parts file))) ∙ h)
 
 pub recorded_retire : (i : ℕ) (r : List ℕ) → IsRecord r → IsRecorded (model.Retire i r)
@@ -79,14 +89,19 @@ IsFit part = is_admissible part ≡ true → IsValid part
 rows_seen : (o : Operations) (ps : List (List ℕ)) → AllByRecursion IsFit ps → taken_rows o ps ≡ map row_told (rows o (map part_record ps))
 unfolding taken_rows
 rows_seen o [] all = refl
-rows_seen o (part ∷ ps) all = elim (is_admissible part) as (λ b. is_admissible part ≡ b → (if b then taken_of o part ∷ taken_rows (admitted o (part ∷ [])) ps else taken.Skipped ∷ taken_rows o ps) ≡ map row_told (rows o ((if b then Some (admission_record part) else None) ∷ map part_record ps))) [
-  | true ↦ λ e. ap (λ x. x ∷ taken_rows (admitted o (part ∷ [])) ps) (row_seen o part (all.0 e))
-      ∙ ap (λ l. row_told (model.row_of o (admission_record part)) ∷ l) (rows_seen (with_record o (admission_record part)) ps all.1)
-  | false ↦ λ _. ap (λ l. taken.Skipped ∷ l) (rows_seen o ps all.1)
-] refl
+rows_seen o (part ∷ ps) all = elim (is_admissible part) as
+    (λ b. is_admissible part ≡ b → (if b then taken_of o part ∷ taken_rows (admitted o (part ∷ [])) ps
+    else taken.Skipped ∷ taken_rows o ps) ≡ map row_told
+    (rows o ((if b then Some (admission_record part) else None) ∷ map part_record ps))) [
+      | true ↦ λ e. ap (λ x. x ∷ taken_rows (admitted o (part ∷ [])) ps) (row_seen o part (all.0 e))
+          ∙ ap (λ l. row_told (model.row_of o (admission_record part)) ∷ l) (rows_seen (with_record o (admission_record part)) ps all.1)
+      | false ↦ λ _. ap (λ l. taken.Skipped ∷ l) (rows_seen o ps all.1)
+    ] refl
 
 pub rows_are : (file : List ℕ) (o : Operations) → IsAcceptedFile file → taken_rows o (parts file) ≡ map row_told (rows o (map part_record (parts file)))
-rows_are file o accepted = rows_seen o (parts file) (recursion_from_All IsFit (parts file) (λ k d lt begins. kept_is IsValid (parts file) k (slice_index_or (parts file) k d) accepted.valid (slice_get-get_or (parts file) k d lt) begins))
+rows_are file o accepted = rows_seen o (parts file) (recursion_from_All IsFit (parts file)
+    (λ k d lt begins. kept_is IsValid (parts file) k (slice_index_or (parts file) k d) accepted.valid
+    (slice_get-get_or (parts file) k d lt) begins))
 
 module _ (decide : (file : List ℕ) → IsAcceptedFile file ⊎ ((f : TakeFault) × (f ≢ OutOfMemory) × IsTakeFault file f)) where
   seen_file : (file : List ℕ) → (is : SeenFile) × IsFile file is
@@ -109,7 +124,8 @@ module _ (decide : (file : List ℕ) → IsAcceptedFile file ⊎ ((f : TakeFault
   events_are [] = ([], tt)
   events_are (event ∷ events) = ((event_is event).0 ∷ (events_are events).0, ((event_is event).1, (events_are events).1))
 
-module _ (one : (file : List ℕ) (f g : TakeFault) → IsTakeFault file f → IsTakeFault file g → f ≡ g) (none : (file : List ℕ) (f : TakeFault) → IsAcceptedFile file → IsTakeFault file f → f ≡ OutOfMemory) where
+module _ (one : (file : List ℕ) (f g : TakeFault) → IsTakeFault file f → IsTakeFault file g → f ≡ g)
+    (none : (file : List ℕ) (f : TakeFault) → IsAcceptedFile file → IsTakeFault file f → f ≡ OutOfMemory) where
   one_file : (file : List ℕ) (a b : SeenFile) → IsFile file a → IsFile file b → a ≡ b
   one_file file (Ok a) (Ok b) p q = ap (λ x. Ok x) (p.1 ∙ sym q.1)
   one_file file (Ok a) (Err g) p q = absurd (q.1 (none file g p.0 q.0))
@@ -135,7 +151,8 @@ file_recorded i bytes (Err f) h = none_recorded
 file_recorded i bytes (Ok given) h = rw h.1 (recorded_take i bytes h.0)
 
 -- a retirement alone needs to be told to be one
-pub recorded_by : (event : Event) (seen : ModelEvent) → ((site : ℕ) (key : SliceKey) (digest : Digest) → event ≡ Retire site key digest → IsRecord (retirement_record key digest.0)) → IsSeen event seen → IsRecorded seen
+pub recorded_by : (event : Event) (seen : ModelEvent) → ((site : ℕ) (key : SliceKey) (digest : Digest) → event
+    ≡ Retire site key digest → IsRecord (retirement_record key digest.0)) → IsSeen event seen → IsRecorded seen
 recorded_by (Take site bytes) seen is h = rw h.2 (file_recorded site bytes.items h.0 h.1)
 recorded_by (Retire site key digest) seen is h = rw h (recorded_retire site (retirement_record key digest.0) (is site key digest refl))
 recorded_by event seen is h = rw h none_recorded
@@ -144,12 +161,14 @@ pub on_ok : {T E : Type 0} (P : Type 0) (r : Result T E) → P → OnOk r P
 on_ok P (Ok x) p = p
 on_ok P (Err e) p = tt
 
-pub retire_ok : {T E : Type 0} (event : Event) (site : ℕ) (key : SliceKey) (digest : Digest) (r : Result T E) → event ≡ Retire site key digest → OnOk r ((i : ℕ) → IsRecorded (model.Retire i (retirement_record key digest.0)))
+pub retire_ok : {T E : Type 0} (event : Event) (site : ℕ) (key : SliceKey) (digest : Digest) (r : Result T E) → event
+    ≡ Retire site key digest → OnOk r ((i : ℕ) → IsRecorded (model.Retire i (retirement_record key digest.0)))
     → OnOk r ((seen : ModelEvent) → IsSeen event seen → IsRecorded seen)
 retire_ok event site key digest r e = on_ok_weaker r (λ all seen h. rw (rw e at h) (all site))
 
 -- a record more
-pub content_taken : {E : Type 0} (r : Result Bool E) (old new : Operations) (x : List ℕ) → IsContent old → IsRecord x → OnOk r (new ≡ with_record old x) → OnErr r (new ≡ old) → IsContent new
+pub content_taken : {E : Type 0} (r : Result Bool E) (old new : Operations) (x : List ℕ) → IsContent old → IsRecord x
+    → OnOk r (new ≡ with_record old x) → OnErr r (new ≡ old) → IsContent new
 content_taken (Ok b) old new x is recorded taken kept = rw taken (content_gain old (x ∷ []) is (recorded_retire 0 x recorded))
 content_taken (Err e) old new x is recorded taken kept = rw kept is
 
@@ -165,12 +184,14 @@ pub file_is : (file : List ℕ) (a : AcceptedFile) → IsAcceptedAs file a → f
 file_is file (Thin slice) is = is.1
 file_is file (Universal universal found) is = is.1
 
-pub content_of_file : (file : List ℕ) (a : AcceptedFile) (o new : Operations) → IsContent o → IsAcceptedFile file → IsAcceptedAs file a → new ≡ admitted o (admissible (file_of a)) → IsContent new
+pub content_of_file : (file : List ℕ) (a : AcceptedFile) (o new : Operations) → IsContent o → IsAcceptedFile file
+    → IsAcceptedAs file a → new ≡ admitted o (admissible (file_of a)) → IsContent new
 content_of_file file a o new is accepted as_is all =
     rw (rw (file_is file a as_is) at all) (content_admitted o (admissible file) is accepted.valid)
 
 -- where it was taken in part
-pub between_parts : (file : List ℕ) (a : AcceptedFile) (o mid : Operations) → IsContent o → IsAcceptedFile file → IsAcceptedAs file a → HoldsFirstParts (file_of a) o mid → IsBetween o mid (admitted o (admissible file))
+pub between_parts : (file : List ℕ) (a : AcceptedFile) (o mid : Operations) → IsContent o → IsAcceptedFile file
+    → IsAcceptedAs file a → HoldsFirstParts (file_of a) o mid → IsBetween o mid (admitted o (admissible file))
 between_parts file a o mid is accepted as_is first =
     let part : HoldsFirstParts file o mid = rw (file_is file a as_is) at first in
     record {
@@ -185,7 +206,8 @@ if_err P (Ok x) all = tt
 if_err P (Err e) all = all e
 
 -- the sites of a rehearsal
-pub shown_whole : (sites : List SiteState) (texts : List (List ℕ)) (w : World) → Represents sites texts w → (i : ℕ) (site : SiteState) → slice_get sites i ≡ Some site → IsWhole site
+pub shown_whole : (sites : List SiteState) (texts : List (List ℕ)) (w : World) → Represents sites texts w
+    → (i : ℕ) (site : SiteState) → slice_get sites i ≡ Some site → IsWhole site
 shown_whole sites texts w sh i site at =
     let is = sh.each i site at in
     record {
@@ -193,6 +215,8 @@ shown_whole sites texts w sh i site at =
       saved = (w.saved i, record { content = sh.saved i; is = is.saved });
     }
 
-pub read_whole : (sites : List SiteState) (texts : List (List ℕ)) (state : RunState) (i : ℕ) (site : SiteState) → AreSites sites → record { sites = sites; messages = texts } ≡ state → i < length state.sites → site ≡ get_or sites i site → IsWhole site
+pub read_whole : (sites : List SiteState) (texts : List (List ℕ)) (state : RunState) (i : ℕ) (site : SiteState)
+    → AreSites sites → record { sites = sites; messages = texts } ≡ state → i < length state.sites → site
+    ≡ get_or sites i site → IsWhole site
 read_whole sites texts state i site are view lt is =
     are.whole i site (slice_get_read sites (length sites) i site refl (rw (← view) at lt) is)

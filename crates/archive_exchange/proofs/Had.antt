@@ -1,5 +1,6 @@
 -- What a site had, by the events alone, is what it holds.
-use Rattle.std.proofs.Common.{◌≡◌, ℕ, zero, suc, ◌<◌, ◌≤◌, Bool, true, false, ◌&&◌, if◌then◌else◌, List, [], ◌∷◌, ◌++◌, length, refl, sym, ap, ◌∙◌, slice_get, arith, ◌⊎◌, inl, inr}
+use Rattle.std.proofs.Common.{◌≡◌, ℕ, zero, suc, ◌<◌, ◌≤◌, Bool, true, false, ◌&&◌, if◌then◌else◌, List, [], ◌∷◌, ◌++◌}
+use Rattle.std.proofs.Common.{length, refl, sym, ap, ◌∙◌, slice_get, arith, ◌⊎◌, inl, inr}
 use Rattle.std.specs.declared.result.Result.TheVariants.{Ok}
 use Rattle.std.specs.declared.option.Option.{Option}
 use Rattle.std.specs.declared.option.Option.TheVariants.{None, Some}
@@ -7,7 +8,8 @@ use Rattle.std.specs.FinSet as set
 use Rattle.archive_core.specs.Content.{Operations, content_of}
 use Rattle.archive_core.specs.Summary.{summary, delta}
 use Rattle.archive_exchange.specs.World.{Event, Take, Retire, Full, Ask, Reply, Deliver, Content, Summary, operations_of}
-use Rattle.archive_exchange.specs.Reached.{is_accepted, is_sending, is_of, is_kept, site_or, senders, asked, message_sent, carried, given, reaching, had_within, had, reached}
+use Rattle.archive_exchange.specs.Reached.{is_accepted, is_sending, is_of, is_kept, site_or, senders, asked}
+use Rattle.archive_exchange.specs.Reached.{message_sent, carried, given, reaching, had_within, had, reached}
 use Rattle.archive_exchange.proofs.Between.{union_below_same}
 use Rattle.archive_exchange.proofs.Steps.{holding}
 use Rattle.archive_exchange.proofs.Reach.{both_by}
@@ -24,7 +26,8 @@ module _ {F : Type 0} (sites : ℕ) (events : List (Event F)) where
   pub sender_below : (n m f : ℕ) → slice_get (senders sites events n) m ≡ Some f → f < n
   sender_below zero m f h = cc
   sender_below (suc n) m f h =
-      elim (before_or_last (senders sites events n) (is_accepted sites events (senders sites events n) (slice_get events n) && is_sending (slice_get events n)) n m f h) [
+      elim (before_or_last (senders sites events n) (is_accepted sites events (senders sites events n)
+      (slice_get events n) && is_sending (slice_get events n)) n m f h) [
         | inl e ↦ let l = sender_below n m f e in omega arith
         | inr e ↦ omega arith
       ]
@@ -54,7 +57,9 @@ module _ {F : Type 0} (sites : ℕ) (events : List (Event F)) where
 
     -- what reaches a site by n rests on what sites had before n
     reaching_same : (i : ℕ) → reaching sites events a i n ≡ reaching sites events b i n
-    reaching_same i = union_below_same n _ _ (λ k l. ap (λ g. if is_of sites events i k && is_kept sites events i k n then g else set.empty) (given_same k l (slice_get events k)))
+    reaching_same i = union_below_same n _ _ (λ k l. ap
+        (λ g. if is_of sites events i k && is_kept sites events i k n then g else set.empty)
+        (given_same k l (slice_get events k)))
 
   within : (depth n i : ℕ) → n ≤ depth → had_within sites events depth n i ≡ holding sites events n i
   within zero zero i h = refl

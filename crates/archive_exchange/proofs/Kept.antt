@@ -26,7 +26,8 @@ module _ {F : Type 0} (sites : ℕ) (events : List (Event F)) where
   none_issued r h = cc (contains-empty (slice_cmp nat_cmp) r)
 
   joined_issued : (o p : Operations) → AreIssued sites events o → AreIssued sites events p → AreIssued sites events (joined o p)
-  joined_issued o p a b r h = either (IsIssued sites events r) (set.contains o r) (set.contains p r) (a r) (b r) (sym (contains-union nat_list_cmp_total o p r) ∙ from_made (set.union o p) r h)
+  joined_issued o p a b r h = either (IsIssued sites events r) (set.contains o r) (set.contains p r) (a r) (b r)
+      (sym (contains-union nat_list_cmp_total o p r) ∙ from_made (set.union o p) r h)
 
   delta_issued : (o : Operations) (s : Entries) → AreIssued sites events o → AreIssued sites events (delta o s)
   delta_issued o s a r h = a r (and_left (set.contains o r) _ (sym (contains_delta o s r) ∙ h))
@@ -38,7 +39,8 @@ module _ {F : Type 0} (sites : ℕ) (events : List (Event F)) where
   module _ (n : ℕ) (before : (f : ℕ) → f ≤ n → BothIssued f) where
     message_issued : (f : ℕ) → f < n → (e : Option (Event F)) → AreIssued sites events (operations_of (message_sent sites events (holding sites events) f e))
     message_issued f l (Some (Full x)) = (before f (omega arith) x).0
-    message_issued f l (Some (Reply x m)) = delta_issued (holding sites events f x) (asked sites events (holding sites events) (slice_get (senders sites events f) m)) (before f (omega arith) x).0
+    message_issued f l (Some (Reply x m)) = delta_issued (holding sites events f x)
+        (asked sites events (holding sites events) (slice_get (senders sites events f) m)) (before f (omega arith) x).0
     message_issued f l None = none_issued
     message_issued f l (Some e) = none_issued
 
@@ -46,7 +48,8 @@ module _ {F : Type 0} (sites : ℕ) (events : List (Event F)) where
     carried_issued None h = none_issued
     carried_issued (Some f) h = message_issued f (h f refl) (slice_get events f)
 
-    given_issued : (e : Option (Event F)) → is_accepted sites events (senders sites events n) e ≡ true → slice_get events n ≡ e → AreIssued sites events (given sites events (holding sites events) n e)
+    given_issued : (e : Option (Event F)) → is_accepted sites events (senders sites events n) e ≡ true
+        → slice_get events n ≡ e → AreIssued sites events (given sites events (holding sites events) n e)
     given_issued (Some (Take i (Ok parts))) fine at = λ r h. record { number = n; accepted = rw at fine; gives = rw at h }
     given_issued (Some (Retire i s)) fine at = λ r h. record { number = n; accepted = rw at fine; gives = rw at h }
     given_issued (Some (Deliver i m)) fine at = carried_issued (slice_get (senders sites events n) m) (sender_below sites events n m)
@@ -58,7 +61,8 @@ module _ {F : Type 0} (sites : ℕ) (events : List (Event F)) where
         let now = before n (omega arith) i in
         let gift_issued : AreIssued sites events (gift sites events n i) = cond_both (is_of sites events i n) _ _ (AreIssued sites events)
         (λ of_i. given_issued (slice_get events n) (and_left _ _ of_i) refl) (λ _. none_issued) in (
-          held_on sites events (AreIssued sites events) n i (λ _. now.1) (λ _. joined_issued (holding sites events n i) (gift sites events n i) now.0 gift_issued),
+          held_on sites events (AreIssued sites events) n i (λ _. now.1)
+              (λ _. joined_issued (holding sites events n i) (gift sites events n i) now.0 gift_issued),
           saved_next sites events (AreIssued sites events) n i (λ _. now.0) (λ _. now.1),
         )
 

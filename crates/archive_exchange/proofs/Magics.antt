@@ -43,7 +43,8 @@ unfolding summary_text
 other_old s e = apart 65 83 (sym (ap (λ (t : List ℕ). slice_index t 4) e)) refl refl
 
 pub not_an_archive : (s : Entries) (fault : RecordFault) → IsFault (summary_text s) fault → fault ≡ other_magic
-not_an_archive s fault is = one_fault (archive_format (summary_text s)) (summary_text s) fault other_magic is (is_bad (summary_text s) (5, omega arith, long s, other s, other_old s))
+not_an_archive s fault is = one_fault (archive_format (summary_text s)) (summary_text s) fault other_magic is
+    (is_bad (summary_text s) (5, omega arith, long s, other s, other_old s))
 
 long_archive : (o : Operations) → 5 ≤ length (written o)
 unfolding written

@@ -1,5 +1,6 @@
 -- The set of what reaches a site, in words.
-use Rattle.std.proofs.Common.{◌≡◌, ℕ, zero, suc, ◌<◌, Bool, true, false, not, ◌&&◌, ◌||◌, if◌then◌else◌, nat_lt, List, refl, sym, ◌∙◌, arith, inl, inr, slice_get}
+use Rattle.std.proofs.Common.{◌≡◌, ℕ, zero, suc, ◌<◌, Bool, true, false, not, ◌&&◌, ◌||◌, if◌then◌else◌, nat_lt, List}
+use Rattle.std.proofs.Common.{refl, sym, ◌∙◌, arith, inl, inr, slice_get}
 use Rattle.std.proofs.lemmas.Bool.{cases_eq, ltb-true}
 use Rattle.std.proofs.lemmas.Bool.Decides.{nat_tests}
 use Rattle.std.specs.Ordering.{nat_cmp}
@@ -70,19 +71,23 @@ or_else a b = grind arith
 module _ {F : Type 0} (sites : ℕ) (events : List (Event F)) (had : ℕ → ℕ → Operations) (o : List ℕ) (i n : ℕ) where
   pub reaching_reaches : contains (reaching sites events had i n) o ≡ true → Reaches sites events had o i n
   reaching_reaches h =
-      let found = in_union n (λ k. if is_of sites events i k && is_kept sites events i k n then given sites events had k (slice_get events k) else set.empty) o h in
-      let parts = in_if (is_of sites events i found.0 && is_kept sites events i found.0 n) (given sites events had found.0 (slice_get events found.0)) o found.2 in
+      let found = in_union n (λ k. if is_of sites events i k && is_kept sites events i k n
+      then given sites events had k (slice_get events k) else set.empty) o h in
+      let parts = in_if (is_of sites events i found.0 && is_kept sites events i found.0 n)
+      (given sites events had found.0 (slice_get events found.0)) o found.2 in
       record {
         number = found.0;
         before = found.1;
         of_site = and_left _ _ parts.0;
         gave = parts.1;
         kept = λ s a b stop. from_some found.0 s (saves sites events i) (where_true _ _ stop
-            (from_each found.0 n (λ s. not (stops sites events i s) || some_between found.0 s (saves sites events i)) (and_right (is_of sites events i found.0) _ parts.0) s a b));
+            (from_each found.0 n (λ s. not (stops sites events i s) || some_between found.0 s (saves sites events i))
+            (and_right (is_of sites events i found.0) _ parts.0) s a b));
       }
 
   pub reaches_reaching : Reaches sites events had o i n → contains (reaching sites events had i n) o ≡ true
   reaches_reaching is =
       let kept : is_kept sites events i is.number n ≡ true = to_each is.number n _ (λ s a b. or_else _ _ (λ stop.
-      let t : (t : ℕ) × (is.number < t) × (t < s) × (saves sites events i t ≡ true) = is.kept s a b stop in to_some is.number s (saves sites events i) t.0 t.1 t.2 t.3)) in
+      let t : (t : ℕ) × (is.number < t) × (t < s) × (saves sites events i t ≡ true) = is.kept s a b stop
+      in to_some is.number s (saves sites events i) t.0 t.1 t.2 t.3)) in
       to_union n _ o is.number is.before (rw (is.of_site, kept) is.gave)

@@ -46,10 +46,14 @@ module _ {F : Type 0} (sites : ℕ) (events : List (Event F)) where
       let both : IsBoth n i = both_by n i in
       record {
         held = held_next sites events (λ o. o ≡ content_of (reaching sites events (holding sites events) i (suc n))) n i (made_by n i both)
-            (λ h. both.saved ∙ ap content_of (sym (reach_stop (is_of sites events i) (stops sites events i) (saves sites events i) gives n h (given_stop n (slice_get events n) (and_right _ _ h)))))
-            (λ h. ap (λ o. joined o (gift sites events n i)) both.held ∙ joined_made _ _ ∙ ap content_of (sym (reach_next (is_of sites events i) (stops sites events i) (saves sites events i) gives n h)));
+            (λ h. both.saved ∙ ap content_of (sym (reach_stop (is_of sites events i) (stops sites events i)
+            (saves sites events i) gives n h (given_stop n (slice_get events n) (and_right _ _ h)))))
+            (λ h. ap (λ o. joined o (gift sites events n i)) both.held ∙ joined_made _ _
+            ∙ ap content_of (sym (reach_next (is_of sites events i) (stops sites events i) (saves sites events i)
+            gives n h)));
         saved = saved_next sites events (λ o. o ≡ content_of (keep (is_of sites events i) (stops sites events i) (saves sites events i) gives (suc n))) n i
-            (λ h. both.held ∙ ap content_of (sym (keep_save (is_of sites events i) (stops sites events i) (saves sites events i) gives n h (saving_no_stop i n h))))
+            (λ h. both.held ∙ ap content_of (sym (keep_save (is_of sites events i) (stops sites events i)
+            (saves sites events i) gives n h (saving_no_stop i n h))))
             (λ h. both.saved ∙ ap content_of (sym (keep_next (is_of sites events i) (stops sites events i) (saves sites events i) gives n h)));
       }
 

@@ -1,5 +1,6 @@
 -- What a rehearsal tells: each message that is told is there, and the lines of one site more.
-use Rattle.std.proofs.Common.{◌≡◌, ℕ, zero, suc, ◌+◌, ◌<◌, ◌≤◌, List, [], ◌∷◌, ◌++◌, length, map, refl, sym, ap, ◌∙◌, subst, arith, add-one, append_assoc, slice_get}
+use Rattle.std.proofs.Common.{◌≡◌, ℕ, zero, suc, ◌+◌, ◌<◌, ◌≤◌, List, [], ◌∷◌, ◌++◌, length, map, refl, sym, ap, ◌∙◌}
+use Rattle.std.proofs.Common.{subst, arith, add-one, append_assoc, slice_get}
 use Rattle.std.specs.Prelude.{All}
 use Rattle.std.specs.declared.option.Option.{Option}
 use Rattle.std.specs.declared.option.Option.TheVariants.{None, Some}
@@ -7,7 +8,8 @@ use Rattle.std.specs.declared.result.Result.TheVariants.{Ok}
 use Rattle.std.specs.List.{AllByRecursion, AllZip}
 use Rattle.std.proofs.lemmas.List.{append-nil, length-map, length_push}
 use Rattle.std.proofs.lemmas.List.Elements.{All-from_recursion}
-use Rattle.archive_exchange.specs.World.{World, Event, Take, Full, Ask, Reply, Message, Fault, state, stepped, happens, effect, unless, fault_of, answer, refused_or, outcome, outcome_of, outcomes}
+use Rattle.archive_exchange.specs.World.{World, Event, Take, Full, Ask, Reply, Message, Fault, state, stepped, happens}
+use Rattle.archive_exchange.specs.World.{effect, unless, fault_of, answer, refused_or, outcome, outcome_of, outcomes}
 use Rattle.archive_exchange.specs.World as model
 use Rattle.archive_core.specs.Content.{Operations}
 use Rattle.archive_exchange.specs.SiteState.{SiteState}
@@ -48,7 +50,9 @@ told_there w (Reply i m) = one_longer w.messages _
 told_there w (Take i (Ok parts)) = (same_long _, tt)
 told_there w e = (same_long _, tt)
 
-happened_there : {F : Type 0} (w : World) (e : Event F) (x : Option (Fault F)) → (length w.messages ≤ length (unless x w (effect w e)).messages) × IsThere (length (unless x w (effect w e)).messages) (refused_or x (answer w e))
+happened_there : {F : Type 0} (w : World) (e : Event F) (x : Option (Fault F))
+    → (length w.messages ≤ length (unless x w (effect w e)).messages)
+    × IsThere (length (unless x w (effect w e)).messages) (refused_or x (answer w e))
 happened_there w e (Some f) = (same_long _, tt)
 happened_there w e None = told_there w e
 
@@ -69,7 +73,8 @@ one_there : (k : ℕ) (told : Outcome) (a : model.Outcome TakeFault) → Outcome
 one_there k (Sent m) a tells there = let t : IsThere {F = TakeFault} k (model.Sent m) = subst (IsThere k) tells there in t
 one_there k told a tells there = tt
 
-each_there : (k : ℕ) (told : List Outcome) (answers : List (model.Outcome TakeFault)) → AllZip OutcomeIs told answers → AllByRecursion (IsThere k) answers → AllByRecursion (IsSentAmong k) told
+each_there : (k : ℕ) (told : List Outcome) (answers : List (model.Outcome TakeFault)) → AllZip OutcomeIs told answers
+    → AllByRecursion (IsThere k) answers → AllByRecursion (IsSentAmong k) told
 each_there k [] [] tells all = tt
 each_there k (o ∷ told) (a ∷ answers) tells all = (one_there k o a tells.0 all.0, each_there k told answers tells.1 all.1)
 each_there k _ _ tells all = absurd tells
@@ -82,7 +87,9 @@ all_there sites events kept texts told shows tells =
     let w = state sites events (length events) in
     let long : length texts ≡ length w.messages = ap length shows.sent ∙ length-map w.messages message_text in
     subst (λ k. All (IsSentAmong k) told) (sym long)
-    (All-from_recursion (IsSentAmong (length w.messages)) told (each_there (length w.messages) told (outcomes sites events (length events)) tells (answers_there sites events (length events))))
+    (All-from_recursion (IsSentAmong (length w.messages)) told
+    (each_there (length w.messages) told (outcomes sites events (length events)) tells
+    (answers_there sites events (length events))))
 
 -- the lines of no site, and of one more
 pub no_sites : (held : ℕ → Operations) (text : List ℕ) → text ≡ text ++ site_lines held 0
@@ -98,7 +105,8 @@ one_site w n kept texts site before text now shows at text_is now_is =
     rw (now_is, text_is, (shows.each n site at).held, add-one) (append_assoc before (site_lines w.held n) (held_line n (w.held n)))
 
 -- what a run tells, from the lines of its events and those of its sites
-pub told_so : (sites : ℕ) (events items : List Event_given) (seen : List ModelEvent) (kept : List SiteState) (texts : List (List ℕ)) (told outcomes_now : List Outcome) (none text now : List ℕ)
+pub told_so : (sites : ℕ) (events items : List Event_given) (seen : List ModelEvent) (kept : List SiteState)
+    (texts : List (List ℕ)) (told outcomes_now : List Outcome) (none text now : List ℕ)
     → events ≡ items → AreSeen events seen
     → Represents kept texts (state sites seen (length seen)) → AllZip OutcomeIs told (outcomes sites seen (length seen)) → length kept ≡ sites
     → outcomes_now ≡ told → none ≡ [] → text ≡ none ++ event_lines texts 0 outcomes_now

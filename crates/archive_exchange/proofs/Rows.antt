@@ -19,7 +19,8 @@ skipped_at o (None ∷ parts) (suc i) h = skipped_at o parts i h
 skipped_at o (Some s ∷ parts) (suc i) h = skipped_at (with_record o s) parts i h
 
 -- the row of a record, over what the records before it made
-pub row_at : (o : Operations) (parts : List (Option (List ℕ))) (i : ℕ) (r : List ℕ) → slice_get parts i ≡ Some (Some r) → slice_get (rows o parts) i ≡ Some (row_of (with_records o (records (take i parts))) r)
+pub row_at : (o : Operations) (parts : List (Option (List ℕ))) (i : ℕ) (r : List ℕ) → slice_get parts i ≡ Some (Some r)
+    → slice_get (rows o parts) i ≡ Some (row_of (with_records o (records (take i parts))) r)
 row_at o [] i r h = cc
 row_at o (None ∷ parts) zero r h = cc
 row_at o (Some s ∷ parts) zero r h = let e : s ≡ r = cc in ap (λ t. Some (row_of o t)) e

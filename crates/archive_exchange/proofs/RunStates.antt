@@ -62,7 +62,8 @@ each_by sites w v i new each here elsewhere j site h = elim (cases_eq j i) [
 ]
 
 pub shows_held : (sites : List SiteState) (texts : List (List ℕ)) (w : World) (i : ℕ) (old new : SiteState) (o : Operations)
-    → slice_get sites i ≡ Some old → Represents sites texts w → new.held ≡ o → new.saved ≡ old.saved → IsContent o → Represents (slice_set sites i new) texts (with_held w i o)
+    → slice_get sites i ≡ Some old → Represents sites texts w → new.held ≡ o → new.saved ≡ old.saved → IsContent o
+    → Represents (slice_set sites i new) texts (with_held w i o)
 shows_held sites texts w i old new o at sh held saved is = record {
   each = each_by sites w (with_held w i o) i new sh.each
       (record { held = held ∙ sym (updated_same w.held i o); saved = saved ∙ (sh.each i old at).saved })
@@ -74,7 +75,8 @@ shows_held sites texts w i old new o at sh held saved is = record {
 }
 
 pub shows_saved : (sites : List SiteState) (texts : List (List ℕ)) (w : World) (i : ℕ) (old new : SiteState)
-    → slice_get sites i ≡ Some old → Represents sites texts w → new.held ≡ old.held → new.saved ≡ written old.held → Represents (slice_set sites i new) texts (with_saved w i)
+    → slice_get sites i ≡ Some old → Represents sites texts w → new.held ≡ old.held → new.saved ≡ written old.held
+    → Represents (slice_set sites i new) texts (with_saved w i)
 shows_saved sites texts w i old new at sh held saved = record {
   each = each_by sites w (with_saved w i) i new sh.each
       (record {
@@ -95,7 +97,8 @@ sound_more [] m all is (suc k) x h = cc
 sound_more (y ∷ ms) m all is zero x h = all zero x h
 sound_more (y ∷ ms) m all is (suc k) x h = sound_more ms m (λ j. all (suc j)) is k x h
 
-pub shows_sent : (sites : List SiteState) (texts : List (List ℕ)) (w : World) (m : Message) → Represents sites texts w → IsSound m → Represents sites (texts ++ message_text m ∷ []) (with_sent w m)
+pub shows_sent : (sites : List SiteState) (texts : List (List ℕ)) (w : World) (m : Message) → Represents sites texts w
+    → IsSound m → Represents sites (texts ++ message_text m ∷ []) (with_sent w m)
 shows_sent sites texts w m sh is = record {
   each = λ i site h. record { held = (sh.each i site h).held; saved = (sh.each i site h).saved };
   sent = ap (λ t. t ++ message_text m ∷ []) sh.sent ∙ sym (map-append message_text w.messages (m ∷ []));
@@ -110,7 +113,8 @@ IsMessage w m text =
     ((o : Operations) × (slice_get w.messages m ≡ Some (Content o)) × (text ≡ written o) × IsContent o)
     ⊎ ((s : Entries) × (slice_get w.messages m ≡ Some (Summary s)) × (text ≡ summary_text s) × AreEntries s)
 
-pub message_at : (sites : List SiteState) (texts : List (List ℕ)) (w : World) (m : ℕ) (text : List ℕ) → Represents sites texts w → slice_get texts m ≡ Some text → IsMessage w m text
+pub message_at : (sites : List SiteState) (texts : List (List ℕ)) (w : World) (m : ℕ) (text : List ℕ)
+    → Represents sites texts w → slice_get texts m ≡ Some text → IsMessage w m text
 message_at sites texts w m text sh h = by (slice_get w.messages m) refl (sym h ∙ ap (λ l. slice_get l m) sh.sent ∙ slice_get-map message_text w.messages m)
   where
     by : (o : Option Message) → slice_get w.messages m ≡ o → Some text ≡ option_map message_text o → IsMessage w m text
@@ -131,7 +135,8 @@ none_shown = record {
 }
 
 -- one empty site more
-pub shown_more : (sites : List SiteState) (site : SiteState) → Represents sites [] start → site ≡ record { held = set.empty; saved = written set.empty } → Represents (sites ++ site ∷ []) [] start
+pub shown_more : (sites : List SiteState) (site : SiteState) → Represents sites [] start → site
+    ≡ record { held = set.empty; saved = written set.empty } → Represents (sites ++ site ∷ []) [] start
 shown_more sites site sh is = record {
   each = λ i s h. each sites i s sh.each h;
   sent = refl;
@@ -144,7 +149,9 @@ shown_more sites site sh is = record {
     fresh i = record { held = ap (λ (k : SiteState). k.held) is; saved = ap (λ (k : SiteState). k.saved) is }
 
     -- at the start all sites are alike, so that the number does not matter
-    each : (row : List SiteState) (i : ℕ) (s : SiteState) → ((j : ℕ) (t : SiteState) → slice_get row j ≡ Some t → IsSite start j t) → slice_get (row ++ site ∷ []) i ≡ Some s → IsSite start i s
+    each : (row : List SiteState) (i : ℕ) (s : SiteState)
+        → ((j : ℕ) (t : SiteState) → slice_get row j ≡ Some t → IsSite start j t) → slice_get (row ++ site ∷ []) i
+        ≡ Some s → IsSite start i s
     each [] zero s all h = let e : site ≡ s = cc in rw (← e) (fresh zero)
     each [] (suc i) s all h = cc
     each (y ∷ row) zero s all h = all zero s h

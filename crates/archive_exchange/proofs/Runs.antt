@@ -1,5 +1,6 @@
 -- A run of events, one after another.
-use Rattle.std.proofs.Common.{◌≡◌, ℕ, suc, ◌+◌, ◌<◌, ◌≤◌, true, List, [], ◌∷◌, ◌++◌, length, slice_get, refl, sym, ap, ◌∙◌, nat_lt, add-one, arith, inl, inr, true≢false, None, Some, Ok, Err, Option}
+use Rattle.std.proofs.Common.{◌≡◌, ℕ, suc, ◌+◌, ◌<◌, ◌≤◌, true, List, [], ◌∷◌, ◌++◌, length, slice_get, refl, sym, ap}
+use Rattle.std.proofs.Common.{◌∙◌, nat_lt, add-one, arith, inl, inr, true≢false, None, Some, Ok, Err, Option}
 use Rattle.std.specs.FinSet as set
 use Rattle.std.proofs.lemmas.Bool.{ltb-true, cases_lt}
 use Rattle.std.proofs.lemmas.Option.{slice_get_past}
@@ -27,7 +28,8 @@ record SeenAt (seen : List (Event TakeFault)) (i : ℕ) (event : code.Event) : T
   at : slice_get seen i ≡ Some e
   is : IsSeen event e
 
-seen_at : (events : List code.Event) (seen : List (Event TakeFault)) (i : ℕ) (event : code.Event) → AreSeen events seen → slice_get events i ≡ Some event → SeenAt seen i event
+seen_at : (events : List code.Event) (seen : List (Event TakeFault)) (i : ℕ) (event : code.Event) → AreSeen events seen
+    → slice_get events i ≡ Some event → SeenAt seen i event
 seen_at events seen i event all at = by (slice_get seen i) refl (rw at at (AllZip-left IsSeen events seen all i))
   where
     by : (o : Option (Event TakeFault)) → slice_get seen i ≡ o → IsSomeAnd o (λ e. IsSeen event e) → SeenAt seen i event
@@ -44,22 +46,30 @@ module _ (sites : ℕ) (events : List (Event TakeFault)) where
 
   -- what is recorded below i and at i is recorded below i + 1
   recorded_more : (i : ℕ) (e : Event TakeFault) → slice_get events i ≡ Some e → (site_of e < sites → IsRecorded e)
-      → ((k : ℕ) (r : List ℕ) → suc k ≤ i → is_accepted sites events (senders sites events k) (slice_get events k) ≡ true → set.contains (issues (slice_get events k)) r ≡ true → IsRecord r)
-      → (k : ℕ) (r : List ℕ) → suc k ≤ suc i → is_accepted sites events (senders sites events k) (slice_get events k) ≡ true → set.contains (issues (slice_get events k)) r ≡ true → IsRecord r
+      → ((k : ℕ) (r : List ℕ) → suc k ≤ i → is_accepted sites events (senders sites events k) (slice_get events k)
+      ≡ true → set.contains (issues (slice_get events k)) r ≡ true → IsRecord r)
+      → (k : ℕ) (r : List ℕ) → suc k ≤ suc i → is_accepted sites events (senders sites events k) (slice_get events k)
+      ≡ true → set.contains (issues (slice_get events k)) r ≡ true → IsRecord r
   recorded_more i e at here below k r le accepted has = elim (cases_lt k i) [
     | inl lt ↦ below k r (omega arith) accepted has
     | inr ge ↦
         let same : k ≡ i = omega arith in
         let there : slice_get events k ≡ Some e = ap (λ j. slice_get events j) same ∙ at in
-        here (ltb-true (site_of e) sites (inside (senders sites events k) e (sym (ap (λ o. is_accepted sites events (senders sites events k) o) there) ∙ accepted)))
+        here (ltb-true (site_of e) sites (inside (senders sites events k) e
+        (sym (ap (λ o. is_accepted sites events (senders sites events k) o) there) ∙ accepted)))
         r (sym (ap (λ o. set.contains (issues o) r) there) ∙ has)
   ]
 
-pub none_run : (sites : ℕ) (events : List (Event TakeFault)) (kept : List SiteState) (texts : List (List ℕ)) (told : List answered.Outcome) → texts ≡ [] → told ≡ [] → Represents kept [] start → HasRun sites events 0 kept texts told
-none_run sites events kept texts told no_text no_answer sh = rw (no_text, no_answer) (record { shows = sh; tells = tt; recorded = λ k r le. absurd (omega arith) })
+pub none_run : (sites : ℕ) (events : List (Event TakeFault)) (kept : List SiteState) (texts : List (List ℕ))
+    (told : List answered.Outcome) → texts ≡ [] → told ≡ [] → Represents kept [] start
+    → HasRun sites events 0 kept texts told
+none_run sites events kept texts told no_text no_answer sh =
+    rw (no_text, no_answer) (record { shows = sh; tells = tt; recorded = λ k r le. absurd (omega arith) })
 
 -- one event more
-pub run_next : (sites : ℕ) (code_events : List code.Event) (events : List (Event TakeFault)) (i : ℕ) (event : code.Event) (kept others : List SiteState) (texts later : List (List ℕ)) (told after : List answered.Outcome) (answer : answered.Outcome)
+pub run_next : (sites : ℕ) (code_events : List code.Event) (events : List (Event TakeFault)) (i : ℕ)
+    (event : code.Event) (kept others : List SiteState) (texts later : List (List ℕ))
+    (told after : List answered.Outcome) (answer : answered.Outcome)
     → AreSeen code_events events → slice_get code_events i ≡ Some event → length kept ≡ sites → HasRun sites events i kept texts told
     → ((e : Event TakeFault) → IsSeen event e → Happens e kept others texts later answer)
     → ((e : Event TakeFault) → IsSeen event e → site_of e < length kept → IsRecorded e)
@@ -77,10 +87,12 @@ run_next sites code_events events i event kept others texts later told after ans
     })
 
 -- each issued operation is a record
-pub records_of : (sites : ℕ) (events : List (Event TakeFault)) (kept : List SiteState) (texts : List (List ℕ)) (told : List answered.Outcome) → HasRun sites events (length events) kept texts told → AreRecords sites events
+pub records_of : (sites : ℕ) (events : List (Event TakeFault)) (kept : List SiteState) (texts : List (List ℕ))
+    (told : List answered.Outcome) → HasRun sites events (length events) kept texts told → AreRecords sites events
 records_of sites events kept texts told run r issued = elim (cases_lt issued.number (length events)) [
   | inl lt ↦ run.recorded issued.number r (omega arith) issued.accepted issued.gives
-  | inr ge ↦ absurd (true≢false (sym issued.accepted ∙ ap (λ o. is_accepted sites events (senders sites events issued.number) o) (slice_get_past events issued.number ge)))
+  | inr ge ↦ absurd (true≢false (sym issued.accepted ∙ ap
+      (λ o. is_accepted sites events (senders sites events issued.number) o) (slice_get_past events issued.number ge)))
 ]
 
 pub alike : (o p : Operations) → IsContent o → o ≡ p → AreAlike o p

@@ -1,5 +1,6 @@
 -- What an event does, in the words of the list of events alone.
-use Rattle.std.proofs.Common.{◌≡◌, ℕ, zero, suc, Bool, true, false, not, ◌&&◌, ◌==◌, if◌then◌else◌, nat_lt, List, [], ◌∷◌, ◌++◌, map, refl, sym, ap, ◌∙◌, subst, slice_get}
+use Rattle.std.proofs.Common.{◌≡◌, ℕ, zero, suc, Bool, true, false, not, ◌&&◌, ◌==◌, if◌then◌else◌, nat_lt, List, []}
+use Rattle.std.proofs.Common.{◌∷◌, ◌++◌, map, refl, sym, ap, ◌∙◌, subst, slice_get}
 use Rattle.std.specs.declared.result.Result.TheVariants.{Ok, Err}
 use Rattle.std.specs.declared.option.Option.{Option}
 use Rattle.std.specs.declared.option.Option.TheVariants.{None, Some}
@@ -12,8 +13,13 @@ use Rattle.std.proofs.lemmas.List.{append-nil, map-append}
 use Rattle.std.specs.FinSet as set
 use Rattle.archive_core.specs.Content.{Operations, with_records, joined, IsMade}
 use Rattle.archive_core.specs.Summary.{summary, delta}
-use Rattle.archive_exchange.specs.World.{World, Event, Take, Retire, Full, Ask, Reply, Deliver, Save, Stop, site_of, records, Message, Content, Summary, is_summary, operations_of, entries_of, Fault, NoSite, FileRefused, reply_fault, deliver_fault, fault_of, message_or, effect, unless, stepped, state}
-use Rattle.archive_exchange.specs.Reached.{is_ask, is_sending, is_saving, is_stop, site_or, from_ask, from_other, is_accepted, senders, is_of, stops, saves, asked, message_sent, carried, given}
+use Rattle.archive_exchange.specs.World.{World, Event, Take, Retire, Full, Ask, Reply, Deliver, Save, Stop, site_of}
+use Rattle.archive_exchange.specs.World.{records, Message, Content, Summary, is_summary, operations_of, entries_of}
+use Rattle.archive_exchange.specs.World.{Fault, NoSite, FileRefused, reply_fault, deliver_fault, fault_of, message_or}
+use Rattle.archive_exchange.specs.World.{effect, unless, stepped, state}
+use Rattle.archive_exchange.specs.Reached.{is_ask, is_sending, is_saving, is_stop, site_or, from_ask, from_other}
+use Rattle.archive_exchange.specs.Reached.{is_accepted, senders, is_of, stops, saves, asked, message_sent, carried}
+use Rattle.archive_exchange.specs.Reached.{given}
 use Rattle.archive_exchange.proofs.Content.{union_nothing, taken_gain}
 use Rattle.archive_exchange.proofs.Between.{and_right}
 
@@ -55,14 +61,17 @@ at_place i s b x o v g is h =
     ] refl
 
 saved_at : (i s : ℕ) (f g : ℕ → Operations) → (if i == s then f s else g i) ≡ (if (i == s) && true then f i else g i)
-saved_at i s f g = elim (i == s) as (λ c. (i == s) ≡ c → (if c then f s else g i) ≡ (if c && true then f i else g i)) [ true ↦ λ e. ap f (sym (eqb-true i s e)) | false ↦ λ e. refl ] refl
+saved_at i s f g = elim (i == s) as (λ c. (i == s) ≡ c → (if c then f s else g i) ≡ (if c && true then f i else g i))
+    [ true ↦ λ e. ap f (sym (eqb-true i s e)) | false ↦ λ e. refl ] refl
 
-held_if : (b here stop : Bool) (w v : World) (i : ℕ) (g : Operations) → IsMade (w.held i) → v.held i ≡ (if here && stop then w.saved i else joined (w.held i) (if here then g else set.empty))
+held_if : (b here stop : Bool) (w v : World) (i : ℕ) (g : Operations) → IsMade (w.held i) → v.held i
+    ≡ (if here && stop then w.saved i else joined (w.held i) (if here then g else set.empty))
     → (if b then v else w).held i ≡ (if (b && here) && stop then w.saved i else joined (w.held i) (if b && here then g else set.empty))
 held_if true here stop w v i g is h = h
 held_if false here stop w v i g is h = sym (nothing false (w.held i) (w.saved i) is)
 
-saved_if : (b here saving : Bool) (w v : World) (i : ℕ) → v.saved i ≡ (if here && saving then w.held i else w.saved i) → (if b then v else w).saved i ≡ (if (b && here) && saving then w.held i else w.saved i)
+saved_if : (b here saving : Bool) (w v : World) (i : ℕ) → v.saved i ≡ (if here && saving then w.held i else w.saved i)
+    → (if b then v else w).saved i ≡ (if (b && here) && saving then w.held i else w.saved i)
 saved_if true here saving w v i h = h
 saved_if false here saving w v i h = refl
 
@@ -116,10 +125,13 @@ module _ {F : Type 0} (sites : ℕ) (events : List (Event F)) where
     pub not_refused : (e : Event F) → is_none (fault_of sites (state sites events n) e) ≡ is_accepted sites events (senders sites events n) (Some e)
     not_refused (Take i (Err f)) = none_at (nat_lt i sites) (Some (FileRefused f)) false refl ∙ and-false (nat_lt i sites)
     not_refused (Reply i m) = none_at (nat_lt i sites) _ _ (ap (λ o. is_none (reply_fault {F = F} o)) (got m) ∙ reply_by (slice_get (senders sites events n) m))
-    not_refused (Deliver i m) = none_at (nat_lt i sites) _ _ (ap (λ o. is_none (deliver_fault {F = F} o)) (got m) ∙ deliver_by (slice_get (senders sites events n) m))
+    not_refused (Deliver i m) = none_at (nat_lt i sites) _ _
+        (ap (λ o. is_none (deliver_fault {F = F} o)) (got m) ∙ deliver_by (slice_get (senders sites events n) m))
     not_refused e = none_at {F = F} (nat_lt (site_of e) sites) None true refl ∙ and-true (nat_lt (site_of e) sites)
 
-    steps_as : (o : Option (Event F)) → stepped sites (state sites events n) o ≡ (if is_accepted sites events (senders sites events n) o then after (state sites events n) o else state sites events n)
+    steps_as : (o : Option (Event F)) → stepped sites (state sites events n) o
+        ≡ (if is_accepted sites events (senders sites events n) o then after (state sites events n) o
+        else state sites events n)
     steps_as None = refl
     steps_as (Some e) =
         let w : World = state sites events n in
@@ -127,9 +139,13 @@ module _ {F : Type 0} (sites : ℕ) (events : List (Event F)) where
 
     -- what an accepted event leaves at a site, and what is saved there
     held_as : (o : Option (Event F)) (i : ℕ) → IsMade (holding n i)
-        → (after (state sites events n) o).held i ≡ (if (i == site_or o) && is_stop o then saving n i else joined (holding n i) (if i == site_or o then given sites events holding n o else set.empty))
-    held_as (Some (Take s (Ok parts))) i is = at_place i s false _ (holding n i) (saving n i) _ is (λ e. ap (λ j. with_records (holding n j) (records parts)) (sym e) ∙ taken_gain (holding n i) (records parts) is)
-    held_as (Some (Retire s r)) i is = at_place i s false _ (holding n i) (saving n i) _ is (λ e. ap (λ j. with_records (holding n j) (r ∷ [])) (sym e) ∙ taken_gain (holding n i) (r ∷ []) is)
+        → (after (state sites events n) o).held i ≡ (if (i == site_or o) && is_stop o then saving n i
+        else joined (holding n i) (if i == site_or o then given sites events holding n o else set.empty))
+    held_as (Some (Take s (Ok parts))) i is = at_place i s false _ (holding n i) (saving n i) _ is
+        (λ e. ap (λ j. with_records (holding n j) (records parts)) (sym e)
+        ∙ taken_gain (holding n i) (records parts) is)
+    held_as (Some (Retire s r)) i is = at_place i s false _ (holding n i) (saving n i) _ is
+        (λ e. ap (λ j. with_records (holding n j) (r ∷ [])) (sym e) ∙ taken_gain (holding n i) (r ∷ []) is)
     held_as (Some (Deliver s m)) i is = at_place i s false _ (holding n i) (saving n i) _ is (λ e.
         ap (λ j. joined (holding n j) (operations_of (message_or (slice_get (state sites events n).messages m)))) (sym e)
         ∙ ap (joined (holding n i)) (ap (λ o. operations_of (message_or o)) (got m) ∙ carried_as (slice_get (senders sites events n) m)))
@@ -154,7 +170,8 @@ module _ {F : Type 0} (sites : ℕ) (events : List (Event F)) where
     messages_as (Some (Full i)) at h = one_more _ (ap (message_sent sites events holding n) (sym at))
     messages_as (Some (Ask i)) at h = one_more _ (ap (message_sent sites events holding n) (sym at))
     messages_as (Some (Reply i m)) at h = one_more _ (
-        ap (λ s. Content (delta (holding n i) s)) (ap (λ o. entries_of (message_or o)) (got m) ∙ asked_as (slice_get (senders sites events n) m) (and_right (nat_lt i sites) _ h))
+        ap (λ s. Content (delta (holding n i) s)) (ap (λ o. entries_of (message_or o)) (got m)
+        ∙ asked_as (slice_get (senders sites events n) m) (and_right (nat_lt i sites) _ h))
         ∙ ap (message_sent sites events holding n) (sym at))
     messages_as (Some (Take i (Ok parts))) at h = none_more
     messages_as o at h = none_more
@@ -165,7 +182,9 @@ module _ {F : Type 0} (sites : ℕ) (events : List (Event F)) where
       let w : World = state sites events n in
       let o : Option (Event F) = slice_get events n in
       ap (λ v. v.messages) (steps_as n (told_by n) o)
-      ∙ elim (is_accepted sites events (senders sites events n) o) as (λ b. is_accepted sites events (senders sites events n) o ≡ b → (if b then after w o else w).messages ≡ map sent (senders sites events n ++ (if b && is_sending o then n ∷ [] else []))) [
+      ∙ elim (is_accepted sites events (senders sites events n) o) as
+      (λ b. is_accepted sites events (senders sites events n) o ≡ b → (if b then after w o else w).messages
+      ≡ map sent (senders sites events n ++ (if b && is_sending o then n ∷ [] else []))) [
         | true ↦ messages_as n (told_by n) o refl
         | false ↦ λ _. none_more n (told_by n)
       ] refl
@@ -175,12 +194,17 @@ module _ {F : Type 0} (sites : ℕ) (events : List (Event F)) where
       → (stops sites events i n ≡ false → P (joined (holding n i) (gift n i))) → P (holding (suc n) i)
   held_next P n i is stop on =
       let o : Option (Event F) = slice_get events n in
-      subst P (sym (ap (λ v. v.held i) (steps_as n (told_by n) o) ∙ held_if (is_accepted sites events (senders sites events n) o) (i == site_or o) (is_stop o) _ _ i _ is (held_as n (told_by n) o i is)))
+      subst P (sym (ap (λ v. v.held i) (steps_as n (told_by n) o)
+      ∙ held_if (is_accepted sites events (senders sites events n) o) (i == site_or o) (is_stop o) _ _ i _ is
+      (held_as n (told_by n) o i is)))
       (cond_both (stops sites events i n) _ _ P stop on)
 
   -- and what is saved there
-  pub saved_next : (P : Operations → Type 0) (n i : ℕ) → (saves sites events i n ≡ true → P (holding n i)) → (saves sites events i n ≡ false → P (saving n i)) → P (saving (suc n) i)
+  pub saved_next : (P : Operations → Type 0) (n i : ℕ) → (saves sites events i n ≡ true → P (holding n i))
+      → (saves sites events i n ≡ false → P (saving n i)) → P (saving (suc n) i)
   saved_next P n i save on =
       let o : Option (Event F) = slice_get events n in
-      subst P (sym (ap (λ v. v.saved i) (steps_as n (told_by n) o) ∙ saved_if (is_accepted sites events (senders sites events n) o) (i == site_or o) (is_saving o) _ _ i (saved_as n (told_by n) o i)))
+      subst P (sym (ap (λ v. v.saved i) (steps_as n (told_by n) o)
+      ∙ saved_if (is_accepted sites events (senders sites events n) o) (i == site_or o) (is_saving o) _ _ i
+      (saved_as n (told_by n) o i)))
       (cond_both (saves sites events i n) _ _ P save on)

@@ -6,4 +6,5 @@ use Rattle.archive_exchange.specs.Issued.{IsIssued, IsEntryTelling, AreRecords, 
 
 pub telling : {F : Type 0} (sites : ℕ) (events : List (Event F)) → AreRecords sites events → IsDigestTelling sites events → IsEntryTelling sites events
 telling sites events are digests r s in_r in_s e =
-    entry_tells r s (are r in_r) (are s in_s) e (λ a b is_a is_b. digests a b (subst (IsIssued sites events) is_a in_r) (subst (IsIssued sites events) is_b in_s))
+    entry_tells r s (are r in_r) (are s in_s) e (λ a b is_a is_b. digests a b (subst (IsIssued sites events) is_a in_r)
+    (subst (IsIssued sites events) is_b in_s))

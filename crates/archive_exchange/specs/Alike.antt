@@ -1,4 +1,4 @@
--- What it is that two contents are alike, and that sites of two runs took the same operations.
+-- When two contents are alike, and when sites of two runs took the same operations.
 use Rattle.std.specs.Prelude.{◌≡◌, ◌↔◌, ℕ, List}
 use Rattle.archive_core.specs.Content.{Operations, content_of}
 use Rattle.archive_core.specs.Find.{IsFinds}

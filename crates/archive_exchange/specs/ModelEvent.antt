@@ -1,4 +1,4 @@
--- What the events of a rehearsal and their outcomes are to the definitions of sites (`World`).
+-- The events of a rehearsal and their outcomes, as the definitions of sites (`World`) have them.
 use Rattle.std.specs.Prelude.{◌≡◌, ◌≢◌, ℕ, List, drop, map, if◌then◌else◌}
 use Rattle.std.specs.declared.option.Option.{Option}
 use Rattle.std.specs.declared.option.Option.TheVariants.{None, Some}

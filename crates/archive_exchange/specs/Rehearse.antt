@@ -1,4 +1,4 @@
--- What `rehearse` tells of a script.
+-- The report of `rehearse` for a script.
 use Rattle.std.specs.Prelude.{◌≡◌, ℕ, zero, suc, List, [], ◌++◌, Ok, length, map}
 use Rattle.std.specs.List.{AllZip}
 use Rattle.sha2.specs.Sha256.{sha256}

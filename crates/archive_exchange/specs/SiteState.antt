@@ -1,4 +1,4 @@
--- What a site keeps, and what the text of an archive says.
+-- The archive that a site keeps, and the statements of an archive's text.
 use Rattle.std.specs.Prelude.{◌≡◌, ℕ, List, refl}
 use Rattle.std.specs.Ordering.{nat_cmp}
 use Rattle.std.specs.Cmp.Lexicographic.{slice_cmp}

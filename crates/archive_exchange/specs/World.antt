@@ -1,4 +1,4 @@
--- Sites that exchange files: the state of all of them, an event, what it changes and what is answered to it.
+-- Sites that exchange files: the state of all of them, an event, how it changes them, and the answer to it.
 use Rattle.std.specs.Prelude.{Result, ℕ, zero, suc, List, [], ◌∷◌, ◌++◌, Bool, true}
 use Rattle.std.specs.Prelude.{false, ◌==◌, if◌then◌else◌, nat_lt, length, slice_get}
 use Rattle.std.specs.declared.option.Option.{Option}

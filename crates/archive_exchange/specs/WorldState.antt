@@ -1,4 +1,4 @@
--- The sites and the messages of a rehearsal beside a `World`, and what an event makes of them.
+-- The sites and the messages of a rehearsal next to a `World`, and how an event changes them.
 use Rattle.std.specs.Prelude.{◌≡◌, ◌<◌, ◌^◌, ℕ, List, Some, length, map, slice_get, refl}
 use Rattle.std.specs.Coded.{Coded, code_by, coded×, coded_list, coded_ℕ}
 use Rattle.archive_core.specs.Content.{IsContent}

@@ -1,7 +1,8 @@
 //! The lines of `rehearse`.
 ghost use Rattle.std.specs.Prelude.{◌≡◌, ◌<◌, ◌++◌, [], All, OnOk, length, slice_index_or, string_bytes};
 ghost use Rattle.std.specs.List.{count_by};
-ghost use Rattle.archive_exchange.specs.EventLines.{IsSentAmong, event_lines, is_added, is_known, is_skipped, outcome_text};
+ghost use Rattle.archive_exchange.specs.EventLines.{IsSentAmong, event_lines, is_added, is_known, is_skipped};
+ghost use Rattle.archive_exchange.specs.EventLines.{outcome_text};
 ghost use Rattle.archive_exchange.specs.EventLines.{site_line, took_text};
 ghost use Rattle.text_reports.specs.Report.{line};
 

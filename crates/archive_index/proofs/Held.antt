@@ -21,7 +21,8 @@ use Rattle.archive_core.proofs.Taken.{tied_is}
 pub use Rattle.archive_core.proofs.Made.{bytes_same}
 
 -- what holds along a list holds of each member of its set
-pub each_member : (P : List ℕ → Type 0) (ks : List (List ℕ)) → AllByRecursion P ks → (r : List ℕ) → contains (from_list {R = slice_cmp nat_cmp} ks) r ≡ true → P r
+pub each_member : (P : List ℕ → Type 0) (ks : List (List ℕ)) → AllByRecursion P ks → (r : List ℕ)
+    → contains (from_list {R = slice_cmp nat_cmp} ks) r ≡ true → P r
 each_member P [] all r h = cc (sym h ∙ contains-empty (slice_cmp nat_cmp) r)
 each_member P (k ∷ ks) all r h =
     either (P r) _ _ (λ t. rw (tied_is r k t) all.0) (each_member P ks all.1 r) (sym (contains-insert nat_list_cmp_total (from_list ks) k r) ∙ h)
@@ -32,7 +33,8 @@ records_along [] are = tt
 records_along (x ∷ xs) are = (record_of_operation x are.0, records_along xs are.1)
 
 -- what has the records of operations has no others
-pub are_records : (operations : List Operation) → AllByRecursion IsOperation operations → (r : List ℕ) → contains (from_list {R = slice_cmp nat_cmp} (map record_bytes operations)) r ≡ true → IsRecord r
+pub are_records : (operations : List Operation) → AllByRecursion IsOperation operations → (r : List ℕ)
+    → contains (from_list {R = slice_cmp nat_cmp} (map record_bytes operations)) r ≡ true → IsRecord r
 are_records operations are = each_member IsRecord (map record_bytes operations) (records_along operations are)
 
 -- what is held makes a content
@@ -48,7 +50,8 @@ pub along_insert : (P : Operation → Type 0) (xs : List Operation) (i : ℕ) (x
 along_insert P xs i x p h = recursion_from_All P _ (All-permutation P (x ∷ xs) _ (IsPermutation-insert xs i x) (All-from_recursion P (x ∷ xs) (p, h)))
 
 -- an operation may go in at the place of its record, where none then covers another
-pub held_insert : (operations : List Operation) (i : ℕ) (operation : Operation) → IsHeld operations → IsOperation operation → IsPlaceFor (slice_cmp nat_cmp) (map record_bytes operations) (record_bytes operation) i
+pub held_insert : (operations : List Operation) (i : ℕ) (operation : Operation) → IsHeld operations
+    → IsOperation operation → IsPlaceFor (slice_cmp nat_cmp) (map record_bytes operations) (record_bytes operation) i
     → IsMade (from_list (map record_bytes (insert_at operations i operation))) → IsHeld (insert_at operations i operation)
 held_insert operations i operation held one asked made = record {
   ascending = rw (map_insert operations i operation) asked.ascending;
@@ -57,7 +60,8 @@ held_insert operations i operation held one asked made = record {
 }
 
 -- an operation that is taken leaves a content
-pub content_with : (o next : set.FinSet (slice_cmp nat_cmp)) (operation : Operation) → IsContent o → IsOperation operation → next ≡ with_record o (record_bytes operation) → IsContent next
+pub content_with : (o next : set.FinSet (slice_cmp nat_cmp)) (operation : Operation) → IsContent o
+    → IsOperation operation → next ≡ with_record o (record_bytes operation) → IsContent next
 content_with o next operation content one is = rw is (record {
   itself = made_again (set.insert o (record_bytes operation));
   records = λ r h.
@@ -71,5 +75,8 @@ unfolding IsStrictlySortedBy
 held_none = record { ascending = tt; are = tt; itself = made_empty }
 
 -- and the content gains its record
-pub records_insert : (operations : List Operation) (i : ℕ) (operation : Operation) → from_list {R = slice_cmp nat_cmp} (map record_bytes (insert_at operations i operation)) ≡ set.insert (from_list (map record_bytes operations)) (record_bytes operation)
-records_insert operations i operation = ap from_list (map_insert operations i operation) ∙ from_list_insert nat_list_cmp_total bytes_same (map record_bytes operations) i (record_bytes operation)
+pub records_insert : (operations : List Operation) (i : ℕ) (operation : Operation)
+    → from_list {R = slice_cmp nat_cmp} (map record_bytes (insert_at operations i operation))
+    ≡ set.insert (from_list (map record_bytes operations)) (record_bytes operation)
+records_insert operations i operation = ap from_list (map_insert operations i operation)
+    ∙ from_list_insert nat_list_cmp_total bytes_same (map record_bytes operations) i (record_bytes operation)

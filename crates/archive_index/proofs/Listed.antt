@@ -32,7 +32,8 @@ use Rattle.archive_core.proofs.Members.{in_order, in_filter, to_filter, one_with
 use Rattle.archive_core.proofs.Told.{record_there, operation_there, list_total, listed_of_content, content_of_listed, found_under}
 
 -- records are those of operations
-operations_of : (rs : List (List ℕ)) → AllByRecursion IsRecord rs → (operations : List Operation) × AllByRecursion IsOperation operations × (map record_bytes operations ≡ rs)
+operations_of : (rs : List (List ℕ)) → AllByRecursion IsRecord rs → (operations : List Operation)
+    × AllByRecursion IsOperation operations × (map record_bytes operations ≡ rs)
 operations_of [] all = ([], tt, refl)
 operations_of (r ∷ rs) all =
     let first = operation_of_record r all.0 in
@@ -52,7 +53,8 @@ held_of o content =
 one_under : (a b : Operation) → key_in a ≡ key_in b → record_bytes a ≡ record_bytes b → a ≡ b
 unfolding admission
 one_under (Admit s) (Admit t) key e =
-    let behind_key = (same_parts (key_bytes (key_of s)) (key_bytes (key_of t)) (to_be_bytes w64 (length s) ++ s) (to_be_bytes w64 (length t) ++ t) (ap (λ k. length (key_bytes k)) key) (ap (drop 1) e)).1 in
+    let behind_key = (same_parts (key_bytes (key_of s)) (key_bytes (key_of t)) (to_be_bytes w64 (length s) ++ s)
+    (to_be_bytes w64 (length t) ++ t) (ap (λ k. length (key_bytes k)) key) (ap (drop 1) e)).1 in
     ap Admit (same_parts (to_be_bytes w64 (length s)) (to_be_bytes w64 (length t)) s t refl behind_key).1
 one_under (Admit s) (Retire l d) key e = cc
 one_under (Retire k c) (Admit t) key e = cc
@@ -71,7 +73,8 @@ operations_same a b h =
     let uuid = bytes_same k.uuid l.uuid parts.0 in
     let cputype = nat_cmp-IsAntisymmetric k.arch.cputype l.arch.cputype arch.0 in
     let cpusubtype = nat_cmp-IsAntisymmetric k.arch.cpusubtype l.arch.cpusubtype arch.1 in
-    one_under a b (λ i. record { uuid = uuid i; arch = record { cputype = cputype i; cpusubtype = cpusubtype i } }) (bytes_same (record_bytes a) (record_bytes b) rest.1)
+    one_under a b (λ i. record { uuid = uuid i; arch = record { cputype = cputype i; cpusubtype = cpusubtype i } })
+    (bytes_same (record_bytes a) (record_bytes b) rest.1)
 
 -- each content has a list
 pub some_list : (o : Operations) → IsContent o → (rows : List FindRow) × IsList o rows
@@ -97,7 +100,8 @@ some_list o content =
 -- a content has one list
 pub one_list_of_all : (o : Operations) (rows others : List FindRow) → IsList o rows → IsList o others → rows ≡ others
 one_list_of_all o rows others f g =
-    let one = one_with_members list_total f.operations g.operations f.ascending g.ascending (λ a h. (g.exactly a).1 ((f.exactly a).0 h)) (λ a h. (f.exactly a).1 ((g.exactly a).0 h)) in
+    let one = one_with_members list_total f.operations g.operations f.ascending g.ascending
+    (λ a h. (g.exactly a).1 ((f.exactly a).0 h)) (λ a h. (f.exactly a).1 ((g.exactly a).0 h)) in
     f.rows_are ∙ ap (map row_of) one ∙ sym g.rows_are
 
 -- operations under a UUID
@@ -114,12 +118,14 @@ rows_of_under uuid (x ∷ xs) = grind (arith, rows_of_under uuid xs)
 below_under : (uuid : List ℕ) (a b : Operation) → (key_in a).uuid ≡ uuid → (key_in b).uuid ≡ uuid → list_cmp a b ≡ Less → find_cmp a b ≡ Less
 below_under uuid a b a_is b_is h = rw (a_is, b_is, tied_itself nat_list_cmp_total uuid) at h
 
-ascending_under : (uuid : List ℕ) (xs : List Operation) → AllByRecursion (λ a. (key_in a).uuid ≡ uuid) xs → IsStrictlySortedBy list_cmp xs → IsStrictlySortedBy find_cmp xs
+ascending_under : (uuid : List ℕ) (xs : List Operation) → AllByRecursion (λ a. (key_in a).uuid ≡ uuid) xs
+    → IsStrictlySortedBy list_cmp xs → IsStrictlySortedBy find_cmp xs
 unfolding IsStrictlySortedBy
 ascending_under uuid [] are up = tt
 ascending_under uuid (x ∷ xs) are up = (each xs are.1 up.0, ascending_under uuid xs are.1 up.1)
   where
-    each : (ys : List Operation) → AllByRecursion (λ a. (key_in a).uuid ≡ uuid) ys → AllByRecursion (λ y. list_cmp x y ≡ Less) ys → AllByRecursion (λ y. find_cmp x y ≡ Less) ys
+    each : (ys : List Operation) → AllByRecursion (λ a. (key_in a).uuid ≡ uuid) ys
+        → AllByRecursion (λ y. list_cmp x y ≡ Less) ys → AllByRecursion (λ y. find_cmp x y ≡ Less) ys
     each [] all g = tt
     each (y ∷ ys) all g = (below_under uuid x y are.0 all.0 g.0, each ys all.1 g.1)
 
@@ -128,7 +134,8 @@ pub part_of_list : (o : Operations) (uuid : List ℕ) (rows : List FindRow) → 
 unfolding under
 part_of_list o uuid rows list = record {
   operations = filter (under uuid) list.operations;
-  ascending = ascending_under uuid (filter (under uuid) list.operations) (recursion_from_All _ _ all_under) (IsStrictlySortedBy-filter list_cmp (under uuid) list.operations list.ascending);
+  ascending = ascending_under uuid (filter (under uuid) list.operations) (recursion_from_All _ _ all_under)
+      (IsStrictlySortedBy-filter list_cmp (under uuid) list.operations list.ascending);
   exactly = λ a. (to a, back a);
   rows_are = ap (rows_under uuid) list.rows_are ∙ sym (rows_of_under uuid list.operations);
 }

@@ -36,7 +36,8 @@ pub record AreOrdered (old new : List NameRow) : Type 0 where
   pub ascending : IsStrictlySortedBy name_cmp (map name_view new)
   pub same : (row : NameRecord) → Contains (map name_view new) row ↔ Contains (map name_view old) row
 
-pub ordered : (old sorted : List NameRow) → IsPermutation old sorted → IsSorted (on name_view name_cmp) sorted → AreOrdered old (dedup (eq_by_cmp (on name_view name_cmp)) sorted)
+pub ordered : (old sorted : List NameRow) → IsPermutation old sorted → IsSorted (on name_view name_cmp) sorted
+    → AreOrdered old (dedup (eq_by_cmp (on name_view name_cmp)) sorted)
 ordered old sorted permuted up = record {
   ascending = ascending_map name_cmp name_view kept (IsStrictlySortedBy-dedup total (λ x y. refl) sorted up);
   same = λ row. (to row, back row);
@@ -51,7 +52,8 @@ ordered old sorted permuted up = record {
     to : (row : NameRecord) → Contains (map name_view kept) row → Contains (map name_view old) row
     to row h =
         let one = in_map name_view kept row h in
-        let there = Contains-permutation sorted old one.0 (IsPermutation-sym old sorted permuted) (Contains-from_dedup (eq_by_cmp (on name_view name_cmp)) sorted one.0 one.1) in
+        let there = Contains-permutation sorted old one.0 (IsPermutation-sym old sorted permuted)
+        (Contains-from_dedup (eq_by_cmp (on name_view name_cmp)) sorted one.0 one.1) in
         subst (Contains (map name_view old)) (sym one.2) (to_map name_view old one.0 there)
 
     back : (row : NameRecord) → Contains (map name_view old) row → Contains (map name_view kept) row
@@ -60,13 +62,18 @@ ordered old sorted permuted up = record {
         let there = Contains-permutation old sorted one.0 permuted one.1 in
         let alike = Any-dedup (eq_by_cmp_equiv total) sorted one.0 there in
         let tied : name_cmp (name_view one.0) (name_view alike.1) ≡ Equal = (Equal-is (name_cmp (name_view one.0) (name_view alike.1))).0 alike.4 in
-        subst (Contains (map name_view kept)) (sym (one.2 ∙ rows_same (name_view one.0) (name_view alike.1) tied)) (to_map name_view kept alike.1 (alike.0, alike.2, alike.3))
+        subst (Contains (map name_view kept)) (sym (one.2 ∙ rows_same (name_view one.0) (name_view alike.1) tied))
+        (to_map name_view kept alike.1 (alike.0, alike.2, alike.3))
 
 -- the rows of one more operation
 pub names_more : (name : List ℕ) (operations : List Operation) (i : ℕ) (a : Operation) → i < length operations → a ≡ slice_index_or operations i a
     → names_among name (take (i + 1) operations) ≡ names_among name (take i operations) ++ names_of name a
 unfolding names_among
-names_more name operations i a lt is = rw (take_one_more operations i a lt is, flat_map-append (names_of name) (take i operations) (a ∷ []), append-nil (names_of name a)) refl
+names_more name operations i a lt is = rw (
+  take_one_more operations i a lt is,
+  flat_map-append (names_of name) (take i operations) (a ∷ []),
+  append-nil (names_of name a),
+) refl
 
 -- what a scan finds are the rows of the name
 pub names_scanned : (o : Operations) (name : List ℕ) (operations : List Operation) → IsHeld operations → from_list (map record_bytes operations) ≡ o
@@ -81,7 +88,8 @@ names_scanned o name operations held is row = (to, back)
         record {
           slice = slice;
           valid = valid;
-          live = live_in_content o slice (subst IsContent is (content_of_held operations held)) valid (ap (λ s. contains s (admission_record slice)) (sym is) ∙ record_there operations (Admit slice) there);
+          live = live_in_content o slice (subst IsContent is (content_of_held operations held)) valid
+              (ap (λ s. contains s (admission_record slice)) (sym is) ∙ record_there operations (Admit slice) there);
           found = one.0;
           candidate = one.1;
           row_is = one.2;
@@ -105,7 +113,8 @@ one_list_of_names o name rows others f g =
 
 -- put in order, they are what a search for the name tells
 pub names_put : (o : Operations) (name : List ℕ) (operations : List Operation) → IsHeld operations → from_list (map record_bytes operations) ≡ o
-    → (old new : List NameRecord) → old ≡ names_among name operations → IsStrictlySortedBy name_cmp new → ((row : NameRecord) → Contains new row ↔ Contains old row) → IsNames o name new
+    → (old new : List NameRecord) → old ≡ names_among name operations → IsStrictlySortedBy name_cmp new
+    → ((row : NameRecord) → Contains new row ↔ Contains old row) → IsNames o name new
 names_put o name operations held is old new gathered ascending same = record {
   ascending = ascending;
   exactly = λ row.
@@ -118,5 +127,8 @@ pub some_names : (o : Operations) (name : List ℕ) → IsContent o → (rows : 
 some_names o name content =
     let held = held_of o content in
     let gathered = names_among name held.0 in
-    let told = from_list {R = name_cmp} gathered in
-    (listing told, names_put o name held.0 held.1 held.2 gathered (listing told) refl (listed name_total rows_same told).ascending (in_order name_total rows_same gathered))
+    let told = from_list {R = name_cmp} gathered in (
+      listing told,
+      names_put o name held.0 held.1 held.2 gathered (listing told) refl
+          (listed name_total rows_same told).ascending (in_order name_total rows_same gathered),
+    )

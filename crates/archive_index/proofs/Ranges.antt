@@ -1,5 +1,7 @@
 -- The operations of one kind under one key, or under one UUID, stand together.
-use Rattle.std.proofs.Common.{◌≡◌, ℕ, ◌<◌, ◌≤◌, ◌-◌, ◌+◌, get_or, length-drop, Bool, true, false, cond, List, [], ◌∷◌, ◌++◌, length, map, filter, drop, None, refl, sym, ap, ◌∙◌, arith, append_assoc, w32, inl, inr}
+use Rattle.std.proofs.Common.{◌≡◌, ℕ, ◌<◌, ◌≤◌, ◌-◌, ◌+◌, get_or, length-drop, Bool, true, false, cond, List, [], ◌∷◌}
+use Rattle.std.proofs.Common.{◌++◌, length, map, filter, drop, None, refl, sym, ap, ◌∙◌, arith, append_assoc, w32, inl}
+use Rattle.std.proofs.Common.{inr}
 use Rattle.std.proofs.lemmas.Bool.{cases_lt, false_from_ne_true}
 use Rattle.std.specs.declared.cmp.Ordering.{Ordering}
 use Rattle.std.specs.declared.cmp.Ordering.TheVariants.{Less, Equal, Greater}
@@ -73,25 +75,33 @@ length_front (OfUuid _) (Retire key digest) is = omega (arith, is.0.uuid)
 
 module _ (test : Ordering → Bool) (less : test Less ≡ true) (greater : test Greater ≡ false) where
   -- what is not above a text that passes, passes
-  passes : (x y w : List ℕ) (r s : Ordering) → slice_cmp nat_cmp x y ≡ r → slice_cmp nat_cmp y w ≡ s → (t : Ordering) → ordering_then r t ≡ Less → test s ≡ true → test (slice_cmp nat_cmp x w) ≡ true
+  passes : (x y w : List ℕ) (r s : Ordering) → slice_cmp nat_cmp x y ≡ r → slice_cmp nat_cmp y w ≡ s → (t : Ordering)
+      → ordering_then r t ≡ Less → test s ≡ true → test (slice_cmp nat_cmp x w) ≡ true
   passes x y w Less Less e f t h g = rw (nat_list_cmp_total.trans x y w e f) less
   passes x y w Less Equal e f t h g = let same = bytes_same y w f in rw (← same, e) less
   passes x y w Less Greater e f t h g = cc (sym g ∙ greater)
   passes x y w Equal s e f t h g = let same = bytes_same x y e in rw (same, f) g
   passes x y w Greater s e f t h g = cc
 
-  rises : (scope : Scope) (w : List ℕ) (a b : Operation) → IsOperation a → IsOperation b → slice_cmp nat_cmp (record_bytes a) (record_bytes b) ≡ Less → test (slice_cmp nat_cmp (prefix_of scope b) w) ≡ true → test (slice_cmp nat_cmp (prefix_of scope a) w) ≡ true
+  rises : (scope : Scope) (w : List ℕ) (a b : Operation) → IsOperation a → IsOperation b
+      → slice_cmp nat_cmp (record_bytes a) (record_bytes b) ≡ Less → test (slice_cmp nat_cmp (prefix_of scope b) w)
+      ≡ true → test (slice_cmp nat_cmp (prefix_of scope a) w) ≡ true
   rises scope w a b is_a is_b h g =
       passes (prefix_of scope a) (prefix_of scope b) w _ _ refl refl (slice_cmp nat_cmp (behind scope a) (behind scope b))
-      (sym (slice_cmp-append (prefix_of scope a) (prefix_of scope b) (behind scope a) (behind scope b) (length_front scope a is_a ∙ sym (length_front scope b is_b))) ∙ (λ i. slice_cmp nat_cmp (sym (record_parts scope a) i) (sym (record_parts scope b) i)) ∙ h)
+      (sym (slice_cmp-append (prefix_of scope a) (prefix_of scope b) (behind scope a) (behind scope b)
+      (length_front scope a is_a ∙ sym (length_front scope b is_b)))
+      ∙ (λ i. slice_cmp nat_cmp (sym (record_parts scope a) i) (sym (record_parts scope b) i)) ∙ h)
       g
 
   -- so the test of how their records begin parts operations that ascend
-  pub parted : (scope : Scope) (w : List ℕ) (xs : List Operation) → IsStrictlySortedBy (slice_cmp nat_cmp) (map record_bytes xs) → AllByRecursion IsOperation xs → IsPartitionedBy (λ a. test (slice_cmp nat_cmp (prefix_of scope a) w)) xs
+  pub parted : (scope : Scope) (w : List ℕ) (xs : List Operation)
+      → IsStrictlySortedBy (slice_cmp nat_cmp) (map record_bytes xs) → AllByRecursion IsOperation xs
+      → IsPartitionedBy (λ a. test (slice_cmp nat_cmp (prefix_of scope a) w)) xs
   parted scope w xs up known i j d le lt t = elim (cases_lt i j) [
     | inl before ↦
         let records = Less-from_sorted (slice_cmp nat_cmp) (map record_bytes xs) i j (record_bytes d) up before (rw (length-map xs record_bytes) lt) in
-        rises scope w (get_or xs i d) (get_or xs j d) (All-from_recursion IsOperation xs known i d (omega arith)) (All-from_recursion IsOperation xs known j d lt)
+        rises scope w (get_or xs i d) (get_or xs j d) (All-from_recursion IsOperation xs known i d (omega arith))
+        (All-from_recursion IsOperation xs known j d lt)
         (rw (get_or-map record_bytes xs i d (record_bytes d) (omega arith), get_or-map record_bytes xs j d (record_bytes d) lt) at records) t
     | inr same ↦ let e : i ≡ j = omega arith in rw e t
   ]
@@ -102,7 +112,9 @@ gt_of_le r b h f = grind arith
 lt_of_le : (r : Ordering) → is_le r ≡ false → is_lt r ≡ false
 lt_of_le r h = grind arith
 
-module _ (kind : RecordKind) (scope : Scope) (xs : List Operation) (up : IsStrictlySortedBy (slice_cmp nat_cmp) (map record_bytes xs)) (are : AllByRecursion IsOperation xs) (i : ℕ) (within : i ≤ length xs) where
+module _ (kind : RecordKind) (scope : Scope) (xs : List Operation)
+    (up : IsStrictlySortedBy (slice_cmp nat_cmp) (map record_bytes xs)) (are : AllByRecursion IsOperation xs) (i : ℕ)
+    (within : i ≤ length xs) where
   -- where one operation is below those of a kind within a scope, those before it are
   pub below_place : (x : Operation) → 0 < i → x ≡ get_or xs (i - 1) x → is_lt (slice_cmp nat_cmp (prefix_of scope x) (scope_prefix kind scope)) ≡ true
       → AllWithin (λ a. is_lt (slice_cmp nat_cmp (prefix_of scope a) (scope_prefix kind scope)) ≡ true) xs 0 i
@@ -121,7 +133,8 @@ module _ (kind : RecordKind) (scope : Scope) (xs : List Operation) (up : IsStric
 
   -- so none of them is there
   pub none_at : AllWithin (λ a. is_lt (slice_cmp nat_cmp (prefix_of scope a) (scope_prefix kind scope)) ≡ true) xs 0 i
-      → AllWithin (λ a. is_le (slice_cmp nat_cmp (prefix_of scope a) (scope_prefix kind scope)) ≡ false) xs i (length xs) → filter (is_within kind scope) xs ≡ []
+      → AllWithin (λ a. is_le (slice_cmp nat_cmp (prefix_of scope a) (scope_prefix kind scope)) ≡ false) xs i
+      (length xs) → filter (is_within kind scope) xs ≡ []
   none_at below above =
       sym (middle (λ a. slice_cmp nat_cmp (prefix_of scope a) (scope_prefix kind scope)) xs i 0
       below (λ k d low high. lt_of_le _ (above k d low high)) (λ k d low high. absurd (omega arith))
@@ -132,7 +145,8 @@ itself : (x : List ℕ) → is_eq (slice_cmp nat_cmp x x) ≡ true
 itself x = ap is_eq (tied_itself nat_list_cmp_total x)
 
 -- where no retirement stands under a key, no slice of the key is retired
-pub none_retired : (operations : List Operation) (key : SliceKey) (slice : List ℕ) → IsHeld operations → IsKey key → filter (is_under_key Retirement key) operations ≡ []
+pub none_retired : (operations : List Operation) (key : SliceKey) (slice : List ℕ) → IsHeld operations → IsKey key
+    → filter (is_under_key Retirement key) operations ≡ []
     → contains (from_list {R = slice_cmp nat_cmp} (map record_bytes operations)) (retirement_record key (sha256 slice)) ≡ false
 none_retired operations key slice held is_key none = false_from_ne_true _ (λ h.
     let one : Operation = Retire key (record { 0 = sha256 slice }) in
@@ -145,7 +159,8 @@ under_of_live : (key : SliceKey) (dsym : Bool) (slice : List ℕ) → is_held_ki
 unfolding is_held_kind
 under_of_live key dsym slice h =
     let same : key_of slice ≡ key = one_key (key_of slice) key (both (is_key (key_of slice) key) _ h).0 in
-    ap (λ k. is_eq (slice_cmp nat_cmp (scope_prefix Admission (OfKey k)) (scope_prefix Admission (OfKey key)))) same ∙ itself (scope_prefix Admission (OfKey key))
+    ap (λ k. is_eq (slice_cmp nat_cmp (scope_prefix Admission (OfKey k)) (scope_prefix Admission (OfKey key)))) same
+    ∙ itself (scope_prefix Admission (OfKey key))
 
 -- so the live slices of a key are among the admissions under it
 pub live_under : (key : SliceKey) (dsym : Bool) (xs : List Operation) → held_among key dsym (filter (is_under_key Admission key) xs) ≡ held_among key dsym xs
@@ -173,7 +188,9 @@ in_front : (b c : Bool) (x : Operation) (xs ys told : List Operation) → b ≡ 
 in_front b c x xs ys told same h = grind arith
 
 -- no retirement stands after an admission
-none_behind : (uuid slice : List ℕ) (xs : List Operation) → AllByRecursion (λ r. slice_cmp nat_cmp (admission_record slice) r ≡ Less) (map record_bytes xs) → filter (is_under_uuid Retirement uuid) xs ≡ []
+none_behind : (uuid slice : List ℕ) (xs : List Operation)
+    → AllByRecursion (λ r. slice_cmp nat_cmp (admission_record slice) r ≡ Less) (map record_bytes xs)
+    → filter (is_under_uuid Retirement uuid) xs ≡ []
 none_behind uuid slice [] up = refl
 none_behind uuid slice (Admit other ∷ xs) up = none_behind uuid slice xs up.1
 none_behind uuid slice (Retire key digest ∷ xs) up = cc
@@ -184,7 +201,9 @@ pub two_runs : (uuid : List ℕ) (xs : List Operation) → IsStrictlySortedBy (s
 unfolding IsStrictlySortedBy
 two_runs uuid [] up = refl
 two_runs uuid (Retire key digest ∷ xs) up =
-    in_front (is_under_uuid Retirement uuid (Retire key digest)) (bytes_eq key.uuid uuid) (Retire key digest) (filter (is_under_uuid Retirement uuid) xs) (filter (is_under_uuid Admission uuid) xs) (filter (is_found_under uuid) xs)
+    in_front (is_under_uuid Retirement uuid (Retire key digest)) (bytes_eq key.uuid uuid) (Retire key digest)
+    (filter (is_under_uuid Retirement uuid) xs) (filter (is_under_uuid Admission uuid) xs)
+    (filter (is_found_under uuid) xs)
     (same_test 1 key.uuid uuid) (two_runs uuid xs up.1)
 two_runs uuid (Admit slice ∷ xs) up =
     let admissions = filter (is_under_uuid Admission uuid) in
@@ -192,5 +211,6 @@ two_runs uuid (Admit slice ∷ xs) up =
     let rest : admissions xs ≡ filter (is_found_under uuid) xs = sym (ap (λ l. l ++ admissions xs) none) ∙ two_runs uuid xs up.1 in
     ap (λ l. l ++ admissions (Admit slice ∷ xs)) none
     ∙ sym (append-nil (admissions (Admit slice ∷ xs)))
-    ∙ in_front (is_under_uuid Admission uuid (Admit slice)) (bytes_eq (key_of slice).uuid uuid) (Admit slice) (admissions xs) [] (filter (is_found_under uuid) xs)
+    ∙ in_front (is_under_uuid Admission uuid (Admit slice)) (bytes_eq (key_of slice).uuid uuid) (Admit slice)
+    (admissions xs) [] (filter (is_found_under uuid) xs)
     (same_test 2 (key_of slice).uuid uuid) (append-nil (admissions xs) ∙ rest)

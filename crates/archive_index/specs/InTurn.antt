@@ -8,8 +8,8 @@ use Rattle.archive_core.specs.Record.{IsOperation, record_bytes}
 use Rattle.archive_core.specs.Content.{Operations, IsMade, changes, new_among, with_records}
 use Rattle.archive_core.specs.declared.operations.Operation.{Operation}
 
--- `sorted` are operations in strictly ascending order of their records. Applied to any content they give what `all` gives,
--- and they change it as often.
+-- `sorted` are operations in strictly ascending order of their records. Applied to any content they give what `all`
+-- gives, and they change it as often.
 pub record AreSortedWithSameEffect (all sorted : List Operation) : Type 0 where
   pub ascending : IsStrictlySortedBy (slice_cmp nat_cmp) (map record_bytes sorted)
   pub are : AllByRecursion IsOperation sorted

@@ -1,4 +1,4 @@
--- What comes of taking operations, one after another.
+-- The state of an archive after operations that it took one after another.
 use Rattle.std.specs.Prelude.{◌≡◌, ℕ, List, Result, MatchResult}
 use Rattle.archive_core.specs.Content.{Operations, IsTakenInPart, with_records, new_among}
 

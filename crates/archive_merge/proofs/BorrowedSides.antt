@@ -1,5 +1,7 @@
 -- Operations that stand in memory, read as the text that they would be.
-use Rattle.std.proofs.Common.{◌≡◌, ◌≢◌, ℕ, ◌+◌, ◌^◌, ◌<◌, min, Bool, true, false, List, [], ◌∷◌, ◌++◌, length, take, drop, Option, Some, Result, Ok, Err, MatchResult, refl, sym, ap, ◌∙◌, subst, arith, inl, inr, length-append, length-take, take-append-drop, Ordering, Equal}
+use Rattle.std.proofs.Common.{◌≡◌, ◌≢◌, ℕ, ◌+◌, ◌^◌, ◌<◌, min, Bool, true, false, List, [], ◌∷◌, ◌++◌, length, take}
+use Rattle.std.proofs.Common.{drop, Option, Some, Result, Ok, Err, MatchResult, refl, sym, ap, ◌∙◌, subst, arith, inl}
+use Rattle.std.proofs.Common.{inr, length-append, length-take, take-append-drop, Ordering, Equal}
 use Rattle.std.proofs.Math.ListN.{drop_of_length-le}
 use Rattle.std.specs.Ordering.{nat_cmp, ordering_then, is_eq}
 use Rattle.std.specs.Cmp.{Equal-is, tied_itself}
@@ -34,10 +36,13 @@ use Rattle.archive_merge.proofs.Starts.{stands_held}
 -- ---- a record that stands in two parts
 
 -- it compares as its parts do
-pub compared : (item front rest head tail : List ℕ) (n : ℕ) → n ≡ min (length front) (length item) → head ≡ take n item → tail ≡ drop n item → slice_cmp nat_cmp item (front ++ rest) ≡ ordering_then (slice_cmp nat_cmp head front) (slice_cmp nat_cmp tail rest)
+pub compared : (item front rest head tail : List ℕ) (n : ℕ) → n ≡ min (length front) (length item) → head ≡ take n item
+    → tail ≡ drop n item → slice_cmp nat_cmp item (front ++ rest)
+    ≡ ordering_then (slice_cmp nat_cmp head front) (slice_cmp nat_cmp tail rest)
 compared item front rest head tail n is head_is tail_is =
     ap (λ (t : List ℕ). slice_cmp nat_cmp t (front ++ rest)) (sym (take-append-drop n item))
-    ∙ cmp_parts (take n item) (drop n item) front rest (omega (arith, is, length-take n item)) (λ lt. drop_of_length-le item (omega (arith, is, length-take n item)))
+    ∙ cmp_parts (take n item) (drop n item) front rest (omega (arith, is, length-take n item))
+    (λ lt. drop_of_length-le item (omega (arith, is, length-take n item)))
     ∙ ap (λ (t : List ℕ). ordering_then (slice_cmp nat_cmp t front) (slice_cmp nat_cmp (drop n item) rest)) (sym head_is)
     ∙ ap (λ (t : List ℕ). ordering_then (slice_cmp nat_cmp head front) (slice_cmp nat_cmp t rest)) (sym tail_is)
 
@@ -45,7 +50,8 @@ pub then_first : (o p : Ordering) → (o ≡ Equal → ⊥) → ordering_then o 
 then_first o p other = grind arith
 
 -- how long an admission is
-pub long_parts : (head bytes slice : List ℕ) → head ≡ 2 ∷ (key_bytes (key_of slice) ++ to_be_bytes w64 (length slice)) → length head ≡ 33 → bytes ≡ slice → 33 + length bytes ≡ length (admission_record slice)
+pub long_parts : (head bytes slice : List ℕ) → head ≡ 2 ∷ (key_bytes (key_of slice) ++ to_be_bytes w64 (length slice))
+    → length head ≡ 33 → bytes ≡ slice → 33 + length bytes ≡ length (admission_record slice)
 long_parts head bytes slice head_is long is = omega (arith, long, ap length (head_and_slice head bytes slice head_is is), length-append head bytes)
 
 -- ---- one step
@@ -72,7 +78,9 @@ stood last count offset retired dropped = record { file = OldArchive; last = las
 
 module _ (last : List ℕ) (count offset : ℕ) (retired : List (List ℕ)) (dropped : Bool) where
   -- of a text that another side has begun nothing is taken
-  pub nothing_taken : (t : List ℕ) (fault : RecordFault) → fault ≡ memory_behind offset → count < 2 ^ 63 → (stop : StopsAt (Some t) (Some t) (stood last count offset retired dropped) fault) × (fault.kind ≢ Device) × (fault.kind ≢ Truncated) × (fault.kind ≡ OutOfMemory → HasWhole OldArchive stop.rest [])
+  pub nothing_taken : (t : List ℕ) (fault : RecordFault) → fault ≡ memory_behind offset → count < 2 ^ 63
+      → (stop : StopsAt (Some t) (Some t) (stood last count offset retired dropped) fault) × (fault.kind ≢ Device)
+      × (fault.kind ≢ Truncated) × (fault.kind ≡ OutOfMemory → HasWhole OldArchive stop.rest [])
   nothing_taken t fault is few = rw is (
     record {
       rest = [];
@@ -94,7 +102,10 @@ module _ (last : List ℕ) (count offset : ℕ) (retired : List (List ℕ)) (dro
 
   module _ (x rest : List ℕ) (item : IsRecord x) (few : count + 1 < 2 ^ 63) where
     -- it does not ascend
-    pub descends : may_follow OldArchive last x ≡ false → (stop : StopsAt (Some (x ++ rest)) (Some rest) (stood last count offset retired dropped) (record { kind = NotAscending; offset = offset })) × (NotAscending ≢ Device) × (NotAscending ≢ Truncated) × (NotAscending ≡ OutOfMemory → HasWhole OldArchive stop.rest last)
+    pub descends : may_follow OldArchive last x ≡ false
+        → (stop : StopsAt (Some (x ++ rest)) (Some rest) (stood last count offset retired dropped)
+        (record { kind = NotAscending; offset = offset })) × (NotAscending ≢ Device) × (NotAscending ≢ Truncated)
+        × (NotAscending ≡ OutOfMemory → HasWhole OldArchive stop.rest last)
     descends below = (
       record {
         rest = x;
@@ -111,7 +122,10 @@ module _ (last : List ℕ) (count offset : ℕ) (retired : List (List ℕ)) (dro
     )
 
     -- memory is wanted for it
-    pub unkept : may_follow OldArchive last x ≡ true → (fault : RecordFault) → fault ≡ memory_behind offset → (stop : StopsAt (Some (x ++ rest)) (Some rest) (stood last count offset retired dropped) fault) × (fault.kind ≢ Device) × (fault.kind ≢ Truncated) × (fault.kind ≡ OutOfMemory → HasWhole OldArchive stop.rest x)
+    pub unkept : may_follow OldArchive last x ≡ true → (fault : RecordFault) → fault ≡ memory_behind offset
+        → (stop : StopsAt (Some (x ++ rest)) (Some rest) (stood last count offset retired dropped) fault)
+        × (fault.kind ≢ Device) × (fault.kind ≢ Truncated)
+        × (fault.kind ≡ OutOfMemory → HasWhole OldArchive stop.rest x)
     unkept above fault is = rw is (
       record {
         rest = x;
@@ -129,7 +143,9 @@ module _ (last : List ℕ) (count offset : ℕ) (retired : List (List ℕ)) (dro
 
 -- ---- what a merge is told of it
 
-module _ (a b c : Option (List ℕ)) (done : List (List ℕ)) (low : List ℕ) (shared : List (List ℕ)) (now new : MergeInput) (unread : now.ahead ≡ Unread) (s : Stands a b done low (record { reader = beside (Some shared) now.reader; ahead = now.ahead })) where
+module _ (a b c : Option (List ℕ)) (done : List (List ℕ)) (low : List ℕ) (shared : List (List ℕ)) (now new : MergeInput)
+    (unread : now.ahead ≡ Unread) (s : Stands a b done low
+    (record { reader = beside (Some shared) now.reader; ahead = now.ahead })) where
   abbrev before : Position
   before = beside (Some shared) now.reader
 
@@ -140,22 +156,32 @@ module _ (a b c : Option (List ℕ)) (done : List (List ℕ)) (low : List ℕ) (
   stands_by Unread is steps = absurd steps
   stands_by Held is steps =
       let read = s.unread unread in
-      subst (λ (t : List ℕ). Stands a c done t (record { reader = after; ahead = new.ahead })) read.1 (stands_held a b c done before (record { reader = after; ahead = new.ahead }) s.archive read.0 steps (sym is))
+      subst (λ (t : List ℕ). Stands a c done t (record { reader = after; ahead = new.ahead })) read.1
+      (stands_held a b c done before (record { reader = after; ahead = new.ahead }) s.archive read.0 steps (sym is))
   stands_by Ended is steps = record {
     archive = ap kind_of steps.0.file_is ∙ s.archive;
     unread = λ t. absurd cc;
     held = λ t. absurd cc;
-    ended = λ _. (subst (λ (f : Format). HasReadAll f a c done after) (sym steps.0.file_is) (HasReadAll-grows before.file a b c done before after (s.unread unread).0 steps.0), steps.1);
+    ended = λ _. (
+      subst (λ (f : Format). HasReadAll f a c done after) (sym steps.0.file_is)
+          (HasReadAll-grows before.file a b c done before after (s.unread unread).0 steps.0),
+      steps.1,
+    );
   }
 
-  pub stands_on_by : {T : Type 0} (r : Result T RecordFault) → AdvancesTo b c before after new.ahead r → MatchResult r (λ _. Stands a c done low (record { reader = after; ahead = new.ahead })) (λ fault. StoppedWith now.reader.file a c done fault new.reader.last × (last_of [] done ≡ low))
+  pub stands_on_by : {T : Type 0} (r : Result T RecordFault) → AdvancesTo b c before after new.ahead r
+      → MatchResult r (λ _. Stands a c done low (record { reader = after; ahead = new.ahead }))
+      (λ fault. StoppedWith now.reader.file a c done fault new.reader.last × (last_of [] done ≡ low))
   stands_on_by (Ok done) steps = stands_by new.ahead refl steps
   stands_on_by (Err fault) stops =
       let read = s.unread unread in
       (Stopped-with before.file a b c done before after.last fault read.0 stops.0 stops.3, read.1)
 
-pub stands_on : {T : Type 0} (a b c : Option (List ℕ)) (done : List (List ℕ)) (low : List ℕ) (shared : List (List ℕ)) (now new : MergeInput) (r : Result T RecordFault) → now.ahead ≡ Unread → AdvancesTo b c (beside (Some shared) now.reader) (beside (Some shared) new.reader) new.ahead r
-    → Stands a b done low (side_with shared now) → MatchResult r (λ _. Stands a c done low (side_with shared new)) (λ fault. StoppedWith now.reader.file a c done fault new.reader.last × (last_of [] done ≡ low))
+pub stands_on : {T : Type 0} (a b c : Option (List ℕ)) (done : List (List ℕ)) (low : List ℕ) (shared : List (List ℕ))
+    (now new : MergeInput) (r : Result T RecordFault) → now.ahead ≡ Unread
+    → AdvancesTo b c (beside (Some shared) now.reader) (beside (Some shared) new.reader) new.ahead r
+    → Stands a b done low (side_with shared now) → MatchResult r (λ _. Stands a c done low (side_with shared new))
+    (λ fault. StoppedWith now.reader.file a c done fault new.reader.last × (last_of [] done ≡ low))
 stands_on a b c done low shared now new r unread steps s = stands_on_by a b c done low shared now new unread s r steps
 
 -- ---- the same record

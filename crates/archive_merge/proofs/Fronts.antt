@@ -1,5 +1,6 @@
 -- The longest good front of a text, and how a side of a merge stands to it.
-use Rattle.std.proofs.Common.{◌≡◌, ℕ, true, List, [], ◌∷◌, ◌++◌, length, Option, Some, None, refl, sym, ap, ◌∙◌, subst, arith, inl, inr, ◌⊎◌, append_assoc, length-append}
+use Rattle.std.proofs.Common.{◌≡◌, ℕ, true, List, [], ◌∷◌, ◌++◌, length, Option, Some, None, refl, sym, ap, ◌∙◌, subst}
+use Rattle.std.proofs.Common.{arith, inl, inr, ◌⊎◌, append_assoc, length-append}
 use Rattle.std.proofs.lemmas.List.{append-nil}
 use Rattle.std.specs.List.{concat}
 use Rattle.std.specs.FinSet as set
@@ -40,7 +41,8 @@ taken_rest t x (Some u) c = (u, c, λ e. e)
 -- ---- texts
 
 -- the text of records is an archive's
-pub archive_text : (f : Format) → kind_of f ≡ Archive_text → (t : List ℕ) (done : List (List ℕ)) → InOrder f [] done → AreApart f done → t ≡ text_of f done → IsArchiveText t
+pub archive_text : (f : Format) → kind_of f ≡ Archive_text → (t : List ℕ) (done : List (List ℕ)) → InOrder f [] done
+    → AreApart f done → t ≡ text_of f done → IsArchiveText t
 archive_text f k t done a p whole =
     let o : Operations = set.from_list (taken_of f done) in
     let form : Formed o t = record { format = f; archive = k; records = done; ordered = a; apart = p; whole = whole; content = refl } in
@@ -56,14 +58,17 @@ text_magic t x =
     (s.format, s.archive, concat s.records ++ ending s.format (length s.records), s.whole)
 
 -- what is taken of records is what they make
-pub taken_made : (f : Format) → kind_of f ≡ Archive_text → (xs : List (List ℕ)) → InOrder Archive [] xs → AreApart f xs → set_of (taken_of f xs) ≡ content_of (set_of xs)
+pub taken_made : (f : Format) → kind_of f ≡ Archive_text → (xs : List (List ℕ)) → InOrder Archive [] xs → AreApart f xs
+    → set_of (taken_of f xs) ≡ content_of (set_of xs)
 taken_made Archive k xs a apart = sym apart
 taken_made OldArchive k xs a apart = kept_set xs a
 taken_made Operations_file k xs a apart = cc
 taken_made Summary_file k xs a apart = cc
 
 -- so the records of two texts make the join of what the texts give
-pub both_taken : (f g : Format) → kind_of f ≡ Archive_text → kind_of g ≡ Archive_text → (xs ys : List (List ℕ)) → InOrder f [] xs → AreApart f xs → InOrder g [] ys → AreApart g ys → of_both xs ys ≡ joined (set_of (taken_of f xs)) (set_of (taken_of g ys))
+pub both_taken : (f g : Format) → kind_of f ≡ Archive_text → kind_of g ≡ Archive_text → (xs ys : List (List ℕ))
+    → InOrder f [] xs → AreApart f xs → InOrder g [] ys → AreApart g ys → of_both xs ys
+    ≡ joined (set_of (taken_of f xs)) (set_of (taken_of g ys))
 both_taken f g k l xs ys a p b q =
     let lefts = taken_made f k xs (in_order_of f k [] xs a) p in
     let rights = taken_made g l ys (in_order_of g l [] ys b) q in
@@ -76,7 +81,8 @@ pub front_magic : (t : List ℕ) (xs : List (List ℕ)) → IsLongestFront (arch
 front_magic t xs l = (archive_format t, kind_archive t, concat xs ++ l.front.rest, l.front.whole)
 
 -- the records of a text with the magic of a version are those of its longest good front
-pub front_of : (f : Format) → kind_of f ≡ Archive_text → (t : List ℕ) (xs : List (List ℕ)) → (rest : List ℕ) × (t ≡ magic_of f ++ rest) → AreGoodRecords t xs → IsLongestFront f t xs
+pub front_of : (f : Format) → kind_of f ≡ Archive_text → (t : List ℕ) (xs : List (List ℕ)) → (rest : List ℕ)
+    × (t ≡ magic_of f ++ rest) → AreGoodRecords t xs → IsLongestFront f t xs
 front_of f k t xs m (inl l) = rw (← format_magic f k t m.0 m.1) l
 front_of f k t xs m (inr n) = absurd (n.0 (f, k, m.0, m.1))
 
@@ -87,36 +93,60 @@ module _ (f : Format) where
       let k = g.next in
       let more : concat (xs ++ k.item ∷ []) ≡ concat xs ++ k.item = concat-push xs k.item in
       let whole : t ≡ magic_of f ++ (concat (xs ++ k.item ∷ []) ++ k.more) =
-      l.front.whole ∙ ap (λ (r : List ℕ). magic_of f ++ r) (ap (λ (r : List ℕ). concat xs ++ r) k.whole ∙ sym (append_assoc (concat xs) k.item k.more) ∙ ap (λ (r : List ℕ). r ++ k.more) (sym more)) in
-      let longer : IsGoodFront f t (xs ++ k.item ∷ []) = record { ordered = InOrder-push f [] xs k.item l.front.ordered k.is k.above; apart = g.apart; rest = k.more; whole = whole } in
+      l.front.whole ∙ ap (λ (r : List ℕ). magic_of f ++ r)
+      (ap (λ (r : List ℕ). concat xs ++ r) k.whole ∙ sym (append_assoc (concat xs) k.item k.more)
+      ∙ ap (λ (r : List ℕ). r ++ k.more) (sym more)) in
+      let longer : IsGoodFront f t (xs ++ k.item ∷ []) =
+      record {
+        ordered = InOrder-push f [] xs k.item l.front.ordered k.is k.above;
+        apart = g.apart;
+        rest = k.more;
+        whole = whole;
+      } in
       let one = (holds f k.item (length k.item) (item-framed f k.item k.is)).one in
       omega (arith, l.longest (xs ++ k.item ∷ []) longer, ap length more, length-append (concat xs) k.item)
 
   pub one_longest : (t : List ℕ) (xs ys : List (List ℕ)) → IsLongestFront f t xs → IsLongestFront f t ys → xs ≡ ys
   one_longest t xs ys l k =
-      (unique f xs ys l.front.rest k.front.rest l.front.ordered l.front.apart k.front.ordered k.front.apart (behind_magic f t (concat xs ++ l.front.rest) (concat ys ++ k.front.rest) l.front.whole k.front.whole) (longest_stops t xs l) (longest_stops t ys k)).0
+      (unique f xs ys l.front.rest k.front.rest l.front.ordered l.front.apart k.front.ordered k.front.apart
+      (behind_magic f t (concat xs ++ l.front.rest) (concat ys ++ k.front.rest) l.front.whole k.front.whole)
+      (longest_stops t xs l) (longest_stops t ys k)).0
 
   -- a front of what was taken begins the longest
-  pub before : (t : List ℕ) (b : Option (List ℕ)) (done ys : List (List ℕ)) → Consumes (Some t) b (magic_of f ++ concat done) → InOrder f [] done → AreApart f done → IsLongestFront f t ys → (more : List (List ℕ)) × (ys ≡ done ++ more)
+  pub before : (t : List ℕ) (b : Option (List ℕ)) (done ys : List (List ℕ))
+      → Consumes (Some t) b (magic_of f ++ concat done) → InOrder f [] done → AreApart f done → IsLongestFront f t ys
+      → (more : List (List ℕ)) × (ys ≡ done ++ more)
   before t b done ys c a p l =
       let k = taken_rest t (magic_of f ++ concat done) b c in
       let whole : t ≡ magic_of f ++ (concat done ++ k.0) = k.1 ∙ append_assoc (magic_of f) (concat done) k.0 in
-      let n = longest f ys done l.front.rest k.0 l.front.ordered a p (behind_magic f t (concat ys ++ l.front.rest) (concat done ++ k.0) l.front.whole whole) (longest_stops t ys l) in
+      let n = longest f ys done l.front.rest k.0 l.front.ordered a p
+      (behind_magic f t (concat ys ++ l.front.rest) (concat done ++ k.0) l.front.whole whole) (longest_stops t ys l)
+      in
       (n.more, n.records)
 
   -- ---- a side that stopped
 
-  stopped_whole : (t : List ℕ) (b : Option (List ℕ)) (records : List (List ℕ)) (fault : RecordFault) (s : Stopped f (Some t) b records fault) → (u : List ℕ) × (t ≡ magic_of f ++ (concat records ++ (s.rest ++ u))) × (IsAtEnd b → u ≡ [])
+  stopped_whole : (t : List ℕ) (b : Option (List ℕ)) (records : List (List ℕ)) (fault : RecordFault)
+      (s : Stopped f (Some t) b records fault) → (u : List ℕ) × (t ≡ magic_of f ++ (concat records ++ (s.rest ++ u)))
+      × (IsAtEnd b → u ≡ [])
   stopped_whole t b records fault s =
-      let k = taken_rest t (magic_of f ++ (concat records ++ s.rest)) b s.taken in
-      (k.0, k.1 ∙ append_assoc (magic_of f) (concat records ++ s.rest) k.0 ∙ ap (λ (r : List ℕ). magic_of f ++ r) (append_assoc (concat records) s.rest k.0), k.2)
+      let k = taken_rest t (magic_of f ++ (concat records ++ s.rest)) b s.taken in (
+        k.0,
+        k.1 ∙ append_assoc (magic_of f) (concat records ++ s.rest) k.0
+            ∙ ap (λ (r : List ℕ). magic_of f ++ r) (append_assoc (concat records) s.rest k.0),
+        k.2,
+      )
 
   -- its longest good front is what was read of it
-  pub front_is : (t : List ℕ) (b : Option (List ℕ)) (records xs : List (List ℕ)) (fault : RecordFault) → IsOfText fault.kind → (fault.kind ≡ Truncated → IsAtEnd b) → Stopped f (Some t) b records fault → IsLongestFront f t xs → xs ≡ records
+  pub front_is : (t : List ℕ) (b : Option (List ℕ)) (records xs : List (List ℕ)) (fault : RecordFault)
+      → IsOfText fault.kind → (fault.kind ≡ Truncated → IsAtEnd b) → Stopped f (Some t) b records fault
+      → IsLongestFront f t xs → xs ≡ records
   front_is t b records xs fault known ended s l =
       let k = stopped_whole t b records fault s in
       let front : IsGoodFront f t records = record { ordered = s.ordered; apart = s.apart; rest = s.rest ++ k.0; whole = k.1 } in
-      let behind : IsFaultBehind f records (s.rest ++ k.0) fault = grown_behind f records s.rest k.0 fault (λ p. k.2 (ended p)) (record_stop f records s.rest fault known s.stops) in
+      let behind : IsFaultBehind f records (s.rest ++ k.0) fault =
+      grown_behind f records s.rest k.0 fault (λ p. k.2 (ended p))
+      (record_stop f records s.rest fault known s.stops) in
       one_longest t xs records l (fault_longest f t records front fault behind)
 
 -- the records of a text go on after these, above low
@@ -125,10 +155,13 @@ GoesAbove low done xs = (more : List (List ℕ)) × (xs ≡ done ++ more) × InO
 
 module _ (f : Format) (archive : kind_of f ≡ Archive_text) where
   -- whatever the fault, it goes on above its last record
-  pub stopped_goes : (t : List ℕ) (b : Option (List ℕ)) (records xs : List (List ℕ)) (fault : RecordFault) → Stopped f (Some t) b records fault → IsLongestFront f t xs → GoesAbove (last_of [] records) records xs
+  pub stopped_goes : (t : List ℕ) (b : Option (List ℕ)) (records xs : List (List ℕ)) (fault : RecordFault)
+      → Stopped f (Some t) b records fault → IsLongestFront f t xs → GoesAbove (last_of [] records) records xs
   stopped_goes t b records xs fault s l =
       let k = stopped_whole f t b records fault s in
-      let n = longest f xs records l.front.rest (s.rest ++ k.0) l.front.ordered s.ordered s.apart (behind_magic f t (concat xs ++ l.front.rest) (concat records ++ (s.rest ++ k.0)) l.front.whole k.1) (longest_stops f t xs l) in
+      let n = longest f xs records l.front.rest (s.rest ++ k.0) l.front.ordered s.ordered s.apart
+      (behind_magic f t (concat xs ++ l.front.rest) (concat records ++ (s.rest ++ k.0)) l.front.whole k.1)
+      (longest_stops f t xs l) in
       (n.more, n.records, InOrder-behind [] records n.more (subst (InOrder Archive []) n.records (in_order_of f archive [] xs l.front.ordered)))
 
   -- the longest good front of a text has all its records
@@ -136,7 +169,9 @@ module _ (f : Format) (archive : kind_of f ≡ Archive_text) where
   whole_front t done ys a p whole l =
       let end : List ℕ = ending f (length done) in
       let is : is_end end ≡ true = ap is_end (ending_of f archive (length done)) ∙ end-is_end (length done) in
-      (unique f ys done l.front.rest end l.front.ordered l.front.apart a p (behind_magic f t (concat ys ++ l.front.rest) (concat done ++ end) l.front.whole whole) (longest_stops f t ys l)
+      (unique f ys done l.front.rest end l.front.ordered l.front.apart a p
+      (behind_magic f t (concat ys ++ l.front.rest) (concat done ++ end) l.front.whole whole)
+      (longest_stops f t ys l)
       (λ g. end-stops f (last_of [] done) end is g.next)).0
 
 -- ---- the other side
@@ -158,12 +193,14 @@ text_whole f t b done taken end =
     k.1 ∙ ap (λ (x : List ℕ). text_of f done ++ x) (k.2 end) ∙ append-nil (text_of f done)
 
 -- a side that was read to its end has an archive's text
-pub ended_text : (t low : List ℕ) (b : Option (List ℕ)) (done : List (List ℕ)) (side : MergeInput) → Stands (Some t) b done low side → side.ahead ≡ Ended → IsArchiveText t
+pub ended_text : (t low : List ℕ) (b : Option (List ℕ)) (done : List (List ℕ)) (side : MergeInput)
+    → Stands (Some t) b done low side → side.ahead ≡ Ended → IsArchiveText t
 ended_text t low b done side s end =
     let h = s.ended end in
     archive_text side.reader.file s.archive t done h.0.ordered h.0.apart (text_whole side.reader.file t b done h.0.taken h.1)
 
-pub goes_on : (t low : List ℕ) (b : Option (List ℕ)) (done ys : List (List ℕ)) (side : MergeInput) → Stands (Some t) b done low side → IsLongestFront side.reader.file t ys → GoesOn t low done ys side.ahead
+pub goes_on : (t low : List ℕ) (b : Option (List ℕ)) (done ys : List (List ℕ)) (side : MergeInput)
+    → Stands (Some t) b done low side → IsLongestFront side.reader.file t ys → GoesOn t low done ys side.ahead
 goes_on t low b done ys side s l =
     let f : Format = side.reader.file in
     let ys_ordered : InOrder Archive [] ys = in_order_of f s.archive [] ys l.front.ordered in
@@ -171,7 +208,8 @@ goes_on t low b done ys side s l =
       | inl unread ↦
           let h = s.unread unread in
           let n = before f t b done ys h.0.taken h.0.ordered h.0.apart l in
-          let a : InOrder Archive low n.0 = subst (λ (x : List ℕ). InOrder Archive x n.0) h.1 (InOrder-behind [] done n.0 (subst (InOrder Archive []) n.1 ys_ordered)) in
+          let a : InOrder Archive low n.0 = subst (λ (x : List ℕ). InOrder Archive x n.0) h.1
+          (InOrder-behind [] done n.0 (subst (InOrder Archive []) n.1 ys_ordered)) in
           let last : last_of [] ys ≡ last_of low n.0 = cc (n.1, last_of-append [] done n.0, h.1) in
           record {
             above = (n.0, n.1, a);
@@ -197,10 +235,13 @@ goes_on t low b done ys side s l =
           record { above = ([], u ∙ sym (append-nil done), tt); ended = λ _. u; place = inl (archive_text f s.archive t done h.0.ordered h.0.apart whole) }
     ]
 
-pub has_magic : (t low : List ℕ) (b : Option (List ℕ)) (done : List (List ℕ)) (side : MergeInput) → Stands (Some t) b done low side → (rest : List ℕ) × (t ≡ magic_of side.reader.file ++ rest)
+pub has_magic : (t low : List ℕ) (b : Option (List ℕ)) (done : List (List ℕ)) (side : MergeInput)
+    → Stands (Some t) b done low side → (rest : List ℕ) × (t ≡ magic_of side.reader.file ++ rest)
 has_magic t low b done side s =
     let magic : List ℕ = magic_of side.reader.file in
-    let begins : (x : List ℕ) → Consumes (Some t) b (magic ++ x) → (rest : List ℕ) × (t ≡ magic ++ rest) = λ x taken. let k = taken_rest t (magic ++ x) b taken in (x ++ k.0, k.1 ∙ append_assoc magic x k.0) in
+    let begins : (x : List ℕ) → Consumes (Some t) b (magic ++ x) → (rest : List ℕ)
+    × (t ≡ magic ++ rest) = λ x taken. let k = taken_rest t (magic ++ x) b taken
+    in (x ++ k.0, k.1 ∙ append_assoc magic x k.0) in
     elim (by_ahead side.ahead) [
       | inl unread ↦ begins (concat done) (s.unread unread).0.taken
       | inr (inl held) ↦ begins (concat (done ++ side.reader.last ∷ [])) (s.held held).0.taken

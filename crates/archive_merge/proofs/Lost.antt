@@ -40,7 +40,9 @@ loses new old out sizes arrivals withdraws n t count = record {
 }
 
 -- why two archives are not compared: a merge of both stopped so, and its writer never fails
-pub not_compared : {R S W : Type 0} (new : Stream R) (old : Stream S) (out : Stream W) (cause : MergeCause) (n : ℕ) → (FailedIn (out.failures out.old) (out.failures out.new) → ⊥) → StopsBy new old out cause n → IsNotCompared new old cause
+pub not_compared : {R S W : Type 0} (new : Stream R) (old : Stream S) (out : Stream W) (cause : MergeCause) (n : ℕ)
+    → (FailedIn (out.failures out.old) (out.failures out.new) → ⊥) → StopsBy new old out cause n
+    → IsNotCompared new old cause
 not_compared new old out (Left fault) n sound s = record { refused = s.refused; old_unfailed = s.right_unfailed; stops = s.stops }
 not_compared new old out (Right fault) n sound s = record { refused = s.refused; new_unfailed = s.left_unfailed; stops = s.stops }
 not_compared new old out Write n sound s = absurd (sound s.failed)

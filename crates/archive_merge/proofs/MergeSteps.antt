@@ -1,5 +1,7 @@
 -- A turn of a merge: the record that is next is written.
-use Rattle.std.proofs.Common.{◌≡◌, ◌≢◌, ℕ, ◌+◌, ◌-◌, Bool, true, false, List, [], ◌∷◌, ◌++◌, length, Option, refl, sym, ap, ◌∙◌, subst, arith, inl, inr, append_assoc, length-append, Ordering, Less, Equal, Greater}
+use Rattle.std.proofs.Common.{◌≡◌, ◌≢◌, ℕ, ◌+◌, ◌-◌, Bool, true, false, List, [], ◌∷◌, ◌++◌, length, Option, refl, sym}
+use Rattle.std.proofs.Common.{ap, ◌∙◌, subst, arith, inl, inr, append_assoc, length-append, Ordering, Less, Equal}
+use Rattle.std.proofs.Common.{Greater}
 use Rattle.std.specs.List.{concat}
 use Rattle.std.specs.Io.KnownBytes.{Appends}
 use Rattle.byte_device.specs.Writes.{WritesFirst}
@@ -17,7 +19,10 @@ use Rattle.archive_records.specs.Text.{end_record, text_of, last_of, kept}
 use Rattle.archive_records.specs.Reader.{HasRead, set_of}
 use Rattle.archive_records.specs.Front.{front_length}
 use Rattle.archive_records.specs.declared.fault.MergeFault.{MergeFault}
-use Rattle.archive_merge.specs.MergeSteps.{TellsBy, TellsCovered, Stands, Merging, WriteStopped, IsFull, HasStoppedMerge, IsBeforeTurn, first_by, first_of, IsRefusedMore, after_turn, left_after, memory_behind, next_record, next_record_by, right_after, unread_of, Both}
+use Rattle.archive_merge.specs.MergeSteps.{TellsBy, TellsCovered, Stands, Merging, WriteStopped, IsFull}
+use Rattle.archive_merge.specs.MergeSteps.{HasStoppedMerge, IsBeforeTurn, first_by, first_of, IsRefusedMore, after_turn}
+use Rattle.archive_merge.specs.MergeSteps.{left_after, memory_behind, next_record, next_record_by, right_after}
+use Rattle.archive_merge.specs.MergeSteps.{unread_of, Both}
 use Rattle.archive_records.proofs.Puts.{concat-push}
 use Rattle.archive_records.proofs.Apart.{covered_push, last_of-push}
 use Rattle.archive_records.proofs.Ascending.{below-less, below-greater, last_is_record, last_under}
@@ -42,7 +47,9 @@ first_greater l r o read some e = grind arith
 -- ---- one side
 
 -- its record was written
-pub wrote_own : (a b : Option (List ℕ)) (done out : List (List ℕ)) (x : List ℕ) (s : MergeInput) → x ≡ s.reader.last → kind_of s.reader.file ≡ Archive_text → HasRead s.reader.file a b (done ++ s.reader.last ∷ []) s.reader → Stands a b (done ++ x ∷ []) (last_of [] (out ++ x ∷ [])) (unread_of s)
+pub wrote_own : (a b : Option (List ℕ)) (done out : List (List ℕ)) (x : List ℕ) (s : MergeInput) → x ≡ s.reader.last
+    → kind_of s.reader.file ≡ Archive_text → HasRead s.reader.file a b (done ++ s.reader.last ∷ []) s.reader
+    → Stands a b (done ++ x ∷ []) (last_of [] (out ++ x ∷ [])) (unread_of s)
 wrote_own a b done out x s e k h = record {
   archive = k;
   unread = λ _. (
@@ -54,7 +61,9 @@ wrote_own a b done out x s e k h = record {
 }
 
 -- the other side's was
-pub wrote_other : (a b : Option (List ℕ)) (done out : List (List ℕ)) (low x : List ℕ) (s : MergeInput) → s.ahead ≢ Unread → (s.ahead ≡ Held → may_follow Archive x s.reader.last ≡ true) → Stands a b done low s → Stands a b done (last_of [] (out ++ x ∷ [])) s
+pub wrote_other : (a b : Option (List ℕ)) (done out : List (List ℕ)) (low x : List ℕ) (s : MergeInput)
+    → s.ahead ≢ Unread → (s.ahead ≡ Held → may_follow Archive x s.reader.last ≡ true) → Stands a b done low s
+    → Stands a b done (last_of [] (out ++ x ∷ [])) s
 wrote_other a b done out low x s read above p = record {
   archive = p.archive;
   unread = λ t. absurd (read t);
@@ -63,17 +72,21 @@ wrote_other a b done out low x s read above p = record {
 }
 
 -- the record that a side holds is one
-pub held_record : (a b : Option (List ℕ)) (done : List (List ℕ)) (low : List ℕ) (s : MergeInput) → Stands a b done low s → s.ahead ≡ Held → IsItem Archive s.reader.last
-held_record a b done low s p held = last_is_record [] done s.reader.last (in_order_of s.reader.file p.archive [] (done ++ s.reader.last ∷ []) (p.held held).0.ordered)
+pub held_record : (a b : Option (List ℕ)) (done : List (List ℕ)) (low : List ℕ) (s : MergeInput) → Stands a b done low s
+    → s.ahead ≡ Held → IsItem Archive s.reader.last
+held_record a b done low s p held = last_is_record [] done s.reader.last
+    (in_order_of s.reader.file p.archive [] (done ++ s.reader.last ∷ []) (p.held held).0.ordered)
 
 -- whether its own retirements cover it
-pub held_dropped : (a b : Option (List ℕ)) (done : List (List ℕ)) (low : List ℕ) (s : MergeInput) → Stands a b done low s → s.ahead ≡ Held → s.reader.dropped ≡ is_covered (set_of done) s.reader.last
+pub held_dropped : (a b : Option (List ℕ)) (done : List (List ℕ)) (low : List ℕ) (s : MergeInput)
+    → Stands a b done low s → s.ahead ≡ Held → s.reader.dropped ≡ is_covered (set_of done) s.reader.last
 held_dropped a b done low s p held = dropped_own s.reader.file p.archive s.reader.dropped done s.reader.last (p.held held).0.dropped_is
 
 -- ---- both sides, once the record that is next is after the others
 
 module _ (a1 b1 a2 b2 w0 w1 : Option (List ℕ)) (m : Sides) (p : Merging a1 b1 a2 b2 w0 w1 m) (before : IsBeforeTurn m) where
-  unfoldable pub next_turn : (o : Ordering) → first_of m.left m.right ≡ o → Both a1 b1 a2 b2 (left_after o m.left) (right_after o m.right) (p.out ++ next_record_by o m ∷ [])
+  unfoldable pub next_turn : (o : Ordering) → first_of m.left m.right ≡ o
+      → Both a1 b1 a2 b2 (left_after o m.left) (right_after o m.right) (p.out ++ next_record_by o m ∷ [])
   next_turn Less first =
       let x = m.left.reader.last in
       let f = first_less m.left.ahead m.right.ahead _ first in
@@ -83,7 +96,9 @@ module _ (a1 b1 a2 b2 w0 w1 : Option (List ℕ)) (m : Sides) (p : Merging a1 b1 
         rights = p.both.rights;
         left = wrote_own a1 b1 p.both.lefts p.out x m.left refl p.both.left.archive h.0;
         right = wrote_other a2 b2 p.both.rights p.out _ x m.right before.read.right (λ t. below-less _ _ (f.1 t)) p.both.right;
-        order = λ _ _. subst (λ (t : List ℕ). may_follow Archive (last_of [] p.both.rights) t ≡ true) (sym (last_of-push [] p.out x)) (last_under p.out p.both.rights x p.both.joins.ordered p.both.joins.right h.1);
+        order = λ _ _. subst (λ (t : List ℕ). may_follow Archive (last_of [] p.both.rights) t ≡ true)
+            (sym (last_of-push [] p.out x)) (last_under p.out p.both.rights x p.both.joins.ordered p.both.joins.right
+            h.1);
         joins = Joins-left p.out p.both.lefts p.both.rights x p.both.joins (held_record a1 b1 p.both.lefts (last_of [] p.out) m.left p.both.left f.0) h.1;
       }
   next_turn Equal first =
@@ -113,11 +128,13 @@ module _ (a1 b1 a2 b2 w0 w1 : Option (List ℕ)) (m : Sides) (p : Merging a1 b1 
       }
 
   -- whether a retirement of either side covers it
-  covered_by_turn : (b : Bool) (o : Ordering) → first_of m.left m.right ≡ o → TellsBy o m.left m.right b → is_covered (set_of (p.out ++ next_record_by o m ∷ [])) (next_record_by o m) ≡ b
+  covered_by_turn : (b : Bool) (o : Ordering) → first_of m.left m.right ≡ o → TellsBy o m.left m.right b
+      → is_covered (set_of (p.out ++ next_record_by o m ∷ [])) (next_record_by o m) ≡ b
   covered_by_turn b Less first told =
       let x = m.left.reader.last in
       let f = first_less m.left.ahead m.right.ahead _ first in
-      let either = by_other p.out p.both.lefts p.both.rights x p.both.joins a2 b2 (last_of [] p.out) m.right p.both.right before.read.right (λ t. below-less _ _ (f.1 t)) in
+      let either = by_other p.out p.both.lefts p.both.rights x p.both.joins a2 b2 (last_of [] p.out) m.right
+      p.both.right before.read.right (λ t. below-less _ _ (f.1 t)) in
       let own = held_dropped a1 b1 p.both.lefts (last_of [] p.out) m.left p.both.left f.0 in
       cc (either, own, told (held_record a1 b1 p.both.lefts (last_of [] p.out) m.left p.both.left f.0))
   covered_by_turn b Equal first told =
@@ -130,7 +147,9 @@ module _ (a1 b1 a2 b2 w0 w1 : Option (List ℕ)) (m : Sides) (p : Merging a1 b1 
   covered_by_turn b Greater first told =
       let x = m.right.reader.last in
       let f = first_greater m.left.ahead m.right.ahead _ before.read.left before.some first in
-      let either = by_other p.out p.both.rights p.both.lefts x (Joins-swap p.out p.both.lefts p.both.rights p.both.joins) a1 b1 (last_of [] p.out) m.left p.both.left before.read.left (λ t. below-greater _ _ (f.1 t)) in
+      let either = by_other p.out p.both.rights p.both.lefts x
+      (Joins-swap p.out p.both.lefts p.both.rights p.both.joins) a1 b1 (last_of [] p.out) m.left p.both.left
+      before.read.left (λ t. below-greater _ _ (f.1 t)) in
       let own = held_dropped a2 b2 p.both.rights (last_of [] p.out) m.right p.both.right f.0 in
       cc (either, own, told (held_record a2 b2 p.both.rights (last_of [] p.out) m.right p.both.right f.0))
 
@@ -162,7 +181,9 @@ module _ (a1 b1 a2 b2 w0 w1 : Option (List ℕ)) (m : Sides) (p : Merging a1 b1 
     pub grown_bytes : concat after ≡ concat (kept p.out) ++ next_record m
     grown_bytes = ap concat grown ∙ concat-push (kept p.out) (next_record m)
 
-    unfoldable pub wrote : (written : Sizes) → written.records ≡ m.written.records + 1 → written.bytes ≡ m.written.bytes + length (next_record m) → Appends w1 w2 (next_record m) → Merging a1 b1 a2 b2 w0 w2 (after_turn m written)
+    unfoldable pub wrote : (written : Sizes) → written.records ≡ m.written.records + 1 → written.bytes
+        ≡ m.written.bytes + length (next_record m) → Appends w1 w2 (next_record m)
+        → Merging a1 b1 a2 b2 w0 w2 (after_turn m written)
     wrote written records bytes gained =
         let x = next_record m in
         let n = next_turn (first_of m.left m.right) refl in
@@ -171,7 +192,9 @@ module _ (a1 b1 a2 b2 w0 w1 : Option (List ℕ)) (m : Sides) (p : Merging a1 b1 
           both = n;
           records = omega (arith, records, p.records, ap length grown, length-append (kept p.out) (x ∷ []));
           bytes = omega (arith, bytes, p.bytes, ap length grown_bytes, length-append (concat (kept p.out)) x);
-          gained = subst (Appends w0 w2) (append_assoc magic (concat (kept p.out)) x ∙ ap (λ (t : List ℕ). magic ++ t) (sym grown_bytes)) (Appends-then w0 w1 w2 (magic ++ concat (kept p.out)) x p.gained gained);
+          gained = subst (Appends w0 w2) (append_assoc magic (concat (kept p.out)) x
+              ∙ ap (λ (t : List ℕ). magic ++ t) (sym grown_bytes))
+              (Appends-then w0 w1 w2 (magic ++ concat (kept p.out)) x p.gained gained);
         }
 
     -- or the writer failed in it
@@ -181,8 +204,12 @@ module _ (a1 b1 a2 b2 w0 w1 : Option (List ℕ)) (m : Sides) (p : Merging a1 b1 
         let n = next_turn (first_of m.left m.right) refl in
         let before : List (List ℕ) = kept p.out in
         let end : List ℕ = end_record (length after) in
-        let text : text_of Archive after ≡ (magic ++ concat before) ++ (x ++ end) = ap (λ (t : List ℕ). magic ++ t) (ap (λ (t : List ℕ). t ++ end) grown_bytes ∙ append_assoc (concat before) x end) ∙ sym (append_assoc magic (concat before) (x ++ end)) in
-        let s = stopped w0 w1 w2 (magic ++ concat before) x end (text_of Archive after) m.written.bytes k (p.bytes ∙ sym (length-append magic (concat before))) text p.gained q in
+        let text : text_of Archive after ≡ (magic ++ concat before)
+        ++ (x ++ end) = ap (λ (t : List ℕ). magic ++ t)
+        (ap (λ (t : List ℕ). t ++ end) grown_bytes ∙ append_assoc (concat before) x end)
+        ∙ sym (append_assoc magic (concat before) (x ++ end)) in
+        let s = stopped w0 w1 w2 (magic ++ concat before) x end (text_of Archive after) m.written.bytes k
+        (p.bytes ∙ sym (length-append magic (concat before))) text p.gained q in
         record {
           out = p.out ++ x ∷ [];
           left_side = left_after (first_of m.left m.right) m.left;
@@ -198,12 +225,14 @@ pub first_held : (l r : Lookahead) (o : Ordering) → first_by l r o ≢ Greater
 first_held l r o n = grind arith
 
 -- the offset before the last record
-pub before_last : (a b : Option (List ℕ)) (done : List (List ℕ)) (low : List ℕ) (s : MergeInput) → Stands a b done low s → s.ahead ≡ Held → s.reader.offset - length s.reader.last ≡ front_length done
+pub before_last : (a b : Option (List ℕ)) (done : List (List ℕ)) (low : List ℕ) (s : MergeInput) → Stands a b done low s
+    → s.ahead ≡ Held → s.reader.offset - length s.reader.last ≡ front_length done
 before_last a b done low s p held =
     let h = (p.held held).0 in
     omega (arith, h.offset_is, ap length (concat-push done s.reader.last), length-append (concat done) s.reader.last)
 
-pub full_stops : (a1 b1 a2 b2 w0 w1 : Option (List ℕ)) (m : Sides) → Merging a1 b1 a2 b2 w0 w1 m → IsBeforeTurn m → TellsCovered m.left m.right false → (e : MergeFault) → IsRefusedMore m e → HasStoppedMerge a1 b1 a2 b2 w0 w1 e
+pub full_stops : (a1 b1 a2 b2 w0 w1 : Option (List ℕ)) (m : Sides) → Merging a1 b1 a2 b2 w0 w1 m → IsBeforeTurn m
+    → TellsCovered m.left m.right false → (e : MergeFault) → IsRefusedMore m e → HasStoppedMerge a1 b1 a2 b2 w0 w1 e
 full_stops a1 b1 a2 b2 w0 w1 m p before tells e (most, is, at) =
     let full : IsFull a1 b1 a2 b2 w0 w1 e.written = record {
       sides = m;
@@ -214,6 +243,18 @@ full_stops a1 b1 a2 b2 w0 w1 m p before tells e (most, is, at) =
       written_is = is;
     } in
     elim at [
-      | inl l ↦ rw l.1 (inr (inl (full, l.0, ap (λ (n : ℕ). memory_behind n) (before_last a1 b1 p.both.lefts (last_of [] p.out) m.left p.both.left (first_held m.left.ahead m.right.ahead _ l.0)))))
-      | inr r ↦ rw r.1 (inr (full, r.0, ap (λ (n : ℕ). memory_behind n) (before_last a2 b2 p.both.rights (last_of [] p.out) m.right p.both.right (first_greater m.left.ahead m.right.ahead _ before.read.left before.some r.0).0)))
+      | inl l ↦ rw l.1 (inr (inl (
+        full,
+        l.0,
+        ap (λ (n : ℕ). memory_behind n)
+            (before_last a1 b1 p.both.lefts (last_of [] p.out) m.left p.both.left
+            (first_held m.left.ahead m.right.ahead _ l.0)),
+      )))
+      | inr r ↦ rw r.1 (inr (
+        full,
+        r.0,
+        ap (λ (n : ℕ). memory_behind n)
+            (before_last a2 b2 p.both.rights (last_of [] p.out) m.right p.both.right
+            (first_greater m.left.ahead m.right.ahead _ before.read.left before.some r.0).0),
+      ))
     ]

@@ -29,7 +29,9 @@ use Rattle.archive_merge.proofs.Starts.{with_both}
 -- ---- the same retirements, kept elsewhere
 
 -- one that is shared and forgotten is where it was
-moved : (shared more own less : List (List ℕ)) (x : List ℕ) → set_of more ≡ set.insert (set_of shared) x → set.insert (set_of less) x ≡ set.insert (set_of own) x → contains (set_of (shared ++ own)) x ≡ true → set_of (more ++ less) ≡ set_of (shared ++ own)
+moved : (shared more own less : List (List ℕ)) (x : List ℕ) → set_of more ≡ set.insert (set_of shared) x
+    → set.insert (set_of less) x ≡ set.insert (set_of own) x → contains (set_of (shared ++ own)) x ≡ true
+    → set_of (more ++ less) ≡ set_of (shared ++ own)
 moved shared more own less x kept same there =
     let with_own : set_of (own ++ x ∷ []) ≡ set.insert (set_of own) x = from_list_push nat_list_cmp_total bytes_same own x in
     first_more shared less more x kept
@@ -46,7 +48,9 @@ retired_as OldArchive old new records same are = λ r. ap (λ s. contains s (1 �
 retired_as Operations_file old new records same are = tt
 retired_as Summary_file old new records same are = tt
 
-read_as : (f : Format) (a b : Option (List ℕ)) (records : List (List ℕ)) (position : Position) (retired : List (List ℕ)) → set_of retired ≡ set_of position.retired → HasRead f a b records position → HasRead f a b records (record position { retired = retired })
+read_as : (f : Format) (a b : Option (List ℕ)) (records : List (List ℕ)) (position : Position) (retired : List (List ℕ))
+    → set_of retired ≡ set_of position.retired → HasRead f a b records position
+    → HasRead f a b records (record position { retired = retired })
 read_as f a b records position retired same h = record {
   file_is = h.file_is;
   taken = h.taken;
@@ -59,7 +63,9 @@ read_as f a b records position retired same h = record {
   dropped_is = h.dropped_is;
 }
 
-read_all_as : (f : Format) (a b : Option (List ℕ)) (records : List (List ℕ)) (position : Position) (retired : List (List ℕ)) → set_of retired ≡ set_of position.retired → HasReadAll f a b records position → HasReadAll f a b records (record position { retired = retired })
+read_all_as : (f : Format) (a b : Option (List ℕ)) (records : List (List ℕ)) (position : Position)
+    (retired : List (List ℕ)) → set_of retired ≡ set_of position.retired → HasReadAll f a b records position
+    → HasReadAll f a b records (record position { retired = retired })
 read_all_as f a b records position retired same h = record {
   taken = h.taken;
   ordered = h.ordered;
@@ -70,7 +76,8 @@ read_all_as f a b records position retired same h = record {
   retired_are = retired_as f position.retired retired records same h.retired_are;
 }
 
-stands_as : (a b : Option (List ℕ)) (done : List (List ℕ)) (low : List ℕ) (s : MergeInput) (retired : List (List ℕ)) → set_of retired ≡ set_of s.reader.retired → Stands a b done low s → Stands a b done low (with_retired retired s)
+stands_as : (a b : Option (List ℕ)) (done : List (List ℕ)) (low : List ℕ) (s : MergeInput) (retired : List (List ℕ))
+    → set_of retired ≡ set_of s.reader.retired → Stands a b done low s → Stands a b done low (with_retired retired s)
 stands_as a b done low s retired same p = record {
   archive = p.archive;
   unread = λ e. (read_as s.reader.file a b done s.reader retired same (p.unread e).0, (p.unread e).1);
@@ -89,13 +96,16 @@ told_retirement [] r is = cc
 told_retirement (y ∷ ys) r is = grind (arith, nat_tests)
 
 -- the side has it among its own
-has_own : (a b : Option (List ℕ)) (done : List (List ℕ)) (low : List ℕ) (s : MergeInput) (q : List ℕ) → Stands a b done low s → s.ahead ≡ Held → s.reader.last ≡ 1 ∷ q → contains (set_of s.reader.retired) (1 ∷ q) ≡ true
+has_own : (a b : Option (List ℕ)) (done : List (List ℕ)) (low : List ℕ) (s : MergeInput) (q : List ℕ)
+    → Stands a b done low s → s.ahead ≡ Held → s.reader.last ≡ 1 ∷ q → contains (set_of s.reader.retired) (1 ∷ q) ≡ true
 has_own a b done low s q p held is =
     retired_of s.reader.file p.archive s.reader.retired (done ++ s.reader.last ∷ []) (p.held held).0.retired_are q
     ∙ in_set (done ++ s.reader.last ∷ []) (1 ∷ q) (subst (λ (x : List ℕ). Contains (done ++ s.reader.last ∷ []) x) is (Contains-push done s.reader.last))
 
 module _ (a1 b1 a2 b2 w0 w1 : Option (List ℕ)) (m : Sides) (p : Merging a1 b1 a2 b2 w0 w1 m) where
-  abbrev merging_as : (lefts rights : List (List ℕ)) → set_of lefts ≡ set_of m.left.reader.retired → set_of rights ≡ set_of m.right.reader.retired → Merging a1 b1 a2 b2 w0 w1 (record { left = with_retired lefts m.left; right = with_retired rights m.right; written = m.written })
+  abbrev merging_as : (lefts rights : List (List ℕ)) → set_of lefts ≡ set_of m.left.reader.retired → set_of rights
+      ≡ set_of m.right.reader.retired → Merging a1 b1 a2 b2 w0 w1
+      (record { left = with_retired lefts m.left; right = with_retired rights m.right; written = m.written })
   merging_as lefts rights left right = with_both a1 b1 b1 a2 b2 b2 w0 w1 m p (with_retired lefts m.left) (with_retired rights m.right) (record {
     lefts = p.both.lefts;
     rights = p.both.rights;
@@ -106,7 +116,8 @@ module _ (a1 b1 a2 b2 w0 w1 : Option (List ℕ)) (m : Sides) (p : Merging a1 b1 
   })
 
   -- a retirement that both sides hold is among those of each
-  both_have : (r : List ℕ) → first_of m.left m.right ≡ Equal → retirement_in m.left.reader.last ≡ Some r → (contains (set_of m.left.reader.retired) r ≡ true) × (contains (set_of m.right.reader.retired) r ≡ true)
+  both_have : (r : List ℕ) → first_of m.left m.right ≡ Equal → retirement_in m.left.reader.last ≡ Some r
+      → (contains (set_of m.left.reader.retired) r ≡ true) × (contains (set_of m.right.reader.retired) r ≡ true)
   both_have r first is =
       let f = first_equal m.left.ahead m.right.ahead _ first in
       let t = told_retirement m.left.reader.last r is in
@@ -118,9 +129,15 @@ module _ (a1 b1 a2 b2 w0 w1 : Option (List ℕ)) (m : Sides) (p : Merging a1 b1 
 
 -- ---- a retirement that both sides hold is shared, and both forget it
 
-module _ {B : Type 0} (seen : B → MergeInput) (m : Merge B) (r : List ℕ) (more : List (List ℕ)) (left : Position) (right : B) (first : first_of m.left (seen m.right) ≡ Equal) (is : retirement_in m.left.reader.last ≡ Some r) (kept : set_of more ≡ set.insert (set_of m.shared) r)
-    (left_same : left ≡ record m.left.reader { retired = left.retired }) (left_others : set.insert (set_of left.retired) r ≡ set.insert (set_of m.left.reader.retired) r) (right_ahead : (seen right).ahead ≡ (seen m.right).ahead)
-    (right_same : (seen right).reader ≡ record (seen m.right).reader { retired = (seen right).reader.retired }) (right_others : set.insert (set_of (seen right).reader.retired) r ≡ set.insert (set_of (seen m.right).reader.retired) r) where
+module _ {B : Type 0} (seen : B → MergeInput) (m : Merge B) (r : List ℕ) (more : List (List ℕ)) (left : Position)
+    (right : B) (first : first_of m.left (seen m.right) ≡ Equal) (is : retirement_in m.left.reader.last ≡ Some r)
+    (kept : set_of more ≡ set.insert (set_of m.shared) r)
+    (left_same : left ≡ record m.left.reader { retired = left.retired })
+    (left_others : set.insert (set_of left.retired) r ≡ set.insert (set_of m.left.reader.retired) r)
+    (right_ahead : (seen right).ahead ≡ (seen m.right).ahead)
+    (right_same : (seen right).reader ≡ record (seen m.right).reader { retired = (seen right).reader.retired })
+    (right_others : set.insert (set_of (seen right).reader.retired) r
+    ≡ set.insert (set_of (seen m.right).reader.retired) r) where
   abbrev after : Merge B
   after = record { left = record { reader = left; ahead = m.left.ahead }; right = right; shared = more; written = m.written }
 
@@ -131,7 +148,12 @@ module _ {B : Type 0} (seen : B → MergeInput) (m : Merge B) (r : List ℕ) (mo
   rights = more ++ (seen right).reader.retired
 
   abbrev shares : Sides
-  shares = record { left = with_retired lefts (side_with m.shared m.left); right = with_retired rights (side_with m.shared (seen m.right)); written = m.written }
+  shares = record {
+    left = with_retired lefts (side_with m.shared m.left);
+    right =
+        with_retired rights (side_with m.shared (seen m.right));
+    written = m.written;
+  }
 
   sides_are : shares ≡ sides_of seen after
   sides_are = λ i. record {
@@ -144,12 +166,17 @@ module _ {B : Type 0} (seen : B → MergeInput) (m : Merge B) (r : List ℕ) (mo
     abbrev merging_seen : Merging a1 b1 a2 b2 w0 w1 (sides_of seen m) → Merging a1 b1 a2 b2 w0 w1 shares
     merging_seen p =
         let have = both_have a1 b1 a2 b2 w0 w1 (sides_of seen m) p r first is in
-        merging_as a1 b1 a2 b2 w0 w1 (sides_of seen m) p lefts rights (moved m.shared more m.left.reader.retired left.retired r kept left_others have.0) (moved m.shared more (seen m.right).reader.retired (seen right).reader.retired r kept right_others have.1)
+        merging_as a1 b1 a2 b2 w0 w1 (sides_of seen m) p lefts rights
+        (moved m.shared more m.left.reader.retired left.retired r kept left_others have.0)
+        (moved m.shared more (seen m.right).reader.retired (seen right).reader.retired r kept right_others have.1)
 
     pub merging_shared : Merging a1 b1 a2 b2 w0 w1 (sides_of seen m) → Merging a1 b1 a2 b2 w0 w1 (sides_of seen after)
     merging_shared p = subst (Merging a1 b1 a2 b2 w0 w1) sides_are (merging_seen p)
 
-    pub telling_shared : (told : List Arrival) (withdraws : Bool) → Telling a1 b1 a2 b2 w0 w1 (sides_of seen m) told withdraws → Telling a1 b1 a2 b2 w0 w1 (sides_of seen after) told withdraws
+    pub telling_shared : (told : List Arrival) (withdraws : Bool)
+        → Telling a1 b1 a2 b2 w0 w1 (sides_of seen m) told withdraws
+        → Telling a1 b1 a2 b2 w0 w1 (sides_of seen after) told withdraws
     telling_shared told withdraws t =
-        let now : Telling a1 b1 a2 b2 w0 w1 shares told withdraws = record { merging = merging_seen t.merging; arrivals_are = t.arrivals_are; withdraws_is = t.withdraws_is } in
+        let now : Telling a1 b1 a2 b2 w0 w1 shares told withdraws =
+        record { merging = merging_seen t.merging; arrivals_are = t.arrivals_are; withdraws_is = t.withdraws_is } in
         subst (λ (s : Sides). Telling a1 b1 a2 b2 w0 w1 s told withdraws) sides_are now

@@ -42,7 +42,8 @@ any_kept : (p q : List ℕ → Bool) (xs : List (List ℕ)) → list_any (λ r. 
 any_kept p q [] = refl
 any_kept p q (x ∷ xs) = grind (arith, any_kept p q xs)
 
-withdrawn_kept : (xs : List (List ℕ)) (p : Operations) → InOrder Archive [] xs → list_any (is_withdrawn (set_of xs) p) xs ≡ list_any (is_covered p) (listing (content_of (set_of xs)))
+withdrawn_kept : (xs : List (List ℕ)) (p : Operations) → InOrder Archive [] xs
+    → list_any (is_withdrawn (set_of xs) p) xs ≡ list_any (is_covered p) (listing (content_of (set_of xs)))
 unfolding kept
 withdrawn_kept xs p a = any_kept (is_covered p) (λ r. not (is_covered (set_of xs) r)) xs ∙ ap (list_any (is_covered p)) (sym (kept_records xs a))
 
@@ -71,7 +72,14 @@ record Formed (o : Operations) (text : List ℕ) : Type 0 where
 formed : (o : Operations) (text : List ℕ) → HasOperations o text → Formed o text
 formed o text has = elim has.whole [
   | inl w ↦ record { format = Archive; archive = refl; ordered = InOrder-set o has.are; apart = subst IsMade (content_is o) w.0; whole = w.1 ∙ written_text o }
-  | inr old ↦ record { format = OldArchive; archive = refl; ordered = old_in_order [] (listing o) (InOrder-set o has.are); apart = tt; whole = old ∙ old_written_text o }
+  | inr old ↦ record {
+    format = OldArchive;
+    archive = refl;
+    ordered =
+        old_in_order [] (listing o) (InOrder-set o has.are);
+    apart = tt;
+    whole = old ∙ old_written_text o;
+  }
 ]
 
 -- so it has one set of operations
@@ -80,15 +88,19 @@ one_set text o p has other =
     let f = formed o text has in
     let g = formed p text other in
     let is : f.format ≡ g.format = sym (format_magic f.format f.archive text _ f.whole) ∙ format_magic g.format g.archive text _ g.whole in
-    let mine : text ≡ text_of g.format (listing o) ++ [] = f.whole ∙ ap (λ (k : Format). text_of k (listing o)) is ∙ sym (append-nil (text_of g.format (listing o))) in
+    let mine : text ≡ text_of g.format (listing o) ++ [] = f.whole ∙ ap (λ (k : Format). text_of k (listing o)) is
+    ∙ sym (append-nil (text_of g.format (listing o))) in
     let others : text ≡ text_of g.format (listing p) ++ [] = g.whole ∙ sym (append-nil (text_of g.format (listing p))) in
-    let lists = same_records g.format text (listing p) [] g.ordered g.apart others (λ k. absurd (no_operations g.format g.archive k)) (listing o) [] (rw (← is) f.ordered) (rw (← is) f.apart) (λ k. absurd (no_operations g.format g.archive k)) mine in
+    let lists = same_records g.format text (listing p) [] g.ordered g.apart others
+    (λ k. absurd (no_operations g.format g.archive k)) (listing o) [] (rw (← is) f.ordered) (rw (← is) f.apart)
+    (λ k. absurd (no_operations g.format g.archive k)) mine in
     content_is o ∙ ap set_of lists.0 ∙ sym (content_is p)
 
 -- ---- what was told
 
 module _ {R S W : Type 0} (left : Stream R) (right : Stream S) (out : Stream W) (sizes : Sizes) (arrivals : List Arrival) (withdraws : Bool) where
-  pub merged_telling : ReportsAllArrivals (left.bytes left.old) (left.bytes left.new) (right.bytes right.old) (right.bytes right.new) (out.bytes out.old) (out.bytes out.new) sizes arrivals withdraws
+  pub merged_telling : ReportsAllArrivals (left.bytes left.old) (left.bytes left.new) (right.bytes right.old)
+      (right.bytes right.new) (out.bytes out.old) (out.bytes out.new) sizes arrivals withdraws
       → IsUnfailed left × IsUnfailed right × IsUnfailed out → IsMergedTelling left right out sizes arrivals withdraws
   unfolding merged
   merged_telling t unfailed =
@@ -103,10 +115,13 @@ module _ {R S W : Type 0} (left : Stream R) (right : Stream S) (out : Stream W) 
         merged = merged left right out sizes t.merged unfailed;
         operations = set_of m.rights;
         are = are_records m.rights rights_in;
-        right_is = of_taken (right.bytes right.old) (right.bytes right.new) (set_of m.rights) (text_of t.merged.sides.right.reader.file m.rights) r.0.taken r.1 (of_text t.merged.sides.right.reader.file m.right.archive m.rights rights_in r.0.apart);
+        right_is = of_taken (right.bytes right.old) (right.bytes right.new) (set_of m.rights)
+            (text_of t.merged.sides.right.reader.file m.rights) r.0.taken r.1
+            (of_text t.merged.sides.right.reader.file m.right.archive m.rights rights_in r.0.apart);
         makes = taken_made t.merged.sides.right.reader.file m.right.archive m.rights rights_in r.0.apart;
         arrivals_are = t.arrivals_are
-            ∙ same_answers (arrival_of (set_of m.lefts)) (arrival_of (set_of (taken_of f m.lefts))) m.rights (λ x _. sym (arrival_made (set_of m.lefts) x) ∙ ap (λ (o : Operations). arrival_of o x) (sym taken))
+            ∙ same_answers (arrival_of (set_of m.lefts)) (arrival_of (set_of (taken_of f m.lefts))) m.rights
+            (λ x _. sym (arrival_made (set_of m.lefts) x) ∙ ap (λ (o : Operations). arrival_of o x) (sym taken))
             ∙ ap (map (arrival_of (set_of (taken_of f m.lefts)))) (sym (listing_of m.rights rights_in));
         withdraws_is = t.withdraws_is ∙ withdrawn_kept m.lefts (set_of m.rights) lefts_in
             ∙ ap (λ (o : Operations). list_any (is_covered (set_of m.rights)) (listing o)) (sym taken);
@@ -117,18 +132,25 @@ module _ (P : Operations → Operations → Type 0) where
   abbrev ToldOfTexts : Option (List ℕ) → Option (List ℕ) → Type 0
   ToldOfTexts a1 a2 = IfSome a1 (λ t. IfSome a2 (λ u. (o p : Operations) → IsContent o → IsArchiveOf o t → HasOperations p u → P o p))
 
-  told_by : (o operations : Operations) → P o operations → (a1 a2 : Option (List ℕ)) → IfSome a1 (λ t. (other : Operations) → IsContent other → IsArchiveOf other t → o ≡ other) → IfSome a2 (HasOperations operations) → ToldOfTexts a1 a2
+  told_by : (o operations : Operations) → P o operations → (a1 a2 : Option (List ℕ))
+      → IfSome a1 (λ t. (other : Operations) → IsContent other → IsArchiveOf other t → o ≡ other)
+      → IfSome a2 (HasOperations operations) → ToldOfTexts a1 a2
   told_by o operations is None a2 alone has = tt
   told_by o operations is (Some t) None alone has = tt
   told_by o operations is (Some t) (Some u) alone has = λ q p content text other. rw (← alone q content text, ← one_set u operations p has other) is
 
-module _ {R S W : Type 0} (left : Stream R) (right : Stream S) (out : Stream W) (sizes : Sizes) (arrivals : List Arrival) (withdraws : Bool) (told : ReportsAllArrivals (left.bytes left.old) (left.bytes left.new) (right.bytes right.old) (right.bytes right.new) (out.bytes out.old) (out.bytes out.new) sizes arrivals withdraws) (unfailed : IsUnfailed left × IsUnfailed right × IsUnfailed out) where
+module _ {R S W : Type 0} (left : Stream R) (right : Stream S) (out : Stream W) (sizes : Sizes)
+    (arrivals : List Arrival) (withdraws : Bool) (told : ReportsAllArrivals (left.bytes left.old) (left.bytes left.new)
+    (right.bytes right.old) (right.bytes right.new) (out.bytes out.old) (out.bytes out.new) sizes arrivals withdraws)
+    (unfailed : IsUnfailed left × IsUnfailed right × IsUnfailed out) where
   pub arrivals_of_texts : ToldOfTexts (λ o p. arrivals ≡ map (arrival_of o) (listing p)) (left.bytes left.old) (right.bytes right.old)
   arrivals_of_texts =
       let t = merged_telling left right out sizes arrivals withdraws told unfailed in
-      told_by (λ o p. arrivals ≡ map (arrival_of o) (listing p)) t.merged.o t.operations t.arrivals_are (left.bytes left.old) (right.bytes right.old) t.merged.left_is.alone t.right_is
+      told_by (λ o p. arrivals ≡ map (arrival_of o) (listing p)) t.merged.o t.operations t.arrivals_are
+      (left.bytes left.old) (right.bytes right.old) t.merged.left_is.alone t.right_is
 
   pub withdraws_of_texts : ToldOfTexts (λ o p. withdraws ≡ list_any (is_covered p) (listing o)) (left.bytes left.old) (right.bytes right.old)
   withdraws_of_texts =
       let t = merged_telling left right out sizes arrivals withdraws told unfailed in
-      told_by (λ o p. withdraws ≡ list_any (is_covered p) (listing o)) t.merged.o t.operations t.withdraws_is (left.bytes left.old) (right.bytes right.old) t.merged.left_is.alone t.right_is
+      told_by (λ o p. withdraws ≡ list_any (is_covered p) (listing o)) t.merged.o t.operations t.withdraws_is
+      (left.bytes left.old) (right.bytes right.old) t.merged.left_is.alone t.right_is

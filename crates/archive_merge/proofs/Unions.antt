@@ -11,7 +11,8 @@ use Rattle.archive_records.proofs.Steps.{InOrder-push}
 pushed : (xs : List (List ℕ)) (x z : List ℕ) → x ≡ z → Contains (xs ++ x ∷ []) z
 pushed xs x z e = subst (Contains (xs ++ x ∷ [])) e (Contains-push xs x)
 
-pub Joins-left : (out xs ys : List (List ℕ)) (x : List ℕ) → Joins out xs ys → IsItem Archive x → may_follow Archive (last_of [] out) x ≡ true → Joins (out ++ x ∷ []) (xs ++ x ∷ []) ys
+pub Joins-left : (out xs ys : List (List ℕ)) (x : List ℕ) → Joins out xs ys → IsItem Archive x
+    → may_follow Archive (last_of [] out) x ≡ true → Joins (out ++ x ∷ []) (xs ++ x ∷ []) ys
 Joins-left out xs ys x j r b = record {
   ordered = InOrder-push Archive [] out x j.ordered r b;
   from = λ z c. elim (Contains-push_cases out x z c) [
@@ -33,10 +34,12 @@ Joins-swap out xs ys j = record {
   right = j.left;
 }
 
-pub Joins-right : (out xs ys : List (List ℕ)) (x : List ℕ) → Joins out xs ys → IsItem Archive x → may_follow Archive (last_of [] out) x ≡ true → Joins (out ++ x ∷ []) xs (ys ++ x ∷ [])
+pub Joins-right : (out xs ys : List (List ℕ)) (x : List ℕ) → Joins out xs ys → IsItem Archive x
+    → may_follow Archive (last_of [] out) x ≡ true → Joins (out ++ x ∷ []) xs (ys ++ x ∷ [])
 Joins-right out xs ys x j r b = Joins-swap (out ++ x ∷ []) (ys ++ x ∷ []) xs (Joins-left out ys xs x (Joins-swap out xs ys j) r b)
 
-pub Joins-both : (out xs ys : List (List ℕ)) (x : List ℕ) → Joins out xs ys → IsItem Archive x → may_follow Archive (last_of [] out) x ≡ true → Joins (out ++ x ∷ []) (xs ++ x ∷ []) (ys ++ x ∷ [])
+pub Joins-both : (out xs ys : List (List ℕ)) (x : List ℕ) → Joins out xs ys → IsItem Archive x
+    → may_follow Archive (last_of [] out) x ≡ true → Joins (out ++ x ∷ []) (xs ++ x ∷ []) (ys ++ x ∷ [])
 Joins-both out xs ys x j r b =
     let l = Joins-left out xs ys x j r b in
     record {

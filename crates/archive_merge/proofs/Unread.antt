@@ -1,5 +1,6 @@
 -- What a merge that is refused has written is no archive's text.
-use Rattle.std.proofs.Common.{◌≡◌, ℕ, ◌+◌, ◌<◌, List, [], ◌∷◌, ◌++◌, length, take, drop, Option, Some, None, refl, sym, ap, ◌∙◌, subst, arith, inl, inr, length-take, take-append-drop, IfSome}
+use Rattle.std.proofs.Common.{◌≡◌, ℕ, ◌+◌, ◌<◌, List, [], ◌∷◌, ◌++◌, length, take, drop, Option, Some, None, refl, sym}
+use Rattle.std.proofs.Common.{ap, ◌∙◌, subst, arith, inl, inr, length-take, take-append-drop, IfSome}
 use Rattle.std.proofs.lemmas.Bool.{cases_Bool}
 use Rattle.std.proofs.lemmas.List.{append-nil, append_cancel_left}
 use Rattle.std.specs.List.{concat}
@@ -24,15 +25,20 @@ use Rattle.archive_merge.proofs.Places.{up_to-none, begun, begun_all, begun_none
 -- no beginning of a text is one but the whole
 pub no_text : (o : Operations) (n : ℕ) → IsContent o → n < length (written o) → IsArchiveText (take n (written o)) → ⊥
 no_text o n content lt t =
-    let none : drop n (written o) ≡ [] = no_text_begins t.0 o (take n (written o)) (written o) (drop n (written o)) t.1 content t.2 (inl refl) (take-append-drop n (written o)) in
-    let short : take n (written o) ≡ written o = sym (append-nil (take n (written o))) ∙ ap (λ (x : List ℕ). take n (written o) ++ x) (sym none) ∙ take-append-drop n (written o) in
+    let none : drop n (written o) ≡ [] = no_text_begins t.0 o (take n (written o)) (written o) (drop n (written o)) t.1
+    content t.2 (inl refl) (take-append-drop n (written o)) in
+    let short : take n (written o) ≡ written o = sym (append-nil (take n (written o)))
+    ∙ ap (λ (x : List ℕ). take n (written o) ++ x) (sym none) ∙ take-append-drop n (written o) in
     omega (arith, ap length short, length-take n (written o))
 
 -- ---- contents of good records
 
-pub good_content : (left right : List ℕ) (lefts rights : List (List ℕ)) → AreGoodRecords left lefts → AreGoodRecords right rights → IsContent (of_both lefts rights)
+pub good_content : (left right : List ℕ) (lefts rights : List (List ℕ)) → AreGoodRecords left lefts
+    → AreGoodRecords right rights → IsContent (of_both lefts rights)
 good_content left right lefts rights l r =
-    made_content (all_of lefts rights) (union_members nat_list_cmp_total IsRecord (set.from_list lefts) (set.from_list rights) (are_records lefts (good_order left lefts l)) (are_records rights (good_order right rights r)))
+    made_content (all_of lefts rights) (union_members nat_list_cmp_total IsRecord (set.from_list lefts)
+    (set.from_list rights) (are_records lefts (good_order left lefts l))
+    (are_records rights (good_order right rights r)))
 
 -- ---- records up to one
 
@@ -48,7 +54,8 @@ begins low prev (x ∷ xs) a = elim (cases_Bool (may_follow Archive low x)) [
 ]
 
 -- what is written where a side stops a merge is a beginning of the text, and not all of it
-pub written_first : (left right : List ℕ) (o : Operations) (low bytes : List ℕ) → IsContent o → IsWrittenBefore left right o low bytes → (n : ℕ) × (n < length (written o)) × (bytes ≡ take n (written o))
+pub written_first : (left right : List ℕ) (o : Operations) (low bytes : List ℕ) → IsContent o
+    → IsWrittenBefore left right o low bytes → (n : ℕ) × (n < length (written o)) × (bytes ≡ take n (written o))
 written_first left right o low bytes content (inl w) =
     let first = begun (Some []) (Some []) [] 0 (begun_none (Some []) (Some []) [] 0 refl refl) o (listing o) refl in
     (0, first.within, w.1 ∙ first.gained)
@@ -77,7 +84,8 @@ first_no_text (Some x) None o n content w = λ bytes gained t. gained
 first_no_text (Some x) (Some y) o n content w = λ bytes gained t.
     no_text o n content w.within (subst IsArchiveText (append_cancel_left x bytes (take n (written o)) (sym gained ∙ w.gained)) t)
 
-pub text_none : (w0 w1 : Option (List ℕ)) (out : List (List ℕ)) (n : ℕ) → InOrder Archive [] out → WritesFirst w0 w1 (text_of Archive (kept out)) n → NoText w0 w1
+pub text_none : (w0 w1 : Option (List ℕ)) (out : List (List ℕ)) (n : ℕ) → InOrder Archive [] out
+    → WritesFirst w0 w1 (text_of Archive (kept out)) n → NoText w0 w1
 text_none w0 w1 out n ordered w =
     let made : Operations = content_of (set_of out) in
     let text : text_of Archive (kept out) ≡ written made = sym (written_text made ∙ ap (text_of Archive) (kept_records out ordered)) in

@@ -1,4 +1,4 @@
--- What a record is to a content.
+-- The effect of a record on a content.
 use Rattle.std.specs.Prelude.{ℕ, List, Bool, true, false, if◌then◌else◌}
 use Rattle.std.specs.FinSet as set
 use Rattle.archive_core.specs.Content.{Operations, is_covered}

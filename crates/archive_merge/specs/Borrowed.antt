@@ -1,4 +1,4 @@
--- Operations that stand in memory, read as the text that they would be: the words of the inner functions.
+-- Operations in memory, read as the text that they would be: the words of the inner functions.
 use Rattle.std.specs.Prelude.{◌≡◌, ◌≢◌, ℕ, ◌+◌, List, [], ◌++◌, length, map, Option, Some, None, Result, Ok, Err}
 use Rattle.std.specs.List.{concat}
 use Rattle.std.specs.Io.KnownBytes.{IsAtEnd}

@@ -1,4 +1,4 @@
--- What is lost where one archive takes the place of another.
+-- The records that are lost if one archive replaces another.
 use Rattle.std.specs.Prelude.{◌≡◌, ℕ, count_by, IfSome}
 use Rattle.join_core.specs.Listing.{listing}
 use Rattle.byte_device.specs.Devices.{Stream}

@@ -1,5 +1,5 @@
--- A merge of two texts, each of either version: what is written of two archives, and else which side stops it, and
--- where.
+-- A merge of two texts, each of either version: the text that is written from two archives, or the side that stops it,
+-- and where.
 use Rattle.std.specs.Prelude.{◌≡◌, ◌≢◌, ℕ, ◌+◌, ◌-◌, ◌^◌, ◌<◌, true, false, not, List, [], ◌∷◌, ◌++◌, length, filter}
 use Rattle.std.specs.Prelude.{IfSome, Result, Ok, Err, ◌⊎◌}
 use Rattle.std.specs.List.{concat}

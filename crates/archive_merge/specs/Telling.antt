@@ -1,5 +1,5 @@
--- A merge that tells what each record of its right side is to the left one, and whether the right one retires what is
--- there.
+-- A merge that reports the effect of each record of its right side on the left one, and whether the right one retires a
+-- slice that is there.
 use Rattle.std.specs.Prelude.{◌≡◌, ℕ, List, Bool, map, IfSome, ◌⊎◌}
 use Rattle.std.specs.List.{list_any}
 use Rattle.join_core.specs.Listing.{listing}

@@ -62,7 +62,8 @@ TellsOn b1 c1 b2 c2 w1 w2 old new arrivals more withdrew withdraws result =
     (λ e. HasStoppedMerge a1 c1 a2 c2 w0 w2 e)
 
 -- The same of a merge that ended.
-pub record ReportsAllArrivals (a1 b1 a2 b2 w0 w1 : Option (List ℕ)) (sizes : Sizes) (arrivals : List Arrival) (withdraws : Bool)
+pub record ReportsAllArrivals (a1 b1 a2 b2 w0 w1 : Option (List ℕ)) (sizes : Sizes) (arrivals : List Arrival)
+    (withdraws : Bool)
     : Type 0 where
   pub merged : MergedAll a1 b1 a2 b2 w0 w1 sizes
   pub arrivals_are : arrivals ≡ map (arrival_of (set_of merged.merging.both.lefts)) merged.merging.both.rights

@@ -11,7 +11,8 @@ ghost use Rattle.archive_core.specs.Content.{IsContent, Operations, is_covered};
 ghost use Rattle.archive_records.specs.Text.{IsArchiveOf};
 ghost use Rattle.archive_records.specs.declared.fault.MergeCause.TheVariants.{Right};
 ghost use Rattle.archive_merge.specs.Merging.{GainsCount, Merges};
-ghost use Rattle.archive_merge.specs.MergeSteps.{BlamesDevices, Fits, HasEnded, HasStoppedMerge, IsBeforeTurn, IsReadOn};
+ghost use Rattle.archive_merge.specs.MergeSteps.{BlamesDevices, Fits, HasEnded, HasStoppedMerge, IsBeforeTurn};
+ghost use Rattle.archive_merge.specs.MergeSteps.{IsReadOn};
 ghost use Rattle.archive_merge.specs.MergeSteps.{Leaves, Merging, cost_of, first_of, memory_behind};
 ghost use Rattle.archive_merge.specs.Sides.{sides_of};
 ghost use Rattle.archive_merge.specs.Telling.{HasOperations, IsMergedTelling};
@@ -167,7 +168,8 @@ fn tell_taken<R: Source, F, B: ReadFrom<F>, W: Sink>(
     requires withdraws { told.old.withdraws ≡ false }
     ensures leaves { Leaves (R.left r1.old) (R.left r1.new) (B.left r2.old) (B.left r2.new)
         (W.held w.old) (W.held w.new) result }
-    ensures told { IfOk result (λ sizes. ReportsAllArrivals (R.left r1.old) (R.left r1.new) (B.left r2.old) (B.left r2.new)
+    ensures told { IfOk result (λ sizes. ReportsAllArrivals (R.left r1.old) (R.left r1.new) (B.left r2.old)
+        (B.left r2.new)
         (W.held w.old) (W.held w.new) sizes told.new.arrivals.items told.new.withdraws) }
     ensures devices { BlamesDevices (stream R.left R.failures r1.old r1.new) (stream B.left B.failures r2.old r2.new)
         (W.failures w.old) (W.failures w.new) result }

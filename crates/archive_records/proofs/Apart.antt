@@ -36,10 +36,12 @@ and_same a b c h = grind arith
 -- ---- fronts
 
 pub apart_front : (file : Format) (xs more : List (List ℕ)) → AreApart file (xs ++ more) → AreApart file xs
-apart_front Archive xs more is = made_part (set_of xs) (set_of (xs ++ more)) is (λ r h. in_set (xs ++ more) r (Contains-append_left xs more r (from_set xs r h)))
+apart_front Archive xs more is = made_part (set_of xs) (set_of (xs ++ more)) is
+    (λ r h. in_set (xs ++ more) r (Contains-append_left xs more r (from_set xs r h)))
 apart_front _ xs more is = tt
 
-pub apart_part : (file : Format) (ys xs : List (List ℕ)) (x : List ℕ) (more : List (List ℕ)) → ys ≡ xs ++ x ∷ more → AreApart file ys → AreApart file (xs ++ x ∷ [])
+pub apart_part : (file : Format) (ys xs : List (List ℕ)) (x : List ℕ) (more : List (List ℕ)) → ys ≡ xs ++ x ∷ more
+    → AreApart file ys → AreApart file (xs ++ x ∷ [])
 apart_part file ys xs x more e is = apart_front file (xs ++ x ∷ []) more (subst (AreApart file) (e ∙ sym (append_assoc xs (x ∷ []) more)) is)
 
 pub apart_none : (file : Format) → AreApart file []
@@ -66,12 +68,15 @@ abbrev pub same_as : List ℕ → List ℕ → Bool
 same_as = eq_by_cmp order
 
 pub contains-push : (xs : List (List ℕ)) (x q : List ℕ) → contains (set_of (xs ++ x ∷ [])) q ≡ (same_as q x || contains (set_of xs) q)
-contains-push xs x q = ap (λ (s : Operations). contains s q) (from_list_push nat_list_cmp_total bytes_same xs x) ∙ contains-insert nat_list_cmp_total (set_of xs) x q
+contains-push xs x q = ap (λ (s : Operations). contains s q) (from_list_push nat_list_cmp_total bytes_same xs x)
+    ∙ contains-insert nat_list_cmp_total (set_of xs) x q
 
 -- it covers nothing if it is not the retirement
-covered_still : (xs : List (List ℕ)) (x r : List ℕ) → (is_admission r ≡ true → covering r ≡ x → ⊥) → is_covered (set_of (xs ++ x ∷ [])) r ≡ is_covered (set_of xs) r
+covered_still : (xs : List (List ℕ)) (x r : List ℕ) → (is_admission r ≡ true → covering r ≡ x → ⊥)
+    → is_covered (set_of (xs ++ x ∷ [])) r ≡ is_covered (set_of xs) r
 covered_still xs x r other = and_same (is_admission r) (contains (set_of (xs ++ x ∷ [])) (covering r)) (contains (set_of xs) (covering r)) (λ a.
-    contains-push xs x (covering r) ∙ ap (λ b. b || contains (set_of xs) (covering r)) (is_false (same_as (covering r) x) (λ same. other a (same_bytes (covering r) x same))))
+    contains-push xs x (covering r) ∙ ap (λ b. b || contains (set_of xs) (covering r))
+    (is_false (same_as (covering r) x) (λ same. other a (same_bytes (covering r) x same))))
 
 -- a record is not covered by itself
 pub covered_push : (xs : List (List ℕ)) (x : List ℕ) → is_covered (set_of (xs ++ x ∷ [])) x ≡ is_covered (set_of xs) x
@@ -79,13 +84,17 @@ covered_push xs x = covered_still xs x x (λ a e. not_covering x (key_and_digest
 
 -- a record that an earlier one covers is not apart
 pub covered_apart : (xs : List (List ℕ)) (x : List ℕ) → AreApart Archive (xs ++ x ∷ []) → is_covered (set_of xs) x ≡ true → ⊥
-covered_apart xs x is c = false≢true (sym (uncovered_of_made (set_of (xs ++ x ∷ [])) is x (in_set (xs ++ x ∷ []) x (Contains-push xs x))) ∙ covered_push xs x ∙ c)
+covered_apart xs x is c = false≢true (sym (uncovered_of_made (set_of (xs ++ x ∷ [])) is x
+    (in_set (xs ++ x ∷ []) x (Contains-push xs x))) ∙ covered_push xs x ∙ c)
 
 -- a record above the others, which none of them covers, is apart with them
-pub push_apart : (xs : List (List ℕ)) (x : List ℕ) → InOrder Archive [] xs → may_follow Archive (last_of [] xs) x ≡ true → AreApart Archive xs → is_covered (set_of xs) x ≡ false → AreApart Archive (xs ++ x ∷ [])
+pub push_apart : (xs : List (List ℕ)) (x : List ℕ) → InOrder Archive [] xs → may_follow Archive (last_of [] xs) x ≡ true
+    → AreApart Archive xs → is_covered (set_of xs) x ≡ false → AreApart Archive (xs ++ x ∷ [])
 push_apart xs x a b is free = made_of_uncovered (set_of (xs ++ x ∷ [])) (λ r h. elim (Contains-push_cases xs x r (from_set (xs ++ x ∷ []) r h)) [
   | inl k ↦
-      covered_still xs x r (λ d e. false≢true (sym (up_to_last [] r xs a k) ∙ below-trans (last_of [] xs) x r b (subst (λ (y : List ℕ). may_follow Archive y r ≡ true) e (covering_below r d))))
+      covered_still xs x r (λ d e. false≢true (sym (up_to_last [] r xs a k)
+      ∙ below-trans (last_of [] xs) x r b (subst (λ (y : List ℕ). may_follow Archive y r ≡ true) e
+      (covering_below r d))))
       ∙ uncovered_of_made (set_of xs) is r (in_set xs r k)
   | inr e ↦ ap (λ (y : List ℕ). is_covered (set_of (xs ++ x ∷ [])) y) (sym e) ∙ covered_push xs x ∙ free
 ])
@@ -96,11 +105,15 @@ pub last_of-push : (low : List ℕ) (xs : List (List ℕ)) (x : List ℕ) → la
 last_of-push low [] x = refl
 last_of-push low (y ∷ ys) x = last_of-push y ys x
 
-retired_with : (old new records : List (List ℕ)) (dropped : Bool) (x : List ℕ) → RetireAlike (set_of old) (set_of records) → Keeps old new dropped x → RetireAlike (set_of new) (set_of (records ++ x ∷ []))
-retired_with old new records dropped x are k r = k.alike r ∙ contains-insert nat_list_cmp_total (set_of old) x (1 ∷ r) ∙ ap (λ b. same_as (1 ∷ r) x || b) (are r) ∙ sym (contains-push records x (1 ∷ r))
+retired_with : (old new records : List (List ℕ)) (dropped : Bool) (x : List ℕ)
+    → RetireAlike (set_of old) (set_of records) → Keeps old new dropped x
+    → RetireAlike (set_of new) (set_of (records ++ x ∷ []))
+retired_with old new records dropped x are k r = k.alike r ∙ contains-insert nat_list_cmp_total (set_of old) x (1 ∷ r)
+    ∙ ap (λ b. same_as (1 ∷ r) x || b) (are r) ∙ sym (contains-push records x (1 ∷ r))
 
 -- they grow with the records
-pub retired_more : (file : Format) (old new records : List (List ℕ)) (dropped : Bool) (x : List ℕ) → AreRetired file old records → KeepsIn file old new dropped x → AreRetired file new (records ++ x ∷ [])
+pub retired_more : (file : Format) (old new records : List (List ℕ)) (dropped : Bool) (x : List ℕ)
+    → AreRetired file old records → KeepsIn file old new dropped x → AreRetired file new (records ++ x ∷ [])
 retired_more Archive old new records dropped x are k = λ r. retired_with old new records dropped x are k.0 r
 retired_more OldArchive old new records dropped x are k = λ r. retired_with old new records dropped x are k r
 retired_more _ old new records dropped x are k = tt
@@ -115,10 +128,14 @@ pub covered_alike : (o p : Operations) (x : List ℕ) → RetireAlike o p → is
 covered_alike o p x alike = ap (λ b. is_admission x && b) (alike (key_and_digest x))
 
 -- what tells whether one record more is covered tells it of the last one
-drops_with : (old new records : List (List ℕ)) (dropped : Bool) (x : List ℕ) → RetireAlike (set_of old) (set_of records) → Keeps old new dropped x → dropped ≡ is_covered (set_of (records ++ x ∷ [])) (last_of [] (records ++ x ∷ []))
-drops_with old new records dropped x are k = sym k.tells ∙ covered_alike (set_of old) (set_of records) x are ∙ sym (covered_push records x) ∙ ap (λ (r : List ℕ). is_covered (set_of (records ++ x ∷ [])) r) (sym (last_of-push [] records x))
+drops_with : (old new records : List (List ℕ)) (dropped : Bool) (x : List ℕ) → RetireAlike (set_of old) (set_of records)
+    → Keeps old new dropped x → dropped ≡ is_covered (set_of (records ++ x ∷ [])) (last_of [] (records ++ x ∷ []))
+drops_with old new records dropped x are k = sym k.tells ∙ covered_alike (set_of old) (set_of records) x are
+    ∙ sym (covered_push records x) ∙ ap (λ (r : List ℕ). is_covered (set_of (records ++ x ∷ [])) r)
+    (sym (last_of-push [] records x))
 
-pub drops_more : (file : Format) (old new records : List (List ℕ)) (dropped : Bool) (x : List ℕ) → AreRetired file old records → KeepsIn file old new dropped x → DropsLast file dropped (records ++ x ∷ [])
+pub drops_more : (file : Format) (old new records : List (List ℕ)) (dropped : Bool) (x : List ℕ)
+    → AreRetired file old records → KeepsIn file old new dropped x → DropsLast file dropped (records ++ x ∷ [])
 drops_more Archive old new records dropped x are k = drops_with old new records dropped x are k.0
 drops_more OldArchive old new records dropped x are k = drops_with old new records dropped x are k
 drops_more _ old new records dropped x are k = k
@@ -129,10 +146,15 @@ drops_none _ dropped e = e
 
 -- ---- the content of the records, with one more
 
-pub from_list-push : (records : List (List ℕ)) (x : List ℕ) (o : Operations) → o ≡ set.from_list records → AreApart Archive (records ++ x ∷ []) → with_record o x ≡ set.from_list (records ++ x ∷ [])
-from_list-push records x o e is = ap (λ (s : Operations). content_of (set.insert s x)) e ∙ ap content_of (sym (from_list_push nat_list_cmp_total bytes_same records x)) ∙ is
+pub from_list-push : (records : List (List ℕ)) (x : List ℕ) (o : Operations) → o ≡ set.from_list records
+    → AreApart Archive (records ++ x ∷ []) → with_record o x ≡ set.from_list (records ++ x ∷ [])
+from_list-push records x o e is = ap (λ (s : Operations). content_of (set.insert s x)) e
+    ∙ ap content_of (sym (from_list_push nat_list_cmp_total bytes_same records x)) ∙ is
 
 -- and of a part of them
-pub part-push : (records : List (List ℕ)) (x : List ℕ) (o : Operations) → ((r : List ℕ) → contains o r ≡ true → contains (set_of records) r ≡ true) → AreApart Archive (records ++ x ∷ []) → with_record o x ≡ set.insert o x
+pub part-push : (records : List (List ℕ)) (x : List ℕ) (o : Operations)
+    → ((r : List ℕ) → contains o r ≡ true → contains (set_of records) r ≡ true) → AreApart Archive (records ++ x ∷ [])
+    → with_record o x ≡ set.insert o x
 part-push records x o within is = made_part (set.insert o x) (set_of (records ++ x ∷ [])) is (λ r h.
-    contains-push records x r ∙ or_more (same_as r x) (contains o r) (contains (set_of records) r) (within r) (sym (contains-insert nat_list_cmp_total o x r) ∙ h))
+    contains-push records x r ∙ or_more (same_as r x) (contains o r) (contains (set_of records) r) (within r)
+    (sym (contains-insert nat_list_cmp_total o x r) ∙ h))

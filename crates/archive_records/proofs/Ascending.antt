@@ -62,7 +62,8 @@ up_to_last low z (x ∷ xs) a c = elim (in_cons x xs z c) [
 ]
 
 -- each is the last one, or below it
-under_last : (low z : List ℕ) (xs : List (List ℕ)) → InOrder Archive low xs → Contains xs z → (z ≡ last_of low xs) ⊎ (may_follow Archive z (last_of low xs) ≡ true)
+under_last : (low z : List ℕ) (xs : List (List ℕ)) → InOrder Archive low xs → Contains xs z → (z ≡ last_of low xs)
+    ⊎ (may_follow Archive z (last_of low xs) ≡ true)
 under_last low z [] a c = absurd (omega (arith, c.1))
 under_last low z (x ∷ xs) a c = elim (in_cons x xs z c) [
   | inl e ↦ subst (λ (t : List ℕ). (t ≡ last_of x xs) ⊎ (may_follow Archive t (last_of x xs) ≡ true)) e (last_above x xs a.2)
@@ -81,14 +82,17 @@ up_then a low x (inl e) b = subst (λ (t : List ℕ). may_follow Archive t x ≡
 up_then a low x (inr c) b = below-trans a low x c b
 
 -- what is above the last of all records is above the last of some of them
-pub last_under : (out xs : List (List ℕ)) (x : List ℕ) → InOrder Archive [] out → ((z : List ℕ) → Contains xs z → Contains out z) → may_follow Archive (last_of [] out) x ≡ true → may_follow Archive (last_of [] xs) x ≡ true
+pub last_under : (out xs : List (List ℕ)) (x : List ℕ) → InOrder Archive [] out
+    → ((z : List ℕ) → Contains xs z → Contains out z) → may_follow Archive (last_of [] out) x ≡ true
+    → may_follow Archive (last_of [] xs) x ≡ true
 last_under out xs x a sub above = elim (last_or_none [] xs) [
   | inl e ↦ subst (λ (t : List ℕ). may_follow Archive t x ≡ true) e (up_then [] (last_of [] out) x (last_above [] out a) above)
   | inr c ↦ up_then (last_of [] xs) (last_of [] out) x (under_last [] (last_of [] xs) out a (sub (last_of [] xs) c)) above
 ]
 
 -- the last of some of the records is not above the last of all
-pub last_within : (out xs : List (List ℕ)) → InOrder Archive [] out → ((z : List ℕ) → Contains xs z → Contains out z) → may_follow Archive (last_of [] out) (last_of [] xs) ≡ false
+pub last_within : (out xs : List (List ℕ)) → InOrder Archive [] out → ((z : List ℕ) → Contains xs z → Contains out z)
+    → may_follow Archive (last_of [] out) (last_of [] xs) ≡ false
 last_within out xs a sub = elim (last_or_none [] xs) [
   | inl e ↦ subst (λ (t : List ℕ). may_follow Archive (last_of [] out) t ≡ false) e (elim (last_above [] out a) [
     | inl same ↦ subst (λ (t : List ℕ). may_follow Archive t [] ≡ false) same (below-self [])
@@ -117,7 +121,8 @@ not_self : (x z : List ℕ) (xs : List (List ℕ)) → InOrder Archive x xs → 
 not_self x z xs a c e = false≢true (sym (below-self x) ∙ subst (λ (t : List ℕ). may_follow Archive x t ≡ true) (sym e) (all_above x z xs a c))
 
 -- the members of an ascending list that are not above low begin it
-pub prefix : (lo low : List ℕ) (us os : List (List ℕ)) → InOrder Archive lo us → InOrder Archive lo os → ((z : List ℕ) → Contains os z → Contains us z) → ((z : List ℕ) → Contains os z → may_follow Archive low z ≡ false)
+pub prefix : (lo low : List ℕ) (us os : List (List ℕ)) → InOrder Archive lo us → InOrder Archive lo os
+    → ((z : List ℕ) → Contains os z → Contains us z) → ((z : List ℕ) → Contains os z → may_follow Archive low z ≡ false)
     → ((z : List ℕ) → Contains us z → may_follow Archive low z ≡ false → Contains os z) → (more : List (List ℕ)) × (us ≡ os ++ more)
 prefix lo low us [] a b sub within back = (us, refl)
 prefix lo low [] (o ∷ os) a b sub within back = absurd (omega (arith, (sub o (in_front o os)).1))

@@ -75,7 +75,8 @@ module _ (file : Format) (end : end_length file ≡ Some 9) where
       ((lt, all_below low x xs lt rest.0), rest)
 
   -- strictly sorted items ascend
-  InOrder-sorted : (low : List ℕ) (xs : List (List ℕ)) → AllByRecursion (IsItem file) xs → AllByRecursion (λ y. order low y ≡ Less) xs → IsStrictlySortedBy order xs → InOrder file low xs
+  InOrder-sorted : (low : List ℕ) (xs : List (List ℕ)) → AllByRecursion (IsItem file) xs
+      → AllByRecursion (λ y. order low y ≡ Less) xs → IsStrictlySortedBy order xs → InOrder file low xs
   unfolding IsStrictlySortedBy
   InOrder-sorted low [] r b s = tt
   InOrder-sorted low (x ∷ xs) r b s = (r.0, is_below low x b.0, InOrder-sorted x xs r.1 s.0 s.1)
@@ -129,7 +130,8 @@ unfolding summary_text
 summary_text_is s = ap (λ n. summary_magic ++ (concat (listing s) ++ end_record n)) (sym (length_written s))
 
 pub summary_text-entries : (xs : List (List ℕ)) → InOrder Summary [] xs → summary_text (set.from_list xs) ≡ text_of Summary xs
-summary_text-entries xs a = summary_text_is (set.from_list xs) ∙ ap (text_of Summary) (listing_ascending nat_list_cmp_total bytes_same xs (sorted-entries [] xs a).1)
+summary_text-entries xs a = summary_text_is (set.from_list xs)
+    ∙ ap (text_of Summary) (listing_ascending nat_list_cmp_total bytes_same xs (sorted-entries [] xs a).1)
 
 -- the text of the set is that of the records
 pub written_text : (o : Operations) → written o ≡ text_of Archive (listing o)
@@ -155,14 +157,19 @@ pub containing : (xs : List (List ℕ)) (q : List ℕ) → list_any (eq_by_cmp o
 containing xs q h = Contains-from_any same_bytes q xs h
 
 -- an ascending list with the members of a set is its listing
-pub listing_is : (o : Operations) (records : List (List ℕ)) → IsStrictlySortedBy order records → ((r : List ℕ) → Contains records r ↔ (set.contains o r ≡ true)) → listing o ≡ records
+pub listing_is : (o : Operations) (records : List (List ℕ)) → IsStrictlySortedBy order records
+    → ((r : List ℕ) → Contains records r ↔ (set.contains o r ≡ true)) → listing o ≡ records
 listing_is o records ascending members =
     let same : o ≡ set.from_list records = same_set nat_list_cmp_total bytes_same o (set.from_list records) (λ q.
-    both_ways (set.contains o q) (list_any (eq_by_cmp order q) records) (λ h. contained records q ((members q).1 h)) (λ h. (members q).0 (containing records q h)) ∙ sym (contains-from_list nat_list_cmp_total records q)) in
+    both_ways (set.contains o q) (list_any (eq_by_cmp order q) records) (λ h. contained records q ((members q).1 h))
+    (λ h. (members q).0 (containing records q h)) ∙ sym (contains-from_list nat_list_cmp_total records q)) in
     one_listing nat_list_cmp_total bytes_same o records (record { ascending = ascending; same = same })
 
 pub members_listed : (o : Operations) (q : List ℕ) → Contains (listing o) q ↔ (set.contains o q ≡ true)
-members_listed o q = (λ h. sym (any_listing nat_list_cmp_total o q) ∙ contained (listing o) q h, λ h. containing (listing o) q (any_listing nat_list_cmp_total o q ∙ h))
+members_listed o q = (
+  λ h. sym (any_listing nat_list_cmp_total o q) ∙ contained (listing o) q h,
+  λ h. containing (listing o) q (any_listing nat_list_cmp_total o q ∙ h),
+)
 
 pub one_text : (o : Operations) (text : List ℕ) → IsWritten o text → text ≡ written o
 one_text o text w = w.whole ∙ sym (ap (text_of Archive) (listing_is o w.records w.ascending w.members)) ∙ sym (written_text o)

@@ -1,5 +1,6 @@
 -- End records.
-use Rattle.std.proofs.Common.{◌≡◌, ℕ, suc, ◌<◌, ◌^◌, true, List, [], ◌∷◌, length, get_or, take, Option, Some, Ok, refl, sym, ap, ◌∙◌, subst, arith, eq-eqb, lit≤}
+use Rattle.std.proofs.Common.{◌≡◌, ℕ, suc, ◌<◌, ◌^◌, true, List, [], ◌∷◌, length, get_or, take, Option, Some, Ok, refl}
+use Rattle.std.proofs.Common.{sym, ap, ◌∙◌, subst, arith, eq-eqb, lit≤}
 use Rattle.std.proofs.lemmas.List.{take_all}
 use Rattle.std.proofs.lemmas.Nat.{be_bytes_8, from_be_bytes-to_be_bytes_8}
 use Rattle.std.proofs.lemmas.Bool.{eqb-true}
@@ -64,11 +65,13 @@ is_end_record (b ∷ bs) count len tag n fits =
 
 module _ (file : Format) where
   -- a whole end record is that of the number it has
-  pub ends : (bytes : List ℕ) (count : ℕ) → framed file bytes ≡ Ok (length bytes) → get_or bytes 0 0 ≡ 3 → record_count bytes ≡ count → IsBytes bytes → bytes ≡ end_record count
+  pub ends : (bytes : List ℕ) (count : ℕ) → framed file bytes ≡ Ok (length bytes) → get_or bytes 0 0 ≡ 3
+      → record_count bytes ≡ count → IsBytes bytes → bytes ≡ end_record count
   ends bytes count e three n fits = is_end_record bytes count (Holds-end file bytes (length bytes) (holds file bytes (length bytes) e) three) three n fits
 
 -- an end record is what ends a file, where it may stand there
-pub ending_is : (file : Format) (rest : List ℕ) (n count : ℕ) → framed file rest ≡ Ok n → get_or rest 0 0 ≡ 3 → rest ≡ end_record count → rest ≡ ending file count
+pub ending_is : (file : Format) (rest : List ℕ) (n count : ℕ) → framed file rest ≡ Ok n → get_or rest 0 0 ≡ 3 → rest
+    ≡ end_record count → rest ≡ ending file count
 ending_is Operations rest n count whole three e = absurd (no_end rest n whole three)
 ending_is _ rest n count whole three e = e
 

@@ -1,5 +1,6 @@
 -- Each text has one content, or one fault.
-use Rattle.std.proofs.Common.{◌≡◌, ◌≢◌, ℕ, ◌<◌, ◌≤◌, ◌^◌, true, List, [], ◌∷◌, ◌++◌, length, Ok, get_or, take, drop, refl, sym, ap, ◌∙◌, subst, arith, inl, inr, append_assoc, length-append, lit≤}
+use Rattle.std.proofs.Common.{◌≡◌, ◌≢◌, ℕ, ◌<◌, ◌≤◌, ◌^◌, true, List, [], ◌∷◌, ◌++◌, length, Ok, get_or, take, drop}
+use Rattle.std.proofs.Common.{refl, sym, ap, ◌∙◌, subst, arith, inl, inr, append_assoc, length-append, lit≤}
 use Rattle.std.proofs.lemmas.List.{append-nil, take-append-le, append_cancel_left, take-take, get_or-take}
 use Rattle.std.specs.List.{concat}
 use Rattle.archive_records.specs.declared.fault.RecordFaultKind.{RecordFaultKind}
@@ -7,7 +8,8 @@ use Rattle.archive_records.specs.declared.fault.RecordFaultKind.TheVariants.{Bad
 use Rattle.archive_records.specs.declared.fault.RecordFault.{RecordFault}
 use Rattle.archive_records.specs.Kind.{magic_of}
 use Rattle.archive_records.specs.Text.{end_record, ending, text_of, InOrder, AreApart, last_of}
-use Rattle.archive_records.specs.Fault.{is_end, next, FailsNext, IsCoveredNext, FailsBehind, Fails, IsTrailing, RefusesSlice, Refuses, IsMagicFault, IsUnended, IsFaultBehind, IsFaultOf}
+use Rattle.archive_records.specs.Fault.{is_end, next, FailsNext, IsCoveredNext, FailsBehind, Fails, IsTrailing}
+use Rattle.archive_records.specs.Fault.{RefusesSlice, Refuses, IsMagicFault, IsUnended, IsFaultBehind, IsFaultOf}
 use Rattle.archive_records.specs.Front.{IsGoodFront, IsLongestFront}
 use Rattle.archive_records.proofs.SliceFacts.{no_slice_fault, one_slice_fault}
 use Rattle.archive_records.proofs.Formats.{length-magic}
@@ -55,7 +57,8 @@ ending_stops Operations_file low n more alone t = nothing_taken Operations_file 
 ending_stops file low n more alone t = end-stops file low (end_record n ++ more) (end_more n more) t
 
 -- where an end record stands no test fails
-end_fails : (file : Format) (low : List ℕ) (count : ℕ) (rest : List ℕ) (kind : RecordFaultKind) → next file low count rest ≡ Ok 9 → is_end rest ≡ true → FailsNext file low count rest kind → ⊥
+end_fails : (file : Format) (low : List ℕ) (count : ℕ) (rest : List ℕ) (kind : RecordFaultKind)
+    → next file low count rest ≡ Ok 9 → is_end rest ≡ true → FailsNext file low count rest kind → ⊥
 end_fails file low count rest kind whole end (inl e) = no_both 9 kind (sym whole ∙ e)
 end_fails file low count rest kind whole end (inr f) =
     let nine : f.0 ≡ 9 = cc (f.1, whole) in
@@ -63,15 +66,19 @@ end_fails file low count rest kind whole end (inr f) =
     let same : get_or (take f.0 rest) 0 0 ≡ get_or rest 0 0 = get_or-take f.0 rest 0 0 (omega arith) in
     omega (arith, is_three rest end)
 
-no_fails : (file : Format) (low : List ℕ) (n : ℕ) (more : List ℕ) (kind : RecordFaultKind) → (file ≢ Operations_file → n < 2 ^ 64) → (file ≡ Operations_file → more ≡ []) → IsUnended file (ending file n ++ more) → FailsNext file low n (ending file n ++ more) kind → ⊥
+no_fails : (file : Format) (low : List ℕ) (n : ℕ) (more : List ℕ) (kind : RecordFaultKind)
+    → (file ≢ Operations_file → n < 2 ^ 64) → (file ≡ Operations_file → more ≡ [])
+    → IsUnended file (ending file n ++ more) → FailsNext file low n (ending file n ++ more) kind → ⊥
 no_fails Operations_file low n more kind few alone unended f = unended (alone refl)
-no_fails file low n more kind few alone unended f = end_fails file low n (end_record n ++ more) kind (next-ok-grows file low n (end_record n) more 9 (next_end file refl low n (few (λ h. cc)))) (end_more n more) f
+no_fails file low n more kind few alone unended f = end_fails file low n (end_record n ++ more) kind
+    (next-ok-grows file low n (end_record n) more 9 (next_end file refl low n (few (λ h. cc)))) (end_more n more) f
 
 -- what is covered stands there
 abbrev takes_covered : (records : List (List ℕ)) (rest : List ℕ) → IsCoveredNext records rest → Takes Archive (last_of [] records) rest
 takes_covered records rest c = record { item = c.item; more = c.more; whole = c.whole; is = c.is; above = c.above }
 
-covered_behind : (file : Format) (records : List (List ℕ)) (rest : List ℕ) (kind : RecordFaultKind) → FailsBehind file records rest kind → Takes file (last_of [] records) rest
+covered_behind : (file : Format) (records : List (List ℕ)) (rest : List ℕ) (kind : RecordFaultKind)
+    → FailsBehind file records rest kind → Takes file (last_of [] records) rest
 covered_behind Archive records rest kind f = takes_covered records rest f.1
 covered_behind _ records rest kind f = absurd f
 
@@ -79,7 +86,8 @@ covered_kind : (file : Format) (records : List (List ℕ)) (rest : List ℕ) (ki
 covered_kind file records rest kind f = grind arith
 
 -- and no good front goes on with it
-covered_stops : (file : Format) (records : List (List ℕ)) (rest : List ℕ) (kind : RecordFaultKind) → FailsBehind file records rest kind → Goes file records rest → ⊥
+covered_stops : (file : Format) (records : List (List ℕ)) (rest : List ℕ) (kind : RecordFaultKind)
+    → FailsBehind file records rest kind → Goes file records rest → ⊥
 covered_stops Archive records rest kind f g =
     let same : f.1.item ≡ g.next.item = one_taken Archive (last_of [] records) rest (takes_covered records rest f.1) g.next in
     covered_apart records f.1.item (subst (λ (x : List ℕ). AreApart Archive (records ++ x ∷ [])) (sym same) g.apart) f.1.covered
@@ -113,7 +121,8 @@ module _ (file : Format) where
   behind_stops records rest fault (inr t) g = end-stops file (last_of [] records) rest t.1.end g.next
 
   -- a fault after a good front stands at the end of the longest
-  pub fault_longest : (text : List ℕ) (records : List (List ℕ)) (front : IsGoodFront file text records) (fault : RecordFault) → IsFaultBehind file records front.rest fault → IsLongestFront file text records
+  pub fault_longest : (text : List ℕ) (records : List (List ℕ)) (front : IsGoodFront file text records)
+      (fault : RecordFault) → IsFaultBehind file records front.rest fault → IsLongestFront file text records
   fault_longest text records front fault f = is_longest file text records front (behind_stops records front.rest fault f)
 
   same_kind : (last : List ℕ) (count : ℕ) (rest : List ℕ) (j k : RecordFaultKind) → FailsNext file last count rest j → FailsNext file last count rest k → j ≡ k
@@ -122,7 +131,8 @@ module _ (file : Format) where
   same_kind last count rest j k (inr a) (inl b) = absurd (no_both a.0 k (sym a.1 ∙ b))
   same_kind last count rest j k (inr a) (inr b) =
       let n : a.0 ≡ b.0 = cc (a.1, b.1) in
-      one_refusal (take b.0 rest) j k (refused_slice file (take b.0 rest) j (subst (λ (m : ℕ). Refuses file (take m rest) j) n a.2)) (refused_slice file (take b.0 rest) k b.2)
+      one_refusal (take b.0 rest) j k (refused_slice file (take b.0 rest) j
+      (subst (λ (m : ℕ). Refuses file (take m rest) j) n a.2)) (refused_slice file (take b.0 rest) k b.2)
 
   same_fails : (records : List (List ℕ)) (rest : List ℕ) (j k : RecordFaultKind) → Fails file records rest j → Fails file records rest k → j ≡ k
   same_fails records rest j k (inl a) (inl b) = same_kind (last_of [] records) (length records) rest j k a b
@@ -130,7 +140,8 @@ module _ (file : Format) where
   same_fails records rest j k (inr a) (inl b) = absurd (fault-stops file (last_of [] records) (length records) rest k b (covered_behind file records rest j a))
   same_fails records rest j k (inr a) (inr b) = covered_kind file records rest j a ∙ sym (covered_kind file records rest k b)
 
-  fails_and_more : (records : List (List ℕ)) (rest : List ℕ) (kind : RecordFaultKind) → Fails file records rest kind → IsTrailing file (last_of [] records) (length records) rest → ⊥
+  fails_and_more : (records : List (List ℕ)) (rest : List ℕ) (kind : RecordFaultKind) → Fails file records rest kind
+      → IsTrailing file (last_of [] records) (length records) rest → ⊥
   fails_and_more records rest kind (inl a) t = end_fails file (last_of [] records) (length records) rest kind t.whole t.end a
   fails_and_more records rest kind (inr a) t = end-stops file (last_of [] records) rest t.end (covered_behind file records rest kind a)
 
@@ -145,52 +156,75 @@ module _ (file : Format) where
   one_fault t f g (inl a) (inr b) = absurd (no_magic_fault t (concat b.0 ++ b.1.rest) f.kind b.1.whole a.0)
   one_fault t f g (inr a) (inl b) = absurd (no_magic_fault t (concat a.0 ++ a.1.rest) g.kind a.1.whole b.0)
   one_fault t f g (inr a) (inr b) =
-      let same = unique file a.0 b.0 a.1.rest b.1.rest a.1.ordered a.1.apart b.1.ordered b.1.apart (behind_magic file t (concat a.0 ++ a.1.rest) (concat b.0 ++ b.1.rest) a.1.whole b.1.whole) (behind_stops a.0 a.1.rest f a.3) (behind_stops b.0 b.1.rest g b.3) in
-      let here : IsFaultBehind file b.0 b.1.rest f = subst (λ (x : List ℕ). IsFaultBehind file b.0 x f) same.1 (subst (λ (x : List (List ℕ)). IsFaultBehind file x a.1.rest f) same.0 a.3) in
+      let same = unique file a.0 b.0 a.1.rest b.1.rest a.1.ordered a.1.apart b.1.ordered b.1.apart
+      (behind_magic file t (concat a.0 ++ a.1.rest) (concat b.0 ++ b.1.rest) a.1.whole b.1.whole)
+      (behind_stops a.0 a.1.rest f a.3) (behind_stops b.0 b.1.rest g b.3) in
+      let here : IsFaultBehind file b.0 b.1.rest f = subst (λ (x : List ℕ). IsFaultBehind file b.0 x f) same.1
+      (subst (λ (x : List (List ℕ)). IsFaultBehind file x a.1.rest f) same.0 a.3) in
       one_behind b.0 b.1.rest f g here b.3
 
   -- ---- a text, and what stands after it
 
-  module _ (t : List ℕ) (xs : List (List ℕ)) (more : List ℕ) (ordered : InOrder file [] xs) (apart : AreApart file xs) (text : t ≡ text_of file xs ++ more) (alone : file ≡ Operations_file → more ≡ []) where
+  module _ (t : List ℕ) (xs : List (List ℕ)) (more : List ℕ) (ordered : InOrder file [] xs) (apart : AreApart file xs)
+      (text : t ≡ text_of file xs ++ more) (alone : file ≡ Operations_file → more ≡ []) where
     whole : t ≡ magic_of file ++ (concat xs ++ (ending file (length xs) ++ more))
-    whole = text ∙ append_assoc (magic_of file) (concat xs ++ ending file (length xs)) more ∙ ap (λ (x : List ℕ). magic_of file ++ x) (append_assoc (concat xs) (ending file (length xs)) more)
+    whole = text ∙ append_assoc (magic_of file) (concat xs ++ ending file (length xs)) more
+        ∙ ap (λ (x : List ℕ). magic_of file ++ x) (append_assoc (concat xs) (ending file (length xs)) more)
 
-    same_front : (records : List (List ℕ)) (front : IsGoodFront file t records) → (Goes file records front.rest → ⊥) → (records ≡ xs) × (front.rest ≡ ending file (length xs) ++ more)
+    same_front : (records : List (List ℕ)) (front : IsGoodFront file t records) → (Goes file records front.rest → ⊥)
+        → (records ≡ xs) × (front.rest ≡ ending file (length xs) ++ more)
     same_front records front stop =
-        unique file records xs front.rest (ending file (length xs) ++ more) front.ordered front.apart ordered apart (behind_magic file t (concat records ++ front.rest) (concat xs ++ (ending file (length xs) ++ more)) front.whole whole) stop
+        unique file records xs front.rest (ending file (length xs) ++ more) front.ordered front.apart ordered apart
+        (behind_magic file t (concat records ++ front.rest) (concat xs ++ (ending file (length xs) ++ more))
+        front.whole whole) stop
         (λ g. ending_stops file (last_of [] xs) (length xs) more alone g.next)
 
-    pub no_fault_behind : (records : List (List ℕ)) (front : IsGoodFront file t records) (fault : RecordFault) → (file ≢ Operations_file → length records ≡ length xs → length xs < 2 ^ 64) → (fault.kind ≡ Trailing → more ≡ []) → IsUnended file front.rest → IsFaultBehind file records front.rest fault → ⊥
+    pub no_fault_behind : (records : List (List ℕ)) (front : IsGoodFront file t records) (fault : RecordFault)
+        → (file ≢ Operations_file → length records ≡ length xs → length xs < 2 ^ 64)
+        → (fault.kind ≡ Trailing → more ≡ []) → IsUnended file front.rest → IsFaultBehind file records front.rest fault
+        → ⊥
     no_fault_behind records front fault few all unended (inl (inr c, o)) =
         let same = same_front records front (behind_stops records front.rest fault (inl (inr c, o))) in
-        let here : Takes file (last_of [] xs) (ending file (length xs) ++ more) = subst (λ (r : List ℕ). Takes file (last_of [] xs) r) same.1 (subst (λ (x : List (List ℕ)). Takes file (last_of [] x) front.rest) same.0 (covered_behind file records front.rest fault.kind c)) in
+        let here : Takes file (last_of [] xs) (ending file (length xs) ++ more) =
+        subst (λ (r : List ℕ). Takes file (last_of [] xs) r) same.1
+        (subst (λ (x : List (List ℕ)). Takes file (last_of [] x) front.rest) same.0
+        (covered_behind file records front.rest fault.kind c)) in
         ending_stops file (last_of [] xs) (length xs) more alone here
     no_fault_behind records front fault few all unended (inl (inl f, o)) =
         let same = same_front records front (behind_stops records front.rest fault (inl (inl f, o))) in
-        let here = subst (λ (r : List ℕ). FailsNext file (last_of [] xs) (length xs) r fault.kind) same.1 (subst (λ (x : List (List ℕ)). FailsNext file (last_of [] x) (length x) front.rest fault.kind) same.0 f) in
+        let here = subst (λ (r : List ℕ). FailsNext file (last_of [] xs) (length xs) r fault.kind) same.1
+        (subst (λ (x : List (List ℕ)). FailsNext file (last_of [] x) (length x) front.rest fault.kind) same.0 f) in
         no_fails file (last_of [] xs) (length xs) more fault.kind (λ counts. few counts (ap length same.0)) alone (subst (IsUnended file) same.1 unended) here
     no_fault_behind records front fault few all unended (inr f) =
         let same = same_front records front (behind_stops records front.rest fault (inr f)) in
         omega (arith, f.1.more, ap length same.1, length-append (ending file (length xs)) more, ap length (all f.0), length-ending file (length xs))
 
     -- whatever follows them, no other records begin it
-    pub same_records : (ys : List (List ℕ)) (left : List ℕ) → InOrder file [] ys → AreApart file ys → (file ≡ Operations_file → left ≡ []) → t ≡ text_of file ys ++ left → (ys ≡ xs) × (left ≡ more)
+    pub same_records : (ys : List (List ℕ)) (left : List ℕ) → InOrder file [] ys → AreApart file ys
+        → (file ≡ Operations_file → left ≡ []) → t ≡ text_of file ys ++ left → (ys ≡ xs) × (left ≡ more)
     same_records ys left a aa last e =
         let front : IsGoodFront file t ys = record {
           ordered = a;
           apart = aa;
           rest = ending file (length ys) ++ left;
-          whole = e ∙ append_assoc (magic_of file) (concat ys ++ ending file (length ys)) left ∙ ap (λ (x : List ℕ). magic_of file ++ x) (append_assoc (concat ys) (ending file (length ys)) left);
+          whole = e ∙ append_assoc (magic_of file) (concat ys ++ ending file (length ys)) left
+              ∙ ap (λ (x : List ℕ). magic_of file ++ x) (append_assoc (concat ys) (ending file (length ys)) left);
         } in
         let same = same_front ys front (λ g. ending_stops file (last_of [] ys) (length ys) left last g.next) in
-        let tail : ending file (length ys) ++ left ≡ ending file (length ys) ++ more = same.1 ∙ ap (λ (x : List (List ℕ)). ending file (length x) ++ more) (sym same.0) in
+        let tail : ending file (length ys) ++ left ≡ ending file (length ys) ++ more = same.1
+        ∙ ap (λ (x : List (List ℕ)). ending file (length x) ++ more) (sym same.0) in
         (same.0, append_cancel_left (ending file (length ys)) left more tail)
 
   -- a text is that of one list of records
-  pub one_text : (t : List ℕ) (xs ys : List (List ℕ)) → InOrder file [] xs → AreApart file xs → InOrder file [] ys → AreApart file ys → t ≡ text_of file xs → t ≡ text_of file ys → xs ≡ ys
-  one_text t xs ys a aa b bb p q = (same_records t ys [] b bb (q ∙ sym (append-nil (text_of file ys))) (λ _. refl) xs [] a aa (λ _. refl) (p ∙ sym (append-nil (text_of file xs)))).0
+  pub one_text : (t : List ℕ) (xs ys : List (List ℕ)) → InOrder file [] xs → AreApart file xs → InOrder file [] ys
+      → AreApart file ys → t ≡ text_of file xs → t ≡ text_of file ys → xs ≡ ys
+  one_text t xs ys a aa b bb p q = (same_records t ys [] b bb (q ∙ sym (append-nil (text_of file ys))) (λ _. refl) xs []
+      a aa (λ _. refl) (p ∙ sym (append-nil (text_of file xs)))).0
 
   -- a text has no fault
-  pub no_fault : (t : List ℕ) (xs : List (List ℕ)) → InOrder file [] xs → AreApart file xs → t ≡ text_of file xs → (fault : RecordFault) → length xs < 2 ^ 64 → IsFaultOf file t fault → ⊥
+  pub no_fault : (t : List ℕ) (xs : List (List ℕ)) → InOrder file [] xs → AreApart file xs → t ≡ text_of file xs
+      → (fault : RecordFault) → length xs < 2 ^ 64 → IsFaultOf file t fault → ⊥
   no_fault t xs ordered apart text fault few (inl m) = no_magic_fault t (concat xs ++ ending file (length xs)) fault.kind text m.0
-  no_fault t xs ordered apart text fault few (inr f) = no_fault_behind t xs [] ordered apart (text ∙ sym (append-nil (text_of file xs))) (λ _. refl) f.0 f.1 fault (λ _ _. few) (λ _. refl) f.2 f.3
+  no_fault t xs ordered apart text fault few (inr f) =
+      no_fault_behind t xs [] ordered apart (text ∙ sym (append-nil (text_of file xs))) (λ _. refl) f.0 f.1 fault
+      (λ _ _. few) (λ _. refl) f.2 f.3

@@ -60,7 +60,13 @@ length-magic f = grind arith
 
 -- bytes that are no magic, or not as one begins, are no file's first
 pub other_magic : (f : Format) (bytes : List ℕ) → length bytes ≡ 8 → bytes ≢ magic_of f → StopsInMagic f bytes BadMagic
-other_magic f bytes long other = inl (8, lit≤ tt, omega (arith, long), λ e. other (sym (take_all 8 bytes (omega (arith, long))) ∙ e ∙ take_all 8 (magic_of f) (omega (arith, length-magic f))))
+other_magic f bytes long other = inl (
+  8,
+  lit≤ tt,
+  omega (arith, long),
+  λ e. other (sym (take_all 8 bytes (omega (arith, long))) ∙ e
+      ∙ take_all 8 (magic_of f) (omega (arith, length-magic f))),
+)
 
 pub other_front : (f : Format) (bytes : List ℕ) → length bytes < 8 → bytes ≢ take (length bytes) (magic_of f) → StopsInMagic f bytes BadMagic
 other_front f bytes short other = inl (length bytes, omega (arith, short), omega arith, λ e. other (sym (take_all (length bytes) bytes (omega arith)) ∙ e))

@@ -1,5 +1,7 @@
 -- A record as the bytes of a retirement or of an admission.
-use Rattle.std.proofs.Common.{lit≤, ◌≡◌, ℕ, suc, ◌+◌, ◌<◌, ◌≤◌, false, List, [], ◌∷◌, ◌++◌, ◌^◌, length, get_or, take, drop, Option, Some, None, Ok, refl, sym, ap, ◌∙◌, subst, arith, inl, inr, ◌⊎◌, length-append, length-drop}
+use Rattle.std.proofs.Common.{lit≤, ◌≡◌, ℕ, suc, ◌+◌, ◌<◌, ◌≤◌, false, List, [], ◌∷◌, ◌++◌, ◌^◌, length, get_or, take}
+use Rattle.std.proofs.Common.{drop, Option, Some, None, Ok, refl, sym, ap, ◌∙◌, subst, arith, inl, inr, ◌⊎◌}
+use Rattle.std.proofs.Common.{length-append, length-drop}
 use Rattle.std.proofs.lemmas.Bool.Decides.{nat_tests}
 use Rattle.std.proofs.lemmas.Bool.{cases_lt}
 use Rattle.std.proofs.lemmas.List.{take_all, take_at, drop_at, length-take, get_or-take, get_or-drop, get_or_past, take-append-drop, drop-drop}
@@ -47,7 +49,9 @@ pub record HasParts (r slice : List ℕ) : Type 0 where
   pub slice_is : drop 33 r ≡ slice
   pub long : length r ≡ 33 + length slice
 
-parts_of : (key number slice : List ℕ) → length key ≡ 24 → length number ≡ 8 → (take 24 (key ++ (number ++ slice)) ≡ key) × (take 8 (drop 24 (key ++ (number ++ slice))) ≡ number) × (drop 32 (key ++ (number ++ slice)) ≡ slice) × (length (key ++ (number ++ slice)) ≡ 32 + length slice)
+parts_of : (key number slice : List ℕ) → length key ≡ 24 → length number ≡ 8
+    → (take 24 (key ++ (number ++ slice)) ≡ key) × (take 8 (drop 24 (key ++ (number ++ slice))) ≡ number)
+    × (drop 32 (key ++ (number ++ slice)) ≡ slice) × (length (key ++ (number ++ slice)) ≡ 32 + length slice)
 parts_of key number slice k n =
     let d : drop 24 (key ++ (number ++ slice)) ≡ number ++ slice = drop_at key (number ++ slice) 24 k in (
       take_at key (number ++ slice) 24 k,
@@ -97,7 +101,9 @@ record-slice r KeyMismatch (inr t) f = omega (arith, (parts-retires r t).tag, f.
 record-slice r _ i f = f
 
 -- whole bytes with an admission's tag, a slice and its key are an admission's record
-pub admits : (bytes : List ℕ) → (get_or bytes 0 0 ≡ 2) × (slice_length bytes + 33 ≡ length bytes) → IsValid (drop 33 bytes) → take 24 (drop 1 bytes) ≡ key_bytes (key_of (drop 33 bytes)) → IsBytes bytes → Admits bytes
+pub admits : (bytes : List ℕ) → (get_or bytes 0 0 ≡ 2) × (slice_length bytes + 33 ≡ length bytes)
+    → IsValid (drop 33 bytes) → take 24 (drop 1 bytes) ≡ key_bytes (key_of (drop 33 bytes)) → IsBytes bytes
+    → Admits bytes
 unfolding admission slice_length
 admits [] p valid key fits = absurd (omega (arith, p.0))
 admits (b ∷ bs) p valid key fits =
@@ -106,12 +112,18 @@ admits (b ∷ bs) p valid key fits =
     let tail : drop 8 (drop 24 bs) ≡ slice = drop-drop 8 24 bs in
     let n : length slice ≡ from_be_bytes w64 (take 8 (drop 24 bs)) = omega (arith, length-drop 32 bs, long) in
     let number : to_be_bytes w64 (length slice) ≡ take 8 (drop 24 bs) =
-    be_bytes_8 (take 8 (drop 24 bs)) (length slice) (omega (arith, length-take 8 (drop 24 bs), length-drop 24 bs, long)) (IsBytes-take 8 (drop 24 bs) (IsBytes-drop 24 bs (λ i. fits (suc i)))) n in
-    let rest : to_be_bytes w64 (length slice) ++ slice ≡ drop 24 bs = ap (λ (t : List ℕ). t ++ slice) number ∙ ap (λ (t : List ℕ). take 8 (drop 24 bs) ++ t) (sym tail) ∙ take-append-drop 8 (drop 24 bs) in
+    be_bytes_8 (take 8 (drop 24 bs)) (length slice) (omega (arith, length-take 8 (drop 24 bs), length-drop 24 bs, long))
+    (IsBytes-take 8 (drop 24 bs) (IsBytes-drop 24 bs (λ i. fits (suc i)))) n in
+    let rest : to_be_bytes w64 (length slice) ++ slice ≡ drop 24 bs = ap (λ (t : List ℕ). t ++ slice) number
+    ∙ ap (λ (t : List ℕ). take 8 (drop 24 bs) ++ t) (sym tail) ∙ take-append-drop 8 (drop 24 bs) in
     record {
       slice = slice;
       valid = valid;
-      is = cc (p.0, sym (ap (λ (t : List ℕ). t ++ (to_be_bytes w64 (length slice) ++ slice)) (sym key) ∙ ap (λ (t : List ℕ). take 24 bs ++ t) rest ∙ take-append-drop 24 bs));
+      is = cc (
+        p.0,
+        sym (ap (λ (t : List ℕ). t ++ (to_be_bytes w64 (length slice) ++ slice)) (sym key)
+            ∙ ap (λ (t : List ℕ). take 24 bs ++ t) rest ∙ take-append-drop 24 bs),
+      );
     }
 
 -- where something was found, or nothing was to be found, it is a record
@@ -130,10 +142,16 @@ pub long-admission : (bytes : List ℕ) → Admits bytes → 33 ≤ length bytes
 long-admission bytes a = omega (arith, (parts-of bytes a).long)
 
 -- the tag, the key and the digest make the bytes again
-pub tagged_is : (tag : ℕ) (bytes : List ℕ) (key : SliceKey) (digest : List ℕ) → length bytes ≡ 57 → get_or bytes 0 0 ≡ tag → key_bytes key ≡ take 24 (drop 1 bytes) → digest ≡ take 32 (drop 25 bytes) → tag ∷ (key_bytes key ++ digest) ≡ bytes
+pub tagged_is : (tag : ℕ) (bytes : List ℕ) (key : SliceKey) (digest : List ℕ) → length bytes ≡ 57 → get_or bytes 0 0
+    ≡ tag → key_bytes key ≡ take 24 (drop 1 bytes) → digest ≡ take 32 (drop 25 bytes) → tag ∷ (key_bytes key ++ digest)
+    ≡ bytes
 tagged_is tag [] key digest long is k d = absurd (omega arith)
 tagged_is tag (b ∷ bs) key digest long is k d =
-    cc (is, ap (λ (t : List ℕ). t ++ digest) k ∙ ap (λ (t : List ℕ). take 24 bs ++ t) (d ∙ take_all 32 (drop 24 bs) (omega (arith, length-drop 24 bs))) ∙ take-append-drop 24 bs)
+    cc (
+      is,
+      ap (λ (t : List ℕ). t ++ digest) k ∙ ap (λ (t : List ℕ). take 24 bs ++ t)
+          (d ∙ take_all 32 (drop 24 bs) (omega (arith, length-drop 24 bs))) ∙ take-append-drop 24 bs,
+    )
 
 -- an entry without a retirement's tag has an admission's
 pub other_tag : (bytes : List ℕ) → IsEntry bytes → (get_or bytes 0 0 ≡ 1 → ⊥) → get_or bytes 0 0 ≡ 2
@@ -146,16 +164,23 @@ admitted_valid bytes a = subst IsValid (sym (parts-of bytes a).slice_is) a.valid
 pub admitted_is : (bytes slice : List ℕ) → Admits bytes → slice ≡ drop 33 bytes → admission_record slice ≡ bytes
 admitted_is bytes slice a e = ap admission_record (e ∙ (parts-of bytes a).slice_is) ∙ sym a.is
 
-item_whole : (file : Format) (item : List ℕ) (head body : ℕ) → head_length file (get_or item 0 0) ≡ Some head → body_length file item ≡ body → length item ≡ head + body → 1 ≤ head → body ≤ largest_slice → framed file item ≡ Ok (length item)
-item_whole file item head body tag is long one small = framed-whole file item head (omega arith) tag (omega arith) (omega arith) (omega arith) ∙ ap (λ (n : ℕ). Ok n) (omega arith)
+item_whole : (file : Format) (item : List ℕ) (head body : ℕ) → head_length file (get_or item 0 0) ≡ Some head
+    → body_length file item ≡ body → length item ≡ head + body → 1 ≤ head → body ≤ largest_slice → framed file item
+    ≡ Ok (length item)
+item_whole file item head body tag is long one small =
+    framed-whole file item head (omega arith) tag (omega arith) (omega arith) (omega arith)
+    ∙ ap (λ (n : ℕ). Ok n) (omega arith)
 
 -- a record is whole where its slice stands after an admission's head
-record-framed : (file : Format) → admission_length file ≡ 33 → ((bytes : List ℕ) → admission_body file bytes ≡ slice_length bytes) → (r : List ℕ) → IsRecord r → framed file r ≡ Ok (length r)
+record-framed : (file : Format) → admission_length file ≡ 33
+    → ((bytes : List ℕ) → admission_body file bytes ≡ slice_length bytes) → (r : List ℕ) → IsRecord r → framed file r
+    ≡ Ok (length r)
 unfolding head_length
 record-framed file head behind r (inl a) =
     let p = parts-of r a in
     let short = short_slice a.slice a.valid in
-    item_whole file r 33 (length a.slice) (ap (head_length file) p.tag ∙ ap (λ (n : ℕ). Some n) head) (body_two file r p.tag ∙ behind r ∙ p.number) p.long (lit≤ tt) (omega arith)
+    item_whole file r 33 (length a.slice) (ap (head_length file) p.tag ∙ ap (λ (n : ℕ). Some n) head)
+    (body_two file r p.tag ∙ behind r ∙ p.number) p.long (lit≤ tt) (omega arith)
 record-framed file head behind r (inr t) =
     let p = parts-retires r t in
     item_whole file r 57 0 (ap (head_length file) p.tag) (body_one file r p.tag) p.long (lit≤ tt) (lit≤ tt)
@@ -193,12 +218,14 @@ refused_slice Summary bytes kind refused = absurd refused
 refused_slice _ bytes kind refused = refused
 
 -- whole records of operations are framed as in an archive, of either version
-pub archive_framed : (file : Format) → (file ≡ Archive) ⊎ (file ≡ OldArchive) ⊎ (file ≡ Operations) → (bytes : List ℕ) → framed file bytes ≡ Ok (length bytes) → is_end bytes ≡ false → framed Archive bytes ≡ Ok (length bytes)
+pub archive_framed : (file : Format) → (file ≡ Archive) ⊎ (file ≡ OldArchive) ⊎ (file ≡ Operations) → (bytes : List ℕ)
+    → framed file bytes ≡ Ok (length bytes) → is_end bytes ≡ false → framed Archive bytes ≡ Ok (length bytes)
 unfolding framed framed_behind head_length is_end body_length
 archive_framed file is bytes whole no_end = grind (arith, nat_tests)
 
 -- whole bytes with a retirement's tag are a retirement's record
-retires_with : (bytes : List ℕ) (key : SliceKey) → framed Archive bytes ≡ Ok (length bytes) → get_or bytes 0 0 ≡ 1 → key_bytes key ≡ take 24 (drop 1 bytes) → IsKey key → Retires bytes
+retires_with : (bytes : List ℕ) (key : SliceKey) → framed Archive bytes ≡ Ok (length bytes) → get_or bytes 0 0 ≡ 1
+    → key_bytes key ≡ take 24 (drop 1 bytes) → IsKey key → Retires bytes
 retires_with [] key f tag k w = absurd (omega (arith, whole-retirement Archive [] f tag))
 retires_with (b ∷ bs) key f tag k w =
     let long = whole-retirement Archive (b ∷ bs) f tag in

@@ -27,7 +27,8 @@ pub uncovered_retirement : (old : List (List ℕ)) (x : List ℕ) → get_or x 0
 uncovered_retirement old x tag = grind (arith, nat_tests)
 
 -- an admission is covered where the retirement of its slice is there
-pub covered_admission : (old : List (List ℕ)) (bytes slice : List ℕ) → Admits bytes → slice ≡ drop 33 bytes → contains (set_of old) (retirement_record (key_of slice) (sha256 slice)) ≡ is_covered (set_of old) bytes
+pub covered_admission : (old : List (List ℕ)) (bytes slice : List ℕ) → Admits bytes → slice ≡ drop 33 bytes
+    → contains (set_of old) (retirement_record (key_of slice) (sha256 slice)) ≡ is_covered (set_of old) bytes
 covered_admission old bytes slice a e =
     let valid : IsValid slice = subst IsValid (sym e) (admitted_valid bytes a) in
     sym (covered_slice (set_of old) slice valid) ∙ ap (λ (t : List ℕ). is_covered (set_of old) t) (admitted_is bytes slice a e)
@@ -66,8 +67,11 @@ pub found_record : (bytes : List ℕ) (found : Option SliceFacts) → IsRecord b
 found_record bytes None r is = is r
 found_record bytes (Some facts) r is = is
 
-pub keeps_admission : (old : List (List ℕ)) (covered : Bool) (x : List ℕ) → (get_or x 0 0 ≡ 1 → ⊥) → covered ≡ is_covered (set_of old) x → Keeps old old covered x
+pub keeps_admission : (old : List (List ℕ)) (covered : Bool) (x : List ℕ) → (get_or x 0 0 ≡ 1 → ⊥) → covered
+    ≡ is_covered (set_of old) x → Keeps old old covered x
 keeps_admission old covered x tag tells = record {
   tells = sym tells;
-  alike = λ r. sym (contains-insert nat_list_cmp_total (set_of old) x (1 ∷ r) ∙ ap (λ b. b || contains (set_of old) (1 ∷ r)) (is_false (same_as (1 ∷ r) x) (λ e. tag (ap (λ (t : List ℕ). get_or t 0 0) (sym (same_bytes (1 ∷ r) x e))))));
+  alike = λ r. sym (contains-insert nat_list_cmp_total (set_of old) x (1 ∷ r)
+      ∙ ap (λ b. b || contains (set_of old) (1 ∷ r)) (is_false (same_as (1 ∷ r) x)
+      (λ e. tag (ap (λ (t : List ℕ). get_or t 0 0) (sym (same_bytes (1 ∷ r) x e))))));
 }

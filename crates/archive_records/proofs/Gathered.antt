@@ -11,7 +11,9 @@ use Rattle.archive_records.specs.declared.kind.TextKind.TheVariants.{Operations 
 use Rattle.archive_records.specs.declared.format.Format.{Format}
 
 -- what was made of all records, with nothing read after them
-pub gathered : {T : Type 0} (kind : TextKind) (Makes : List (List ℕ) → T → Type 0) (a b c : Option (List ℕ)) (value : T) (position : Position) (format : Format) → kind_of format ≡ kind → GathersAll format Makes a b value position → Consumes b c [] → IsGathered kind Makes a c value
+pub gathered : {T : Type 0} (kind : TextKind) (Makes : List (List ℕ) → T → Type 0) (a b c : Option (List ℕ)) (value : T)
+    (position : Position) (format : Format) → kind_of format ≡ kind → GathersAll format Makes a b value position
+    → Consumes b c [] → IsGathered kind Makes a c value
 gathered kind Makes a b c value position format is all more = record {
   format = format;
   kind_is = is;

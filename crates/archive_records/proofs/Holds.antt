@@ -53,8 +53,10 @@ module _ (file : Format) where
   unfolding next
   next-is bytes n last count e = ap (λ r. next_by file r last count bytes) e
 
-  pub next_from_test : (r : Result Bool RecordFaultKind) (last : List ℕ) (count : ℕ) (bytes same : List ℕ) → framed file bytes ≡ Ok (length bytes) → same ≡ bytes
-      → MatchResult r (λ _. tested file last count same (length same) ≡ Ok (length same)) (λ kind. tested file last count same (length same) ≡ Err (seen_as kind))
+  pub next_from_test : (r : Result Bool RecordFaultKind) (last : List ℕ) (count : ℕ) (bytes same : List ℕ)
+      → framed file bytes ≡ Ok (length bytes) → same ≡ bytes
+      → MatchResult r (λ _. tested file last count same (length same) ≡ Ok (length same))
+      (λ kind. tested file last count same (length same) ≡ Err (seen_as kind))
       → MatchResult r (λ _. next file last count bytes ≡ Ok (length bytes)) (λ kind. next file last count bytes ≡ Err (seen_as kind))
   next_from_test (Ok end) last count bytes same e is t = next-is bytes (length bytes) last count e ∙ (rw is at t)
   next_from_test (Err kind) last count bytes same e is t = next-is bytes (length bytes) last count e ∙ (rw is at t)
@@ -63,7 +65,8 @@ module _ (file : Format) where
   unfolding next tested
   next-framed last count rest n e = grind arith
 
-  pub next-above : (last : List ℕ) (count : ℕ) (rest : List ℕ) (n : ℕ) → next file last count rest ≡ Ok n → is_end rest ≡ false → may_follow file last (take n rest) ≡ true
+  pub next-above : (last : List ℕ) (count : ℕ) (rest : List ℕ) (n : ℕ) → next file last count rest ≡ Ok n → is_end rest
+      ≡ false → may_follow file last (take n rest) ≡ true
   unfolding next tested
   next-above last count rest n e item = grind arith
 
@@ -85,7 +88,9 @@ module _ (file : Format) where
       let is = h.is in
       grind (arith, nat_tests)
 
-  pub whole-admission : (bytes : List ℕ) → framed file bytes ≡ Ok (length bytes) → is_end bytes ≡ false → (get_or bytes 0 0 ≡ 1 → ⊥) → (get_or bytes 0 0 ≡ 2) × (admission_body file bytes + admission_length file ≡ length bytes)
+  pub whole-admission : (bytes : List ℕ) → framed file bytes ≡ Ok (length bytes) → is_end bytes ≡ false
+      → (get_or bytes 0 0 ≡ 1 → ⊥) → (get_or bytes 0 0 ≡ 2)
+      × (admission_body file bytes + admission_length file ≡ length bytes)
   unfolding is_end head_length body_length
   whole-admission bytes e item not_one =
       let h = holds bytes (length bytes) e in

@@ -1,5 +1,6 @@
 -- From the bytes that were read to the whole input.
-use Rattle.std.proofs.Common.{◌≡◌, ◌≢◌, ℕ, ◌<◌, ◌≤◌, ◌^◌, true, List, [], ◌∷◌, ◌++◌, length, Option, Some, None, Err, refl, sym, ap, ◌∙◌, subst, arith, inl, inr, ◌⊎◌, append_assoc, length-append}
+use Rattle.std.proofs.Common.{◌≡◌, ◌≢◌, ℕ, ◌<◌, ◌≤◌, ◌^◌, true, List, [], ◌∷◌, ◌++◌, length, Option, Some, None, Err}
+use Rattle.std.proofs.Common.{refl, sym, ap, ◌∙◌, subst, arith, inl, inr, ◌⊎◌, append_assoc, length-append}
 use Rattle.std.proofs.lemmas.List.{append-nil, take-append-le}
 use Rattle.std.specs.Prelude.{IfSome, All, map, take}
 use Rattle.std.proofs.lemmas.Option.{IfSome_then}
@@ -20,21 +21,25 @@ use Rattle.archive_records.specs.declared.fault.RecordFaultKind.TheVariants.{Bad
 use Rattle.archive_records.specs.declared.fault.RecordFault.{RecordFault}
 use Rattle.archive_records.specs.Kind.{magic_of, kind_of, archive_format, format_for}
 use Rattle.archive_records.specs.Text.{ending, text_of, InOrder, AreApart, last_of, kept, taken_of, IsArchiveOf, summary_text, IsOperationsText}
-use Rattle.archive_records.specs.Fault.{is_end, FailsBehind, Fails, IsMagicFault, IsFaultBehind, IsUnended, IsOperationsFault, IsSummaryFault, IsFaultOf, IsCutAtMost, IsOfText}
+use Rattle.archive_records.specs.Fault.{is_end, FailsBehind, Fails, IsMagicFault, IsFaultBehind, IsUnended}
+use Rattle.archive_records.specs.Fault.{IsOperationsFault, IsSummaryFault, IsFaultOf, IsCutAtMost, IsOfText}
 use Rattle.archive_records.specs.Front.{IsGoodFront, IsLongestFront, IsFrontLength, IsLongestLength, front_length}
-use Rattle.archive_records.specs.Reading.{Blames, DecidesNoFault, HoldsOfTaken, IsMeaning, IsOfMachine, IsReadFront, IsReadWhole, IsRefused, IsTextOf, Meaning, ReadsFront, ReadsWhole}
+use Rattle.archive_records.specs.Reading.{Blames, DecidesNoFault, HoldsOfTaken, IsMeaning, IsOfMachine, IsReadFront}
+use Rattle.archive_records.specs.Reading.{IsReadWhole, IsRefused, IsTextOf, Meaning, ReadsFront, ReadsWhole}
 use Rattle.archive_records.specs.Reader.{seen_as, StopsInMagic, Stops, Stopped, HasStopped, IsGathered}
 use Rattle.archive_records.proofs.Grown.{Fails-grows, IsTrailing-grows}
 use Rattle.archive_records.proofs.Longest.{Goes, end-stops, is_longest}
 use Rattle.archive_records.proofs.Puts.{length_written}
 use Rattle.archive_records.proofs.Ends.{end-is_end}
-use Rattle.archive_records.proofs.Contents.{sorted-InOrder, sorted-entries, InOrder-entries, AreEntries-entries, summary_text_is, summary_text-entries, content_is as set_is}
+use Rattle.archive_records.proofs.Contents.{sorted-InOrder, sorted-entries, InOrder-entries, AreEntries-entries}
+use Rattle.archive_records.proofs.Contents.{summary_text_is, summary_text-entries, content_is as set_is}
 use Rattle.archive_records.proofs.FaultKinds.{as_itself}
 use Rattle.archive_records.proofs.Undecided.{no_machine}
 use Rattle.archive_records.proofs.Listed.{InOrder-operations, IsOperationsText-text, text_is, one_list}
 use Rattle.archive_records.proofs.Exact.{fails_stop, no_magic_fault, no_fault, no_fault_behind, one_text}
 use Rattle.archive_records.proofs.Formats.{in_order_old, format_read, kind_read, summary_form}
-use Rattle.archive_records.proofs.Versions.{Formed, formed, formed_content, formed_text, formed_format, no_operations, one_front, kept_set, kept_records, kept_long}
+use Rattle.archive_records.proofs.Versions.{Formed, formed, formed_content, formed_text, formed_format, no_operations}
+use Rattle.archive_records.proofs.Versions.{one_front, kept_set, kept_records, kept_long}
 use Rattle.archive_records.specs.declared.kind.TextKind.{TextKind}
 use Rattle.archive_records.specs.declared.kind.TextKind.TheVariants.{Archive as Archive_text, Operations as Operations_text, Summary as Summary_text}
 use Rattle.std.specs.Ordering.{nat_cmp}
@@ -67,7 +72,16 @@ of_input Is (Some t) is f = f t is
 
 -- what was read is a text of the content
 read_form : (a b : Option (List ℕ)) (o : Operations) (r : IsReadTo Archive_text a b o) → Formed o (text_of r.format r.records)
-read_form a b o r = record { format = r.format; archive = r.kind_is; records = r.records; ordered = r.ordered; apart = r.apart; whole = refl; content = r.makes }
+read_form a b o r = record {
+  format = r.format;
+  archive = r.kind_is;
+  records = r.records;
+  ordered = r.ordered;
+  apart =
+      r.apart;
+  whole = refl;
+  content = r.makes;
+}
 
 pub IsReadTo-taken : (a b : Option (List ℕ)) (o : Operations) → IsReadTo Archive_text a b o → (text : List ℕ) × IsArchiveOf o text × Consumes a b text
 IsReadTo-taken a b o r = (text_of r.format r.records, formed_text o (text_of r.format r.records) (read_form a b o r), r.taken)
@@ -75,21 +89,24 @@ IsReadTo-taken a b o r = (text_of r.format r.records, formed_text o (text_of r.f
 pub IsReadTo-content : (a b : Option (List ℕ)) (o : Operations) → IsReadTo Archive_text a b o → IsContent o
 IsReadTo-content a b o r = formed_content o (text_of r.format r.records) (read_form a b o r)
 
-few_in : (f : Format) → kind_of f ≡ Archive_text → (xs : List (List ℕ)) → InOrder f [] xs → set.len (set.from_list {R = slice_cmp nat_cmp} (taken_of f xs)) ≤ length xs
+few_in : (f : Format) → kind_of f ≡ Archive_text → (xs : List (List ℕ)) → InOrder f [] xs
+    → set.len (set.from_list {R = slice_cmp nat_cmp} (taken_of f xs)) ≤ length xs
 few_in Archive is xs a =
     let long : set.len (set.from_list {R = slice_cmp nat_cmp} xs) ≡ length xs = len_listed nat_list_cmp_total bytes_same xs (sorted-InOrder [] xs a).1 in
     omega arith
 few_in OldArchive is xs a =
     let b = in_order_old [] xs a in
     let kept_few : length (kept xs) ≤ length xs = kept_long xs in
-    let long : set.len (set.from_list {R = slice_cmp nat_cmp} (kept xs)) ≡ length (kept xs) = ap set.len (kept_set xs b) ∙ sym (length_written (content_of (set.from_list xs))) ∙ ap length (kept_records xs b) in
+    let long : set.len (set.from_list {R = slice_cmp nat_cmp} (kept xs)) ≡ length (kept xs) = ap set.len (kept_set xs b)
+    ∙ sym (length_written (content_of (set.from_list xs))) ∙ ap length (kept_records xs b) in
     omega arith
 few_in _ is xs a = absurd (cc is)
 
 pub IsReadTo-few : (a b : Option (List ℕ)) (o : Operations) → IsReadTo Archive_text a b o → set.len o < 2 ^ 63
 IsReadTo-few a b o r =
     let few = r.few in
-    let long : set.len o ≤ length r.records = subst (λ (c : Operations). set.len c ≤ length r.records) (sym r.makes) (few_in r.format r.kind_is r.records r.ordered) in
+    let long : set.len o ≤ length r.records = subst (λ (c : Operations). set.len c ≤ length r.records) (sym r.makes)
+    (few_in r.format r.kind_is r.records r.ordered) in
     omega arith
 
 pub all_taken : (a b : Option (List ℕ)) (text : List ℕ) → Consumes a b text → IsAtEnd b → IfSome a (λ t. t ≡ text)
@@ -109,7 +126,8 @@ unended_grows Operations_file [] more u = absurd (u refl)
 unended_grows Operations_file (x ∷ rest) more u = λ e. cc
 unended_grows _ rest more u = tt
 
-covered_grows : (file : Format) (records : List (List ℕ)) (rest more : List ℕ) (kind : RecordFaultKind) → FailsBehind file records rest kind → FailsBehind file records (rest ++ more) kind
+covered_grows : (file : Format) (records : List (List ℕ)) (rest more : List ℕ) (kind : RecordFaultKind)
+    → FailsBehind file records rest kind → FailsBehind file records (rest ++ more) kind
 covered_grows Archive records rest more kind f = (
   f.0,
   record {
@@ -130,7 +148,8 @@ HasStoppedIn file a b fault =
     ⊎ ((records : List (List ℕ)) × Stopped file a b records fault)
 
 module _ (file : Format) where
-  fails_grow : (records : List (List ℕ)) (rest more : List ℕ) (kind : RecordFaultKind) → kind ≢ Truncated → Fails file records rest kind → Fails file records (rest ++ more) kind
+  fails_grow : (records : List (List ℕ)) (rest more : List ℕ) (kind : RecordFaultKind) → kind ≢ Truncated
+      → Fails file records rest kind → Fails file records (rest ++ more) kind
   fails_grow records rest more kind p (inl f) = inl (Fails-grows file (last_of [] records) (length records) rest more kind p f)
   fails_grow records rest more kind p (inr f) = inr (covered_grows file records rest more kind f)
 
@@ -139,7 +158,8 @@ module _ (file : Format) where
   magic_stop bytes kind known (inr (inl d)) = absurd (known.0 d.0)
   magic_stop bytes kind known (inr (inr d)) = absurd (known.1 d.0)
 
-  pub record_stop : (records : List (List ℕ)) (rest : List ℕ) (fault : RecordFault) → IsOfText fault.kind → Stops file records rest fault → IsFaultBehind file records rest fault
+  pub record_stop : (records : List (List ℕ)) (rest : List ℕ) (fault : RecordFault) → IsOfText fault.kind
+      → Stops file records rest fault → IsFaultBehind file records rest fault
   record_stop records rest fault known (inl f) = inl (rw (as_itself fault.kind known) at (f.1 known.1), f.0)
   record_stop records rest fault known (inr (inl t)) = inr t
   record_stop records rest fault known (inr (inr d)) = absurd (known.0 d.0)
@@ -148,15 +168,20 @@ module _ (file : Format) where
   abbrev FewFault : List ℕ → RecordFault → Type 0
   FewFault t fault =
       (IsMagicFault file t fault.kind × (fault.offset ≡ 0))
-      ⊎ ((records : List (List ℕ)) × (front : IsGoodFront file t records) × (length records < 2 ^ 63) × IsUnended file front.rest × IsFaultBehind file records front.rest fault)
+      ⊎ ((records : List (List ℕ)) × (front : IsGoodFront file t records) × (length records < 2 ^ 63)
+      × IsUnended file front.rest × IsFaultBehind file records front.rest fault)
 
-  pub grown_magic : (t bytes more : List ℕ) (kind : RecordFaultKind) → t ≡ bytes ++ more → (kind ≡ Truncated → more ≡ []) → IsMagicFault file bytes kind → IsMagicFault file t kind
+  pub grown_magic : (t bytes more : List ℕ) (kind : RecordFaultKind) → t ≡ bytes ++ more
+      → (kind ≡ Truncated → more ≡ []) → IsMagicFault file bytes kind → IsMagicFault file t kind
   grown_magic t bytes more BadMagic e end b =
       (b.0, b.1, omega (arith, ap length e, length-append bytes more, b.2), λ same. b.3 (sym (ap (take b.0) e ∙ take-append-le b.0 bytes more b.2) ∙ same))
-  grown_magic t bytes more Truncated e end b = subst (λ (x : List ℕ). IsMagicFault file x Truncated) (sym (e ∙ ap (λ (y : List ℕ). bytes ++ y) (end refl) ∙ append-nil bytes)) b
+  grown_magic t bytes more Truncated e end b = subst (λ (x : List ℕ). IsMagicFault file x Truncated)
+      (sym (e ∙ ap (λ (y : List ℕ). bytes ++ y) (end refl) ∙ append-nil bytes)) b
   grown_magic t bytes more _ e end b = b
 
-  pub grown_behind : (records : List (List ℕ)) (rest more : List ℕ) (fault : RecordFault) → (fault.kind ≡ Truncated → more ≡ []) → IsFaultBehind file records rest fault → IsFaultBehind file records (rest ++ more) fault
+  pub grown_behind : (records : List (List ℕ)) (rest more : List ℕ) (fault : RecordFault)
+      → (fault.kind ≡ Truncated → more ≡ []) → IsFaultBehind file records rest fault
+      → IsFaultBehind file records (rest ++ more) fault
   grown_behind records rest more fault end f =
       elim (part_or_not fault.kind) [
         | inl p ↦ subst (λ (b : List ℕ). IsFaultBehind file records b fault) (sym (ap (λ (y : List ℕ). rest ++ y) (end p) ∙ append-nil rest)) f
@@ -166,27 +191,40 @@ module _ (file : Format) where
         ]
       ]
 
-  stopped_few : (t : List ℕ) (b : Option (List ℕ)) (fault : RecordFault) → HasStoppedIn file (Some t) b fault → (fault.kind ≡ Truncated → IsAtEnd b) → IsOfText fault.kind → FewFault t fault
+  stopped_few : (t : List ℕ) (b : Option (List ℕ)) (fault : RecordFault) → HasStoppedIn file (Some t) b fault
+      → (fault.kind ≡ Truncated → IsAtEnd b) → IsOfText fault.kind → FewFault t fault
   stopped_few t None fault (inl m) ended known = absurd m.1
   stopped_few t (Some ys) fault (inl m) ended known = inl (grown_magic t m.0 ys fault.kind m.1 ended (magic_stop m.0 fault.kind known m.2), m.3)
   stopped_few t None fault (inr s) ended known = absurd s.1.taken
   stopped_few t (Some ys) fault (inr s) ended known =
       let records = s.0 in
       let rest = s.1.rest in
-      let whole : t ≡ magic_of file ++ (concat records ++ (rest ++ ys)) = s.1.taken ∙ append_assoc (magic_of file) (concat records ++ rest) ys ∙ ap (λ (x : List ℕ). magic_of file ++ x) (append_assoc (concat records) rest ys) in
-      inr (records, record { ordered = s.1.ordered; apart = s.1.apart; rest = rest ++ ys; whole = whole }, s.1.few, unended_grows file rest ys (s.1.unended known), grown_behind records rest ys fault ended (record_stop records rest fault known s.1.stops))
+      let whole : t ≡ magic_of file ++ (concat records ++ (rest ++ ys)) = s.1.taken
+      ∙ append_assoc (magic_of file) (concat records ++ rest) ys
+      ∙ ap (λ (x : List ℕ). magic_of file ++ x) (append_assoc (concat records) rest ys) in
+      inr (
+        records,
+        record { ordered = s.1.ordered; apart = s.1.apart; rest = rest ++ ys; whole = whole },
+        s.1.few,
+        unended_grows file rest ys (s.1.unended known),
+        grown_behind records rest ys fault ended (record_stop records rest fault known s.1.stops),
+      )
 
   -- the fault is that of the whole input
-  pub fault_in : (t : List ℕ) (b : Option (List ℕ)) (fault : RecordFault) → HasStoppedIn file (Some t) b fault → (fault.kind ≡ Truncated → IsAtEnd b) → IsOfText fault.kind → IsFaultOf file t fault
+  pub fault_in : (t : List ℕ) (b : Option (List ℕ)) (fault : RecordFault) → HasStoppedIn file (Some t) b fault
+      → (fault.kind ≡ Truncated → IsAtEnd b) → IsOfText fault.kind → IsFaultOf file t fault
   fault_in t b fault s ended known = elim (stopped_few t b fault s ended known) [ inl m ↦ inl m | inr f ↦ inr (f.0, f.1, f.3, f.4) ]
 
   -- a text is refused by the machine alone
-  pub machine_alone : (t : List ℕ) (b : Option (List ℕ)) (xs : List (List ℕ)) (more : List ℕ) (fault : RecordFault) → HasStoppedIn file (Some t) b fault → (fault.kind ≡ Truncated → IsAtEnd b) → InOrder file [] xs → AreApart file xs → t ≡ text_of file xs ++ more
+  pub machine_alone : (t : List ℕ) (b : Option (List ℕ)) (xs : List (List ℕ)) (more : List ℕ) (fault : RecordFault)
+      → HasStoppedIn file (Some t) b fault → (fault.kind ≡ Truncated → IsAtEnd b) → InOrder file [] xs
+      → AreApart file xs → t ≡ text_of file xs ++ more
       → (file ≡ Operations_file → more ≡ []) → (fault.kind ≡ Trailing → more ≡ []) → (fault.kind ≡ Device) ⊎ (fault.kind ≡ OutOfMemory)
   machine_alone t b xs more fault s ended ordered apart e alone all =
       elim (of_text fault.kind) [
         | inl known ↦ elim (stopped_few t b fault s ended known) [
-          | inl m ↦ absurd (no_magic_fault file t ((concat xs ++ ending file (length xs)) ++ more) fault.kind (e ∙ append_assoc (magic_of file) (concat xs ++ ending file (length xs)) more) m.0)
+          | inl m ↦ absurd (no_magic_fault file t ((concat xs ++ ending file (length xs)) ++ more) fault.kind
+              (e ∙ append_assoc (magic_of file) (concat xs ++ ending file (length xs)) more) m.0)
           | inr f ↦ let few = f.2 in absurd (no_fault_behind file t xs more ordered apart e alone f.0 f.1 fault (λ _ same. omega arith) all f.3 f.4)
         ]
         | inr machine ↦ machine
@@ -195,54 +233,86 @@ module _ (file : Format) where
   -- ---- a device that failed, and want of memory
 
   machine_magic : (bytes : List ℕ) (kind : RecordFaultKind) → IsOfMachine kind → StopsInMagic file bytes kind → length bytes < 8
-  machine_magic bytes kind machine (inl m) = elim machine [ inl e ↦ absurd (subst (IsMagicFault file bytes) e m) | inr e ↦ absurd (subst (IsMagicFault file bytes) e m) ]
+  machine_magic bytes kind machine (inl m) = elim machine
+      [ inl e ↦ absurd (subst (IsMagicFault file bytes) e m) | inr e ↦ absurd (subst (IsMagicFault file bytes) e m) ]
   machine_magic bytes kind machine (inr (inl d)) = d.1
   machine_magic bytes kind machine (inr (inr d)) = d.1
 
-  device_stops : (records : List (List ℕ)) (rest : List ℕ) (fault : RecordFault) → fault.kind ≡ Device → Stops file records rest fault → Goes file records rest → ⊥
+  device_stops : (records : List (List ℕ)) (rest : List ℕ) (fault : RecordFault) → fault.kind ≡ Device
+      → Stops file records rest fault → Goes file records rest → ⊥
   device_stops records rest fault e (inl f) g = fails_stop file records rest (seen_as fault.kind) (f.1 (λ memory. cc)) g
   device_stops records rest fault e (inr (inl t)) g = end-stops file (last_of [] records) rest t.1.end g.next
-  device_stops records rest fault e (inr (inr d)) g = end-stops file (last_of [] records) rest (subst (λ (x : List ℕ). is_end x ≡ true) (sym d.1) (end-is_end (length records))) g.next
+  device_stops records rest fault e (inr (inr d)) g = end-stops file (last_of [] records) rest
+      (subst (λ (x : List ℕ). is_end x ≡ true) (sym d.1) (end-is_end (length records))) g.next
 
-  machine_offset : (records : List (List ℕ)) (rest : List ℕ) (fault : RecordFault) → IsOfMachine fault.kind → Stops file records rest fault → fault.offset ≡ front_length records
+  machine_offset : (records : List (List ℕ)) (rest : List ℕ) (fault : RecordFault) → IsOfMachine fault.kind
+      → Stops file records rest fault → fault.offset ≡ front_length records
   machine_offset records rest fault machine (inl f) = f.0
   machine_offset records rest fault machine (inr (inl t)) = absurd (no_machine (subst IsOfMachine t.0 machine))
   machine_offset records rest fault machine (inr (inr d)) = d.2
 
-  abbrev good_front : (a b : Option (List ℕ)) (records : List (List ℕ)) (fault : RecordFault) (s : Stopped file a b records fault) → IsGoodFront file (magic_of file ++ (concat records ++ s.rest)) records
+  abbrev good_front : (a b : Option (List ℕ)) (records : List (List ℕ)) (fault : RecordFault)
+      (s : Stopped file a b records fault) → IsGoodFront file (magic_of file ++ (concat records ++ s.rest)) records
   good_front a b records fault s = record { ordered = s.ordered; apart = s.apart; rest = s.rest; whole = refl }
 
 -- ---- a kind of file, of which the first bytes tell the format
 
 module _ (kind : TextKind) where
   -- the format in which reading stopped is that of the whole input
-  pub stopped_in : (t : List ℕ) (b : Option (List ℕ)) (fault : RecordFault) → HasStopped kind (Some t) b fault → HasStoppedIn (format_for kind t) (Some t) b fault
+  pub stopped_in : (t : List ℕ) (b : Option (List ℕ)) (fault : RecordFault) → HasStopped kind (Some t) b fault
+      → HasStoppedIn (format_for kind t) (Some t) b fault
   stopped_in t b fault (inl m) = inl (m.0, m.1, m.2 (format_for kind t) (kind_read kind t), m.3)
   stopped_in t None fault (inr s) = absurd s.3.taken
   stopped_in t (Some ys) fault (inr s) =
       let format = s.0 in
-      let same : format_for kind t ≡ format = format_read kind format s.1 t ((concat s.2 ++ s.3.rest) ++ ys) (s.3.taken ∙ append_assoc (magic_of format) (concat s.2 ++ s.3.rest) ys) in
+      let same : format_for kind t ≡ format = format_read kind format s.1 t ((concat s.2 ++ s.3.rest) ++ ys)
+      (s.3.taken ∙ append_assoc (magic_of format) (concat s.2 ++ s.3.rest) ys) in
       inr (s.2, subst (λ (f : Format). Stopped f (Some t) (Some ys) s.2 fault) (sym same) s.3)
 
   -- where the machine stopped it: what holds of fewer bytes than the magic has, and after good fronts
   taken_by : (P : List ℕ → Type 0) (a b : Option (List ℕ)) (fault : RecordFault) → ((bytes : List ℕ) → length bytes < 8 → fault.offset ≡ 0 → P bytes)
-      → ((file : Format) (records : List (List ℕ)) (s : Stopped file a b records fault) → format_for kind (magic_of file ++ (concat records ++ s.rest)) ≡ file → P (magic_of file ++ (concat records ++ s.rest)))
+      → ((file : Format) (records : List (List ℕ)) (s : Stopped file a b records fault)
+      → format_for kind (magic_of file ++ (concat records ++ s.rest)) ≡ file
+      → P (magic_of file ++ (concat records ++ s.rest)))
       → IsOfMachine fault.kind → HasStopped kind a b fault → HoldsOfTaken P a b
-  taken_by P a b fault few behind machine (inl m) = (m.0, m.1, few m.0 (machine_magic (format_for kind m.0) m.0 fault.kind machine (m.2 (format_for kind m.0) (kind_read kind m.0))) m.3)
-  taken_by P a b fault few behind machine (inr (file, is, records, s)) =
-      (magic_of file ++ (concat records ++ s.rest), s.taken, behind file records s (format_read kind file is (magic_of file ++ (concat records ++ s.rest)) (concat records ++ s.rest) refl))
+  taken_by P a b fault few behind machine (inl m) = (
+    m.0,
+    m.1,
+    few m.0 (machine_magic (format_for kind m.0) m.0 fault.kind machine
+        (m.2 (format_for kind m.0) (kind_read kind m.0))) m.3,
+  )
+  taken_by P a b fault few behind machine (inr (file, is, records, s)) = (
+    magic_of file ++ (concat records ++ s.rest),
+    s.taken,
+    behind file records s (format_read kind file is (magic_of file ++ (concat records ++ s.rest))
+        (concat records ++ s.rest) refl),
+  )
 
-  pub is_refused : {R : Type 0} (left : R → Option (List ℕ)) (failures : R → ℕ) (old new : R) (fault : RecordFault) → HasStopped kind (left old) (left new) fault → Blames left failures old new fault.kind → IsRefused kind left failures old new fault
+  pub is_refused : {R : Type 0} (left : R → Option (List ℕ)) (failures : R → ℕ) (old new : R) (fault : RecordFault)
+      → HasStopped kind (left old) (left new) fault → Blames left failures old new fault.kind
+      → IsRefused kind left failures old new fault
   is_refused left failures old new fault stopped blames = record {
     blames = blames;
-    faulty = λ known. of_input (λ x. HasStopped kind x (left new) fault) (left old) stopped (λ t s. fault_in (format_for kind t) t (left new) fault (stopped_in t (left new) fault s) blames.2 known);
-    device = λ device. taken_by (λ bytes. IsLongestLength kind bytes fault.offset) (left old) (left new) fault (λ bytes few start. inl (few, start)) (λ file records s same.
+    faulty = λ known. of_input (λ x. HasStopped kind x (left new) fault) (left old) stopped
+        (λ t s. fault_in (format_for kind t) t (left new) fault (stopped_in t (left new) fault s) blames.2 known);
+    device = λ device. taken_by (λ bytes. IsLongestLength kind bytes fault.offset) (left old) (left new) fault
+        (λ bytes few start. inl (few, start)) (λ file records s same.
         let front = good_front file (left old) (left new) records fault s in
         let bytes : List ℕ = magic_of file ++ (concat records ++ s.rest) in
         let longest : IsLongestFront file bytes records = is_longest file bytes records front (device_stops file records s.rest fault device s.stops) in
-        inr (records, subst (λ (f : Format). IsLongestFront f bytes records) (sym same) longest, machine_offset file records s.rest fault (inl device) s.stops)) (inl device) stopped;
-    memory = λ memory. taken_by (λ bytes. IsFrontLength kind bytes fault.offset) (left old) (left new) fault (λ bytes few start. inl (few, start)) (λ file records s same.
-        inr (records, subst (λ (f : Format). IsGoodFront f (magic_of file ++ (concat records ++ s.rest)) records) (sym same) (good_front file (left old) (left new) records fault s), machine_offset file records s.rest fault (inr memory) s.stops)) (inr memory) stopped;
+        inr (
+          records,
+          subst (λ (f : Format). IsLongestFront f bytes records) (sym same) longest,
+          machine_offset file records s.rest fault (inl device) s.stops,
+        )) (inl device) stopped;
+    memory = λ memory. taken_by (λ bytes. IsFrontLength kind bytes fault.offset) (left old) (left new) fault
+        (λ bytes few start. inl (few, start)) (λ file records s same.
+        inr (
+          records,
+          subst (λ (f : Format). IsGoodFront f (magic_of file ++ (concat records ++ s.rest)) records)
+              (sym same) (good_front file (left old) (left new) records fault s),
+          machine_offset file records s.rest fault (inr memory) s.stops,
+        )) (inr memory) stopped;
     undecided = λ machine. taken_by (DecidesNoFault kind) (left old) (left new) fault (λ bytes few start. inl few) (λ file records s same.
         inr (subst (λ (f : Format). IsCutAtMost f (magic_of file ++ (concat records ++ s.rest))) (sym same) (s.undecided machine))) machine stopped;
   }
@@ -250,30 +320,41 @@ module _ (kind : TextKind) where
 -- ---- an archive that is read
 
 -- the rest that is left after an archive's text
-front_alone : (t : List ℕ) (b : Option (List ℕ)) (o p : Operations) (text rest : List ℕ) → IsReadTo Archive_text (Some t) b o → IsContent p → IsArchiveOf p text → t ≡ text ++ rest → (o ≡ p) × (b ≡ Some rest)
+front_alone : (t : List ℕ) (b : Option (List ℕ)) (o p : Operations) (text rest : List ℕ)
+    → IsReadTo Archive_text (Some t) b o → IsContent p → IsArchiveOf p text → t ≡ text ++ rest → (o ≡ p)
+    × (b ≡ Some rest)
 front_alone t None o p text rest h content form is = absurd h.taken
 front_alone t (Some ys) o p text rest h content form is =
     let same = one_front t o p (text_of h.format h.records) text ys rest (read_form (Some t) (Some ys) o h) (formed p text content form) h.taken is in
     (same.0, ap (λ (y : List ℕ). Some y) same.1)
 
-front_machine : (t : List ℕ) (b : Option (List ℕ)) (fault : RecordFault) (p : Operations) (text rest : List ℕ) → HasStopped Archive_text (Some t) b fault → (fault.kind ≡ Truncated → IsAtEnd b) → (fault.kind ≡ Trailing → rest ≡ []) → IsContent p → IsArchiveOf p text → t ≡ text ++ rest
+front_machine : (t : List ℕ) (b : Option (List ℕ)) (fault : RecordFault) (p : Operations) (text rest : List ℕ)
+    → HasStopped Archive_text (Some t) b fault → (fault.kind ≡ Truncated → IsAtEnd b)
+    → (fault.kind ≡ Trailing → rest ≡ []) → IsContent p → IsArchiveOf p text → t ≡ text ++ rest
     → IsOfMachine fault.kind
 front_machine t b fault p text rest stopped ended all content is e =
     let f = formed p text content is in
     let same : archive_format t ≡ f.format = formed_format p text f t rest e in
-    let there : HasStoppedIn f.format (Some t) b fault = subst (λ (k : Format). HasStoppedIn k (Some t) b fault) same (stopped_in Archive_text t b fault stopped) in
-    machine_alone f.format t b f.records rest fault there ended f.ordered f.apart (e ∙ ap (λ (x : List ℕ). x ++ rest) f.whole) (λ h. absurd (no_operations f.format f.archive h)) all
+    let there : HasStoppedIn f.format (Some t) b fault =
+    subst (λ (k : Format). HasStoppedIn k (Some t) b fault) same (stopped_in Archive_text t b fault stopped) in
+    machine_alone f.format t b f.records rest fault there ended f.ordered f.apart
+    (e ∙ ap (λ (x : List ℕ). x ++ rest) f.whole) (λ h. absurd (no_operations f.format f.archive h)) all
 
-pub front_read : {R : Type 0} (o : Operations) (left : R → Option (List ℕ)) (failures : R → ℕ) (old new : R) → IsReadTo Archive_text (left old) (left new) o → failures new ≡ failures old → IsReadFront Archive_text o left failures old new
+pub front_read : {R : Type 0} (o : Operations) (left : R → Option (List ℕ)) (failures : R → ℕ) (old new : R)
+    → IsReadTo Archive_text (left old) (left new) o → failures new ≡ failures old
+    → IsReadFront Archive_text o left failures old new
 front_read o left failures old new h unfailed = record {
   is = IsReadTo-content (left old) (left new) o h;
   few = IsReadTo-few (left old) (left new) o h;
   taken = IsReadTo-taken (left old) (left new) o h;
-  alone = of_input (λ x. IsReadTo Archive_text x (left new) o) (left old) h (λ t r p text rest content is input. front_alone t (left new) o p text rest r content is input);
+  alone = of_input (λ x. IsReadTo Archive_text x (left new) o) (left old) h
+      (λ t r p text rest content is input. front_alone t (left new) o p text rest r content is input);
   unfailed = unfailed;
 }
 
-pub front_refused : {R X : Type 0} (content : X → Operations) (left : R → Option (List ℕ)) (failures : R → ℕ) (old new : R) (fault : RecordFault) → HasStopped Archive_text (left old) (left new) fault → fault.kind ≢ Trailing → Blames left failures old new fault.kind
+pub front_refused : {R X : Type 0} (content : X → Operations) (left : R → Option (List ℕ)) (failures : R → ℕ)
+    (old new : R) (fault : RecordFault) → HasStopped Archive_text (left old) (left new) fault → fault.kind ≢ Trailing
+    → Blames left failures old new fault.kind
     → ReadsFront Archive_text content left failures old new (Err fault)
 front_refused content left failures old new fault stopped other blames = (
   is_refused Archive_text left failures old new fault stopped blames,
@@ -287,21 +368,25 @@ front_refused content left failures old new fault stopped other blames = (
 -- a text is that of one list
 pub one_operations : (t : List ℕ) (xs ys : List Operation) → IsOperationsText t xs → IsOperationsText t ys → xs ≡ ys
 one_operations t xs ys p q =
-    one_list xs ys p.are q.are (one_text Operations_file t (map record_bytes xs) (map record_bytes ys) (InOrder-operations [] xs p.are) tt (InOrder-operations [] ys q.are) tt (text_is t xs p) (text_is t ys q))
+    one_list xs ys p.are q.are (one_text Operations_file t (map record_bytes xs) (map record_bytes ys)
+    (InOrder-operations [] xs p.are) tt (InOrder-operations [] ys q.are) tt (text_is t xs p) (text_is t ys q))
 
 operations_text : (a b : Option (List ℕ)) (xs : List Operation) → AreRead a b xs → IfSome a (λ t. IsOperationsText t xs)
-operations_text a b xs h = IfSome_then a (all_taken a b (text_of Operations_file (map record_bytes xs)) h.taken h.at_end) (λ t is. IsOperationsText-text t xs h.are is)
+operations_text a b xs h = IfSome_then a (all_taken a b (text_of Operations_file (map record_bytes xs)) h.taken
+    h.at_end) (λ t is. IsOperationsText-text t xs h.are is)
 
 -- and it has no fault: after it nothing is left
 pub operations_no_fault : (t : List ℕ) (xs : List Operation) (fault : RecordFault) → IsOperationsText t xs → IsOperationsFault t fault → ⊥
 operations_no_fault t xs fault p (inl m) = no_magic_fault Operations_file t (concat (map record_bytes xs)) fault.kind p.whole m.0
 operations_no_fault t xs fault p (inr f) =
     let nil = append-nil (text_of Operations_file (map record_bytes xs)) in
-    no_fault_behind Operations_file t (map record_bytes xs) [] (InOrder-operations [] xs p.are) tt (text_is t xs p ∙ sym nil) (λ _. refl) f.0 f.1 fault (λ counts. absurd (counts refl)) (λ _. refl) f.2 f.3
+    no_fault_behind Operations_file t (map record_bytes xs) [] (InOrder-operations [] xs p.are) tt
+    (text_is t xs p ∙ sym nil) (λ _. refl) f.0 f.1 fault (λ counts. absurd (counts refl)) (λ _. refl) f.2 f.3
 
 -- ---- a summary that is read
 
-pub summary_read : (a b : Option (List ℕ)) (s : Entries) → (r : IsReadTo Summary_text a b s) → InOrder Summary_file [] r.records × (s ≡ set.from_list r.records) × Consumes a b (text_of Summary_file r.records)
+pub summary_read : (a b : Option (List ℕ)) (s : Entries) → (r : IsReadTo Summary_text a b s)
+    → InOrder Summary_file [] r.records × (s ≡ set.from_list r.records) × Consumes a b (text_of Summary_file r.records)
 summary_read a b s r =
     let is = summary_form r.format r.kind_is in (
       subst (λ (f : Format). InOrder f [] r.records) is r.ordered,
@@ -330,12 +415,14 @@ IsReadTo-few_entries a b s r =
 pub one_summary : (s t : Entries) → AreEntries s → AreEntries t → summary_text s ≡ summary_text t → s ≡ t
 one_summary s t p q e =
     set_is s
-    ∙ ap set.from_list (one_text Summary_file (summary_text t) (listing s) (listing t) (InOrder-entries s p) tt (InOrder-entries t q) tt (sym e ∙ summary_text_is s) (summary_text_is t))
+    ∙ ap set.from_list (one_text Summary_file (summary_text t) (listing s) (listing t) (InOrder-entries s p) tt
+    (InOrder-entries t q) tt (sym e ∙ summary_text_is s) (summary_text_is t))
     ∙ sym (set_is t)
 
 -- and it has no fault
 pub summary_no_fault : (s : Entries) (fault : RecordFault) → AreEntries s → set.len s < 2 ^ 64 → IsSummaryFault (summary_text s) fault → ⊥
-summary_no_fault s fault are few f = no_fault Summary_file (summary_text s) (listing s) (InOrder-entries s are) tt (summary_text_is s) fault (omega (arith, length_written s)) f
+summary_no_fault s fault are few f = no_fault Summary_file (summary_text s) (listing s) (InOrder-entries s are) tt
+    (summary_text_is s) fault (omega (arith, length_written s)) f
 
 -- ---- the whole input
 
@@ -345,12 +432,15 @@ IsReadAs Archive_text a b o = IsReadTo Archive_text a b o
 IsReadAs Operations_text a b operations = AreRead a b operations
 IsReadAs Summary_text a b s = IsReadTo Summary_text a b s
 
-pub read_whole : {R : Type 0} (file : TextKind) (m : Meaning file) (left : R → Option (List ℕ)) (failures : R → ℕ) (old new : R) → IsReadAs file (left old) (left new) m → IsAtEnd (left new) → failures new ≡ failures old → IsReadWhole file m left failures old new
+pub read_whole : {R : Type 0} (file : TextKind) (m : Meaning file) (left : R → Option (List ℕ)) (failures : R → ℕ)
+    (old new : R) → IsReadAs file (left old) (left new) m → IsAtEnd (left new) → failures new ≡ failures old
+    → IsReadWhole file m left failures old new
 read_whole Archive_text o left failures old new h end unfailed = record {
   is = IsReadTo-content (left old) (left new) o h;
   few = IsReadTo-few (left old) (left new) o h;
   text = IsReadTo-text (left old) (left new) o h end;
-  alone = of_input (λ x. IsReadTo Archive_text x (left new) o) (left old) h (λ t r p content is. (front_alone t (left new) o p t [] r content is (sym (append-nil t))).0);
+  alone = of_input (λ x. IsReadTo Archive_text x (left new) o) (left old) h
+      (λ t r p content is. (front_alone t (left new) o p t [] r content is (sym (append-nil t))).0);
   at_end = end;
   unfailed = unfailed;
 }
@@ -374,14 +464,24 @@ read_whole Summary_text s left failures old new h end unfailed =
     }
 
 -- a text is refused by the machine alone
-machine_of : (file : TextKind) (t : List ℕ) (b : Option (List ℕ)) (fault : RecordFault) → HasStopped file (Some t) b fault → (fault.kind ≡ Truncated → IsAtEnd b) → (m : Meaning file) → IsMeaning file m → IsTextOf file m t → IsOfMachine fault.kind
+machine_of : (file : TextKind) (t : List ℕ) (b : Option (List ℕ)) (fault : RecordFault)
+    → HasStopped file (Some t) b fault → (fault.kind ≡ Truncated → IsAtEnd b) → (m : Meaning file) → IsMeaning file m
+    → IsTextOf file m t → IsOfMachine fault.kind
 machine_of Archive_text t b fault stopped ended p content is = front_machine t b fault p t [] stopped ended (λ _. refl) content is (sym (append-nil t))
 machine_of Operations_text t b fault stopped ended ys _ text =
-    machine_alone Operations_file t b (map record_bytes ys) [] fault (stopped_in Operations_text t b fault stopped) ended (InOrder-operations [] ys text.are) tt (text_is t ys text ∙ sym (append-nil (text_of Operations_file (map record_bytes ys)))) (λ _. refl) (λ _. refl)
+    machine_alone Operations_file t b (map record_bytes ys) [] fault (stopped_in Operations_text t b fault stopped)
+    ended (InOrder-operations [] ys text.are) tt (text_is t ys text
+    ∙ sym (append-nil (text_of Operations_file (map record_bytes ys)))) (λ _. refl) (λ _. refl)
 machine_of Summary_text t b fault stopped ended s q is =
-    machine_alone Summary_file t b (listing s) [] fault (stopped_in Summary_text t b fault stopped) ended (InOrder-entries s q) tt (is ∙ summary_text_is s ∙ sym (append-nil (text_of Summary_file (listing s)))) (λ _. refl) (λ _. refl)
+    machine_alone Summary_file t b (listing s) [] fault (stopped_in Summary_text t b fault stopped) ended
+    (InOrder-entries s q) tt (is ∙ summary_text_is s ∙ sym (append-nil (text_of Summary_file (listing s))))
+    (λ _. refl) (λ _. refl)
 
-pub refused : {R : Type 0} (file : TextKind) (left : R → Option (List ℕ)) (failures : R → ℕ) (old new : R) (fault : RecordFault) → HasStopped file (left old) (left new) fault → Blames left failures old new fault.kind
+pub refused : {R : Type 0} (file : TextKind) (left : R → Option (List ℕ)) (failures : R → ℕ) (old new : R)
+    (fault : RecordFault) → HasStopped file (left old) (left new) fault → Blames left failures old new fault.kind
     → ReadsWhole file (λ (m : Meaning file). m) left failures old new (Err fault)
-refused file left failures old new fault stopped blames =
-    (is_refused file left failures old new fault stopped blames, of_input (λ x. HasStopped file x (left new) fault) (left old) stopped (λ t s. machine_of file t (left new) fault s blames.2))
+refused file left failures old new fault stopped blames = (
+  is_refused file left failures old new fault stopped blames,
+  of_input (λ x. HasStopped file x (left new) fault) (left old) stopped
+      (λ t s. machine_of file t (left new) fault s blames.2),
+)

@@ -21,7 +21,8 @@ use Rattle.archive_records.proofs.Ascending.{below-trans, all_above, up_to_last,
 
 filter_same : (p q : List ℕ → Bool) (xs : List (List ℕ)) → ((r : List ℕ) → Contains xs r → p r ≡ q r) → filter p xs ≡ filter q xs
 filter_same p q [] h = refl
-filter_same p q (x ∷ xs) h = ap (λ b. cond b (x ∷ filter p xs) (filter p xs)) (h x (in_front x xs)) ∙ ap (λ (t : List (List ℕ)). cond (q x) (x ∷ t) t) (filter_same p q xs (λ r c. h r (in_rest x xs r c)))
+filter_same p q (x ∷ xs) h = ap (λ b. cond b (x ∷ filter p xs) (filter p xs)) (h x (in_front x xs))
+    ∙ ap (λ (t : List (List ℕ)). cond (q x) (x ∷ t) t) (filter_same p q xs (λ r c. h r (in_rest x xs r c)))
 
 filter_one : (p : List ℕ → Bool) (x : List ℕ) (b : Bool) → p x ≡ b → filter p (x ∷ []) ≡ cond b (x ∷ []) []
 filter_one p x b e = ap (λ c. cond c (x ∷ []) []) e
@@ -42,10 +43,14 @@ from_kept out z c = (in_filter (free_in out) out z c).0
 -- what stands after covers none of them
 module _ (out more : List (List ℕ)) (a : InOrder Archive [] (out ++ more)) (o : InOrder Archive [] out) where
   covers_alike : (r : List ℕ) → Contains out r → is_covered (set_of (out ++ more)) r ≡ is_covered (set_of out) r
-  covers_alike r c = and_same (is_admission r) (contains (set_of (out ++ more)) (covering r)) (contains (set_of out) (covering r)) (λ a'. both_ways (contains (set_of (out ++ more)) (covering r)) (contains (set_of out) (covering r))
+  covers_alike r c = and_same (is_admission r) (contains (set_of (out ++ more)) (covering r))
+      (contains (set_of out) (covering r)) (λ a'. both_ways (contains (set_of (out ++ more)) (covering r))
+      (contains (set_of out) (covering r))
       (λ h. elim (Contains-append_cases out more (covering r) (from_set (out ++ more) (covering r) h)) [
         | inl d ↦ in_set out (covering r) d
-        | inr d ↦ absurd (false≢true (sym (up_to_last [] r out o c) ∙ below-trans (last_of [] out) (covering r) r (all_above (last_of [] out) (covering r) more (InOrder-behind [] out more a) d) (covering_below r a')))
+        | inr d ↦ absurd (false≢true (sym (up_to_last [] r out o c)
+            ∙ below-trans (last_of [] out) (covering r) r
+            (all_above (last_of [] out) (covering r) more (InOrder-behind [] out more a) d) (covering_below r a')))
       ])
       (λ h. in_set (out ++ more) (covering r) (Contains-append_left out more (covering r) (from_set out (covering r) h))))
 
@@ -54,18 +59,25 @@ module _ (out more : List (List ℕ)) (a : InOrder Archive [] (out ++ more)) (o 
 
   pub kept_more : kept (out ++ more) ≡ kept out ++ behind
   unfolding kept
-  kept_more = filter-append (free_in (out ++ more)) out more ∙ ap (λ (t : List (List ℕ)). t ++ behind) (filter_same (free_in (out ++ more)) (free_in out) out (λ r c. ap not (covers_alike r c)))
+  kept_more = filter-append (free_in (out ++ more)) out more
+      ∙ ap (λ (t : List (List ℕ)). t ++ behind) (filter_same (free_in (out ++ more)) (free_in out) out
+      (λ r c. ap not (covers_alike r c)))
 
   pub behind_above : (z : List ℕ) → Contains behind z → may_follow Archive (last_of [] out) z ≡ true
   behind_above z c = all_above (last_of [] out) z more (InOrder-behind [] out more a) (in_filter (free_in (out ++ more)) more z c).0
 
 -- one record more is written
-pub kept_push : (out : List (List ℕ)) (x : List ℕ) → InOrder Archive [] (out ++ x ∷ []) → is_covered (set_of (out ++ x ∷ [])) x ≡ false → kept (out ++ x ∷ []) ≡ kept out ++ x ∷ []
-kept_push out x a free = kept_more out (x ∷ []) a (InOrder-front [] out x a) ∙ ap (λ (t : List (List ℕ)). kept out ++ t) (filter_one (free_in (out ++ x ∷ [])) x true (ap not free))
+pub kept_push : (out : List (List ℕ)) (x : List ℕ) → InOrder Archive [] (out ++ x ∷ [])
+    → is_covered (set_of (out ++ x ∷ [])) x ≡ false → kept (out ++ x ∷ []) ≡ kept out ++ x ∷ []
+kept_push out x a free = kept_more out (x ∷ []) a (InOrder-front [] out x a)
+    ∙ ap (λ (t : List (List ℕ)). kept out ++ t) (filter_one (free_in (out ++ x ∷ [])) x true (ap not free))
 
 -- or passed over
-pub kept_pass : (out : List (List ℕ)) (x : List ℕ) → InOrder Archive [] (out ++ x ∷ []) → is_covered (set_of (out ++ x ∷ [])) x ≡ true → kept (out ++ x ∷ []) ≡ kept out
-kept_pass out x a covered = kept_more out (x ∷ []) a (InOrder-front [] out x a) ∙ ap (λ (t : List (List ℕ)). kept out ++ t) (filter_one (free_in (out ++ x ∷ [])) x false (ap not covered)) ∙ append-nil (kept out)
+pub kept_pass : (out : List (List ℕ)) (x : List ℕ) → InOrder Archive [] (out ++ x ∷ [])
+    → is_covered (set_of (out ++ x ∷ [])) x ≡ true → kept (out ++ x ∷ []) ≡ kept out
+kept_pass out x a covered = kept_more out (x ∷ []) a (InOrder-front [] out x a)
+    ∙ ap (λ (t : List (List ℕ)). kept out ++ t) (filter_one (free_in (out ++ x ∷ [])) x false (ap not covered))
+    ∙ append-nil (kept out)
 
 pub long_record : (x : List ℕ) → IsRecord x → 33 ≤ length x
 long_record x (inl a) = long-admission x a

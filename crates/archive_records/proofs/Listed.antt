@@ -14,10 +14,15 @@ use Rattle.archive_records.specs.Text.{text_of, InOrder, IsOperationsText}
 pub InOrder-operations : (low : List ℕ) (xs : List Operation) → All IsOperation xs → InOrder Operations low (map record_bytes xs)
 unfolding may_follow allows
 InOrder-operations low [] h = tt
-InOrder-operations low (x ∷ xs) h = (record_of_operation x (All-head IsOperation x xs h), refl, InOrder-operations (record_bytes x) xs (All-tail IsOperation x xs h))
+InOrder-operations low (x ∷ xs) h = (
+  record_of_operation x (All-head IsOperation x xs h),
+  refl,
+  InOrder-operations (record_bytes x) xs (All-tail IsOperation x xs h),
+)
 
 -- records are those of operations
-pub operations_in : (low : List ℕ) (records : List (List ℕ)) → InOrder Operations low records → (xs : List Operation) × All IsOperation xs × (map record_bytes xs ≡ records)
+pub operations_in : (low : List ℕ) (records : List (List ℕ)) → InOrder Operations low records → (xs : List Operation)
+    × All IsOperation xs × (map record_bytes xs ≡ records)
 operations_in low [] h = ([], All-nil IsOperation, refl)
 operations_in low (r ∷ rs) h =
     let first = operation_of_record r h.0 in
@@ -30,7 +35,10 @@ one_list [] [] p q e = refl
 one_list (x ∷ xs) (y ∷ ys) p q e =
     let head : record_bytes x ≡ record_bytes y = cc e in
     let tail : map record_bytes xs ≡ map record_bytes ys = cc e in
-    cc (one_operation x y (All-head IsOperation x xs p) (All-head IsOperation y ys q) head, one_list xs ys (All-tail IsOperation x xs p) (All-tail IsOperation y ys q) tail)
+    cc (
+      one_operation x y (All-head IsOperation x xs p) (All-head IsOperation y ys q) head,
+      one_list xs ys (All-tail IsOperation x xs p) (All-tail IsOperation y ys q) tail,
+    )
 one_list _ _ p q e = absurd (cc e)
 
 -- ---- their text

@@ -1,5 +1,6 @@
 -- The longest good front.
-use Rattle.std.proofs.Common.{◌≡◌, ℕ, ◌≤◌, true, false, eqb, List, [], ◌∷◌, ◌++◌, length, take, Ok, refl, sym, ap, ◌∙◌, subst, arith, inl, inr, append_assoc, length-append}
+use Rattle.std.proofs.Common.{◌≡◌, ℕ, ◌≤◌, true, false, eqb, List, [], ◌∷◌, ◌++◌, length, take, Ok, refl, sym, ap, ◌∙◌}
+use Rattle.std.proofs.Common.{subst, arith, inl, inr, append_assoc, length-append}
 use Rattle.std.proofs.lemmas.List.{append-nil, take_at, append_cancel_left}
 use Rattle.std.proofs.lemmas.List.Folds.{concat-append}
 use Rattle.std.proofs.lemmas.Bool.{false≢true}
@@ -48,12 +49,14 @@ module _ (file : Format) where
       let b : body_length file (bytes ++ more) ≡ body_length file bytes = same_body file bytes more h.head h.one h.tag h.long in
       let f = h.fits in
       let i = h.is in
-      framed-whole file (bytes ++ more) h.head (omega (arith, length-append bytes more, h.one)) (ap (head_length file) (same_tag bytes more h.one) ∙ h.tag) (omega (arith, length-append bytes more, h.long))
+      framed-whole file (bytes ++ more) h.head (omega (arith, length-append bytes more, h.one))
+      (ap (head_length file) (same_tag bytes more h.one) ∙ h.tag) (omega (arith, length-append bytes more, h.long))
       (rw b h.small) (rw b (omega (arith, length-append bytes more))) ∙ ap done (rw b (sym i))
 
   -- a record above low is what comes next
 
-  next-takes : (low : List ℕ) (count : ℕ) (item more : List ℕ) → IsItem file item → may_follow file low item ≡ true → next file low count (item ++ more) ≡ Ok (length item)
+  next-takes : (low : List ℕ) (count : ℕ) (item more : List ℕ) → IsItem file item → may_follow file low item ≡ true
+      → next file low count (item ++ more) ≡ Ok (length item)
   unfolding tested
   next-takes low count item more is above =
       let whole = item-framed file item is in
@@ -85,7 +88,9 @@ module _ (file : Format) where
       cc (framed-grows x a (length x) (item-framed file x p), ap (framed file) e, framed-grows y b (length y) (item-framed file y q))
 
   -- A front at whose end no record stands that the other goes on with is the longest.
-  longest_by : (xs ys : List (List ℕ)) (low r s : List ℕ) → InOrder file low xs → InOrder file low ys → concat xs ++ r ≡ concat ys ++ s → ((k : Takes (last_of low xs) r) (more : List (List ℕ)) → ys ≡ xs ++ k.item ∷ more → ⊥) → Before xs ys r s
+  longest_by : (xs ys : List (List ℕ)) (low r s : List ℕ) → InOrder file low xs → InOrder file low ys → concat xs ++ r
+      ≡ concat ys ++ s → ((k : Takes (last_of low xs) r) (more : List (List ℕ)) → ys ≡ xs ++ k.item ∷ more → ⊥)
+      → Before xs ys r s
   longest_by xs [] low r s a b e stop = record { more = xs; records = refl; rest = sym e }
   longest_by [] (y ∷ ys) low r s a b e stop =
       absurd (stop (record { item = y; more = concat ys ++ s; whole = e ∙ append_assoc y (concat ys) s; is = b.0; above = b.1 }) ys refl)
@@ -102,11 +107,13 @@ module _ (file : Format) where
     pub apart : AreApart file (records ++ next.item ∷ [])
 
   -- A front at whose end no such record stands is the longest: every other front begins it.
-  pub longest : (xs ys : List (List ℕ)) (r s : List ℕ) → InOrder file [] xs → InOrder file [] ys → AreApart file ys → concat xs ++ r ≡ concat ys ++ s → (Goes xs r → ⊥) → Before xs ys r s
+  pub longest : (xs ys : List (List ℕ)) (r s : List ℕ) → InOrder file [] xs → InOrder file [] ys → AreApart file ys
+      → concat xs ++ r ≡ concat ys ++ s → (Goes xs r → ⊥) → Before xs ys r s
   longest xs ys r s a b c e stop = longest_by xs ys [] r s a b e (λ k more is. stop (record { next = k; apart = apart_part file ys xs k.item more is c }))
 
   -- two fronts that stop are one
-  pub unique : (xs ys : List (List ℕ)) (r s : List ℕ) → InOrder file [] xs → AreApart file xs → InOrder file [] ys → AreApart file ys → concat xs ++ r ≡ concat ys ++ s → (Goes xs r → ⊥) → (Goes ys s → ⊥) → (xs ≡ ys) × (r ≡ s)
+  pub unique : (xs ys : List (List ℕ)) (r s : List ℕ) → InOrder file [] xs → AreApart file xs → InOrder file [] ys
+      → AreApart file ys → concat xs ++ r ≡ concat ys ++ s → (Goes xs r → ⊥) → (Goes ys s → ⊥) → (xs ≡ ys) × (r ≡ s)
   unique xs ys r s a aa b bb e p q =
       let f = longest xs ys r s a b bb e p in
       let g = longest ys xs s r b a aa (sym e) q in
@@ -127,6 +134,7 @@ module _ (file : Format) where
   is_longest text records f stop = record {
     front = f;
     longest = λ others g.
-        let b = longest records others f.rest g.rest f.ordered g.ordered g.apart (behind_magic text (concat records ++ f.rest) (concat others ++ g.rest) f.whole g.whole) stop in
+        let b = longest records others f.rest g.rest f.ordered g.ordered g.apart
+        (behind_magic text (concat records ++ f.rest) (concat others ++ g.rest) f.whole g.whole) stop in
         omega (arith, ap length (ap concat b.records ∙ concat-append others b.more), length-append (concat others) (concat b.more));
   }

@@ -41,8 +41,18 @@ pub record Says {T : Type 0} (file : TextKind) (Makes : List (List ℕ) → T �
   pub said : IsReadAs file a b meaning
 
 -- the set of the records that are taken was read
-pub read_to : {T : Type 0} {Makes : List (List ℕ) → T → Type 0} {a b : Option (List ℕ)} {value : T} {file : TextKind} (m : IsGathered file Makes a b value) → IsReadTo file a b (set_of (taken_of m.format m.records))
-read_to m = record { format = m.format; kind_is = m.kind_is; records = m.records; few = m.few; taken = m.taken; ordered = m.ordered; apart = m.apart; makes = refl }
+pub read_to : {T : Type 0} {Makes : List (List ℕ) → T → Type 0} {a b : Option (List ℕ)} {value : T} {file : TextKind}
+    (m : IsGathered file Makes a b value) → IsReadTo file a b (set_of (taken_of m.format m.records))
+read_to m = record {
+  format = m.format;
+  kind_is = m.kind_is;
+  records = m.records;
+  few = m.few;
+  taken = m.taken;
+  ordered = m.ordered;
+  apart = m.apart;
+  makes = refl;
+}
 
 module _ {T : Type 0} (Makes : List (List ℕ) → T → Type 0) (a b : Option (List ℕ)) (value : T) (end : IsAtEnd b) where
   pub says : (file : TextKind) → IsGathered file Makes a b value → Says file Makes a b value
@@ -64,7 +74,8 @@ module _ {T : Type 0} (Makes : List (List ℕ) → T → Type 0) (a b : Option (
         makes = subst (λ (rs : List (List ℕ)). Makes rs value) (sym xs.2) (subst (λ (f : Format). Makes (taken_of f m.records) value) form m.makes);
         said = record {
           few = omega (arith, sym (length-map xs.0 record_bytes) ∙ ap length xs.2);
-          taken = subst (λ (rs : List (List ℕ)). Consumes a b (text_of Operations_file rs)) (sym xs.2) (subst (λ (f : Format). Consumes a b (text_of f m.records)) form m.taken);
+          taken = subst (λ (rs : List (List ℕ)). Consumes a b (text_of Operations_file rs)) (sym xs.2)
+              (subst (λ (f : Format). Consumes a b (text_of f m.records)) form m.taken);
           at_end = end;
           are = xs.1;
         };
@@ -75,14 +86,18 @@ module _ {T : Type 0} (Makes : List (List ℕ) → T → Type 0) (a b : Option (
       record {
         meaning = set_of m.records;
         is = AreEntries-entries m.records ordered;
-        makes = subst (λ (xs : List (List ℕ)). Makes xs value) (sym (listing_ascending nat_list_cmp_total bytes_same m.records (sorted-entries [] m.records ordered).1)) (subst (λ (f : Format). Makes (taken_of f m.records) value) form m.makes);
+        makes = subst (λ (xs : List (List ℕ)). Makes xs value)
+            (sym (listing_ascending nat_list_cmp_total bytes_same m.records (sorted-entries [] m.records ordered).1))
+            (subst (λ (f : Format). Makes (taken_of f m.records) value) form m.makes);
         said = subst (IsReadTo Summary_text a b) (ap (λ (f : Format). set_of (taken_of f m.records)) form) (read_to m);
       }
 
 -- ---- the whole input
 
 -- what is told after the last record
-pub finished : {R T X : Type 0} (file : TextKind) (Makes : List (List ℕ) → T → Type 0) (Tells : X → Meaning file → Type 0) (left : R → Option (List ℕ)) (failures : R → ℕ) (old new : R) (value : T) (told : X)
+pub finished : {R T X : Type 0} (file : TextKind) (Makes : List (List ℕ) → T → Type 0)
+    (Tells : X → Meaning file → Type 0) (left : R → Option (List ℕ)) (failures : R → ℕ) (old new : R) (value : T)
+    (told : X)
     → IsGathered file Makes (left old) (left new) value → IsAtEnd (left new) → failures new ≡ failures old
     → ((m : Meaning file) → IsMeaning file m → Makes (records_in file m) value → Tells told m)
     → IsReadInPart file (Tells told) left failures old new
@@ -112,7 +127,8 @@ wanted file Makes left failures old new value m end unfailed =
     )) (memory_blames left failures old new unfailed)
 
 -- where the whole of it is told
-pub told_whole : {R X : Type 0} (file : TextKind) (meaning : X → Meaning file) (left : R → Option (List ℕ)) (failures : R → ℕ) (old new : R) (r : Result X RecordFault)
+pub told_whole : {R X : Type 0} (file : TextKind) (meaning : X → Meaning file) (left : R → Option (List ℕ))
+    (failures : R → ℕ) (old new : R) (r : Result X RecordFault)
     → ReadsInPart file (λ x m. meaning x ≡ m) left failures old new r → ReadsWhole file meaning left failures old new r
 told_whole file meaning left failures old new (Ok x) h = subst (λ (m : Meaning file). IsReadWhole file m left failures old new) (sym h.kept) h.whole
 told_whole file meaning left failures old new (Err fault) h = h

@@ -32,12 +32,14 @@ module _ (text : List ℕ) where
     | inl short ↦ other (e ∙ same_fronts g format (is ∙ sym (kind_archive text)) n short)
     | inr long ↦
         let eight : n ≡ 8 = omega (arith, few, long) in
-        let magic_is : take 8 text ≡ magic_of g = subst (λ (k : ℕ). take k text ≡ take k (magic_of g)) eight e ∙ take_all 8 (magic_of g) (omega (arith, length-magic g)) in
+        let magic_is : take 8 text ≡ magic_of g = subst (λ (k : ℕ). take k text ≡ take k (magic_of g)) eight e
+        ∙ take_all 8 (magic_of g) (omega (arith, length-magic g)) in
         let whole : text ≡ magic_of g ++ drop 8 text = sym (take-append-drop 8 text) ∙ ap (λ (t : List ℕ). t ++ drop 8 text) magic_is in
         other (e ∙ ap (λ (f : Format). take n (magic_of f)) (sym (format_magic g is text (drop 8 text) whole)))
   ]
 
-  pub bad_is : IsFault text (record { kind = BadMagic; offset = 0 }) → (n : ℕ) × (n ≤ 8) × (n ≤ length text) × (take n text ≢ take n magic) × (take n text ≢ take n old_magic)
+  pub bad_is : IsFault text (record { kind = BadMagic; offset = 0 }) → (n : ℕ) × (n ≤ 8) × (n ≤ length text)
+      × (take n text ≢ take n magic) × (take n text ≢ take n old_magic)
   bad_is f =
       let b = at_start format text (record { kind = BadMagic; offset = 0 }) refl f in
       (b.0, b.1, b.2, no_other b.0 b.1 b.3 Archive refl, no_other b.0 b.1 b.3 OldArchive refl)
@@ -45,13 +47,16 @@ module _ (text : List ℕ) where
   bad_in : (f : Format) → kind_of f ≡ Archive_text → (n : ℕ) → take n text ≢ take n magic → take n text ≢ take n old_magic → take n text ≢ take n (magic_of f)
   bad_in f is n a b = grind arith
 
-  pub is_bad : (n : ℕ) × (n ≤ 8) × (n ≤ length text) × (take n text ≢ take n magic) × (take n text ≢ take n old_magic) → IsFault text (record { kind = BadMagic; offset = 0 })
+  pub is_bad : (n : ℕ) × (n ≤ 8) × (n ≤ length text) × (take n text ≢ take n magic) × (take n text ≢ take n old_magic)
+      → IsFault text (record { kind = BadMagic; offset = 0 })
   is_bad b = inl ((b.0, b.1, b.2, bad_in format (kind_archive text) b.0 b.3 b.4), refl)
 
-  pub truncated_is : IsFault text (record { kind = Truncated; offset = 0 }) → (length text < 8) × (text ≡ take (length text) magic) × (text ≡ take (length text) old_magic)
+  pub truncated_is : IsFault text (record { kind = Truncated; offset = 0 }) → (length text < 8)
+      × (text ≡ take (length text) magic) × (text ≡ take (length text) old_magic)
   truncated_is f =
       let b = at_start format text (record { kind = Truncated; offset = 0 }) refl f in
       (b.0, b.1 ∙ same_fronts format Archive (kind_archive text) (length text) b.0, b.1 ∙ same_fronts format OldArchive (kind_archive text) (length text) b.0)
 
-  pub is_truncated : (length text < 8) × (text ≡ take (length text) magic) × (text ≡ take (length text) old_magic) → IsFault text (record { kind = Truncated; offset = 0 })
+  pub is_truncated : (length text < 8) × (text ≡ take (length text) magic) × (text ≡ take (length text) old_magic)
+      → IsFault text (record { kind = Truncated; offset = 0 })
   is_truncated b = inl ((b.0, b.1 ∙ same_fronts Archive format (sym (kind_archive text)) (length text) b.0), refl)

@@ -25,7 +25,8 @@ one_slice_fault bytes (Image f) (Symbols g) a b = absurd (no_image_fault bytes f
 one_slice_fault bytes (Symbols f) (Image g) a b = absurd (no_image_fault bytes g a.0 b)
 one_slice_fault bytes (Symbols f) (Symbols g) a b = cc (a.1, b.1)
 
-by_symbols : (bytes : List ℕ) (fault : Option SymbolFault) → symbol_fault bytes ≡ fault → IsImage bytes → IsValid bytes ⊎ ((f : SliceFault) × IsSliceFault bytes f)
+by_symbols : (bytes : List ℕ) (fault : Option SymbolFault) → symbol_fault bytes ≡ fault → IsImage bytes → IsValid bytes
+    ⊎ ((f : SliceFault) × IsSliceFault bytes f)
 by_symbols bytes None is image = inl (record { image = image; symbols = record { fine = is } })
 by_symbols bytes (Some f) is image = inr (Symbols f, (image, is))
 

@@ -1,5 +1,6 @@
 -- A text that is read record by record.
-use Rattle.std.proofs.Common.{◌≡◌, ◌≢◌, ℕ, ◌+◌, ◌^◌, ◌<◌, true, false, List, [], ◌∷◌, ◌++◌, length, Option, Some, Ok, refl, sym, ap, ◌∙◌, subst, arith, inl, inr, ◌⊎◌, append_assoc, length-append}
+use Rattle.std.proofs.Common.{◌≡◌, ◌≢◌, ℕ, ◌+◌, ◌^◌, ◌<◌, true, false, List, [], ◌∷◌, ◌++◌, length, Option, Some, Ok}
+use Rattle.std.proofs.Common.{refl, sym, ap, ◌∙◌, subst, arith, inl, inr, ◌⊎◌, append_assoc, length-append}
 use Rattle.std.proofs.lemmas.List.{append-nil, take_all}
 use Rattle.std.specs.List.{concat}
 use Rattle.std.specs.Io.KnownBytes.{Consumes}
@@ -14,7 +15,9 @@ use Rattle.archive_records.specs.Fault.{next, IsUnended, IsCutAtMost, FailsNext,
 use Rattle.archive_records.specs.Reading.{Blames, IsOfMachine}
 use Rattle.archive_records.specs.declared.next.NextRecord.{NextRecord}
 use Rattle.archive_records.specs.declared.next.NextRecord.TheVariants.{End, Item}
-use Rattle.archive_records.specs.Reader.{HoldsNext, IsStep, StepsTo, bytes_so_far, Position, set_of, RetireAlike, KeepsIn, AreRetired, IsCoveredThere, Passes, Finishes, StopsAt, HasWhole, HasRead, HasReadAll, Stopped, StoppedWith, IsEnded, seen_as}
+use Rattle.archive_records.specs.Reader.{HoldsNext, IsStep, StepsTo, bytes_so_far, Position, set_of, RetireAlike}
+use Rattle.archive_records.specs.Reader.{KeepsIn, AreRetired, IsCoveredThere, Passes, Finishes, StopsAt, HasWhole}
+use Rattle.archive_records.specs.Reader.{HasRead, HasReadAll, Stopped, StoppedWith, IsEnded, seen_as}
 use Rattle.archive_records.proofs.Apart.{retired_more, drops_more, covered_alike, last_of-push}
 use Rattle.archive_records.proofs.Puts.{concat-push}
 use Rattle.archive_records.specs.declared.buffer.Buffer.{Buffer}
@@ -32,24 +35,31 @@ pub taken_more : (a b c : Option (List ℕ)) (x y z : List ℕ) → Consumes a b
 taken_more a b c x y z p q = subst (Consumes a c) (append_assoc x y z) (Consumes-then a b c (x ++ y) z p q)
 
 module _ (file : Format) where
-  pub InOrder-push : (low : List ℕ) (xs : List (List ℕ)) (x : List ℕ) → InOrder file low xs → IsItem file x → may_follow file (last_of low xs) x ≡ true → InOrder file low (xs ++ x ∷ [])
+  pub InOrder-push : (low : List ℕ) (xs : List (List ℕ)) (x : List ℕ) → InOrder file low xs → IsItem file x
+      → may_follow file (last_of low xs) x ≡ true → InOrder file low (xs ++ x ∷ [])
   InOrder-push low [] x a r b = (r, b, tt)
   InOrder-push low (y ∷ ys) x a r b = (a.0, a.1, InOrder-push y ys x a.2 r b)
 
-  pub next-follows : (low : List ℕ) (count : ℕ) (bytes : List ℕ) → next file low count bytes ≡ Ok (length bytes) → IsItem file bytes → may_follow file low bytes ≡ true
-  next-follows low count bytes e item = rw (take_all (length bytes) bytes (omega arith)) at (next-above file low count bytes (length bytes) e (item-no_end file bytes item))
+  pub next-follows : (low : List ℕ) (count : ℕ) (bytes : List ℕ) → next file low count bytes ≡ Ok (length bytes)
+      → IsItem file bytes → may_follow file low bytes ≡ true
+  next-follows low count bytes e item = rw (take_all (length bytes) bytes (omega arith)) at
+      (next-above file low count bytes (length bytes) e (item-no_end file bytes item))
 
   -- one item more was read
-  pub HasRead-grows : (a b c : Option (List ℕ)) (records : List (List ℕ)) (before after : Position) → HasRead file a b records before → Passes b c before after → HasRead file a c (records ++ after.last ∷ []) after
+  pub HasRead-grows : (a b c : Option (List ℕ)) (records : List (List ℕ)) (before after : Position)
+      → HasRead file a b records before → Passes b c before after → HasRead file a c (records ++ after.last ∷ []) after
   HasRead-grows a b c records before after h p =
       let bytes = after.last in
       let follows : may_follow file (last_of [] records) bytes ≡ true = rw (← h.last_is, ← h.file_is) p.follows in
-      let kept : KeepsIn file before.retired after.retired after.dropped bytes = subst (λ (f : Format). KeepsIn f before.retired after.retired after.dropped bytes) h.file_is p.kept in
+      let kept : KeepsIn file before.retired after.retired after.dropped bytes =
+      subst (λ (f : Format). KeepsIn f before.retired after.retired after.dropped bytes) h.file_is p.kept in
       record {
         file_is = p.file_is ∙ h.file_is;
-        taken = subst (λ (t : List ℕ). Consumes a c (magic_of file ++ t)) (sym (concat-push records bytes)) (taken_more a b c (magic_of file) (concat records) bytes h.taken p.taken);
+        taken = subst (λ (t : List ℕ). Consumes a c (magic_of file ++ t)) (sym (concat-push records bytes))
+            (taken_more a b c (magic_of file) (concat records) bytes h.taken p.taken);
         ordered = InOrder-push [] records bytes h.ordered (subst (λ (f : Format). IsItem f bytes) h.file_is p.item) follows;
-        apart = apart_whole file before.retired records bytes h.ordered follows h.apart h.retired_are (kept_uncovered file before.retired after.retired after.dropped bytes kept);
+        apart = apart_whole file before.retired records bytes h.ordered follows h.apart h.retired_are
+            (kept_uncovered file before.retired after.retired after.dropped bytes kept);
         last_is = sym (last_of-push [] records bytes);
         count_is = omega (arith, p.count_is, h.count_is, length-append records (bytes ∷ []));
         offset_is = omega (arith, p.offset_is, h.offset_is, ap length (concat-push records bytes), length-append (concat records) bytes);
@@ -58,11 +68,14 @@ module _ (file : Format) where
       }
 
   -- what ends the file was read
-  pub HasReadAll-grows : (a b c : Option (List ℕ)) (records : List (List ℕ)) (before after : Position) → HasRead file a b records before → Finishes b c before after → HasReadAll file a c records after
+  pub HasReadAll-grows : (a b c : Option (List ℕ)) (records : List (List ℕ)) (before after : Position)
+      → HasRead file a b records before → Finishes b c before after → HasReadAll file a c records after
   HasReadAll-grows a b c records before after h e =
-      let whole : ending before.file before.count ≡ ending file (length records) = ap (λ (f : Format). ending f before.count) h.file_is ∙ ap (ending file) h.count_is in
+      let whole : ending before.file before.count ≡ ending file (length records) =
+      ap (λ (f : Format). ending f before.count) h.file_is ∙ ap (ending file) h.count_is in
       record {
-        taken = subst (λ (t : List ℕ). Consumes a c (magic_of file ++ (concat records ++ t))) whole (taken_more a b c (magic_of file) (concat records) (ending before.file before.count) h.taken e.taken);
+        taken = subst (λ (t : List ℕ). Consumes a c (magic_of file ++ (concat records ++ t))) whole
+            (taken_more a b c (magic_of file) (concat records) (ending before.file before.count) h.taken e.taken);
         ordered = h.ordered;
         apart = h.apart;
         few = omega (arith, h.count_is, e.few);
@@ -72,7 +85,9 @@ module _ (file : Format) where
       }
 
   -- want of memory where the record that was read is taken
-  pub Stopped-unkept : (a b c : Option (List ℕ)) (records : List (List ℕ)) (before after : Position) → HasRead file a b records before → Passes b c before after → Stopped file a c records (record { kind = OutOfMemory; offset = before.offset })
+  pub Stopped-unkept : (a b c : Option (List ℕ)) (records : List (List ℕ)) (before after : Position)
+      → HasRead file a b records before → Passes b c before after
+      → Stopped file a c records (record { kind = OutOfMemory; offset = before.offset })
   Stopped-unkept a b c records before after h p = record {
     rest = after.last;
     taken = taken_more a b c (magic_of file) (concat records) after.last h.taken p.taken;
@@ -87,7 +102,9 @@ module _ (file : Format) where
   }
 
   -- what is covered is covered by one of the records
-  covered_behind : (a b : Option (List ℕ)) (records : List (List ℕ)) (before : Position) (rest : List ℕ) (kind : RecordFaultKind) → HasRead file a b records before → IsCoveredThere before rest kind → FailsBehind file records rest (seen_as kind)
+  covered_behind : (a b : Option (List ℕ)) (records : List (List ℕ)) (before : Position) (rest : List ℕ)
+      (kind : RecordFaultKind) → HasRead file a b records before → IsCoveredThere before rest kind
+      → FailsBehind file records rest (seen_as kind)
   covered_behind a b records before rest kind h c =
       let is : Archive ≡ file = sym c.file_is ∙ h.file_is in
       let alike : RetireAlike (set_of before.retired) (set_of records) = subst (λ (f : Format). AreRetired f before.retired records) (sym is) h.retired_are in
@@ -103,17 +120,26 @@ module _ (file : Format) where
         },
       )
 
-  pub fails_there : (a b : Option (List ℕ)) (records : List (List ℕ)) (before : Position) (rest : List ℕ) (kind : RecordFaultKind) → HasRead file a b records before → FailsNext before.file before.last before.count rest (seen_as kind) ⊎ IsCoveredThere before rest kind → Fails file records rest (seen_as kind)
+  pub fails_there : (a b : Option (List ℕ)) (records : List (List ℕ)) (before : Position) (rest : List ℕ)
+      (kind : RecordFaultKind) → HasRead file a b records before
+      → FailsNext before.file before.last before.count rest (seen_as kind) ⊎ IsCoveredThere before rest kind
+      → Fails file records rest (seen_as kind)
   fails_there a b records before rest kind h (inl f) = inl (rw (← h.last_is, ← h.count_is, ← h.file_is) f)
   fails_there a b records before rest kind h (inr c) = inr (covered_behind a b records before rest kind h c)
 
-  next_there : (a b : Option (List ℕ)) (records : List (List ℕ)) (before : Position) (rest : List ℕ) (kind : RecordFaultKind) → HasRead file a b records before → FailsNext before.file before.last before.count rest kind → FailsNext file (last_of [] records) (length records) rest kind
+  next_there : (a b : Option (List ℕ)) (records : List (List ℕ)) (before : Position) (rest : List ℕ)
+      (kind : RecordFaultKind) → HasRead file a b records before
+      → FailsNext before.file before.last before.count rest kind
+      → FailsNext file (last_of [] records) (length records) rest kind
   next_there a b records before rest kind h f = rw (← h.last_is, ← h.count_is, ← h.file_is) f
 
   -- what came where the device failed, or memory ran out, decides no fault
-  pub undecided_there : (a b c : Option (List ℕ)) (records : List (List ℕ)) (before : Position) (fault : RecordFault) → HasRead file a b records before → (s : StopsAt b c before fault) → IsOfMachine fault.kind → IsCutAtMost file (magic_of file ++ (concat records ++ s.rest))
+  pub undecided_there : (a b c : Option (List ℕ)) (records : List (List ℕ)) (before : Position) (fault : RecordFault)
+      → HasRead file a b records before → (s : StopsAt b c before fault) → IsOfMachine fault.kind
+      → IsCutAtMost file (magic_of file ++ (concat records ++ s.rest))
   undecided_there a b c records before fault h s (inl device) = elim (s.fails (λ memory. cc)) [
-    | inl f ↦ cut_off file records h.ordered h.apart (omega (arith, h.count_is, s.few)) s.rest (rw device at (next_there a b records before s.rest (seen_as fault.kind) h f))
+    | inl f ↦ cut_off file records h.ordered h.apart (omega (arith, h.count_is, s.few)) s.rest
+        (rw device at (next_there a b records before s.rest (seen_as fault.kind) h f))
     | inr e ↦ absurd (cc (device, e.kind_is))
   ]
   undecided_there a b c records before fault h s (inr memory) = elim (s.wanted memory) [
@@ -122,11 +148,14 @@ module _ (file : Format) where
         let item : IsItem file s.rest = subst (λ (f : Format). IsItem f s.rest) h.file_is w.item in
         let follows : may_follow file (last_of [] records) s.rest ≡ true = rw (← h.last_is, ← h.file_is) w.follows in
         cut_behind file records s.rest (InOrder-push [] records s.rest h.ordered item follows)
-        (apart_whole file before.retired records s.rest h.ordered follows h.apart h.retired_are (λ is. w.uncovered (h.file_is ∙ is))) (omega (arith, h.count_is, s.few))
+        (apart_whole file before.retired records s.rest h.ordered follows h.apart h.retired_are
+        (λ is. w.uncovered (h.file_is ∙ is))) (omega (arith, h.count_is, s.few))
   ]
 
   -- a test failed after the records, or memory ran out there
-  abbrev pub Stopped-fails : (a b c : Option (List ℕ)) (records : List (List ℕ)) (before : Position) (fault : RecordFault) → HasRead file a b records before → StopsAt b c before fault → Stopped file a c records fault
+  abbrev pub Stopped-fails : (a b c : Option (List ℕ)) (records : List (List ℕ)) (before : Position)
+      (fault : RecordFault) → HasRead file a b records before → StopsAt b c before fault
+      → Stopped file a c records fault
   Stopped-fails a b c records before fault h s = record {
     rest = s.rest;
     taken = taken_more a b c (magic_of file) (concat records) s.rest h.taken s.taken;
@@ -139,11 +168,18 @@ module _ (file : Format) where
   }
 
   -- and where memory did, the reader has what came whole
-  pub Stopped-with : (a b c : Option (List ℕ)) (records : List (List ℕ)) (before : Position) (last : List ℕ) (fault : RecordFault) → HasRead file a b records before → (stop : StopsAt b c before fault) → (fault.kind ≡ OutOfMemory → HasWhole before.file stop.rest last) → StoppedWith file a c records fault last
-  Stopped-with a b c records before last fault h stop whole = (Stopped-fails a b c records before fault h stop, λ memory. subst (λ (f : Format). HasWhole f stop.rest last) h.file_is (whole memory))
+  pub Stopped-with : (a b c : Option (List ℕ)) (records : List (List ℕ)) (before : Position) (last : List ℕ)
+      (fault : RecordFault) → HasRead file a b records before → (stop : StopsAt b c before fault)
+      → (fault.kind ≡ OutOfMemory → HasWhole before.file stop.rest last) → StoppedWith file a c records fault last
+  Stopped-with a b c records before last fault h stop whole = (
+    Stopped-fails a b c records before fault h stop,
+    λ memory. subst (λ (f : Format). HasWhole f stop.rest last) h.file_is (whole memory),
+  )
 
 -- what a whole item or end record is that was read
-pub step_to : (file : Format) (last : List ℕ) (count : ℕ) (left : Option (List ℕ)) (buffer : Buffer) (step : NextRecord) → HoldsNext file last count buffer × IsStep file count (bytes_so_far buffer) step → StepsTo file last count left buffer step
+pub step_to : (file : Format) (last : List ℕ) (count : ℕ) (left : Option (List ℕ)) (buffer : Buffer) (step : NextRecord)
+    → HoldsNext file last count buffer × IsStep file count (bytes_so_far buffer) step
+    → StepsTo file last count left buffer step
 step_to file last count left buffer End h =
     let bytes = bytes_so_far buffer in
     let framed = next-framed file last count bytes (length bytes) h.0.is_next in
@@ -156,9 +192,12 @@ step_to file last count left buffer (Item found) h = record {
 
 -- why an item is refused by the retirements before it
 abbrev pub IsRefusedBy : Position → List ℕ → RecordFaultKind → Type 0
-IsRefusedBy before bytes kind = ((kind ≡ OutOfMemory) × (is_covered (set_of before.retired) bytes ≡ false)) ⊎ ((kind ≡ Covered) × (before.file ≡ Archive) × (is_covered (set_of before.retired) bytes ≡ true))
+IsRefusedBy before bytes kind = ((kind ≡ OutOfMemory) × (is_covered (set_of before.retired) bytes ≡ false))
+    ⊎ ((kind ≡ Covered) × (before.file ≡ Archive) × (is_covered (set_of before.retired) bytes ≡ true))
 
-pub step_refused : (a b : Option (List ℕ)) (before : Position) (last bytes : List ℕ) (kind : RecordFaultKind) → last ≡ bytes → Consumes a b bytes → before.count < 2 ^ 63 → IsItem before.file bytes → may_follow before.file before.last bytes ≡ true → IsRefusedBy before bytes kind
+pub step_refused : (a b : Option (List ℕ)) (before : Position) (last bytes : List ℕ) (kind : RecordFaultKind) → last
+    ≡ bytes → Consumes a b bytes → before.count < 2 ^ 63 → IsItem before.file bytes
+    → may_follow before.file before.last bytes ≡ true → IsRefusedBy before bytes kind
     → (stop : StopsAt a b before (record { kind = kind; offset = before.offset })) × (kind ≡ OutOfMemory → HasWhole before.file stop.rest last)
 step_refused a b before last bytes kind is taken few item follows (inl e) = (
   record {
@@ -191,8 +230,11 @@ step_refused a b before last bytes kind is taken few item follows (inr c) = (
   λ _. inl (item, is),
 )
 
-pub refused_blames : {R : Type 0} (left : R → Option (List ℕ)) (failures : R → ℕ) (old new : R) (before : Position) (bytes : List ℕ) (kind : RecordFaultKind) → failures new ≡ failures old → IsRefusedBy before bytes kind → Blames left failures old new kind
-refused_blames left failures old new before bytes kind unfailed (inl e) = subst (Blames left failures old new) (sym e.0) (memory_blames left failures old new unfailed)
+pub refused_blames : {R : Type 0} (left : R → Option (List ℕ)) (failures : R → ℕ) (old new : R) (before : Position)
+    (bytes : List ℕ) (kind : RecordFaultKind) → failures new ≡ failures old → IsRefusedBy before bytes kind
+    → Blames left failures old new kind
+refused_blames left failures old new before bytes kind unfailed (inl e) =
+    subst (Blames left failures old new) (sym e.0) (memory_blames left failures old new unfailed)
 refused_blames left failures old new before bytes kind unfailed (inr c) = subst (Blames left failures old new) (sym c.0) (λ e. cc, (λ _. unfailed), λ e. cc)
 
 -- what comes next is never bytes too many
@@ -205,18 +247,22 @@ step-never_trailing a b before fault s trailing = elim (s.fails (λ memory. cc))
 -- ---- after an end record
 
 module _ (file : Format) (counts : end_length file ≡ Some 9) where
-  taken_all : (a b : Option (List ℕ)) (records : List (List ℕ)) → Consumes a b (text_of file records) → Consumes a b (magic_of file ++ (concat records ++ end_record (length records)))
+  taken_all : (a b : Option (List ℕ)) (records : List (List ℕ)) → Consumes a b (text_of file records)
+      → Consumes a b (magic_of file ++ (concat records ++ end_record (length records)))
   taken_all a b records k = subst (λ (t : List ℕ). Consumes a b (magic_of file ++ (concat records ++ t))) (counted file counts (length records)) k
 
   -- one byte more stood there
-  pub Stopped-behind : (a b c : Option (List ℕ)) (records : List (List ℕ)) (x : ℕ) (position : Position) → HasReadAll file a b records position → Consumes b c (x ∷ []) → Stopped file a c records (record { kind = Trailing; offset = position.offset + 9 })
+  pub Stopped-behind : (a b c : Option (List ℕ)) (records : List (List ℕ)) (x : ℕ) (position : Position)
+      → HasReadAll file a b records position → Consumes b c (x ∷ [])
+      → Stopped file a c records (record { kind = Trailing; offset = position.offset + 9 })
   Stopped-behind a b c records x position h k =
       let end = end_record (length records) in
       let nine = length-end_record (length records) in
       let few = h.few in
       record {
         rest = end ++ x ∷ [];
-        taken = subst (λ (t : List ℕ). Consumes a c (magic_of file ++ t)) (append_assoc (concat records) end (x ∷ [])) (taken_more a b c (magic_of file) (concat records ++ end) (x ∷ []) (taken_all a b records h.taken) k);
+        taken = subst (λ (t : List ℕ). Consumes a c (magic_of file ++ t)) (append_assoc (concat records) end (x ∷ []))
+            (taken_more a b c (magic_of file) (concat records ++ end) (x ∷ []) (taken_all a b records h.taken) k);
         ordered = h.ordered;
         apart = h.apart;
         few = few;
@@ -224,7 +270,8 @@ module _ (file : Format) (counts : end_length file ≡ Some 9) where
         stops = inr (inl (
           refl,
           record {
-            whole = next-ok-grows file (last_of [] records) (length records) end (x ∷ []) 9 (next_end file counts (last_of [] records) (length records) (omega arith));
+            whole = next-ok-grows file (last_of [] records) (length records) end (x ∷ []) 9
+                (next_end file counts (last_of [] records) (length records) (omega arith));
             end = is_end-grows end (x ∷ []) (omega arith) ∙ end-is_end (length records);
             more = omega (arith, length-append end (x ∷ []));
           },
@@ -234,7 +281,9 @@ module _ (file : Format) (counts : end_length file ≡ Some 9) where
       }
 
   -- the device failed there
-  pub Stopped-end : (a b c : Option (List ℕ)) (records : List (List ℕ)) (position : Position) → HasReadAll file a b records position → Consumes b c [] → Stopped file a c records (record { kind = Device; offset = position.offset })
+  pub Stopped-end : (a b c : Option (List ℕ)) (records : List (List ℕ)) (position : Position)
+      → HasReadAll file a b records position → Consumes b c []
+      → Stopped file a c records (record { kind = Device; offset = position.offset })
   Stopped-end a b c records position h k =
       let whole : List ℕ = magic_of file ++ (concat records ++ end_record (length records)) in
       record {
@@ -245,5 +294,6 @@ module _ (file : Format) (counts : end_length file ≡ Some 9) where
         few = h.few;
         unended = λ _. counted_unended file counts (end_record (length records));
         stops = inr (inr (refl, refl, h.offset_is));
-        undecided = λ _. cut_text file records h.ordered h.apart (omega (arith, h.few)) (end_record (length records)) (sym (counted file counts (length records)));
+        undecided = λ _. cut_text file records h.ordered h.apart (omega (arith, h.few)) (end_record (length records))
+            (sym (counted file counts (length records)));
       }

@@ -1,5 +1,6 @@
 -- The entries that a summary keeps.
-use Rattle.std.proofs.Common.{◌≡◌, ℕ, ◌+◌, ◌<◌, Bool, true, false, cond, ◌||◌, List, [], ◌∷◌, ◌++◌, length, map, take, get_or, refl, sym, ap, ◌∙◌, subst, inl, inr, ◌⊎◌, Result, Ok, Err, arith}
+use Rattle.std.proofs.Common.{◌≡◌, ℕ, ◌+◌, ◌<◌, Bool, true, false, cond, ◌||◌, List, [], ◌∷◌, ◌++◌, length, map, take}
+use Rattle.std.proofs.Common.{get_or, refl, sym, ap, ◌∙◌, subst, inl, inr, ◌⊎◌, Result, Ok, Err, arith}
 use Rattle.std.specs.Ordering.{eq_by_cmp, is_lt}
 use Rattle.std.specs.declared.cmp.Ordering.TheVariants.{Less}
 use Rattle.std.specs.Cmp.{on_total}
@@ -51,17 +52,22 @@ found_is xs q (Ok i) found = sym found.present
 found_is xs q (Err i) found = sym found.absent.absent
 
 -- the entry of one record more
-pub entries_more : (before after : List Entry) (e : Entry) (records : List (List ℕ)) (r : List ℕ) → after ≡ before ++ e ∷ [] → entry_bytes e ≡ entry r → map entry_bytes before ≡ map entry records → map entry_bytes after ≡ map entry (records ++ r ∷ [])
+pub entries_more : (before after : List Entry) (e : Entry) (records : List (List ℕ)) (r : List ℕ) → after ≡ before ++ e
+    ∷ [] → entry_bytes e ≡ entry r → map entry_bytes before ≡ map entry records → map entry_bytes after
+    ≡ map entry (records ++ r ∷ [])
 entries_more before after e records r grown of are =
     ap (map entry_bytes) grown ∙ map-append entry_bytes before (e ∷ []) ∙ (λ i. are i ++ of i ∷ []) ∙ sym (map-append entry records (r ∷ []))
 
-pub one_more : (records : List (List ℕ)) (i : ℕ) (r : List ℕ) → i < length records → r ≡ get_or records i [] → (before after : List Entry) (e : Entry) → after ≡ before ++ e ∷ [] → entry_bytes e ≡ entry r
+pub one_more : (records : List (List ℕ)) (i : ℕ) (r : List ℕ) → i < length records → r ≡ get_or records i []
+    → (before after : List Entry) (e : Entry) → after ≡ before ++ e ∷ [] → entry_bytes e ≡ entry r
     → map entry_bytes before ≡ map entry (take i records) → map entry_bytes after ≡ map entry (take (i + 1) records)
 one_more records i r lt at before after e grown of are =
-    entries_more before after e (take i records) r grown of are ∙ ap (map entry) (sym (take_more records i [] lt ∙ ap (λ (x : List ℕ). take i records ++ x ∷ []) (sym at)))
+    entries_more before after e (take i records) r grown of are
+    ∙ ap (map entry) (sym (take_more records i [] lt ∙ ap (λ (x : List ℕ). take i records ++ x ∷ []) (sym at)))
 
 -- the bytes of an entry among those of all
-pub bytes_at : (entries : List Entry) (i : ℕ) (e : Entry) (bytes : List ℕ) → i < length entries → e ≡ get_or entries i e → bytes ≡ entry_bytes e → bytes ≡ get_or (map entry_bytes entries) i []
+pub bytes_at : (entries : List Entry) (i : ℕ) (e : Entry) (bytes : List ℕ) → i < length entries → e ≡ get_or entries i e
+    → bytes ≡ entry_bytes e → bytes ≡ get_or (map entry_bytes entries) i []
 bytes_at entries i e bytes lt at of = of ∙ ap entry_bytes at ∙ sym (get_or-map entry_bytes entries i e [] lt)
 
 -- ---- sorted, and each once
@@ -72,10 +78,13 @@ tie x y = eq_by_cmp order (entry_bytes x) (entry_bytes y)
 twice : (a c : Bool) → (a || (a || c)) ≡ (a || c)
 twice a c = grind arith
 
-any_dedup_from : (p : List ℕ → Bool) (k : Entry) (xs : List Entry) → list_any p (map entry_bytes (dedup_from tie k xs)) ≡ (p (entry_bytes k) || list_any p (map entry_bytes xs))
+any_dedup_from : (p : List ℕ → Bool) (k : Entry) (xs : List Entry) → list_any p (map entry_bytes (dedup_from tie k xs))
+    ≡ (p (entry_bytes k) || list_any p (map entry_bytes xs))
 any_dedup_from p k [] = refl
 any_dedup_from p k (x ∷ xs) =
-    elim (tie x k) as (λ b. tie x k ≡ b → list_any p (map entry_bytes (cond b (dedup_from tie k xs) (k ∷ dedup_from tie x xs))) ≡ (p (entry_bytes k) || (p (entry_bytes x) || list_any p (map entry_bytes xs)))) [
+    elim (tie x k) as (λ b. tie x k ≡ b → list_any p (map entry_bytes
+    (cond b (dedup_from tie k xs) (k ∷ dedup_from tie x xs)))
+    ≡ (p (entry_bytes k) || (p (entry_bytes x) || list_any p (map entry_bytes xs)))) [
       | true ↦ λ e.
           any_dedup_from p k xs ∙ sym (twice (p (entry_bytes k)) (list_any p (map entry_bytes xs)))
           ∙ ap (λ (t : List ℕ). p (entry_bytes k) || (p t || list_any p (map entry_bytes xs))) (sym (same_bytes (entry_bytes x) (entry_bytes k) e))
@@ -86,7 +95,8 @@ any_dedup : (p : List ℕ → Bool) (xs : List Entry) → list_any p (map entry_
 any_dedup p [] = refl
 any_dedup p (x ∷ xs) = any_dedup_from p x xs
 
-below_each : (x : Entry) (xs : List Entry) → AllByRecursion (λ y. order (entry_bytes x) (entry_bytes y) ≡ Less) xs → AllByRecursion (λ b. order (entry_bytes x) b ≡ Less) (map entry_bytes xs)
+below_each : (x : Entry) (xs : List Entry) → AllByRecursion (λ y. order (entry_bytes x) (entry_bytes y) ≡ Less) xs
+    → AllByRecursion (λ b. order (entry_bytes x) b ≡ Less) (map entry_bytes xs)
 below_each x [] h = tt
 below_each x (y ∷ ys) h = (h.0, below_each x ys h.1)
 
@@ -104,12 +114,16 @@ module _ (gathered moved kept : List Entry) (permuted : IsPermutation gathered m
 
   pub set_kept : set.from_list {R = order} (map entry_bytes kept) ≡ set.from_list (map entry_bytes gathered)
   set_kept = same_set nat_list_cmp_total bytes_same (set.from_list (map entry_bytes kept)) (set.from_list (map entry_bytes gathered)) (λ q.
-      contains-from_list nat_list_cmp_total (map entry_bytes kept) q ∙ any_kept (eq_by_cmp order q) ∙ sym (contains-from_list nat_list_cmp_total (map entry_bytes gathered) q))
+      contains-from_list nat_list_cmp_total (map entry_bytes kept) q ∙ any_kept (eq_by_cmp order q)
+      ∙ sym (contains-from_list nat_list_cmp_total (map entry_bytes gathered) q))
 
-  pub listed_kept : AllByRecursion IsEntry (map entry_bytes gathered) → IsSortedBy (λ x y. is_lt (order (entry_bytes x) (entry_bytes y))) moved → AreListed (map entry_bytes kept)
+  pub listed_kept : AllByRecursion IsEntry (map entry_bytes gathered)
+      → IsSortedBy (λ x y. is_lt (order (entry_bytes x) (entry_bytes y))) moved → AreListed (map entry_bytes kept)
   listed_kept all sorted = record {
-    ascending = sorted_bytes kept (subst (IsStrictlySortedBy (λ x y. order (entry_bytes x) (entry_bytes y))) (sym once) (IsStrictlySortedBy-dedup (on_total entry_bytes nat_list_cmp_total) (λ x y. refl) moved sorted));
-    are = along IsEntry (map entry_bytes kept) (λ q e. AreEntries-listed (map entry_bytes gathered) all q (contains-from_list nat_list_cmp_total (map entry_bytes gathered) q ∙ sym (any_kept (eq_by_cmp order q)) ∙ e));
+    ascending = sorted_bytes kept (subst (IsStrictlySortedBy (λ x y. order (entry_bytes x) (entry_bytes y))) (sym once)
+        (IsStrictlySortedBy-dedup (on_total entry_bytes nat_list_cmp_total) (λ x y. refl) moved sorted));
+    are = along IsEntry (map entry_bytes kept) (λ q e. AreEntries-listed (map entry_bytes gathered) all q
+        (contains-from_list nat_list_cmp_total (map entry_bytes gathered) q ∙ sym (any_kept (eq_by_cmp order q)) ∙ e));
   }
 
 -- entries that ascend may be kept
@@ -122,13 +136,17 @@ ordered_entries : (low : List ℕ) (rs : List (List ℕ)) → InOrder Archive lo
 ordered_entries low [] a = tt
 ordered_entries low (r ∷ rs) a = (is_entry r a.0, ordered_entries r rs a.2)
 
-pub entries_of_content : (o : Operations) (entries : List Entry) → IsContent o → map entry_bytes entries ≡ map entry (listing o) → AllByRecursion IsEntry (map entry_bytes entries)
+pub entries_of_content : (o : Operations) (entries : List Entry) → IsContent o → map entry_bytes entries
+    ≡ map entry (listing o) → AllByRecursion IsEntry (map entry_bytes entries)
 entries_of_content o entries content are = subst (AllByRecursion IsEntry) (sym are) (ordered_entries [] (listing o) (InOrder-listing o content))
 
-pub summary_of_entries : (o : Operations) (entries : List Entry) → map entry_bytes entries ≡ map entry (listing o) → set.from_list (map entry_bytes entries) ≡ summary o
+pub summary_of_entries : (o : Operations) (entries : List Entry) → map entry_bytes entries ≡ map entry (listing o)
+    → set.from_list (map entry_bytes entries) ≡ summary o
 unfolding summary
 summary_of_entries o entries are = ap set.from_list are
 
 -- one entry more
-pub named_more : (xs grown : List Entry) (e : Entry) (records : List (List ℕ)) (bytes : List ℕ) → grown ≡ xs ++ e ∷ [] → entry_bytes e ≡ bytes → map entry_bytes xs ≡ records → map entry_bytes grown ≡ records ++ bytes ∷ []
-named_more xs grown e records bytes more is l = ap (map entry_bytes) more ∙ map-append entry_bytes xs (e ∷ []) ∙ ap (λ (t : List ℕ). map entry_bytes xs ++ t ∷ []) is ∙ ap (λ (rs : List (List ℕ)). rs ++ bytes ∷ []) l
+pub named_more : (xs grown : List Entry) (e : Entry) (records : List (List ℕ)) (bytes : List ℕ) → grown ≡ xs ++ e ∷ []
+    → entry_bytes e ≡ bytes → map entry_bytes xs ≡ records → map entry_bytes grown ≡ records ++ bytes ∷ []
+named_more xs grown e records bytes more is l = ap (map entry_bytes) more ∙ map-append entry_bytes xs (e ∷ [])
+    ∙ ap (λ (t : List ℕ). map entry_bytes xs ++ t ∷ []) is ∙ ap (λ (rs : List (List ℕ)). rs ++ bytes ∷ []) l

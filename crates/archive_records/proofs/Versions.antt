@@ -19,7 +19,8 @@ use Rattle.archive_records.specs.Fault.{IsFault, IsFaultOf}
 use Rattle.archive_records.specs.Reader.{set_of}
 use Rattle.archive_records.proofs.Formats.{in_order_old, old_in_order, format_magic}
 use Rattle.archive_records.proofs.Puts.{length_written}
-use Rattle.archive_records.proofs.Contents.{sorted-InOrder, InOrder-listing, InOrder-set, IsContent-records, are_records, written_text, written-records, content_is}
+use Rattle.archive_records.proofs.Contents.{sorted-InOrder, InOrder-listing, InOrder-set, IsContent-records}
+use Rattle.archive_records.proofs.Contents.{are_records, written_text, written-records, content_is}
 use Rattle.archive_records.proofs.Apart.{apart_listing}
 use Rattle.archive_records.proofs.Exact.{same_records, no_fault}
 
@@ -101,7 +102,8 @@ content_in OldArchive is xs a apart =
     subst IsContent (sym (kept_set xs b)) (made_content (set_of xs) (are_records xs b))
 content_in _ is xs a apart = absurd (cc is)
 
-text_in : (f : Format) → kind_of f ≡ Archive_text → (xs : List (List ℕ)) → InOrder f [] xs → (text : List ℕ) → text ≡ text_of f xs → IsArchiveOf (set.from_list (taken_of f xs)) text
+text_in : (f : Format) → kind_of f ≡ Archive_text → (xs : List (List ℕ)) → InOrder f [] xs → (text : List ℕ) → text
+    ≡ text_of f xs → IsArchiveOf (set.from_list (taken_of f xs)) text
 text_in Archive is xs a text e = inl (e ∙ sym (written-records xs a))
 text_in OldArchive is xs a text e =
     let b = in_order_old [] xs a in
@@ -116,7 +118,10 @@ formed_text o text f = subst (λ (c : Operations). IsArchiveOf c text) (sym f.co
 
 -- its first bytes tell the format
 pub formed_format : (o : Operations) (text : List ℕ) (f : Formed o text) (t more : List ℕ) → t ≡ text ++ more → archive_format t ≡ f.format
-formed_format o text f t more e = format_magic f.format f.archive t ((concat f.records ++ ending f.format (length f.records)) ++ more) (e ∙ ap (λ (x : List ℕ). x ++ more) f.whole ∙ append_assoc (magic_of f.format) (concat f.records ++ ending f.format (length f.records)) more)
+formed_format o text f t more e = format_magic f.format f.archive t
+    ((concat f.records ++ ending f.format (length f.records)) ++ more)
+    (e ∙ ap (λ (x : List ℕ). x ++ more) f.whole ∙ append_assoc (magic_of f.format)
+    (concat f.records ++ ending f.format (length f.records)) more)
 
 pub no_operations : (f : Format) → kind_of f ≡ Archive_text → f ≡ Operations_file → ⊥
 no_operations f is e = grind arith
@@ -126,13 +131,19 @@ module _ (t : List ℕ) (o p : Operations) (u v m n : List ℕ) (f : Formed o u)
   same_format : g.format ≡ f.format
   same_format = sym (formed_format p v g t n h) ∙ formed_format o u f t m e
 
-  one_form : (file : Format) → file ≡ f.format → InOrder file [] g.records → AreApart file g.records → v ≡ text_of file g.records → p ≡ set.from_list (taken_of file g.records) → (o ≡ p) × (m ≡ n)
+  one_form : (file : Format) → file ≡ f.format → InOrder file [] g.records → AreApart file g.records → v
+      ≡ text_of file g.records → p ≡ set.from_list (taken_of file g.records) → (o ≡ p) × (m ≡ n)
   one_form file is ordered apart whole content =
       let first : t ≡ text_of file f.records ++ m = e ∙ ap (λ (x : List ℕ). x ++ m) (f.whole ∙ ap (λ (k : Format). text_of k f.records) (sym is)) in
       let other : t ≡ text_of file g.records ++ n = h ∙ ap (λ (x : List ℕ). x ++ n) whole in
       let closed : file ≡ Operations_file → ⊥ = λ k. no_operations f.format f.archive (sym is ∙ k) in
-      let same = same_records file t g.records n ordered apart other (λ k. absurd (closed k)) f.records m (subst (λ (k : Format). InOrder k [] f.records) (sym is) f.ordered) (subst (λ (k : Format). AreApart k f.records) (sym is) f.apart) (λ k. absurd (closed k)) first in
-      (f.content ∙ ap (λ (k : Format). set.from_list (taken_of k f.records)) (sym is) ∙ ap (λ (xs : List (List ℕ)). set.from_list (taken_of file xs)) same.0 ∙ sym content, same.1)
+      let same = same_records file t g.records n ordered apart other (λ k. absurd (closed k)) f.records m
+      (subst (λ (k : Format). InOrder k [] f.records) (sym is) f.ordered)
+      (subst (λ (k : Format). AreApart k f.records) (sym is) f.apart) (λ k. absurd (closed k)) first in (
+        f.content ∙ ap (λ (k : Format). set.from_list (taken_of k f.records)) (sym is)
+            ∙ ap (λ (xs : List (List ℕ)). set.from_list (taken_of file xs)) same.0 ∙ sym content,
+        same.1,
+      )
 
   pub one_front : (o ≡ p) × (m ≡ n)
   one_front = one_form g.format same_format g.ordered g.apart g.whole g.content
@@ -140,18 +151,23 @@ module _ (t : List ℕ) (o p : Operations) (u v m n : List ℕ) (f : Formed o u)
 pub one_content : (text : List ℕ) (o p : Operations) → IsContent o → IsContent p → IsArchiveOf o text → IsArchiveOf p text → o ≡ p
 one_content text o p c d i j = (one_front text o p text text [] [] (formed o text c i) (formed p text d j) (sym (append-nil text)) (sym (append-nil text))).0
 
-pub no_text_begins : (o p : Operations) (text other more : List ℕ) → IsContent o → IsContent p → IsArchiveOf o text → IsArchiveOf p other → text ++ more ≡ other → more ≡ []
-no_text_begins o p text other more c d i j e = (one_front other o p text other more [] (formed o text c i) (formed p other d j) (sym e) (sym (append-nil other))).1
+pub no_text_begins : (o p : Operations) (text other more : List ℕ) → IsContent o → IsContent p → IsArchiveOf o text
+    → IsArchiveOf p other → text ++ more ≡ other → more ≡ []
+no_text_begins o p text other more c d i j e = (one_front other o p text other more [] (formed o text c i)
+    (formed p other d j) (sym e) (sym (append-nil other))).1
 
 -- ---- a text has no fault
 
-no_fault_in : (f : Format) → kind_of f ≡ Archive_text → (t : List ℕ) (xs : List (List ℕ)) → InOrder f [] xs → AreApart f xs → t ≡ text_of f xs → (fault : RecordFault) → length xs < 2 ^ 64 → IsFault t fault → ⊥
+no_fault_in : (f : Format) → kind_of f ≡ Archive_text → (t : List ℕ) (xs : List (List ℕ)) → InOrder f [] xs
+    → AreApart f xs → t ≡ text_of f xs → (fault : RecordFault) → length xs < 2 ^ 64 → IsFault t fault → ⊥
 no_fault_in f is t xs a apart e fault few h =
     let same : archive_format t ≡ f = format_magic f is t (concat xs ++ ending f (length xs)) e in
     no_fault f t xs a apart e fault few (subst (λ (k : Format). IsFaultOf k t fault) same h)
 
 pub written_no_fault : (o : Operations) (fault : RecordFault) → IsContent o → set.len o < 2 ^ 64 → IsFault (written o) fault → ⊥
-written_no_fault o fault c few h = no_fault_in Archive refl (written o) (listing o) (InOrder-listing o c) (apart_listing o c) (written_text o) fault (omega (arith, length_written o)) h
+written_no_fault o fault c few h = no_fault_in Archive refl (written o) (listing o) (InOrder-listing o c)
+    (apart_listing o c) (written_text o) fault (omega (arith, length_written o)) h
 
 pub old_no_fault : (p : Operations) (fault : RecordFault) → AreOperations p → set.len p < 2 ^ 64 → IsFault (old_written p) fault → ⊥
-old_no_fault p fault are few h = no_fault_in OldArchive refl (old_written p) (listing p) (old_in_order [] (listing p) (InOrder-set p are)) tt (old_written_text p) fault (omega (arith, length_written p)) h
+old_no_fault p fault are few h = no_fault_in OldArchive refl (old_written p) (listing p)
+    (old_in_order [] (listing p) (InOrder-set p are)) tt (old_written_text p) fault (omega (arith, length_written p)) h

@@ -1,4 +1,4 @@
--- Entries: what a summary says of the operations of a content.
+-- Entries: the parts of a summary for the operations of a content.
 use Rattle.std.specs.Prelude.{◌≡◌, ℕ, List, ◌∷◌, ◌++◌, length, slice_index, true, ◌⊎◌}
 use Rattle.std.specs.FinSet as set
 use Rattle.archive_core.specs.Key.{key_bytes}

@@ -1,4 +1,4 @@
--- The formats of files: what each begins with, what its records are, how they follow one another, and how it ends.
+-- The formats of files: how each begins, its records, how they follow one another, and how it ends.
 use Rattle.std.specs.Prelude.{ℕ, Bool, true, List, [], ◌∷◌, ◌==◌, if◌then◌else◌, slice_index, Option, Some, None}
 use Rattle.std.specs.declared.cmp.Ordering.{Ordering}
 use Rattle.std.specs.Ordering.{is_lt, nat_cmp}

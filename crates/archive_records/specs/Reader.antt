@@ -5,6 +5,7 @@ use Rattle.std.specs.Prelude.{take, drop, Option, Some, None, Result, Ok, Err, M
 use Rattle.std.specs.Prelude.{if◌then◌else◌, slice_index}
 use Rattle.std.specs.List.{concat, AllByRecursion}
 use Rattle.std.specs.List.Sorted.{IsStrictlySortedBy}
+use Rattle.std.specs.declared.cmp.Ordering.{Ordering}
 use Rattle.std.specs.declared.cmp.Ordering.TheVariants.{Equal}
 use Rattle.std.specs.Ordering.{nat_cmp}
 use Rattle.std.specs.Cmp.Lexicographic.{slice_cmp}
@@ -14,7 +15,7 @@ use Rattle.byte_device.specs.declared.Failed.{Failed}
 use Rattle.byte_device.specs.Devices.{CountsFailure}
 use Rattle.archive_core.specs.declared.slices.SliceFacts.{SliceFacts}
 use Rattle.archive_core.specs.Valid.{IsCheckedOf}
-use Rattle.archive_core.specs.Record.{IsRecord, Admits, Retires}
+use Rattle.archive_core.specs.Record.{IsRecord, Admits, Retires, admission_record}
 use Rattle.archive_core.specs.Content.{Operations, IsMade, is_covered}
 use Rattle.archive_records.specs.declared.format.Format.{Format}
 use Rattle.archive_records.specs.declared.format.Format.TheVariants.{Archive, OldArchive, Operations as Operations_file}
@@ -164,6 +165,20 @@ with_shared (Some shared) own = shared ++ own
 -- where a reader stands if what it shares counts as its own
 abbrev pub beside : Option (List (List ℕ)) → Position → Position
 beside shared position = record position { retired = with_shared shared position.retired }
+
+-- the last record: where its slice was taken out of the reader, the admission of that
+abbrev pub last_after : Option (List ℕ) → List ℕ → List ℕ
+last_after None last = last
+last_after (Some slice) last = admission_record slice
+
+-- how it compares with the one that came whole
+abbrev pub order_after : Option (List ℕ) → Buffer → Ordering
+order_after None buffer = buffer.order
+order_after (Some slice) buffer = slice_cmp nat_cmp (admission_record slice) buffer.bytes.items
+
+-- where a reader stands if the last record is that one
+abbrev pub after_taken : Option (List ℕ) → Position → Position
+after_taken taken position = record position { last = last_after taken position.last }
 
 -- these bytes, where they are as long as a retirement and have its tag
 abbrev pub retirement_in : List ℕ → Option (List ℕ)

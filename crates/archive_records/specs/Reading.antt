@@ -1,4 +1,4 @@
--- What a reader of a whole input, or of its front, gives, and why it is refused.
+-- The result of a reader of a whole input, or of its front, and why it is refused.
 use Rattle.std.specs.Prelude.{◌≡◌, ◌≢◌, ℕ, ◌^◌, ◌<◌, List, ◌++◌, length, map, All}
 use Rattle.std.specs.Prelude.{Option, Some, IfSome, Result, Ok, Err, ◌⊎◌}
 use Rattle.std.specs.FinSet as set

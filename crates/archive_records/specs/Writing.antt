@@ -1,4 +1,4 @@
--- What a writer of a text leaves in the sink.
+-- The bytes that a writer of a text leaves in the sink.
 use Rattle.std.specs.Prelude.{◌≡◌, ℕ, List, length, Option, Result, Ok, Err}
 use Rattle.std.specs.Io.KnownBytes.{Appends}
 use Rattle.byte_device.specs.declared.writing.WriteFault.{WriteFault}

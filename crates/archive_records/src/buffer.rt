@@ -1,7 +1,7 @@
 //! Bytes from a source that are read over those of the last record.
 
 ghost use Rattle.std.specs.Prelude.{◌≡◌, ◌≢◌, ◌+◌, ◌^◌, ◌<◌, ◌≤◌, ◌++◌, MatchResult};
-ghost use Rattle.std.specs.Prelude.{ℕ, length, take, drop, max, vec_capacity, OnOk};
+ghost use Rattle.std.specs.Prelude.{ℕ, length, take, drop, vec_capacity};
 ghost use Rattle.std.specs.Ordering.{nat_cmp, ordering_then};
 ghost use Rattle.std.specs.Cmp.Lexicographic.{slice_cmp};
 ghost use Rattle.std.specs.declared.cmp.Ordering.TheVariants.{Equal};
@@ -9,7 +9,7 @@ ghost use Rattle.archive_records.specs.declared.fault.RecordFaultKind.TheVariant
 ghost use Rattle.archive_records.specs.Reader.{BlamesReader, Fills, Pulls, seen_as};
 
 use crate::fault::RecordFaultKind;
-use byte_device::{Failed, Source};
+use byte_device::{Failed, Source, make_room};
 use memory::{Heap, NoMemory};
 use std::cmp::Ordering;
 
@@ -23,7 +23,7 @@ pub struct Buffer {
 }
 
 /// How a compares with b in byte order.
-fn compare_bytes(a: &[u8], b: &[u8]) -> Ordering
+pub fn compare_bytes(a: &[u8], b: &[u8]) -> Ordering
     ensures { result ≡ slice_cmp nat_cmp a.now b.now }
 {
     a.cmp(&b)
@@ -71,21 +71,6 @@ fn lengthen(bytes: &mut Vec<u8, Heap>, count: usize)
     if bytes.len() < count {
         bytes.resize(count, 0).unwrap();
     }
-}
-
-/// Makes room for `least` bytes in all where there is none: twice the room that there was, but no more than `most`. So
-/// the room for a large record grows to its length, and a length that is only claimed takes no memory.
-fn make_room(bytes: &mut Vec<u8, Heap>, least: usize, most: usize) -> Result<(), NoMemory>
-    requires within { least ≤ most }
-    ensures same { bytes.new.items ≡ bytes.old.items }
-    ensures room { OnOk result (least ≤ vec_capacity bytes.new) }
-    ensures most { OnOk result (vec_capacity bytes.new ≤ max (vec_capacity bytes.old) most) }
-{
-    if least <= bytes.capacity() {
-        return Ok(());
-    }
-    let room = bytes.capacity().saturating_mul(2).max(least).min(most);
-    bytes.reserve_exact(room - bytes.len())
 }
 
 /// Pulls a piece of a record of which the last one differs straight after what came of it.

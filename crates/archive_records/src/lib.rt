@@ -27,8 +27,10 @@
 //! # Why it is so
 //!
 //! - Bytes go through a chunk of 64 KiB while they equal those of the last record, and are read in place once they
-//!   differ.
+//!   differ. The room for a large record grows to its length, and a length that is only claimed takes no memory.
 //! - A reader lends its record. OUT has no buffer: records are written as they are.
+//! - A slice that is kept is taken out of the reader, so it is held once. The caller lends it to the reader, which
+//!   compares the next record with it.
 //! - A definition that tells kinds of text apart has one clause for all others.
 #![tactic(auto)]
 

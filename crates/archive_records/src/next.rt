@@ -11,15 +11,20 @@ ghost use Rattle.archive_records.specs.Text.{end_record};
 ghost use Rattle.archive_records.specs.Fault.{is_end, tested, next, RefusesSlice, Refuses};
 ghost use Rattle.archive_records.specs.Fault.{FailsNext, IsUnended, IsOfText};
 ghost use Rattle.archive_records.specs.Reader.{BlamesReader, bytes_so_far, seen_as, IsFound, IsFoundIn};
-ghost use Rattle.archive_records.specs.Reader.{HoldsNext, IsStep, StepsTo};
+ghost use Rattle.archive_records.specs.Reader.{HoldsNext, IsStep, StepsTo, last_after, order_after};
+ghost use Rattle.std.specs.Ordering.{nat_cmp};
+ghost use Rattle.std.specs.Option.{option_map};
+ghost use Rattle.std.specs.Cmp.Lexicographic.{slice_cmp};
+ghost use Rattle.archive_core.specs.Record.{admission_record};
 
-use crate::buffer::Buffer;
+use crate::buffer::{Buffer, compare_bytes};
 use crate::fault::RecordFaultKind;
 use crate::format::Format;
 use crate::frame::read_record;
-use crate::head::{ADMISSION_HEAD_LEN, END, has_key, record_count_of};
+use crate::head::{ADMISSION_HEAD_LEN, END, admission_head, has_key, record_count_of};
 use archive_core::{RETIREMENT, Slice, SliceFacts};
 use byte_device::Source;
+use std::cmp::Ordering;
 
 /// What the reader came to.
 #[derive(Clone, Copy)]
@@ -55,27 +60,52 @@ fn test(file: Format, allowed: bool, count: u64, bytes: &[u8]) -> Result<bool, R
     }
 }
 
-/// Reads the next record or the end record over the last record, and says whether it is the end record. The slice of an
-/// admission is not looked at.
+/// How the admission of a slice compares with the bytes of a record.
+fn compare_admission(slice: &Slice, bytes: &[u8]) -> Ordering
+    ensures { result ≡ slice_cmp nat_cmp (admission_record slice.now) bytes.now }
+{
+    let head = admission_head(&slice.lend());
+    let (front, rest) = bytes.split_at(bytes.len().min(ADMISSION_HEAD_LEN));
+    match compare_bytes(&head, front) {
+        Ordering::Equal => compare_bytes(slice.bytes(), rest),
+        order => order,
+    }
+}
+
+/// How the last record, whose slice may be taken out of the buffer, compares with the one that came whole.
+fn order_after(taken: Option<&Slice>, buffer: &Buffer) -> Ordering
+    ensures { result ≡ order_after (option_map (λ s. s.now) taken.entry) buffer.now }
+{
+    match taken {
+        Some(slice) => compare_admission(slice, &buffer.bytes),
+        None => buffer.order,
+    }
+}
+
+/// Reads the next record or the end record over the last record, or after one whose slice was taken out of the buffer,
+/// and says whether it is the end record. The slice of an admission is not looked at.
 fn read_in_order<R: Source>(
     file: Format,
     r: &mut R,
     chunk: &mut [u8],
     buffer: &mut Buffer,
+    taken: Option<&Slice>,
     count: u64,
 ) -> Result<bool, RecordFaultKind>
     requires { 0 < length chunk.old }
     ensures within { buffer.new.at ≤ length buffer.new.bytes.items }
     ensures taken { Consumes (R.left r.old) (R.left r.new) (bytes_so_far buffer.new) }
     ensures next { MatchResult result
-        (λ end. HoldsNext file buffer.old.bytes.items count buffer.new
+        (λ end. HoldsNext file (last_after (option_map (λ s. s.now) taken.entry) buffer.old.bytes.items) count buffer.new
         × (end ≡ is_end (bytes_so_far buffer.new)) × (end ≡ true → bytes_so_far buffer.new ≡ end_record count))
-        (λ kind. next file buffer.old.bytes.items count (bytes_so_far buffer.new) ≡ Err (seen_as kind)) }
+        (λ kind. next file (last_after (option_map (λ s. s.now) taken.entry) buffer.old.bytes.items) count
+        (bytes_so_far buffer.new) ≡ Err (seen_as kind)) }
     ensures reader { BlamesReader R.left R.failures r.old r.new result }
 {
     read_record(file, r, chunk, buffer)?;
     buffer.bytes.truncate(buffer.at);
-    test(file, file.allows(buffer.order), count, &buffer.bytes)
+    let order = order_after(taken, buffer);
+    test(file, file.allows(order), count, &buffer.bytes)
 }
 
 /// Tests whether the slice of a whole record is one, and of the record's key, and gives what the check found out of it.
@@ -113,24 +143,27 @@ fn test_item(file: Format, bytes: &[u8]) -> Result<Option<SliceFacts>, RecordFau
     }
 }
 
-/// Reads the next record or the end record over the last record.
+/// Reads the next record or the end record over the last record, or after one whose slice was taken out of the buffer.
 fn read_tested<R: Source>(
     file: Format,
     r: &mut R,
     chunk: &mut [u8],
     buffer: &mut Buffer,
+    taken: Option<&Slice>,
     count: u64,
 ) -> Result<NextRecord, RecordFaultKind>
     requires { 0 < length chunk.old }
     ensures within { buffer.new.at ≤ length buffer.new.bytes.items }
     ensures taken { Consumes (R.left r.old) (R.left r.new) (bytes_so_far buffer.new) }
-    ensures step { IfOk result (λ step. HoldsNext file buffer.old.bytes.items count buffer.new
+    ensures step { IfOk result (λ step.
+        HoldsNext file (last_after (option_map (λ s. s.now) taken.entry) buffer.old.bytes.items) count buffer.new
         × IsStep file count (bytes_so_far buffer.new) step) }
     ensures fails { IfErr result (λ kind.
-        FailsNext file buffer.old.bytes.items count (bytes_so_far buffer.new) (seen_as kind)) }
+        FailsNext file (last_after (option_map (λ s. s.now) taken.entry) buffer.old.bytes.items) count
+        (bytes_so_far buffer.new) (seen_as kind)) }
     ensures reader { BlamesReader R.left R.failures r.old r.new result }
 {
-    let end = read_in_order(file, r, chunk, buffer, count)?;
+    let end = read_in_order(file, r, chunk, buffer, taken, count)?;
     if end {
         return Ok(NextRecord::End);
     }
@@ -147,23 +180,27 @@ fn ends_file(file: Format, kind: RecordFaultKind, at: usize) -> bool
     kind == RecordFaultKind::Truncated && at == 0 && file.is_open()
 }
 
-/// Reads the next record over the last record, or what ends the file.
+/// Reads the next record over the last record, or after one whose slice was taken out of the buffer, or what ends the
+/// file.
 pub fn read_next<R: Source>(
     file: Format,
     r: &mut R,
     chunk: &mut [u8],
     buffer: &mut Buffer,
+    taken: Option<&Slice>,
     count: u64,
 ) -> Result<NextRecord, RecordFaultKind>
     requires { 0 < length chunk.old }
     ensures taken { Consumes (R.left r.old) (R.left r.new) (bytes_so_far buffer.new) }
-    ensures step { IfOk result (StepsTo file buffer.old.bytes.items count (R.left r.new) buffer.new) }
+    ensures step { IfOk result (StepsTo file (last_after (option_map (λ s. s.now) taken.entry) buffer.old.bytes.items)
+        count (R.left r.new) buffer.new) }
     ensures fails { IfErr result (λ kind.
-        FailsNext file buffer.old.bytes.items count (bytes_so_far buffer.new) (seen_as kind)) }
+        FailsNext file (last_after (option_map (λ s. s.now) taken.entry) buffer.old.bytes.items) count
+        (bytes_so_far buffer.new) (seen_as kind)) }
     ensures unended { IfErr result (λ kind. IsOfText kind → IsUnended file (bytes_so_far buffer.new)) }
     ensures reader { BlamesReader R.left R.failures r.old r.new result }
 {
-    match read_tested(file, r, chunk, buffer, count) {
+    match read_tested(file, r, chunk, buffer, taken, count) {
         Ok(step) => Ok(step),
         Err(kind) => {
             if ends_file(file, kind, buffer.at) {

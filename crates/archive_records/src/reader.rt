@@ -1,7 +1,7 @@
 //! A source that is read record by record.
 
 ghost use Rattle.std.specs.Prelude.{◌≡◌, ◌≢◌, ◌-◌, ◌<◌, ℕ, List, Option, Some, [], length, ◌⊎◌, true, false};
-ghost use Rattle.std.specs.Prelude.{OnOk, IfOk, IfErr, ◌++◌, option_map};
+ghost use Rattle.std.specs.Prelude.{OnOk, IfOk, IfErr, ◌++◌, ◌≤◌, drop, option_map};
 ghost use Rattle.std.specs.FinSet as set;
 ghost use Rattle.archive_core.specs.Content.{is_covered};
 ghost use Rattle.archive_core.specs.Record.{IsOperation, IsRecord, borrowed_bytes, operation_borrowed};
@@ -11,21 +11,23 @@ ghost use Rattle.archive_records.specs.declared.format.Format.TheVariants.{Archi
 ghost use Rattle.archive_records.specs.declared.fault.RecordFaultKind.TheVariants.{Covered, OutOfMemory};
 ghost use Rattle.archive_records.specs.Kind.{magic_of, kind_of, end_length};
 ghost use Rattle.archive_records.specs.Reader.{Position, Bounds, Advances, BlamesReader, FaultBlamesReader, KeepsIn};
-ghost use Rattle.archive_records.specs.Reader.{IsFoundIn, IsFoundOfLast, beside, retirement_in, set_of, with_shared};
+ghost use Rattle.archive_records.specs.Reader.{IsFoundIn, IsFoundOfLast, after_taken, beside, retirement_in, set_of};
+ghost use Rattle.archive_records.specs.Reader.{with_shared};
 ghost use Rattle.archive_records.specs.Reader.{Fills, bytes_so_far, StopsInMagicOf, HasRead, HasReadAll, Stopped};
 
 use crate::buffer::{Buffer, fill};
 use crate::fault::{RecordFault, RecordFaultKind};
 use crate::format::Format;
-use crate::head::record_in;
+use crate::head::{ADMISSION_HEAD_LEN, record_in};
 use crate::kind::TextKind;
 use crate::next::{NextRecord, read_next};
 use crate::retired::{retirement_in, retires_beside, take};
-use archive_core::{RETIREMENT_LEN, Record, Retirements, SliceFacts};
+use archive_core::{RETIREMENT_LEN, Record, Retirements, Slice, SliceFacts};
 use byte_device::{Failed, PIECE_LEN, Source, is_at_end};
 use memory::{Heap, NoMemory};
 use std::cmp::Ordering;
 use std::marker::Model;
+use std::mem;
 
 /// How many records a file has at most.
 pub const MOST: u64 = 9223372036854775807;
@@ -131,6 +133,18 @@ fn keep(
     }
 }
 
+/// The bytes after the head of an admission's record, in the same memory.
+fn without_head(mut whole: Vec<u8, Heap>) -> Vec<u8, Heap>
+    requires { 33 ≤ length whole.items }
+    ensures { result.items ≡ drop 33 whole.items }
+{
+    let length = whole.len() - ADMISSION_HEAD_LEN;
+    whole.copy_within(ADMISSION_HEAD_LEN.., 0);
+    whole.truncate(length);
+    whole.shrink_to_fit();
+    whole
+}
+
 impl RecordReader {
     /// Reads the magic.
     pub fn begin<R: Source>(
@@ -185,6 +199,19 @@ impl RecordReader {
         ensures operation { IsOperation (operation_borrowed result) }
     {
         record_in(&self.buffer.bytes, self.found)
+    }
+
+    /// The slice of the last record, where that is an admission: it is taken out of the reader without a copy, which
+    /// has no last record then. The next record is read by [`RecordReader::advance_after`].
+    pub fn take_slice(&mut self) -> Option<Slice>
+        ensures { after_taken result self.new ≡ self.old }
+    {
+        let Some(facts) = self.found.take() else {
+            return None;
+        };
+        let heap = self.buffer.bytes.allocator().share();
+        let whole = mem::replace(&mut self.buffer.bytes, Vec::new(heap));
+        Some(Slice::of_checked(without_head(whole), facts))
     }
 
     /// Whether the last record is dropped: a slice in an archive of version 1 that a retirement before it covers.
@@ -249,6 +276,18 @@ impl RecordReader {
         self.advance_beside(r, None)
     }
 
+    /// The same where the slice of the last record was taken out of the reader.
+    pub fn advance_after<R: Source>(
+        &mut self,
+        r: &mut R,
+        taken: Option<&Slice>,
+    ) -> Result<NextRecord, RecordFault>
+        ensures { Advances R.left R.failures r.old r.new (after_taken (option_map (λ s. s.now) taken.entry) self.old)
+            self.new result }
+    {
+        self.advance_by(r, None, taken)
+    }
+
     /// The same where the reader shares retirements with another: they count as its own.
     pub fn advance_beside<R: Source>(
         &mut self,
@@ -258,8 +297,29 @@ impl RecordReader {
         ensures { Advances R.left R.failures r.old r.new (beside (option_map (λ s. s.now) shared.entry) self.old)
             (beside (option_map (λ s. s.now) shared.entry) self.new) result }
     {
+        self.advance_by(r, shared, None)
+    }
+
+    // Both.
+    fn advance_by<R: Source>(
+        &mut self,
+        r: &mut R,
+        shared: Option<&Retirements>,
+        taken: Option<&Slice>,
+    ) -> Result<NextRecord, RecordFault>
+        ensures { Advances R.left R.failures r.old r.new
+            (beside (option_map (λ s. s.now) shared.entry) (after_taken (option_map (λ s. s.now) taken.entry) self.old))
+            (beside (option_map (λ s. s.now) shared.entry) self.new) result }
+    {
         self.found = None;
-        match read_next(self.file, r, &mut self.chunk, &mut self.buffer, self.count) {
+        match read_next(
+            self.file,
+            r,
+            &mut self.chunk,
+            &mut self.buffer,
+            taken,
+            self.count,
+        ) {
             Ok(NextRecord::End) => {
                 self.buffer.bytes.clear();
                 Ok(NextRecord::End)

@@ -97,7 +97,8 @@ fn put_records<A: Archive, W: Sink>(archive: &A, w: &mut W, done: u128) -> Resul
 
 /// Writes the magic and the records.
 fn put_front<A: Archive, W: Sink>(archive: &A, w: &mut W) -> Result<u128, WriteFault>
-    ensures puts { Puts W.held W.failures (λ n. n) w.old w.new 0 (magic ++ concat (listing (A.content archive.now))) result }
+    ensures puts { Puts W.held W.failures (λ n. n) w.old w.new 0 (magic ++ concat (listing (A.content archive.now)))
+        result }
     ensures short { IfOk result (λ n. n ≤ 2 ^ 98) }
 {
     let done = put(w, 0, &Format::Archive.magic())?;
@@ -139,7 +140,8 @@ fn put_entries<W: Sink>(entries: &[Entry], w: &mut W, done: u128) -> Result<u128
 
 /// Writes the magic and the entries.
 fn put_summary_front<W: Sink>(summary: &Summary, w: &mut W) -> Result<u128, WriteFault>
-    ensures puts { Puts W.held W.failures (λ n. n) w.old w.new 0 (summary_magic ++ concat (listing summary.now)) result }
+    ensures puts { Puts W.held W.failures (λ n. n) w.old w.new 0 (summary_magic ++ concat (listing summary.now))
+        result }
     ensures short { IfOk result (λ n. n ≤ 2 ^ 98) }
 {
     let done = put(w, 0, &Format::Summary.magic())?;

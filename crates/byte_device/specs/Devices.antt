@@ -1,4 +1,4 @@
--- What a call of a device does to its count of failures, and a device in a call.
+-- A device during a call, and how a call changes its count of failures.
 use Rattle.std.specs.Prelude.{◌≡◌, ℕ, ◌+◌, ◌-◌, ◌^◌, ◌<◌, min, MatchResult, Result, List, Option}
 
 -- the greatest count of failures

@@ -5,6 +5,7 @@
 //!   keeps nothing; `reading`: [`read_to_end`], all the bytes; `writing`: [`put`], a whole text;
 //! - [`Placed`], from any place: `placing` of files, `placed_pieces` in memory;
 //!   `placed_reading`: [`read_at`], so many bytes from a place;
+//! - `rooms`: [`make_room`], how memory grows with the bytes that come;
 //! - `targets`: [`Output`], a draft that takes bytes, and the [`Target`] at which it is published;
 //! - `disks`: why a file cannot be opened or created.
 #![tactic(auto)]
@@ -22,6 +23,7 @@ mod placed_pieces;
 mod placed_reading;
 mod placing;
 mod reading;
+mod rooms;
 mod streams;
 mod targets;
 mod writing;
@@ -34,6 +36,7 @@ pub use placed_pieces::PlacedPieces;
 pub use placed_reading::read_at;
 pub use placing::Placing;
 pub use reading::{ReadFault, is_at_end, read_to_end};
+pub use rooms::make_room;
 pub use streams::{Reading, Writing};
 pub use targets::{Output, Target};
 pub use writing::{WriteFault, push_all, put};
@@ -86,8 +89,8 @@ pub trait Placed {
     // How often a call failed.
     ghost failures: { Self → ℕ };
 
-    /// Takes bytes from the place on into the first bytes of `buf` and says how many: at least one where `buf` is not empty,
-    /// and 0 only at or past the end.
+    /// Takes bytes from the place on into the first bytes of `buf` and says how many: at least one where `buf` is not
+    /// empty, and 0 only at or past the end.
     fn take_at(&mut self, at: u64, buf: &mut [u8]) -> Result<usize, Failed>
         ensures bound { IfOk result (λ n. n ≤ length buf.new) }
         ensures bytes { IfOk result (λ n. TakenAt (whole self.old) at n buf.new) }

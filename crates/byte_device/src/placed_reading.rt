@@ -4,12 +4,12 @@ ghost use Rattle.std.specs.Prelude.{◌≡◌, ◌+◌, ◌^◌, ◌<◌, ◌≤
 ghost use Rattle.byte_device.specs.Devices.{FailedIn};
 ghost use Rattle.byte_device.specs.Places.{EndsBefore, Stands};
 
-use crate::{Failed, PIECE_LEN, Placed, ReadFault};
+use crate::{Failed, PIECE_LEN, Placed, ReadFault, make_room};
 use memory::{Heap, NoMemory};
 
 /// Reads `count` bytes from the place on; none where fewer stand there.
 ///
-/// The memory grows with the bytes that came, never with the number that is asked for.
+/// The memory grows with the bytes that came, as by [`make_room`], and never past the number that is asked for.
 pub fn read_at<P: Placed>(
     heap: Heap,
     device: &mut P,
@@ -27,7 +27,7 @@ pub fn read_at<P: Placed>(
     let mut bytes = Vec::new(heap);
     let mut filled = 0;
     'filling: while (filled as u64) < count {
-        if let Err(NoMemory) = make_room(&mut bytes, filled, count as usize) {
+        if let Err(NoMemory) = lengthen(&mut bytes, filled, count as usize) {
             return Err(ReadFault::OutOfMemory);
         }
         match device.take_at(at + filled as u64, &mut bytes[filled..]) {
@@ -39,8 +39,8 @@ pub fn read_at<P: Placed>(
     Ok(Some(bytes))
 }
 
-// Makes room after the first `filled` bytes where there is none, for no more than `most` bytes in all.
-fn make_room(bytes: &mut Vec<u8, Heap>, filled: usize, most: usize) -> Result<(), NoMemory>
+// Makes the bytes longer than the first `filled` where they are not, but no longer than `most`.
+fn lengthen(bytes: &mut Vec<u8, Heap>, filled: usize, most: usize) -> Result<(), NoMemory>
     requires filled { filled ≤ length bytes.old.items }
     requires within { length bytes.old.items ≤ most }
     requires less { filled < most }
@@ -49,7 +49,9 @@ fn make_room(bytes: &mut Vec<u8, Heap>, filled: usize, most: usize) -> Result<()
     ensures kept { OnOk result (take filled bytes.new.items ≡ take filled bytes.old.items) }
 {
     if filled == bytes.len() {
-        bytes.resize(filled + PIECE_LEN.min(most - filled), 0)?;
+        let end = filled + PIECE_LEN.min(most - filled);
+        make_room(bytes, end, most)?;
+        bytes.resize(end, 0)?;
     }
     Ok(())
 }

@@ -5,7 +5,7 @@ ghost use Rattle.std.specs.Prelude.{true, false, OnOk, OnErr, IfOk, IfSome, Err}
 ghost use Rattle.std.specs.Io.KnownBytes.{Consumes, IsAtEnd};
 ghost use Rattle.byte_device.specs.Devices.{FailedIn};
 
-use crate::{Failed, PIECE_LEN, Source};
+use crate::{Failed, PIECE_LEN, Source, make_room};
 use memory::{Heap, NoMemory};
 
 /// Why a source was not read to its end.
@@ -33,8 +33,8 @@ pub fn is_at_end<R: Source>(r: &mut R) -> Result<bool, Failed>
 
 /// Takes all the bytes that the source has left. Those that were taken before a fault are lost.
 ///
-/// They come straight into the memory that is handed out, which has room for 64 KiB at first and
-/// doubles where it has to grow.
+/// They come straight into the memory that is handed out, which has room for 64 KiB at first, and
+/// grows as by [`make_room`].
 pub fn read_to_end<R: Source>(heap: Heap, r: &mut R) -> Result<Vec<u8, Heap>, ReadFault>
     // The result is all that was left.
     ensures taken { IfOk result (λ bytes. Consumes (R.left r.old) (R.left r.new) bytes.items) }
@@ -50,7 +50,7 @@ pub fn read_to_end<R: Source>(heap: Heap, r: &mut R) -> Result<Vec<u8, Heap>, Re
     let mut bytes = Vec::new(heap);
     let mut filled = 0;
     'filling: loop {
-        if let Err(NoMemory) = make_room(&mut bytes, filled) {
+        if let Err(NoMemory) = lengthen(&mut bytes, filled) {
             return Err(ReadFault::OutOfMemory);
         }
         match r.pull(&mut bytes[filled..]) {
@@ -65,15 +65,16 @@ pub fn read_to_end<R: Source>(heap: Heap, r: &mut R) -> Result<Vec<u8, Heap>, Re
     }
 }
 
-// Makes room after the first `filled` bytes where there is none. The memory doubles where it has
-// to grow, and each byte of it is set to 0 once.
-fn make_room(bytes: &mut Vec<u8, Heap>, filled: usize) -> Result<(), NoMemory>
+// Makes the bytes longer than the first `filled` where they are not. Each byte is set to 0 once.
+fn lengthen(bytes: &mut Vec<u8, Heap>, filled: usize) -> Result<(), NoMemory>
     requires { filled ≤ length bytes.old.items }
     ensures room { OnOk result (filled < length bytes.new.items) }
     ensures kept { OnOk result (take filled bytes.new.items ≡ take filled bytes.old.items) }
 {
     if filled == bytes.len() {
-        bytes.resize(filled + PIECE_LEN, 0)?;
+        let end = filled + PIECE_LEN;
+        make_room(bytes, end, usize::MAX)?;
+        bytes.resize(end, 0)?;
     }
     Ok(())
 }

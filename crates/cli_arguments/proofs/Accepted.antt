@@ -1,5 +1,6 @@
 -- A line that `clap` accepts names a command, with a value at each name that has to have one.
-use Rattle.std.proofs.Common.{arith, ◌≡◌, ◌∙◌, ◌&&◌, ◌||◌, Bool, true, false, not, refl, sym, ap, List, [], ◌∷◌, Option, Some, None, IsSome, is_some, option_map, codes}
+use Rattle.std.proofs.Common.{arith, ◌≡◌, ◌∙◌, ◌&&◌, ◌||◌, Bool, true, false, not, refl, sym, ap, List, [], ◌∷◌, Option}
+use Rattle.std.proofs.Common.{Some, None, IsSome, is_some, option_map, codes}
 use Rattle.std.proofs.lemmas.{Bool.and_from, Bool.not-true, Bool.or_left, Slice.Eq.bytes_eq-Decides}
 use Rattle.std.specs.Prelude.{find, option_and_then, slice_get, unwrap_or}
 use Rattle.std.specs.{List.list_all, List.list_any, Option.option_map_or, Str.bytes_eq}
@@ -10,7 +11,8 @@ use Rattle.clap.specs.Takes.{built_takes, entered_passes, is_given, is_valid, le
 use Rattle.clap.proofs.{SimpleLemmas.is_nil, WalkLemmas.both}
 use Rattle.cli_arguments.specs.Arguments.{Argument, Count, Flag, Often, Perhaps, flag, form_of, perhaps, several}
 use Rattle.cli_arguments.specs.{Commands.symarch_command, declared.commands.Form.Form}
-use Rattle.cli_arguments.specs.Lines.{all_values, are_accepted, asked_of, has_form, have_forms, is_set, line_at, line_in, named_command, values_at, values_spelled, words_by}
+use Rattle.cli_arguments.specs.Lines.{all_values, are_accepted, asked_of, has_form, have_forms, is_set, line_at}
+use Rattle.cli_arguments.specs.Lines.{line_in, named_command, values_at, values_spelled, words_by}
 use Rattle.cli_arguments.specs.Table.{Signature, signature_named}
 use Rattle.cli_arguments.proofs.Filled.{are_filled, found_passes, is_filled, lets_name, lets_stop, level, want_values}
 

@@ -1,14 +1,25 @@
 -- Words are accepted exactly where they have no kind of error, at any command whose defaults pass. Both definitions go
 -- step by step, and each step gives no kind exactly where it passes.
-use Rattle.std.proofs.Common.{◌≡◌, ◌∙◌, ◌&&◌, ◌||◌, ℕ, zero, suc, Bool, true, false, not, cond, refl, sym, ap, arith, nat_le, List, [], ◌∷◌, length, drop, Option, Some, None, is_some, chars, encode_utf8, find}
+use Rattle.std.proofs.Common.{◌≡◌, ◌∙◌, ◌&&◌, ◌||◌, ℕ, zero, suc, Bool, true, false, not, cond, refl, sym, ap, arith}
+use Rattle.std.proofs.Common.{nat_le, List, [], ◌∷◌, length, drop, Option, Some, None, is_some, chars, encode_utf8}
+use Rattle.std.proofs.Common.{find}
 use Rattle.std.proofs.lemmas.Bool.Decides.{nat_tests}
 use Rattle.std.specs.{Prelude.slice_get, Option.option_map_or, List.list_all, List.list_any}
 use Rattle.clap.specs.{Facts.unwrap_or_range, Lexer.long_of, Lexer.short_of, ValueTests.accepts, Values.is_request}
-use Rattle.clap.specs.Faults.{action_fault, bundle_step_fault, check_fault, default_fault, defaults_fault, entered_fault, fault_of, flag_word_fault, flags_fault, has_free_rules, is_simple_and_free, level_fault, long_fault, option_fault, other_fault, react_fault, settle_fault, short_fault, step_fault, stray_fault, turn_fault, use_fault, values_fault, walk_fault}
+use Rattle.clap.specs.Faults.{action_fault, bundle_step_fault, check_fault, default_fault, defaults_fault}
+use Rattle.clap.specs.Faults.{entered_fault, fault_of, flag_word_fault, flags_fault, has_free_rules, is_simple_and_free}
+use Rattle.clap.specs.Faults.{level_fault, long_fault, option_fault, other_fault, react_fault, settle_fault}
+use Rattle.clap.specs.Faults.{short_fault, step_fault, stray_fault, turn_fault, use_fault, values_fault, walk_fault}
 use Rattle.clap.specs.Kinds.{Kinds, or_else, range_kinds, request_kinds, value_kinds}
 use Rattle.clap.specs.Simple.{App, Shape, argument_words, built, entered, is_simple, label_of, names_of}
-use Rattle.clap.specs.Takes.{action_passes, built_takes, bundle_step_passes, default_passes, entered_passes, flag_word_passes, flags_pass, is_given, is_valid, level_passes, long_passes, option_passes, other_passes, react_passes, settle_passes, short_passes, step_passes, takes, turn_passes, use_passes, values_pass, walk_passes}
-use Rattle.clap.specs.Walk.{Held, Names, Row, Rule, Step, Text, Walk, action_of, answers_to, arg_by_id, arg_by_index, arg_by_long, arg_by_short, attached_value, finished, is_pending, most_values, next, nothing_held, reacted, settled, subcommand, subcommand_met, takes_several, takes_values, trailing, value, values_or_missing, walk, walk_from, walked, with_default, word_met}
+use Rattle.clap.specs.Takes.{action_passes, built_takes, bundle_step_passes, default_passes, entered_passes}
+use Rattle.clap.specs.Takes.{flag_word_passes, flags_pass, is_given, is_valid, level_passes, long_passes, option_passes}
+use Rattle.clap.specs.Takes.{other_passes, react_passes, settle_passes, short_passes, step_passes, takes, turn_passes}
+use Rattle.clap.specs.Takes.{use_passes, values_pass, walk_passes}
+use Rattle.clap.specs.Walk.{Held, Names, Row, Rule, Step, Text, Walk, action_of, answers_to, arg_by_id, arg_by_index}
+use Rattle.clap.specs.Walk.{arg_by_long, arg_by_short, attached_value, finished, is_pending, most_values, next}
+use Rattle.clap.specs.Walk.{nothing_held, reacted, settled, subcommand, subcommand_met, takes_several, takes_values}
+use Rattle.clap.specs.Walk.{trailing, value, values_or_missing, walk, walk_from, walked, with_default, word_met}
 use Rattle.clap.specs.declared.builder.{action.ArgAction.ArgAction, value_parser.ValueParser.ValueParser}
 use Rattle.clap.proofs.WalkLemmas.{both}
 use Rattle.cli_arguments.specs.{Commands.symarch_command, Lines.are_accepted, Lines.error_kinds}

@@ -1,12 +1,23 @@
 -- A walk over words that `clap` accepts leaves no row without a value, where no argument may be used without one.
-use Rattle.std.proofs.Common.{◌≡◌, ◌&&◌, ◌||◌, ◌++◌, ℕ, zero, suc, Bool, true, false, not, cond, refl, arith, List, [], ◌∷◌, Option, Some, None, is_some, nat_le, drop, length, codes}
+use Rattle.std.proofs.Common.{◌≡◌, ◌&&◌, ◌||◌, ◌++◌, ℕ, zero, suc, Bool, true, false, not, cond, refl, arith, List, []}
+use Rattle.std.proofs.Common.{◌∷◌, Option, Some, None, is_some, nat_le, drop, length, codes}
 use Rattle.std.proofs.lemmas.{Bool.and_from, Bool.Decides.nat_tests, List.Folds.list_all-append}
 use Rattle.std.specs.Prelude.{encode_utf8, find, slice_get}
 use Rattle.std.specs.{List.fold, List.list_all, Option.option_map_or, Str.bytes_eq, Str.chars}
 use Rattle.clap.specs.{Lexer.long_of, Lexer.short_of, Facts.unwrap_or_range}
 use Rattle.clap.specs.{Values.is_request, Simple.Shape, declared.parser.matches.ValueSource.ValueSource}
-use Rattle.clap.specs.Walk.{Held, Names, Outcome, Row, Rule, Step, Text, Waiting, Walk, action_of, after_flag, after_step, arg_by_id, arg_by_index, arg_by_long, arg_by_short, at_row, attached_value, bundle, bundle_met, bundle_step, default_rows, done, flag_met, has_row, is_pending, long_met, long_or_other, more_values, next, option_met, plain, reacted, reading_by, settled, settled_rows, short_met, short_or_plain, subcommand, subcommand_met, subcommand_or_other, takes_several, takes_values, to_positional, trailing, used, used_as, used_by_id, value, values_or_missing, walk, walk_from, walked, walked_from, with_default, nothing_held, rows_after, with_values, without, word_met}
-use Rattle.clap.specs.Takes.{action_passes, is_valid, bundle_passes, bundle_step_passes, flag_word_passes, flags_pass, level_passes, long_passes, option_passes, other_passes, positional_passes, react_passes, settle_passes, short_passes, step_passes, turn_passes, use_passes, walk_passes, word_passes}
+use Rattle.clap.specs.Walk.{Held, Names, Outcome, Row, Rule, Step, Text, Waiting, Walk, action_of, after_flag}
+use Rattle.clap.specs.Walk.{after_step, arg_by_id, arg_by_index, arg_by_long, arg_by_short, at_row, attached_value}
+use Rattle.clap.specs.Walk.{bundle, bundle_met, bundle_step, default_rows, done, flag_met, has_row, is_pending}
+use Rattle.clap.specs.Walk.{long_met, long_or_other, more_values, next, option_met, plain, reacted, reading_by, settled}
+use Rattle.clap.specs.Walk.{settled_rows, short_met, short_or_plain, subcommand, subcommand_met, subcommand_or_other}
+use Rattle.clap.specs.Walk.{takes_several, takes_values, to_positional, trailing, used, used_as, used_by_id, value}
+use Rattle.clap.specs.Walk.{values_or_missing, walk, walk_from, walked, walked_from, with_default, nothing_held}
+use Rattle.clap.specs.Walk.{rows_after, with_values, without, word_met}
+use Rattle.clap.specs.Takes.{action_passes, is_valid, bundle_passes, bundle_step_passes, flag_word_passes, flags_pass}
+use Rattle.clap.specs.Takes.{level_passes, long_passes, option_passes, other_passes, positional_passes, react_passes}
+use Rattle.clap.specs.Takes.{settle_passes, short_passes, step_passes, turn_passes, use_passes, walk_passes}
+use Rattle.clap.specs.Takes.{word_passes}
 use Rattle.clap.specs.declared.builder.{action.ArgAction.ArgAction, value_parser.Reading.Reading}
 use Rattle.clap.specs.declared.parser.matches.ValueSource.TheVariants.{CommandLine, DefaultValue}
 use Rattle.clap.proofs.WalkLemmas.{both}

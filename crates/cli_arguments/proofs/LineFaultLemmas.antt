@@ -1,11 +1,17 @@
 -- What a line that `clap` refuses has for an answer, by the kinds of error that its own definition names.
-use Rattle.std.proofs.Common.{arith, ◌≡◌, ◌∙◌, ℕ, inl, inr, true, List, [], ◌∷◌, Option, Some, None, Result, Ok, Err, IfOk, Global, IfErr, IsErrAnd, MatchResult, String, ap, is_some, option_map, refl, string_bytes, subst, sym}
+use Rattle.std.proofs.Common.{arith, ◌≡◌, ◌∙◌, ℕ, inl, inr, true, List, [], ◌∷◌, Option, Some, None, Result, Ok, Err}
+use Rattle.std.proofs.Common.{IfOk, Global, IfErr, IsErrAnd, MatchResult, String, ap, is_some, option_map, refl}
+use Rattle.std.proofs.Common.{string_bytes, subst, sym}
 use Rattle.std.specs.{Prelude.option_and_then, Option.option_map_or, Option.option_or}
 use Rattle.uuid.specs.Text.{parsed}
 use Rattle.text_values.specs.Words.{address_of, arch_of, digest_of}
 use Rattle.cli_arguments.specs.Arguments.{Amount, Argument, Values, form_of, one, perhaps, several}
-use Rattle.cli_arguments.specs.LineFaults.{out_is_input, unknown_command, without_value, IsHelpUnlessMemory, IsRefusalUnlessMemory, IsRefusedBy, first_other, form_refusal, other_form, other_in, other_word, out_refusal, refusal_among, refusal_at, refusal_in, refusal_of}
-use Rattle.cli_arguments.specs.Lines.{Line, all_spelled, all_values, amount_spelled, line_at, line_in, values_at, inputs_of, is_path_among, out_of, values_spelled, words_by}
+use Rattle.cli_arguments.specs.LineFaults.{out_is_input, unknown_command, without_value, IsHelpUnlessMemory}
+use Rattle.cli_arguments.specs.LineFaults.{IsRefusalUnlessMemory, IsRefusedBy, first_other, form_refusal, other_form}
+use Rattle.cli_arguments.specs.LineFaults.{other_in, other_word, out_refusal, refusal_among, refusal_at, refusal_in}
+use Rattle.cli_arguments.specs.LineFaults.{refusal_of}
+use Rattle.cli_arguments.specs.Lines.{Line, all_spelled, all_values, amount_spelled, line_at, line_in, values_at}
+use Rattle.cli_arguments.specs.Lines.{inputs_of, is_path_among, out_of, values_spelled, words_by}
 use Rattle.cli_arguments.specs.{Table.Signature, Table.signature_named, declared.commands.Form.Form}
 use Rattle.cli_arguments.specs.{Commands.symarch_command, Lines.error_kinds}
 use Rattle.cli_arguments.proofs.Simple.{symarch_free}

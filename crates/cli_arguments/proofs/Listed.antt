@@ -5,7 +5,8 @@ use Rattle.std.specs.Option.{option_map_or}
 use Rattle.clap.specs.Words.{Row, Text}
 use Rattle.uuid.specs.Text.{parsed}
 use Rattle.text_values.specs.Words.{address_of, arch_of, digest_of}
-use Rattle.cli_arguments.specs.Arguments.{Amount, Argument, Count, Several, Values, are_values_of, archs, digests, form_of, is_counted, is_formed, numbers, texts, several, uuids}
+use Rattle.cli_arguments.specs.Arguments.{Amount, Argument, Count, Several, Values, are_values_of, archs, digests}
+use Rattle.cli_arguments.specs.Arguments.{form_of, is_counted, is_formed, numbers, texts, several, uuids}
 use Rattle.cli_arguments.specs.Lines.{all_spelled, all_values, amount_spelled, any_of, if_some, values_at, values_spelled, words_by}
 use Rattle.cli_arguments.specs.{Table.Signature, Table.is_listed, Table.signature_named, declared.commands.Form.Form}
 use Rattle.cli_arguments.specs.declared.commands.Form.TheVariants as forms

@@ -1,5 +1,6 @@
 -- Inputs of which each has its kind.
-use Rattle.std.proofs.Common.{◌≡◌, ◌∙◌, ◌⊎◌, inl, inr, ℕ, zero, suc, Bool, true, false, List, [], ◌∷◌, ◌++◌, ◌+◌, ◌<◌, arith, length, take, map, refl, ap, append-nil, append_assoc, if◌then◌else◌}
+use Rattle.std.proofs.Common.{◌≡◌, ◌∙◌, ◌⊎◌, inl, inr, ℕ, zero, suc, Bool, true, false, List, [], ◌∷◌, ◌++◌, ◌+◌, ◌<◌}
+use Rattle.std.proofs.Common.{arith, length, take, map, refl, ap, append-nil, append_assoc, if◌then◌else◌}
 use Rattle.clap.specs.Words.{Text}
 use Rattle.cli_arguments.specs.Arguments.{Argument, Values, is_kind, reads, reads_kind}
 use Rattle.cli_arguments.specs.Inputs.{kinds_at, kinds_by, kinds_of, picked}

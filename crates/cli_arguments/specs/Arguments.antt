@@ -7,8 +7,8 @@ use Rattle.cli_arguments.specs.declared.commands.Form.TheVariants as forms
 use Rattle.cli_arguments.specs.declared.commands.Kind.TheVariants as kinds
 use Rattle.cli_arguments.specs.declared.commands.Role.TheVariants as roles
 
--- how often an argument stands in a line: one word; the last words; the word after an option, at most once; a word after
--- each option of a name, any number of times; or an option without a word, at most once
+-- how often an argument stands in a line: one word; the last words; the word after an option, at most once; a word
+-- after each option of a name, any number of times; or an option without a word, at most once
 pub data Count : Type 0 where
   Once : Count
   Several : Count

@@ -88,7 +88,8 @@ abbrev pub refusal_in : Text × List Row → Option Text
 refusal_in p = option_map_or (λ s. refusal_among s.arguments p.1) (signature_named p.0) (Some (unknown_command p.0))
 
 abbrev pub out_is_input : Text → Text
-out_is_input out = codes "error: invalid OUT '" ++ (shown out ++ (codes "': expected a path that is no input" ++ 10 ∷ []))
+out_is_input out = codes "error: invalid OUT '" ++ (shown out
+    ++ (codes "': expected a path that is no input" ++ 10 ∷ []))
 
 -- what is told of a line, if its OUT is an input
 abbrev pub out_refusal : Line → Option Text

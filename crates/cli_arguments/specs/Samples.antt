@@ -1,4 +1,4 @@
--- For each command a line of words, and what they ask for.
+-- For each command a command line, and the command that it asks for.
 use Rattle.std.specs.Prelude.{◌≡◌, ⊤, ℕ, true, false, List, [], ◌∷◌, Some, None, codes}
 use Rattle.clap.specs.Words.{Text}
 use Rattle.text_values.specs.Words.{arch_key}
@@ -58,7 +58,8 @@ samples =
     (line_with table.apply_command (text (codes "i") ∷ text (codes "o") ∷ text (codes "p") ∷ []))
     ∷ sample (codes "find" ∷ codes "--with" ∷ codes "b" ∷ codes "a" ∷ codes "--with=c" ∷ uuid_text ∷ codes "--index"
     ∷ codes "i" ∷ [])
-    (line_with table.find_command (text (codes "a") ∷ uuids (one uuid_bytes) ∷ texts (several (codes "b" ∷ codes "c" ∷ []))
+    (line_with table.find_command (text (codes "a") ∷ uuids (one uuid_bytes)
+    ∷ texts (several (codes "b" ∷ codes "c" ∷ []))
     ∷ texts (several (codes "i" ∷ [])) ∷ []))
     ∷ sample (codes "list" ∷ codes "a" ∷ codes "--index" ∷ codes "i" ∷ [])
     (line_with table.list_command (text (codes "a") ∷ texts (perhaps (Some (codes "i"))) ∷ []))
@@ -71,7 +72,8 @@ samples =
     (line_with table.name_command (text (codes "a") ∷ text (codes "-n") ∷ texts (several []) ∷ []))
     ∷ sample (codes "symbolicate" ∷ codes "a" ∷ uuid_text ∷ codes "x86_64h" ∷ codes "10" ∷ codes "--load=0xfF"
     ∷ codes "--with" ∷ codes "b" ∷ codes "--lines" ∷ codes "0x20" ∷ [])
-    (line_with table.symbolicate_command (text (codes "a") ∷ uuids (one uuid_bytes) ∷ archs (one (arch_key 0x0100_0007 8))
+    (line_with table.symbolicate_command (text (codes "a") ∷ uuids (one uuid_bytes)
+    ∷ archs (one (arch_key 0x0100_0007 8))
     ∷ numbers (perhaps (Some 255)) ∷ texts (flag true) ∷ texts (flag false) ∷ texts (several (codes "b" ∷ []))
     ∷ texts (several []) ∷ numbers (several (0x10 ∷ 0x20 ∷ [])) ∷ []))
     ∷ sample (codes "frames" ∷ codes "f" ∷ codes "a" ∷ codes "b" ∷ codes "--index" ∷ codes "i" ∷ codes "--slices"

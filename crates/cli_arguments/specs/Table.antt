@@ -5,7 +5,8 @@ use Rattle.clap.specs.Words.{Text}
 use Rattle.cli_arguments.specs.declared.commands.Form.TheVariants as forms
 use Rattle.cli_arguments.specs.declared.commands.Kind.TheVariants as kinds
 use Rattle.cli_arguments.specs.declared.commands.Role.TheVariants as roles
-use Rattle.cli_arguments.specs.Arguments.{Argument, Flag, Often, Once, Perhaps, Several, Values, are_values_of, argument}
+use Rattle.cli_arguments.specs.Arguments.{Argument, Flag, Often, Once, Perhaps, Several, Values, are_values_of}
+use Rattle.cli_arguments.specs.Arguments.{argument}
 
 pub record Signature : Type 0 where
   pub name : Text

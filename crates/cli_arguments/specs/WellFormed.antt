@@ -1,4 +1,4 @@
--- Tables of commands that can be told apart.
+-- Tables of commands whose commands can be distinguished.
 use Rattle.std.specs.Prelude.{Bool, true, false, not, ◌&&◌, ◌||◌, List, [], ◌∷◌, map, codes, count_by, flat_map, nat_le}
 use Rattle.std.specs.{List.list_all, List.list_any, Str.bytes_eq}
 use Rattle.clap.specs.{Words.Text, Walk.is_empty}

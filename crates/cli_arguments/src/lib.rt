@@ -16,8 +16,8 @@
 //!
 //! - `clap`'s definition of a simple command is cited. The table is `'static`. A FILE may be IN.
 //! - `Plan` has a case a command, with its values and no path. It is made once.
-//! - Inputs are made in the order of the words, and then stand by what they are (`Inputs`), so that no number says where
-//!   those of one kind end.
+//! - Inputs are made in the order of the words, and then stand by what they are (`Inputs`), so that no number says
+//!   where those of one kind end.
 //! - Each pattern of values stands beside its row of the table, since one generic step over names and values did
 //!   not prove.
 #![tactic(auto)]

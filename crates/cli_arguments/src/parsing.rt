@@ -3,7 +3,8 @@
 ghost use Rattle.std.specs.Prelude.{◌≡◌, ◌⊎◌, IfErr, IfOk, IsErrAnd, OnOk, Some, [], ◌∷◌};
 ghost use Rattle.std.specs.Prelude.{false, map, option_map, true};
 ghost use Rattle.clap.specs.Words.{IsAmong, found_of, rows_of, subcommand_rows_of};
-ghost use Rattle.cli_arguments.specs.Lines.{KeepsInputs, are_accepted, error_kinds, is_in_order, is_path_among, line_in};
+ghost use Rattle.cli_arguments.specs.Lines.{KeepsInputs, are_accepted, error_kinds, is_in_order, is_path_among};
+ghost use Rattle.cli_arguments.specs.Lines.{line_in};
 ghost use Rattle.cli_arguments.specs.Lines.{line_of};
 ghost use Rattle.cli_arguments.specs.Lines.{named_command, overwrites_input};
 ghost use Rattle.cli_arguments.specs.LineView.{line_view};

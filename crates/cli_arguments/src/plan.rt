@@ -22,8 +22,8 @@ use uuid::Uuid;
 pub enum Plan<'l> {
     /// To write the empty archive.
     New,
-    /// To take each file, in the order of the words. A file that is named twice is taken twice. If `keep_going`, one that
-    /// is refused is passed over.
+    /// To take each file, in the order of the words. A file that is named twice is taken twice. If `keep_going`, one
+    /// that is refused is passed over.
     Admit {
         keep_going: bool,
     },

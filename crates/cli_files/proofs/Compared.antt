@@ -1,5 +1,6 @@
 -- OUT and the inputs, asked of one after another.
-use Rattle.std.proofs.Common.{◌≡◌, ◌∙◌, ℕ, ◌+◌, ◌<◌, true, false, List, [], ◌∷◌, ◌++◌, length, take, drop, map, get_or, ap, sym, subst, refl, add-one, drop-cons, Result}
+use Rattle.std.proofs.Common.{◌≡◌, ◌∙◌, ℕ, ◌+◌, ◌<◌, true, false, List, [], ◌∷◌, ◌++◌, length, take, drop, map, get_or}
+use Rattle.std.proofs.Common.{ap, sym, subst, refl, add-one, drop-cons, Result}
 use Rattle.std.proofs.lemmas.List.{map_more, map-append, take-append-drop}
 use Rattle.std.specs.declared.io.Error.{Error}
 use Rattle.cli_files.specs.FileCalls.{FileCall, found}

@@ -1,5 +1,6 @@
 -- The paths of descriptors.
-use Rattle.std.proofs.Common.{◌≡◌, ◌∙◌, ◌⊎◌, ◌<◌, ◌≤◌, ◌==◌, ◌&&◌, ℕ, Bool, true, false, None, List, [], ◌∷◌, ◌++◌, All, suc, append_assoc, ap, arith, drop, get_or, inl, inr, length, not, refl, subst, sym, take}
+use Rattle.std.proofs.Common.{◌≡◌, ◌∙◌, ◌⊎◌, ◌<◌, ◌≤◌, ◌==◌, ◌&&◌, ℕ, Bool, true, false, None, List, [], ◌∷◌, ◌++◌, All}
+use Rattle.std.proofs.Common.{suc, append_assoc, ap, arith, drop, get_or, inl, inr, length, not, refl, subst, sym, take}
 use Rattle.std.proofs.lemmas.List.{append_cancel_left, drop_at, length-append, take-append-drop, take_at}
 use Rattle.std.proofs.lemmas.Bool.{and_parts}
 use Rattle.std.specs.Prelude.{codes}

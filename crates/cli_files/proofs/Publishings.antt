@@ -1,5 +1,7 @@
 -- What was called for OUT, one call more at a time.
-use Rattle.std.proofs.Common.{◌≡◌, ◌∙◌, ◌⊎◌, ℕ, true, false, ◌&&◌, List, [], ◌∷◌, ◌++◌, length, map, Ok, Option, Some, None, refl, sym, ap, inl, inr, append_assoc, append-nil, arith, subst, ◌<◌, ◌+◌, ◌==◌, take, ◌≤◌}
+use Rattle.std.proofs.Common.{◌≡◌, ◌∙◌, ◌⊎◌, ℕ, true, false, ◌&&◌, List, [], ◌∷◌, ◌++◌, length, map, Ok, Option, Some}
+use Rattle.std.proofs.Common.{None, refl, sym, ap, inl, inr, append_assoc, append-nil, arith, subst, ◌<◌, ◌+◌, ◌==◌}
+use Rattle.std.proofs.Common.{take, ◌≤◌}
 use Rattle.std.proofs.lemmas.List.{length-append, length-take-le, map-append}
 use Rattle.std.proofs.lemmas.Bool.{and_parts}
 use Rattle.std.proofs.lemmas.Grind.{not_there}
@@ -7,12 +9,17 @@ use mathlib.Core.Logic.{∥∥₁_map}
 use Rattle.std.specs.List.{concat}
 use Rattle.std.specs.Prelude.{IfSome}
 use Rattle.archive_records.proofs.Puts.{concat-push}
-use Rattle.cli_files.specs.FileCalls.{FileCall, Begins, Compares, Finds, FindsLink, FindsNoLink, FindsNothing, Gives, Leads, Creates, Opens, Writes, Syncs, Removes, are_probes, bytes_in, drafting, is_probe, publishing, taking, writing}
-use Rattle.cli_files.specs.OutFiles.{IsSoFar, Stage, Untouched, Through, Drafted, Refused, Removed, Settled, WritesTo, draft_account, fault_of, has_calls, is_drafted, is_settled, takes_bytes}
+use Rattle.cli_files.specs.FileCalls.{FileCall, Begins, Compares, Finds, FindsLink, FindsNoLink, FindsNothing, Gives}
+use Rattle.cli_files.specs.FileCalls.{Leads, Creates, Opens, Writes, Syncs, Removes, are_probes, bytes_in, drafting}
+use Rattle.cli_files.specs.FileCalls.{is_probe, publishing, taking, writing}
+use Rattle.cli_files.specs.OutFiles.{IsSoFar, Stage, Untouched, Through, Drafted, Refused, Removed, Settled, WritesTo}
+use Rattle.cli_files.specs.OutFiles.{draft_account, fault_of, has_calls, is_drafted, is_settled, takes_bytes}
 use Rattle.cli_files.proofs.Same.{both_probes, probes_append}
 use Rattle.cli_files.specs.declared.out_file.OutState.{OutState}
 use Rattle.cli_files.specs.declared.out_file.OutState.TheVariants as state
-use Rattle.cli_files.specs.Publishing.{BeginsSo, FindsReplaced, HandsOn, IsBeside, IsDescriptor, IsDrafted, IsPublished, IsRemoved, IsTakenBack, IsTargetOf, IsTested, IsWritable, IsWrittenThrough, account, both_give, draft_mode, folder_of, number_of, place, there, took_nothing}
+use Rattle.cli_files.specs.Publishing.{BeginsSo, FindsReplaced, HandsOn, IsBeside, IsDescriptor, IsDrafted, IsPublished}
+use Rattle.cli_files.specs.Publishing.{IsRemoved, IsTakenBack, IsTargetOf, IsTested, IsWritable, IsWrittenThrough}
+use Rattle.cli_files.specs.Publishing.{account, both_give, draft_mode, folder_of, number_of, place, there, took_nothing}
 use Rattle.cli_files.specs.Refusals.{IsRefused}
 use Rattle.cli_files.specs.Replacing.{GivesWay}
 use Rattle.cli_files.specs.declared.found.Found.{Found}
@@ -306,7 +313,8 @@ takes_unsettled stage takes = cc
 drafted_some : (replaces : Replaces) (path : Option (List ℕ)) (stage : Stage) (calls : List FileCall)
     → is_drafted stage ≡ true → calls ≡ [] → IsSoFar replaces path stage calls → ⊥
 drafted_some replaces path (Drafted d t) calls drafted none so =
-    let some = ap length (sym none ∙ so.2.calls_are) ∙ length-append (so.2.probes ++ taking so.2.taken) (drafting d (draft_mode (there so.2.probes)) so.2.pieces) in
+    let some = ap length (sym none ∙ so.2.calls_are) ∙ length-append (so.2.probes ++ taking so.2.taken)
+    (drafting d (draft_mode (there so.2.probes)) so.2.pieces) in
     grind (arith, some)
 drafted_some replaces path stage calls drafted none so = cc
 

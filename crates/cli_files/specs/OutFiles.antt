@@ -2,7 +2,8 @@
 use Rattle.std.specs.Prelude.{◌≡◌, ◌≢◌, ℕ, Bool, true, false, List, [], Option, Some, None, Result, IsErr, string_bytes}
 use Rattle.std.specs.Io.KnownBytes.{WriteAppends}
 use Rattle.cli_files.specs.FileCalls.{FileCall, bytes_in}
-use Rattle.cli_files.specs.Publishing.{IsDescriptor, IsDrafted, IsRemoved, IsTargetOf, IsWritable, IsWrittenThrough, account, there}
+use Rattle.cli_files.specs.Publishing.{IsDescriptor, IsDrafted, IsRemoved, IsTargetOf, IsWritable, IsWrittenThrough}
+use Rattle.cli_files.specs.Publishing.{account, there}
 use Rattle.cli_files.specs.Refusals.{IsRefused}
 use Rattle.cli_files.specs.declared.out_file.OutState.{OutState}
 use Rattle.cli_files.specs.declared.out_file.OutState.TheVariants as state

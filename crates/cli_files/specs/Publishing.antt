@@ -126,8 +126,8 @@ IsEmptyAt path calls =
     (calls ≡ FindsNothing path ∷ []) ⊎ ((found : Found) × (found.size ≡ 0) × (calls ≡ Finds path found ∷ []))
 
 -- The draft may take the place of what is at the target, which is nothing, or empty, or of the kind that the draft is;
--- an archive there is one of which the draft has or covers each record. Where the draft is a slice, what is there has no
--- other bytes.
+-- an archive there is one of which the draft has or covers each record. Where the draft is a slice, what is there has
+-- no other bytes.
 abbrev pub IsTested : Replaces → List ℕ → List ℕ → List FileCall → Type 0
 IsTested SameBytes draft target tests = IsEmptyAt target tests ⊎ AreSame draft target tests
 IsTested ArchivesBelow draft target tests =
@@ -172,7 +172,8 @@ pub record IsWrittenThrough (path text : List ℕ) (calls : List FileCall) : Typ
 abbrev pub IsPublished : List ℕ → Replaces → List ℕ → List FileCall → Type 0
 IsPublished path replaces text calls = IsReplaced path replaces text calls ⊎ IsWrittenThrough path text calls
 
--- Pieces of a text went to a draft beside the target of a path, which is no descriptor, under a name that was not taken.
+-- Pieces of a text went to a draft beside the target of a path, which is no descriptor, under a name that was not
+-- taken.
 pub record IsDrafted (replaces : Replaces) (path draft target : List ℕ) (calls : List FileCall) : Type 0 where
   pub probes : List FileCall
   pub taken : List (List ℕ)
@@ -204,8 +205,8 @@ HandsOn path replaces calls = (p : List ℕ) × (path ≡ Some p) × IsPublished
 
 -- ---- what is known
 
--- OUT has the path that the command has for it, if any, and the system said of each input that it is another file; or it
--- has none, and is never created, since the system said that an input is its own file.
+-- OUT has the path that the command has for it, if any, and the system said of each input that it is another file; or
+-- it has none, and is never created, since the system said that an input is its own file.
 abbrev pub IsPath : Option (List ℕ) → List (List ℕ) → List FileCall → Option (List ℕ) → Type 0
 IsPath asked inputs compared path =
     ((path ≡ asked) × IfSome asked (λ out. AreApart out inputs compared))

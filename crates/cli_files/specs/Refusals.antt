@@ -53,13 +53,15 @@ IsUnread stop refusal = ⊥
 -- what is at the target is in the way, as the last calls say
 abbrev pub IsInTheWay : Replaces → Obstacle → List FileCall → Type 0
 IsInTheWay replaces (obstacle.OtherKind bytes) calls =
-    (before : List FileCall) × (path : List ℕ) × (IsOfKind replaces bytes → ⊥) × (calls ≡ before ++ Begins path bytes ∷ [])
+    (before : List FileCall) × (path : List ℕ) × (IsOfKind replaces bytes → ⊥)
+    × (calls ≡ before ++ Begins path bytes ∷ [])
 IsInTheWay replaces (obstacle.Loses lost) calls =
     (before : List FileCall) × (draft : List ℕ) × (target : List ℕ) × (lost ≢ 0)
     × (calls ≡ before ++ Compares draft target lost ∷ [])
 IsInTheWay replaces obstacle.Damaged calls = IsUncompared calls
 IsInTheWay replaces obstacle.Differs calls =
-    (before : List FileCall) × (draft : List ℕ) × (target : List ℕ) × (tests : List FileCall) × AreOther draft target tests
+    (before : List FileCall) × (draft : List ℕ) × (target : List ℕ) × (tests : List FileCall)
+    × AreOther draft target tests
     × (calls ≡ before ++ tests)
 IsInTheWay replaces (obstacle.Refused None) calls = IsUncompared calls
 IsInTheWay replaces (obstacle.Refused (Some error)) calls = Fails error calls ⊎ IsUncompared calls
@@ -73,7 +75,8 @@ is_failure _ = false
 -- OUT is refused so, as the last calls say; for want of memory only if none failed for another reason.
 abbrev pub IsSaid : Replaces → OutFault → List FileCall → Type 0
 IsSaid replaces (fault.NotCreated None) calls = ⊥
-IsSaid replaces (fault.NotCreated (Some error)) calls = Fails error calls ⊎ LeadsNowhere error calls ⊎ HasNoName error calls
+IsSaid replaces (fault.NotCreated (Some error)) calls = Fails error calls ⊎ LeadsNowhere error calls
+    ⊎ HasNoName error calls
 IsSaid replaces (fault.NotReplaced obstacle) calls = IsInTheWay replaces obstacle calls
 IsSaid replaces fault.OutOfMemory calls =
     (before : List FileCall) × (said : FileCall) × (is_failure said ≡ false) × (calls ≡ before ++ said ∷ [])

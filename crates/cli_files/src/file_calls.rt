@@ -1,5 +1,5 @@
-//! What was called of the system for one output, in order, and what it said. Only clauses read it: it takes no memory, and
-//! its methods do nothing at run time.
+//! What was called of the system for one output, in order, and what it said. Only clauses read it: it takes no memory,
+//! and its methods do nothing at run time.
 
 ghost use Rattle.std.specs.Prelude.{◌≡◌, List, [], ◌∷◌, ◌++◌};
 ghost use Rattle.std.specs.Borrow.{ftrue};
@@ -13,8 +13,8 @@ use crate::opened_file::LeadingBytes;
 use std::io::{self, ErrorKind};
 use std::marker::{Model, PhantomData};
 
-/// The calls that were made for one output, and what the system said. A call stands there once the system said that it was
-/// done, and one that failed by that; of the removal of a draft and the sync of its folder that is not asked.
+/// The calls that were made for one output, and what the system said. A call stands there once the system said that it
+/// was done, and one that failed by that; of the removal of a draft and the sync of its folder that is not asked.
 #[derive(Drop)]
 pub struct FileCalls {
     marker: PhantomData<u8>,

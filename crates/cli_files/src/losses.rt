@@ -1,6 +1,7 @@
 //! What would be lost of an archive where a draft takes its place.
 
-ghost use Rattle.std.specs.Prelude.{◌≡◌, ◌≢◌, ◌≤◌, ◌⊎◌, ◌∷◌, ◌++◌, IfErr, IfOk, List, None, OnErr, OnOk, Some, [], length, true, ℕ};
+ghost use Rattle.std.specs.Prelude.{◌≡◌, ◌≢◌, ◌≤◌, ◌⊎◌, ◌∷◌, ◌++◌, IfErr, IfOk, List, None, OnErr, OnOk, Some, []};
+ghost use Rattle.std.specs.Prelude.{length, true, ℕ};
 ghost use Rattle.std.specs.Io.KnownBytes.{ReadConsumes};
 ghost use Rattle.std.specs.IoError.{error_kind};
 ghost use Rattle.byte_device.specs.Devices.{stream};
@@ -86,7 +87,8 @@ fn lost_between<'d, 't, R: Read + Drop>(
         ≡ calls.old.entries ++ Compares new.old.path.now old.old.path.now lost ∷ []) }
     ensures refused { OnErr result (calls.new.entries ≡ calls.old.entries) }
     ensures unread { IfErr result (λ fault. (stop : MergeCause)
-        × IsNotCompared (stream ⟦<ArchiveSide<'d, R> as Source>⟧.left ⟦<ArchiveSide<'d, R> as Source>⟧.failures new.old new.new)
+        × IsNotCompared (stream ⟦<ArchiveSide<'d, R> as Source>⟧.left ⟦<ArchiveSide<'d, R> as Source>⟧.failures new.old
+        new.new)
         (stream ⟦<ArchiveSide<'t, R> as Source>⟧.left ⟦<ArchiveSide<'t, R> as Source>⟧.failures old.old old.new) stop
         × IsUnread stop fault) }
 {

@@ -1,7 +1,8 @@
 //! OUT, whose draft is created with its first bytes, and published when it is whole. What the files hold is in no
 //! contract; what was called of the system is.
 
-ghost use Rattle.std.specs.Prelude.{◌≡◌, ◌≢◌, ◌⊎◌, ◌≤◌, ◌<◌, ◌-◌, ◌^◌, ℕ, List, Option, None, Some, IfErr, IfSome, IfOk};
+ghost use Rattle.std.specs.Prelude.{◌≡◌, ◌≢◌, ◌⊎◌, ◌≤◌, ◌<◌, ◌-◌, ◌^◌, ℕ, List, Option, None, Some, IfErr, IfSome};
+ghost use Rattle.std.specs.Prelude.{IfOk};
 ghost use Rattle.std.specs.Prelude.{IsSome, OnErr, OnOk, length, true, false, [], option_map, string_bytes};
 ghost use Rattle.cli_files.specs.FileCalls.{are_probes, bytes_in};
 ghost use Rattle.cli_files.specs.OutFiles.{IsSoFar, Settled, Untouched, WritesBegun, WritesTo};
@@ -166,11 +167,13 @@ fn finish<F: Files>(
     state: &mut OutState<F::File>,
     calls: &mut FileCalls,
 ) -> bool
-    ensures published { result ≡ true → (path : Option (List ℕ)) → IsSoFar replaces path (stage_of state.old) calls.old.entries
+    ensures published { result ≡ true → (path : Option (List ℕ))
+        → IsSoFar replaces path (stage_of state.old) calls.old.entries
         → HandsOn path replaces calls.new.entries }
     ensures settled { result ≡ true → stage_of state.new ≡ Settled }
     ensures was_open { result ≡ true → is_settled (stage_of state.old) ≡ false }
-    ensures refused { result ≡ false → (path : Option (List ℕ)) → IsSoFar replaces path (stage_of state.old) calls.old.entries
+    ensures refused { result ≡ false → (path : Option (List ℕ))
+        → IsSoFar replaces path (stage_of state.old) calls.old.entries
         → IsSoFar replaces path (stage_of state.new) calls.new.entries }
     ensures same { result ≡ false → is_settled (stage_of state.new) ≡ is_settled (stage_of state.old) }
     ensures bytes { bytes_in calls.new.entries ≡ bytes_in calls.old.entries }
@@ -196,9 +199,11 @@ fn finish<F: Files>(
 
 /// Removes the draft of an output that was not published.
 fn remove<F: Files>(system: &System<'_, F>, state: &mut OutState<F::File>, calls: &mut FileCalls)
-    ensures so_far { (replaces : Replaces) (path : Option (List ℕ)) → IsSoFar replaces path (stage_of state.old) calls.old.entries
+    ensures so_far { (replaces : Replaces) (path : Option (List ℕ))
+        → IsSoFar replaces path (stage_of state.old) calls.old.entries
         → IsSoFar replaces path (stage_of state.new) calls.new.entries }
-    ensures removed { (replaces : Replaces) (path : Option (List ℕ)) → IsSoFar replaces path (stage_of state.old) calls.old.entries
+    ensures removed { (replaces : Replaces) (path : Option (List ℕ))
+        → IsSoFar replaces path (stage_of state.old) calls.old.entries
         → IsRemoved replaces path calls.new.entries }
     ensures bytes { bytes_in calls.new.entries ≡ bytes_in calls.old.entries }
     ensures same_calls { (is_drafted (stage_of state.old) ≡ true) ⊎ (calls.new.entries ≡ calls.old.entries) }
@@ -323,7 +328,8 @@ impl<'a, F: Files> OutFile<'a, F> {
 
     /// Removes the draft of an output that was not published.
     pub fn discard(&mut self)
-        ensures removed { ∥ IsRemoved self.new.replaces (option_map string_bytes self.new.path) self.new.calls.entries ∥₁ }
+        ensures removed { ∥ IsRemoved self.new.replaces (option_map string_bytes self.new.path) self.new.calls.entries
+            ∥₁ }
         ensures path { self.new.path ≡ self.old.path }
         ensures replaces { self.new.replaces ≡ self.old.replaces }
         ensures bytes { bytes_in self.new.calls.entries ≡ bytes_in self.old.calls.entries }

@@ -1,6 +1,7 @@
 //! Whether what is at OUT has no other bytes than a draft, as the system gives them.
 
-ghost use Rattle.std.specs.Prelude.{◌≡◌, ◌≢◌, ◌∷◌, ◌++◌, ◌⊎◌, ℕ, List, IfErr, IfOk, OnErr, OnOk, [], length, true, false};
+ghost use Rattle.std.specs.Prelude.{◌≡◌, ◌≢◌, ◌∷◌, ◌++◌, ◌⊎◌, ℕ, List, IfErr, IfOk, OnErr, OnOk, [], length, true};
+ghost use Rattle.std.specs.Prelude.{false};
 ghost use Rattle.std.specs.List.{concat};
 ghost use Rattle.cli_files.specs.FileCalls.{FileCall, Gives, are_probes};
 ghost use Rattle.cli_files.specs.Publishing.{AreOther, AreSame, IsEmptyAt, IsTested, both_give};
@@ -80,7 +81,8 @@ fn has_same_piece<R: Read>(
 ) -> io::Result<bool>
     requires { length of_first.old ≡ length of_second.old }
     ensures same { IfOk result (λ same. same ≡ true → (piece : List ℕ) × (length piece ≡ length of_first.old)
-        × (calls.new.entries ≡ calls.old.entries ++ Gives first.old.path.now piece ∷ Gives second.old.path.now piece ∷ [])) }
+        × (calls.new.entries ≡ calls.old.entries ++ Gives first.old.path.now piece ∷ Gives second.old.path.now piece
+        ∷ [])) }
     ensures differs { IfOk result (λ same. same ≡ false → (a : List ℕ) × (b : List ℕ) × (a ≢ b)
         × (calls.new.entries ≡ calls.old.entries ++ Gives first.old.path.now a ∷ Gives second.old.path.now b ∷ [])) }
     ensures refused { OnErr result ((tests : List FileCall) × (are_probes tests ≡ true)
@@ -102,7 +104,8 @@ fn have_same<R: Read>(
 ) -> io::Result<bool>
     ensures same { IfOk result (λ same. same ≡ true → (pieces : List (List ℕ)) × (length (concat pieces) ≡ count)
         × (calls.new.entries ≡ calls.old.entries ++ both_give first.old.path.now second.old.path.now pieces)) }
-    ensures differs { IfOk result (λ same. same ≡ false → (pieces : List (List ℕ)) × (a : List ℕ) × (b : List ℕ) × (a ≢ b)
+    ensures differs { IfOk result (λ same. same ≡ false → (pieces : List (List ℕ)) × (a : List ℕ) × (b : List ℕ)
+        × (a ≢ b)
         × (calls.new.entries ≡ calls.old.entries ++ both_give first.old.path.now second.old.path.now pieces
         ++ Gives first.old.path.now a ∷ Gives second.old.path.now b ∷ [])) }
     ensures refused { OnErr result ((tests : List FileCall) × (are_probes tests ≡ true)

@@ -140,7 +140,8 @@ impl<'a, F: Files> System<'a, F> {
         calls.creates(&path, mode, &answer);
         let file = answer?;
         if let Some(there) = there {
-            // Who may not give the file away keeps it, but may still be one of its group; and some systems have no owners.
+            // Who may not give the file away keeps it, but may still be one of its group; and some systems have no
+            // owners.
             let _ = self.files.chown(&path, None, Some(there.group));
             let _ = self.files.chown(&path, Some(there.user), None);
             let _ = file.set_permissions(Permissions::from_mode(mode));
@@ -235,7 +236,8 @@ impl<'p, T: Read> Opened<'p, T> {
 
     /// Its next bytes.
     pub fn read_exact(&mut self, buf: &mut [u8], calls: &mut FileCalls) -> io::Result<()>
-        ensures calls { calls.new.entries ≡ calls.old.entries ++ answered (Gives self.old.path.now buf.new) self.old.path.now result }
+        ensures calls { calls.new.entries ≡ calls.old.entries
+            ++ answered (Gives self.old.path.now buf.new) self.old.path.now result }
         ensures path { self.new.path.now ≡ self.old.path.now }
     {
         let answer = self.file.read_exact(buf);

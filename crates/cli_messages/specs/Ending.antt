@@ -1,4 +1,4 @@
--- What the program says at its end, and its exit status.
+-- The message of the program at its end, and its exit status.
 use Rattle.std.specs.Prelude.{◌≡◌, ℕ, Bool, [], codes, string_bytes}
 use Rattle.clap.specs.Words.{Text}
 use Rattle.cli_arguments.specs.declared.line_faults.LineFault.{LineFault}

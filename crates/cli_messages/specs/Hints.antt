@@ -8,7 +8,8 @@ use Rattle.command_common.specs.declared.faults.CommandFault.TheVariants.{Input,
 use Rattle.command_common.specs.declared.faults.{CommandFault.CommandFault, Status.Status, Why.Why}
 use Rattle.command_common.specs.declared.faults.Why.TheVariants.{CannotOpen, Device, Record, Take}
 use Rattle.command_common.specs.declared.faults.Why.TheVariants.{Script as ScriptFaulty, BadFrame, OldArchive, TooLong}
-use Rattle.command_common.specs.declared.faults.Why.TheVariants.{Index as IndexFaulty, Damaged, NoArchive, NoIndex, NoLines, Stale}
+use Rattle.command_common.specs.declared.faults.Why.TheVariants.{Index as IndexFaulty, Damaged, NoArchive, NoIndex}
+use Rattle.command_common.specs.declared.faults.Why.TheVariants.{NoLines, Stale}
 use Rattle.cli_arguments.specs.Lines.{Line, out_of}
 use Rattle.cli_messages.specs.Names.{path_at}
 use Rattle.cli_messages.specs.declared.{flaws.FaultyLine.FaultyLine, hints.Hint.Hint, hints.Subject.Subject}

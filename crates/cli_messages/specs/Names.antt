@@ -3,7 +3,8 @@ use Rattle.std.specs.Prelude.{ℕ, List, Option, slice_get}
 use Rattle.cli_files.specs.InputStates.{AreWaiting, Told}
 use Rattle.clap.specs.Words.{Text}
 use Rattle.command_common.specs.declared.faults.InputName.{InputName}
-use Rattle.command_common.specs.declared.faults.InputName.TheVariants.{Archive, File, Ops, Summary, Script, Frames, Index}
+use Rattle.command_common.specs.declared.faults.InputName.TheVariants.{Archive, File, Ops, Summary, Script, Frames}
+use Rattle.command_common.specs.declared.faults.InputName.TheVariants.{Index}
 use Rattle.cli_arguments.specs.{Inputs.Inputs, Inputs.of_kind, Lines.Line, Lines.inputs_of_kind}
 use Rattle.cli_arguments.specs.declared.commands.Kind.{Kind}
 use Rattle.cli_arguments.specs.declared.commands.Kind.TheVariants as kinds

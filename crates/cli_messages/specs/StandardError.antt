@@ -1,4 +1,4 @@
--- What is said on standard error.
+-- The lines on standard error.
 use Rattle.std.specs.Prelude.{◌≡◌, ◌⊎◌, ℕ, Bool, true, false, ◌==◌, List, [], ◌∷◌, ◌++◌, ◌-◌, codes, drop}
 use Rattle.std.specs.Prelude.{if◌then◌else◌, length, nat_eq, take, Option, Some, Result, Ok, Err}
 use Rattle.std.specs.List.{ends_with, flat_map, list_any, starts_with}

@@ -1,4 +1,4 @@
--- What is told of an input that was not opened at its turn.
+-- The message about an input that was not opened when it was reached.
 use Rattle.std.specs.Prelude.{◌≡◌, Option, Some, None, Result, Ok, Err}
 use Rattle.cli_files.specs.InputStates.{Told, unopened_in}
 use Rattle.cli_files.specs.declared.input_state.Unopened.{Unopened}

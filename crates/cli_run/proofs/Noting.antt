@@ -38,7 +38,8 @@ module _ {S D T V : Type 0} (items : V → List Note) (calls : Calls S D T) (lin
   told_done report fault ended noted (Ok both) told carried = inr (carried (Ok both.0) (items both.1) told.0 told.1)
   told_done report fault ended noted (Err failure) told carried = inr (carried (Err failure) [] told tt)
 
-  pub ran : (words : List Text) (told standard_error : Writer) (status : ℕ) → error_kinds words ≡ [] → Some line ≡ line_of words → (r : Result (Status × V) Failure) → Done told r
+  pub ran : (words : List Text) (told standard_error : Writer) (status : ℕ) → error_kinds words ≡ [] → Some line
+      ≡ line_of words → (r : Result (Status × V) Failure) → Done told r
       → MatchResult r (λ both. SaysNotes standard_error (items both.1)) (λ failure. SaysFailure standard_error line failure)
       → MatchResult r (λ both. status ≡ status_of (Ok both.0)) (λ failure. status ≡ status_of (Err failure)) → Ran calls words told standard_error status
   ran words told standard_error status accepted line_is (Ok both) carried says status_is = record {

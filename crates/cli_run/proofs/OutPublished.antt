@@ -1,5 +1,7 @@
 -- What is in place of OUT, by what is known of it.
-use Rattle.std.proofs.Common.{◌≡◌, ◌∙◌, ℕ, Bool, true, false, List, [], ◌∷◌, ◌++◌, length, take, drop, get_or, suc, Option, Some, None, Result, OnOk, refl, ap, sym, subst, inl, inr, append-nil, append_assoc, arith, string_bytes}
+use Rattle.std.proofs.Common.{◌≡◌, ◌∙◌, ℕ, Bool, true, false, List, [], ◌∷◌, ◌++◌, length, take, drop, get_or, suc}
+use Rattle.std.proofs.Common.{Option, Some, None, Result, OnOk, refl, ap, sym, subst, inl, inr, append-nil}
+use Rattle.std.proofs.Common.{append_assoc, arith, string_bytes}
 use Rattle.std.proofs.{lemmas.List.append_cancel_left, lemmas.Grind.not_there, Math.Seq.take-append_seam}
 use mathlib.Core.Logic.{∥∥₁_map}
 use Rattle.std.specs.Io.KnownBytes.{Appends}

@@ -22,7 +22,8 @@ kept_same {D = D} {T = T} out same = (
   (ap (λ (o : Out D T). out.published o.target) same, ap (λ (o : Out D T). out.failures o.target) same),
 )
 
-module _ {S D T : Type 0} (calls : Calls S D T) (line : Line) (report : Writer) (told : Result Status Failure) (notes : List Note) (is : IsCarriedOut calls line report told notes) (none : is.path ≡ None) where
+module _ {S D T : Type 0} (calls : Calls S D T) (line : Line) (report : Writer) (told : Result Status Failure)
+    (notes : List Note) (is : IsCarriedOut calls line report told notes) (none : is.path ≡ None) where
   abbrev out : Outs D T
   out = outs_in calls is.begun is.done
 

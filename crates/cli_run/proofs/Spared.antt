@@ -13,7 +13,8 @@ use Rattle.command_write.specs.{MergeStreams.IsSide, MergeStreams.merge_as_it_co
 use Rattle.command_write.specs.Retire.{retire_as_it_comes}
 use Rattle.command_common.specs.Archives.{AreRefused, further_name}
 use Rattle.command_common.specs.Ends.{EndsStreamed, Query}
-use Rattle.command_common.specs.Inputs.{IsAccepted, IsArchive, IsArchiveRefused, IsFileRefused, IsFirstRefused, IsRefusedInTurn, IsRefusedOps, IsRefusedSummary, IsTextRefused, Reader}
+use Rattle.command_common.specs.Inputs.{IsAccepted, IsArchive, IsArchiveRefused, IsFileRefused, IsFirstRefused}
+use Rattle.command_common.specs.Inputs.{IsRefusedInTurn, IsRefusedOps, IsRefusedSummary, IsTextRefused, Reader}
 use Rattle.command_common.specs.Outputs.{Outs, Writer, draft_of, out_of}
 use Rattle.command_common.specs.declared.faults.{InputName.InputName, Why.Why}
 use Rattle.command_common.specs.declared.faults.CommandFault.TheVariants.{Input}
@@ -35,7 +36,8 @@ use Rattle.command_extract.specs.{Entries.IsRefusedSlice, Extract.Extraction, Ex
 use Rattle.byte_openings.specs.declared.openings.Opening.{Opening}
 use Rattle.command_write.specs.PassedOver.{admit_passing_as_it_comes}
 use Rattle.cli_run.specs.Plans.{Deed, EndsDeed, Executes, answers, none, of_first, passes, streams, summary_of}
-use Rattle.cli_run.specs.Queries.{extract_of, extraction_if_paired, find_of, frames_of, if_paired, list_of, no_archive, no_index, index_for_each_archive, symbolicate_of}
+use Rattle.cli_run.specs.Queries.{extract_of, extraction_if_paired, find_of, frames_of, if_paired, list_of, no_archive}
+use Rattle.cli_run.specs.Queries.{no_index, index_for_each_archive, symbolicate_of}
 
 -- it is no reason that refuses an input
 abbrev pub Spares : (InputName → Why → Type 0) → Type 0

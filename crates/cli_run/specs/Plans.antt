@@ -174,7 +174,8 @@ abbrev pub NotesNamed : {S : Type 0} → List (Reader S) → List ℕ → List N
 NotesNamed archives sought old new =
     of_first (new ≡ old) (λ archive others. NotesUnderscored archive others sought old new) archives
 
--- What the command of a plan that ended well notes over these inputs: `admit`, `retire` and `name` alone note something.
+-- What the command of a plan that ended well notes over these inputs: `admit`, `retire` and `name` alone note
+-- something.
 abbrev pub Notes : {S : Type 0} → (S → Opening) → Plan → Inputs (Reader S) → List Note → List Note → Type 0
 Notes opening (plan.Admit keep_going) inputs old new =
     of_first (new ≡ old) (λ archive _. NotesAdmit keep_going opening archive inputs.files old new) inputs.archives

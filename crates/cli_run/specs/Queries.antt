@@ -1,5 +1,6 @@
 -- Queries of archives, which are read by their indexes, or whole; and what `name` notes.
-use Rattle.std.specs.Prelude.{◌≡◌, ◌<◌, ◌⊎◌, ℕ, List, [], ◌∷◌, ◌++◌, Bool, true, false, nat_lt, length, Option, Some, None}
+use Rattle.std.specs.Prelude.{◌≡◌, ◌<◌, ◌⊎◌, ℕ, List, [], ◌∷◌, ◌++◌, Bool, true, false, nat_lt, length, Option, Some}
+use Rattle.std.specs.Prelude.{None}
 use Rattle.std.specs.Prelude.{if◌then◌else◌, Result, Ok, Err}
 use Rattle.archive_core.specs.declared.keys.{Digest.Digest, SliceKey.SliceKey}
 use Rattle.command_common.specs.declared.faults.CommandFault.{CommandFault, TheVariants.Input}
@@ -87,7 +88,8 @@ abbrev pub extract_of : {S : Type 0} → List (Reader S) → List (Reader S) →
     → Writer → Extraction
 extract_of (archive ∷ others) places [] key digest draft = extract archive others key digest draft
 extract_of archives places indexes key digest draft =
-    extraction_if_paired (index_for_each_archive (length archives) (length indexes)) draft (extract_at indexes places key digest draft)
+    extraction_if_paired (index_for_each_archive (length archives) (length indexes)) draft
+    (extract_at indexes places key digest draft)
 
 -- the name that a symbol has with a `_` before it alone, as it is noted
 abbrev pub underscored_in : Note → Option (List ℕ)

@@ -18,9 +18,9 @@ use command_common::{CommandFault, Status};
 use command_write::Note;
 use memory::Heap;
 
-/// Carries out a plan over inputs, each of which is opened with the first call for its bytes, so where it cannot be opened
-/// its command is refused as where it cannot be read, and that is told as what it is. What the command notes is added
-/// to `notes`.
+/// Carries out a plan over inputs, each of which is opened with the first call for its bytes, so where it cannot be
+/// opened its command is refused as where it cannot be read, and that is told as what it is. What the command notes is
+/// added to `notes`.
 pub fn execute_on<A: Archive + Drop, L: Archive + Drop, D: Disk, T: Target, P: Sink>(
     heap: Heap,
     inputs: &mut Inputs<AtTurn<'_, D>>,

@@ -113,10 +113,10 @@ fn told_with(
     }
 }
 
-/// Carries out the plan of a line over files of the system, whose report goes to `report`. Each input is opened at its turn, and
-/// closed at its end; OUT's draft is created with its first bytes, published when it is whole, and removed where it
-/// was not. No line without OUT has any. What was seen of the file that it failed at is in `seen`, and what a command
-/// that ended well notes is handed back.
+/// Carries out the plan of a line over files of the system, whose report goes to `report`. Each input is opened at its
+/// turn, and closed at its end; OUT's draft is created with its first bytes, published when it is whole, and removed
+/// where it was not. No line without OUT has any. What was seen of the file that it failed at is in `seen`, and what a
+/// command that ended well notes is handed back.
 pub fn execute<'f, F: Files, P: Sink>(
     files: &mut SystemFiles<'f, F>,
     line: &Line,

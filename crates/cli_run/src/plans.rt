@@ -18,8 +18,8 @@ use command_common::{CommandFault, Status};
 use command_write::{Note, run_new};
 use memory::Heap;
 
-/// Which files the OUT of a plan replaces: a summary and an index their own kind, a slice its own bytes, an archive those
-/// below it.
+/// Which files the OUT of a plan replaces: a summary and an index their own kind, a slice its own bytes, an archive
+/// those below it.
 pub fn replaces(plan: &Plan) -> Replaces
     ensures { result ≡ replaces_of plan.now }
 {

@@ -114,8 +114,8 @@ fn note_underscored(
     Ok(())
 }
 
-/// `name` over archives: a row for each symbol of this exact name. Where there is none, and a symbol has the name with a
-/// `_` before it, a note is added.
+/// `name` over archives: a row for each symbol of this exact name. Where there is none, and a symbol has the name with
+/// a `_` before it, a note is added.
 fn name<S: Source, P: Sink>(
     heap: Heap,
     archive: &mut S,

@@ -22,13 +22,18 @@ module _ (Makes : List ℕ → List ℕ → Type 0) (Refuses : InputName → Why
 
   -- it was stopped
   pub stopped_amidst : (fault : CommandFault) → StopsSo fault → HasTaken out.draft fault → PublishesNothing out → Takes report [] → EndsSo (Err fault)
-  stopped_amidst (Input at why) s t nothing unreported = record { stops = s; bytes = t.0; took = t.1; count = t.2; nothing_published = nothing; unreported = unreported }
+  stopped_amidst (Input at why) s t nothing unreported =
+      record { stops = s; bytes = t.0; took = t.1; count = t.2; nothing_published = nothing; unreported = unreported }
   stopped_amidst (Report n) s t nothing unreported = absurd s
-  stopped_amidst fault s t nothing unreported = inl (record { stops = s; bytes = t.0; took = t.1; count = t.2; nothing_published = nothing; unreported = unreported })
+  stopped_amidst fault s t nothing unreported = inl (record
+      { stops = s; bytes = t.0; took = t.1; count = t.2; nothing_published = nothing; unreported = unreported })
 
 -- what stops one command stops another that makes no more, is refused where that one is, and blames no more readers
-module _ (Makes Others : List ℕ → List ℕ → Type 0) (Refuses RefusesToo : InputName → Why → Type 0) (NoneFailed NoneFailedToo Known KnownToo : Type 0) (draft : Writer)
-    (makes : (text told : List ℕ) → Others text told → Makes text told) (refuses : (at : InputName) (why : Why) → Refuses at why → RefusesToo at why) (unfailed : NoneFailed → NoneFailedToo) (known : KnownToo → Known) where
+module _ (Makes Others : List ℕ → List ℕ → Type 0) (Refuses RefusesToo : InputName → Why → Type 0)
+    (NoneFailed NoneFailedToo Known KnownToo : Type 0) (draft : Writer)
+    (makes : (text told : List ℕ) → Others text told → Makes text told)
+    (refuses : (at : InputName) (why : Why) → Refuses at why → RefusesToo at why)
+    (unfailed : NoneFailed → NoneFailedToo) (known : KnownToo → Known) where
   pub stops_alike : (fault : CommandFault) → StopsAmidst (record { Makes = Makes; Refuses = Refuses; Unfailed = NoneFailed }) Known draft fault
       → StopsAmidst (record { Makes = Others; Refuses = RefusesToo; Unfailed = NoneFailedToo }) KnownToo draft fault
   stops_alike (Input at why) s = (refuses at why s.0, s.1, (s.2.0, λ k text told m. s.2.1 (known k) text told (makes text told m)))
@@ -48,7 +53,8 @@ unfolding written
 some_text o = omega arith
 
 -- that is a beginning of each archive's text
-pub nothing_first : (Makes : Operations → List ℕ → Type 0) (old new : Option (List ℕ)) (text told : List ℕ) → Appends old new [] → MakesArchive Makes text told → WritesFirst old new text 0
+pub nothing_first : (Makes : Operations → List ℕ → Type 0) (old new : Option (List ℕ)) (text told : List ℕ)
+    → Appends old new [] → MakesArchive Makes text told → WritesFirst old new text 0
 nothing_first Makes old new text told none m = record { within = subst (λ (t : List ℕ). 0 < length t) (sym m.text_is) (some_text m.content); gained = none }
 
 no_count_input : (at : InputName) (why : Why) (n : ℕ) → Input at why ≡ Output n → n ≡ 0
@@ -88,8 +94,11 @@ module _ (Makes : Operations → List ℕ → Type 0) (Refuses : InputName → W
   refused_in_turn fault r kept unreported = absurd r
 
   -- what ends a command that makes the same and reads less
-  module _ (Others : Operations → List ℕ → Type 0) (Refused : InputName → Why → Type 0) (Whole KnownToo : Type 0) (forth : (text told : List ℕ) → MakesArchive Others text told → MakesArchive Makes text told)
-      (back : Known → (text told : List ℕ) → MakesArchive Makes text told → MakesArchive Others text told) (refuses : (at : InputName) (why : Why) → Refused at why → Refuses at why) (whole : Whole → NoneFailed) (known : Known → KnownToo) where
+  module _ (Others : Operations → List ℕ → Type 0) (Refused : InputName → Why → Type 0) (Whole KnownToo : Type 0)
+      (forth : (text told : List ℕ) → MakesArchive Others text told → MakesArchive Makes text told)
+      (back : Known → (text told : List ℕ) → MakesArchive Makes text told → MakesArchive Others text told)
+      (refuses : (at : InputName) (why : Why) → Refused at why → Refuses at why) (whole : Whole → NoneFailed)
+      (known : Known → KnownToo) where
     abbrev other : Command
     other = record { Makes = MakesArchive Others; Refuses = Refused; Unfailed = Whole }
 

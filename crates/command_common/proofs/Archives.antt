@@ -11,7 +11,8 @@ module _ {S : Type 0} where
   hold_more (f ∷ files) (o ∷ contents) file other each holds = (each.0, hold_more files contents file other each.1 holds)
   hold_more files contents file other each holds = absurd each
 
-  pub each_archive : (files : List (Reader S)) (contents : List Operations) → AllZip HoldsArchive files contents → AllByRecursion IsContent contents → AllByRecursion IsArchive files
+  pub each_archive : (files : List (Reader S)) (contents : List Operations) → AllZip HoldsArchive files contents
+      → AllByRecursion IsContent contents → AllByRecursion IsArchive files
   each_archive [] contents hold are = tt
   each_archive (_ ∷ _) [] hold are = absurd hold
   each_archive (_ ∷ files) (o ∷ contents) hold are = ((o, are.0, hold.0), each_archive files contents hold.1 are.1)

@@ -1,5 +1,6 @@
 -- The inputs of a list, one more of which was read.
-use Rattle.std.proofs.Common.{◌≡◌, ℕ, zero, suc, ◌+◌, ◌<◌, List, [], ◌∷◌, ◌++◌, length, take, drop, get_or, set, Option, Some, refl, sym, ap, ◌∙◌, subst, arith, inl, inr}
+use Rattle.std.proofs.Common.{◌≡◌, ℕ, zero, suc, ◌+◌, ◌<◌, List, [], ◌∷◌, ◌++◌, length, take, drop, get_or, set, Option}
+use Rattle.std.proofs.Common.{Some, refl, sym, ap, ◌∙◌, subst, arith, inl, inr}
 use Rattle.std.proofs.lemmas.List.{length-take, get_or-drop, drop-set-lt, drop-drop, get_or-set_same, take-set, take_more_set}
 use Rattle.std.specs.Prelude.{slice_get}
 use Rattle.std.proofs.lemmas.Option.{slice_get-get_or}
@@ -84,7 +85,8 @@ module _ {S : Type 0} (left : S → Option (List ℕ)) (failures : S → ℕ) wh
 
   -- all were read
   pub all_read : (old now : List S) → length now ≡ length old → take (length old) (between old now) ≡ between old now
-  all_read (x ∷ xs) (y ∷ ys) long = let rest : length ys ≡ length xs = omega (arith, long) in ap (λ (rs : List (Reader S)). reader left failures x y ∷ rs) (all_read xs ys rest)
+  all_read (x ∷ xs) (y ∷ ys) long = let rest : length ys ≡ length xs = omega (arith, long)
+      in ap (λ (rs : List (Reader S)). reader left failures x y ∷ rs) (all_read xs ys rest)
   all_read old now long = refl
 
   pub none_failed : (files : List S) → EachUnfailed (between files files)
@@ -94,7 +96,8 @@ module _ {S : Type 0} (left : S → Option (List ℕ)) (failures : S → ℕ) wh
   pub unfailed_more : (old now : List S) (place : ℕ) (file after : S) → place < length old → length now ≡ length old → file ≡ get_or old place file
       → EachUnfailed (between old now) → Unfailed (reader left failures file after) → EachUnfailed (between old (set now place after))
   unfailed_more old now place file after lt long is each one =
-      subst (λ (rs : List (Reader S)). EachUnfailed rs) (sym (set_one old now place file after lt long is)) (all_set (λ (r : Reader S). Unfailed r) (between old now) place (reader left failures file after) each one)
+      subst (λ (rs : List (Reader S)). EachUnfailed rs) (sym (set_one old now place file after lt long is))
+      (all_set (λ (r : Reader S). Unfailed r) (between old now) place (reader left failures file after) each one)
 
   pub none_touched : (files : List S) → EachUntouched (between files files)
   none_touched [] = tt
@@ -106,7 +109,8 @@ module _ {S : Type 0} (left : S → Option (List ℕ)) (failures : S → ℕ) wh
   untouched_behind old now n same = tt
 
   -- the input at a place is refused, those before it being accepted
-  pub refused_at : (asked_of : ℕ → InputName) (IsGood : Reader S → Type 0) (IsRefused : Reader S → Why → Type 0) (old now : List S) (place : ℕ) (file after : S) (fault : CommandFault)
+  pub refused_at : (asked_of : ℕ → InputName) (IsGood : Reader S → Type 0) (IsRefused : Reader S → Why → Type 0)
+      (old now : List S) (place : ℕ) (file after : S) (fault : CommandFault)
       → place < length old → length now ≡ length old → file ≡ get_or old place file
       → AllByRecursion IsGood (take place (between old now)) → drop place now ≡ drop place old → EachUnfailed (between old now)
       → IsRefusal (λ at why. (at ≡ asked_of place) × IsRefused (reader left failures file after) why) (Unfailed (reader left failures file after)) fault
@@ -124,11 +128,13 @@ module _ {S : Type 0} (left : S → Option (List ℕ)) (failures : S → ℕ) wh
         before = subst (λ (rs : List (Reader S)). AllByRecursion IsGood rs) (sym front) before;
         unfailed = subst (λ (rs : List (Reader S)). EachUnfailed rs) (sym front) (all_take (λ (r : Reader S). Unfailed r) place seen each);
         input = x;
-        input_is = ap (λ (rs : List (Reader S)). slice_get rs place) set_is ∙ slice_get-get_or (set seen place x) place x within_set ∙ ap Some (get_or-set_same seen place x x within);
+        input_is = ap (λ (rs : List (Reader S)). slice_get rs place) set_is
+            ∙ slice_get-get_or (set seen place x) place x within_set ∙ ap Some (get_or-set_same seen place x x within);
         refused = refused.1;
         behind = untouched_behind old (set now place after) (place + 1) (rest_kept now old place after rest);
       }
-  refused_at asked_of IsGood IsRefused old now place file after OutOfMemory lt long is before rest each refused = unfailed_more old now place file after lt long is each refused
+  refused_at asked_of IsGood IsRefused old now place file after OutOfMemory lt long is before rest each refused =
+      unfailed_more old now place file after lt long is each refused
   refused_at asked_of IsGood IsRefused old now place file after fault lt long is before rest each refused = absurd refused
 
 -- what is of the machine, and no want of memory, is the device's

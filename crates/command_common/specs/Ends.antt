@@ -61,8 +61,8 @@ pub record Streamed : Type 1 where
   pub Stops : CommandFault → Type 0
   pub Unfailed : Type 0
 
--- It was stopped with this fault. OUT's draft has some bytes, as many as are told where it failed; nothing is published,
--- and nothing was reported.
+-- It was stopped with this fault. OUT's draft has some bytes, as many as are told where it failed; nothing is
+-- published, and nothing was reported.
 pub record IsStopped (command : Streamed) (out : Out) (report : Writer) (fault : CommandFault) : Type 0 where
   pub stops : command.Stops fault
   pub bytes : List ℕ

@@ -6,7 +6,8 @@ use Rattle.index_format.specs.IndexFaultText.{fault_text}
 use Rattle.text_reports.specs.Texts.{script_fault_text}
 use Rattle.text_reports.specs.Texts.{record_fault_text, take_fault_text}
 use Rattle.command_common.specs.declared.faults.InputName.{InputName}
-use Rattle.command_common.specs.declared.faults.InputName.TheVariants.{Archive, File, Ops, Summary, Script as ScriptInput}
+use Rattle.command_common.specs.declared.faults.InputName.TheVariants.{Archive, File, Ops, Summary}
+use Rattle.command_common.specs.declared.faults.InputName.TheVariants.{Script as ScriptInput}
 use Rattle.command_common.specs.declared.faults.InputName.TheVariants.{Frames, Index}
 use Rattle.command_common.specs.declared.faults.Why.{Why}
 use Rattle.command_common.specs.declared.faults.Why.TheVariants.{CannotOpen, Device, Record, Take, Script, BadFrame}

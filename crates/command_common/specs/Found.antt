@@ -1,4 +1,4 @@
--- How a search ends, and what is told of its rows.
+-- How a search ends, and the report of its rows.
 use Rattle.std.specs.Prelude.{◌≡◌, ℕ, List, [], ◌∷◌}
 use Rattle.archive_core.specs.Content.{Operations}
 use Rattle.archive_core.specs.Find.{IsFinds}

@@ -1,4 +1,4 @@
--- What is written to OUT and to the report.
+-- The bytes that are written to OUT and to the report.
 use Rattle.std.specs.Prelude.{◌≡◌, ℕ, List, [], ◌++◌, length, Option, Some, Result, Ok, Err, ◌⊎◌}
 use Rattle.std.specs.FinSet as set
 use Rattle.std.specs.Io.KnownBytes.{Appends}

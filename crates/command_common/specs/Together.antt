@@ -1,4 +1,4 @@
--- What parts of several archives have in common with their join.
+-- The facts that parts of several archives share with their join.
 use Rattle.std.specs.Prelude.{◌≡◌, ℕ, ◌≤◌, List, Bool, true, length}
 use Rattle.archive_core.specs.Content.{Operations}
 use Rattle.archive_core.specs.Part.{AreAlikeUnder, is_under}

@@ -13,7 +13,8 @@
 //!
 //! # Why it is so
 //!
-//! - `CommandFault` and `Failure` have their `Display` by hand. The texts of lower crates' faults are in `text_reports`.
+//! - `CommandFault` and `Failure` have their `Display` by hand. The texts of lower crates' faults are in
+//!   `text_reports`.
 //! - An input in a contract is a record of two states, before and after.
 //! - An output that could not be published failed after all of its bytes.
 #![tactic(auto)]

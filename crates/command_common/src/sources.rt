@@ -11,9 +11,11 @@ ghost use Rattle.text_inputs.specs.Frames.{frames_of};
 ghost use Rattle.text_inputs.specs.Script.{acts, script_of};
 ghost use Rattle.command_common.specs.declared.faults.CommandFault.TheVariants.{Input};
 ghost use Rattle.command_common.specs.declared.faults.Why.TheVariants.{Record};
-ghost use Rattle.command_common.specs.Inputs.{Gives, Holds, HoldsArchive, HoldsContent, HoldsPart, IsArchive, IsRefusal};
+ghost use Rattle.command_common.specs.Inputs.{Gives, Holds, HoldsArchive, HoldsContent, HoldsPart, IsArchive};
+ghost use Rattle.command_common.specs.Inputs.{IsRefusal};
 ghost use Rattle.command_common.specs.Inputs.{IsRefusedArchive, IsRefusedFile, IsRefusedFrames, IsRefusedOps};
-ghost use Rattle.command_common.specs.Inputs.{IsRefusedScript, IsRefusedSummary, IsUnread, ReadsInput, TellsInTurn, reader};
+ghost use Rattle.command_common.specs.Inputs.{IsRefusedScript, IsRefusedSummary, IsUnread, ReadsInput, TellsInTurn};
+ghost use Rattle.command_common.specs.Inputs.{reader};
 
 use crate::faults::{CommandFault, InputName, Why};
 use archive_core::{Archive, FindRow, Operation};

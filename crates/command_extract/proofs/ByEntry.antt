@@ -38,8 +38,11 @@ pub archive_there : (key : SliceKey) (digest : Option Digest) (all : List (List 
 archive_there key digest all x is = let among = chosen_among key digest all x is in slice_get_within all x.input among.entries among.index_is
 
 -- an index was refused
-pub refused_first : {I P D T : Type 0} (indexes : List (Reader I)) (archives : List (Reader P)) (key : SliceKey) (digest : Option Digest) (out : Outs D T) (report : Writer) (fault : CommandFault)
-    → IsRefusal (IsFirstRefusedByIndex indexes archives) (EachUnfailed indexes × EachUnfailed archives) fault → out.new ≡ out.old → Takes report [] → Extracts (extract_at indexes archives key digest (out_of out).draft) out report (Err fault)
+pub refused_first : {I P D T : Type 0} (indexes : List (Reader I)) (archives : List (Reader P)) (key : SliceKey)
+    (digest : Option Digest) (out : Outs D T) (report : Writer) (fault : CommandFault)
+    → IsRefusal (IsFirstRefusedByIndex indexes archives) (EachUnfailed indexes × EachUnfailed archives) fault → out.new
+    ≡ out.old → Takes report [] → Extracts (extract_at indexes archives key digest (out_of out).draft) out report
+    (Err fault)
 refused_first indexes archives key digest out report fault r same unreported =
     let refused = refusal_of (IsFirstRefusedByIndex indexes archives) (AreRefusedBefore indexes archives key) (AreUnfailedTogether indexes archives)
     (AreUnfailedTogether indexes archives) fault (λ at why first. inl first) (λ u. u) r in
@@ -81,10 +84,22 @@ module _ {I P D T : Type 0} (indexes : List (Reader I)) (whole : P → Option (L
       stopped_before command out report OutOfMemory (λ at why. ⊥) (AreUnfailedTogether indexes known) u (inl (u, took_nothing out same)) same unreported
 
   -- no entry is wanted
-  pub rows_so : (result : Result Status CommandFault) (xs : List EntryAt) (rows : List FindRow) → AreUnchosen key digest all xs → AllZip IsRowAt xs rows → EachUnfailed later → out.new ≡ out.old → PublishesRows rows report result
+  pub rows_so : (result : Result Status CommandFault) (xs : List EntryAt) (rows : List FindRow)
+      → AreUnchosen key digest all xs → AllZip IsRowAt xs rows → EachUnfailed later → out.new ≡ out.old
+      → PublishesRows rows report result
       → Extracts command out report result
   rows_so result xs rows are rows_are each same (inl reported) =
-      let lacks : LacksEntry indexes known key digest (find_lines rows) = record { all = all; read = read_all; answering = xs; are = are; rows = rows; rows_are = rows_are; told_is = refl } in
+      let lacks : LacksEntry indexes known key digest (find_lines rows) =
+      record {
+        all = all;
+        read = read_all;
+        answering = xs;
+        are = are;
+        rows = rows;
+        rows_are = rows_are;
+        told_is =
+            refl;
+      } in
       inr (record { unfailed = unfailed_all (read.unfailed.0, each); text = find_lines rows; lacks = inl lacks; kept = same; reported = reported })
   rows_so result xs rows are rows_are each same (inr none) = rw none.0 (wanting each same none.1)
 
@@ -93,7 +108,8 @@ module _ {I P D T : Type 0} (indexes : List (Reader I)) (whole : P → Option (L
       → PublishesTied key all later out report result → Extracts command out report result
   tied_so none tied result (inl (p, named, each, wanted)) =
       let u = unfailed_all (read.unfailed.0, each) in
-      let held : HoldTogether (key_bytes key ∷ []) indexes known p = record { all = all; read = read_all; later = later; are_later = are_later; named = named } in
+      let held : HoldTogether (key_bytes key ∷ []) indexes known p =
+      record { all = all; read = read_all; later = later; are_later = are_later; named = named } in
       wanted_so command out report (HoldTied indexes known key) key None result p u (λ slice told makes. inr (none, makes)) (λ told lacks. inr (none, lacks))
       (λ same. inl (u, took_nothing out same))
       (λ IsTrue tells. (p, held, tied, tells p (λ r under. refl))) wanted

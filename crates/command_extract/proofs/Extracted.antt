@@ -68,12 +68,19 @@ module _ {D T : Type 0} (command : Extraction) (out : Outs D T) (report : Writer
   }
 
   -- before OUT was begun
-  pub stopped_before : (fault : CommandFault) (Refuses : InputName → Why → Type 0) (NoneFailed : Type 0) → IsRefusal Refuses NoneFailed fault → command.writes.Stops fault → out.new ≡ out.old → Takes report []
+  pub stopped_before : (fault : CommandFault) (Refuses : InputName → Why → Type 0) (NoneFailed : Type 0)
+      → IsRefusal Refuses NoneFailed fault → command.writes.Stops fault → out.new ≡ out.old → Takes report []
       → Extracts command out report (Err fault)
   stopped_before (Input at why) Refuses NoneFailed r stops same unreported =
-      inl (stopped (Input at why) [] stops (took_nothing out same).0 (λ n h. absurd (cc h)) (ap (λ (o : Out_value D T). out.published o.target) same, ap (λ (o : Out_value D T). out.failures o.target) same) unreported)
+      inl (stopped (Input at why) [] stops (took_nothing out same).0 (λ n h. absurd (cc h)) (
+        ap (λ (o : Out_value D T). out.published o.target) same,
+        ap (λ (o : Out_value D T). out.failures o.target) same,
+      ) unreported)
   stopped_before OutOfMemory Refuses NoneFailed r stops same unreported =
-      inl (inl (stopped OutOfMemory [] stops (took_nothing out same).0 (λ n h. absurd (cc h)) (ap (λ (o : Out_value D T). out.published o.target) same, ap (λ (o : Out_value D T). out.failures o.target) same) unreported))
+      inl (inl (stopped OutOfMemory [] stops (took_nothing out same).0 (λ n h. absurd (cc h)) (
+        ap (λ (o : Out_value D T). out.published o.target) same,
+        ap (λ (o : Out_value D T). out.failures o.target) same,
+      ) unreported))
   stopped_before fault Refuses NoneFailed r stops same unreported = absurd r
 
   -- what is wanted of a content that is kept is published, or it is reported that none is

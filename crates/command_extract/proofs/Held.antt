@@ -1,5 +1,6 @@
 -- Slices that are held under a key.
-use Rattle.std.proofs.Common.{◌≡◌, ℕ, ◌+◌, ◌<◌, true, List, [], ◌++◌, length, take, drop, get_or, sym, ap, subst, ◌∙◌, arith, append_assoc, length-append, inl, inr}
+use Rattle.std.proofs.Common.{◌≡◌, ℕ, ◌+◌, ◌<◌, true, List, [], ◌++◌, length, take, drop, get_or, sym, ap, subst, ◌∙◌}
+use Rattle.std.proofs.Common.{arith, append_assoc, length-append, inl, inr}
 use Rattle.std.specs.List.{Contains}
 use Rattle.std.specs.Int.{w64, to_be_bytes}
 use Rattle.std.specs.Cmp.Lexicographic.{nat_list_cmp_total}

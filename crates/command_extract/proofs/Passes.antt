@@ -1,5 +1,7 @@
 -- Bytes of a place that were gone through so far.
-use Rattle.std.proofs.Common.{◌≡◌, ℕ, Bool, false, Result, Ok, Err, ◌+◌, ◌<◌, ◌≤◌, List, [], ◌++◌, length, take, drop, Option, Some, None, refl, sym, ap, ◌∙◌, subst, arith, append_assoc, length-append, length-drop, length-take}
+use Rattle.std.proofs.Common.{◌≡◌, ℕ, Bool, false, Result, Ok, Err, ◌+◌, ◌<◌, ◌≤◌, List, [], ◌++◌, length, take, drop}
+use Rattle.std.proofs.Common.{Option, Some, None, refl, sym, ap, ◌∙◌, subst, arith, append_assoc, length-append}
+use Rattle.std.proofs.Common.{length-drop, length-take}
 use Rattle.std.specs.Bool.{MatchBool}
 use Rattle.std.specs.Io.KnownBytes.{Appends}
 use Rattle.std.proofs.lemmas.List.{length-take-le, take-append-drop, take-take, take_at}
@@ -35,7 +37,8 @@ stands_front (Some all) at front back stand =
     ∙ ap (take (length front)) stand
     ∙ take_at front back (length front) refl
 
-module _ (whole now held_old held_mid held_new : Option (List ℕ)) (at done n : ℕ) (buffer : List ℕ) (hasher : Sha256) (gone : HaveGone whole held_old held_mid at done hasher)
+module _ (whole now held_old held_mid held_new : Option (List ℕ)) (at done n : ℕ) (buffer : List ℕ) (hasher : Sha256)
+    (gone : HaveGone whole held_old held_mid at done hasher)
     (bound : n ≤ length buffer) (keeps : now ≡ whole) (came : TakenAt now (at + done) n buffer) where
   -- one piece more stands there
   next_stands : Stands whole at (gone.bytes ++ take n buffer)
@@ -44,7 +47,9 @@ module _ (whole now held_old held_mid held_new : Option (List ℕ)) (at done n :
       (subst (λ (k : ℕ). TakenAt whole (at + k) n buffer) (sym gone.long) (subst (λ (w : Option (List ℕ)). TakenAt w (at + done) n buffer) keeps came))
 
   -- and was gone through
-  pub gone_more : (piece : List ℕ) (after : Sha256) → piece ≡ take n buffer → Appends held_mid held_new piece → ((m : List ℕ) → Holds256 hasher m → Holds256 after (m ++ piece)) → HaveGone whole held_old held_new at (done + n) after
+  pub gone_more : (piece : List ℕ) (after : Sha256) → piece ≡ take n buffer → Appends held_mid held_new piece
+      → ((m : List ℕ) → Holds256 hasher m → Holds256 after (m ++ piece))
+      → HaveGone whole held_old held_new at (done + n) after
   gone_more piece after is gained holds = record {
     bytes = gone.bytes ++ piece;
     long = omega (arith, length-append gone.bytes piece, ap length is, length-take-le n buffer bound, gone.long);
@@ -81,7 +86,8 @@ fewer_other (Some all) at size digest fewer = λ have.
     omega (arith, less.0, less.1, bytes.long, ap length bytes.stands, length-take (length bytes.bytes) (drop at all), length-drop at all)
 
 -- nothing was hashed
-pub nothing_hashed : {P : Type 0} (device : Stream P) (at size : ℕ) (result : Result (Option (List ℕ)) Failed) (digest : List ℕ) → HashesAt device at size result → result ≡ Ok None
+pub nothing_hashed : {P : Type 0} (device : Stream P) (at size : ℕ) (result : Result (Option (List ℕ)) Failed)
+    (digest : List ℕ) → HashesAt device at size result → result ≡ Ok None
     → IsUnfailed device × HaveOther (device.bytes device.old) at size digest
 nothing_hashed device at size (Ok None) digest h is = (h.hashes.0, fewer_other (device.bytes device.old) at size digest (λ some. h.hashes.1))
 nothing_hashed device at size (Ok (Some found)) digest h is = absurd (cc is)

@@ -26,7 +26,8 @@ use Rattle.command_extract.specs.InnerEntries.{told_fault}
 use Rattle.command_extract.specs.Wanted.{line_of, written_line}
 
 -- the draft was not begun
-pub unbegun : {P : Type 0} (archive : Reader P) (x : EntryAt) (draft : Writer) (fault : CommandFault) → Takes draft [] → Hinders archive x draft 0 fault → StopsSlice archive x draft fault
+pub unbegun : {P : Type 0} (archive : Reader P) (x : EntryAt) (draft : Writer) (fault : CommandFault) → Takes draft []
+    → Hinders archive x draft 0 fault → StopsSlice archive x draft fault
 unbegun archive x draft fault took hinders = record {
   bytes = [];
   took = took.0;
@@ -36,7 +37,9 @@ unbegun archive x draft fault took hinders = record {
   hinders = hinders;
 }
 
-module _ {P W : Type 0} (whole : P → Option (List ℕ)) (failures : P → ℕ) (held : W → Option (List ℕ)) (failures_of_draft : W → ℕ) (device after : P) (before behind : W) (named : NamedSlice) (x : EntryAt) (names : Names x named) where
+module _ {P W : Type 0} (whole : P → Option (List ℕ)) (failures : P → ℕ) (held : W → Option (List ℕ))
+    (failures_of_draft : W → ℕ) (device after : P) (before behind : W) (named : NamedSlice) (x : EntryAt)
+    (names : Names x named) where
   abbrev archive : Reader P
   archive = reader whole failures device after
 
@@ -61,7 +64,8 @@ module _ {P W : Type 0} (whole : P → Option (List ℕ)) (failures : P → ℕ)
       )
 
   -- others are none
-  holds_other : (known : Option (List ℕ)) → HaveOther known (named.offset + 33) named.size named.row.digest.0 → IfSome known (λ text. (slice : List ℕ) → IsSliceOf x slice → StandFor x slice text → ⊥)
+  holds_other : (known : Option (List ℕ)) → HaveOther known (named.offset + 33) named.size named.row.digest.0
+      → IfSome known (λ text. (slice : List ℕ) → IsSliceOf x slice → StandFor x slice text → ⊥)
   holds_other None other = tt
   holds_other (Some text) other = λ slice of stands. other (
     omega (arith, of.some, of.long, names.size_is),
@@ -73,14 +77,17 @@ module _ {P W : Type 0} (whole : P → Option (List ℕ)) (failures : P → ℕ)
     },
   )
 
-  hindered : (sent : ℕ) (fault : SendFault) → HindersSending (stream whole failures device after) (stream held failures_of_draft before behind) (named.offset + 33) named.size named.row.digest.0 sent fault
+  hindered : (sent : ℕ) (fault : SendFault) → HindersSending (stream whole failures device after)
+      (stream held failures_of_draft before behind) (named.offset + 33) named.size named.row.digest.0 sent fault
       → Hinders archive x draft sent (told_fault named.input named.number named.offset fault)
   hindered sent Other h = (inr (ap Index names.input_is, ap (λ (n : ℕ). Stale (Some n)) names.number_is, h.1, holds_other (whole device) h.0), h.2)
   hindered sent Device h = (inl (ap Archive names.input_is, (refl, names.offset_is, h.0)), h.1)
   hindered sent (Sink written) h = (h.0, omega (arith, h.1, names.size_is), h.2, h.3)
 
   -- the slice was sent
-  pub sent : (0 < named.size) × IsCopied (stream whole failures device after) (stream held failures_of_draft before behind) (named.offset + 33) named.size named.row.digest.0 → (slice : List ℕ) × HoldsSlice archive x slice × Takes draft slice × Unfailed archive
+  pub sent : (0 < named.size) × IsCopied (stream whole failures device after)
+      (stream held failures_of_draft before behind) (named.offset + 33) named.size named.row.digest.0 → (slice : List ℕ)
+      × HoldsSlice archive x slice × Takes draft slice × Unfailed archive
   sent (some, copied) = (
     copied.bytes,
     record {
@@ -92,7 +99,8 @@ module _ {P W : Type 0} (whole : P → Option (List ℕ)) (failures : P → ℕ)
   )
 
   -- the slice was not sent
-  pub unsent : (fault : SendFault) → StopsSending (stream whole failures device after) (stream held failures_of_draft before behind) (named.offset + 33) named.size named.row.digest.0 fault
+  pub unsent : (fault : SendFault) → StopsSending (stream whole failures device after)
+      (stream held failures_of_draft before behind) (named.offset + 33) named.size named.row.digest.0 fault
       → StopsSlice archive x draft (told_fault named.input named.number named.offset fault)
   unsent fault stops = record {
     bytes = stops.bytes;
@@ -104,7 +112,8 @@ module _ {P W : Type 0} (whole : P → Option (List ℕ)) (failures : P → ℕ)
   }
 
 -- the line that an entry tells is that of its slice
-pub same_line : (key : SliceKey) (named : NamedSlice) (x : EntryAt) (slice : List ℕ) → Names x named → IsSliceOf x slice → line_of key named.row.digest named.size ≡ written_line key slice
+pub same_line : (key : SliceKey) (named : NamedSlice) (x : EntryAt) (slice : List ℕ) → Names x named → IsSliceOf x slice
+    → line_of key named.row.digest named.size ≡ written_line key slice
 same_line key named x slice names of =
     ap (λ (d : List ℕ). line_of key (record { 0 = d }) named.size) (names.row.digest_is ∙ sym of.digest_is)
     ∙ ap (λ (n : ℕ). line_of key (record { 0 = sha256 slice }) n) (names.size_is ∙ sym of.long)

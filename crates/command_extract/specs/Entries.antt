@@ -1,4 +1,4 @@
--- The slice that is wanted by the entries of indexes, and what its archive has at its place.
+-- The slice that is wanted by the entries of indexes, and the bytes at its place in its archive.
 use Rattle.std.specs.Prelude.{◌≡◌, ◌≢◌, ◌<◌, ◌≤◌, ◌+◌, ◌⊎◌, ℕ, List, [], ◌∷◌, length, take, drop, Option, Some, None}
 use Rattle.std.specs.Io.KnownBytes.{Appends}
 use Rattle.sha2.specs.Sha256.{sha256}
@@ -56,8 +56,8 @@ IsRefusedSlice archive x at why =
     ((at ≡ Archive x.input) × IsUnreadAt (λ offset. offset ≡ offset_in x.entry) archive why)
     ⊎ ((at ≡ Index x.input) × (why ≡ Stale (Some x.number)) × Unfailed archive × HoldsOther archive x)
 
--- why a slice was not sent, of which the draft has so many bytes: ARCHIVE is refused, or the draft failed, or memory was
--- wanted before the draft was begun
+-- why a slice was not sent, of which the draft has so many bytes: ARCHIVE is refused, or the draft failed, or memory
+-- was wanted before the draft was begun
 abbrev pub Hinders : {P : Type 0} → Reader P → EntryAt → Writer → ℕ → CommandFault → Type 0
 Hinders archive x draft sent (Input at why) =
     IsRefusedSlice archive x at why × (draft.failures_new ≡ draft.failures_old)

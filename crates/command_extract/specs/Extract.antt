@@ -1,4 +1,4 @@
--- How `extract` ends, and what it makes of archives.
+-- How `extract` ends, and the file that it makes from archives.
 use Rattle.std.specs.Prelude.{◌≡◌, ℕ, List, [], Option, Result, ◌⊎◌}
 use Rattle.archive_core.specs.Content.{Operations}
 use Rattle.archive_core.specs.declared.keys.Digest.{Digest}

@@ -1,4 +1,4 @@
--- What `extract` makes of archives by their indexes.
+-- The file that `extract` makes from archives by their indexes.
 use Rattle.std.specs.Prelude.{◌≡◌, ◌⊎◌, ℕ, List, [], ◌∷◌, Option, None}
 use Rattle.std.specs.List.{AllZip}
 use Rattle.archive_core.specs.Content.{Operations}
@@ -86,7 +86,8 @@ extract_at indexes archives key digest draft = record {
     Makes = λ slice told. MakesEntry indexes archives key digest slice told
         ⊎ ((digest ≡ None) × MakesSlice (HoldTied indexes archives key) key None slice told);
     Stops = λ fault.
-        (IsRefusal (AreRefusedBefore indexes archives key) (AreUnfailedTogether indexes archives) fault × Takes draft [])
+        (IsRefusal (AreRefusedBefore indexes archives key) (AreUnfailedTogether indexes archives) fault
+        × Takes draft [])
         ⊎ StopsEntry indexes archives key digest draft fault;
     Unfailed = AreUnfailedTogether indexes archives;
   };

@@ -1,4 +1,4 @@
--- What comes of sending bytes of a known SHA-256.
+-- The results of sending bytes of a known SHA-256.
 use Rattle.std.specs.Prelude.{◌≡◌, ◌≢◌, ℕ, ◌<◌, ◌≤◌, Bool, List, [], length, Option, Some, IfSome, Result, MatchResult}
 use Rattle.std.specs.Bool.{MatchBool}
 use Rattle.byte_device.specs.Devices.{Stream}
@@ -25,8 +25,8 @@ pub record TestsAt {P : Type 0} (device : Stream P) (at size : ℕ) (digest : Li
       (HaveOther (device.bytes device.old) at size digest))
       (λ _. HasFailed device)
 
--- why bytes were not sent: they have another SHA-256, or the device failed, or the sink did, which had so many then, and
--- not all
+-- why bytes were not sent: they have another SHA-256, or the device failed, or the sink did, which had so many then,
+-- and not all
 abbrev pub Hinders : {P W : Type 0} → Stream P → Stream W → ℕ → ℕ → List ℕ → ℕ → SendFault → Type 0
 Hinders device sink at size digest gained Other =
     HaveOther (device.bytes device.old) at size digest × IsUnfailed device × IsUnfailed sink
@@ -49,4 +49,5 @@ pub record StopsSending {P W : Type 0} (device : Stream P) (sink : Stream W) (at
 pub record SendsAt {P W : Type 0} (device : Stream P) (sink : Stream W) (at size : ℕ) (digest : List ℕ)
     (result : Result (Unit {0}) SendFault) : Type 0 where
   pub keeps : device.bytes device.new ≡ device.bytes device.old
-  pub sends : MatchResult result (λ _. (0 < size) × IsCopied device sink at size digest) (StopsSending device sink at size digest)
+  pub sends : MatchResult result (λ _. (0 < size) × IsCopied device sink at size digest)
+      (StopsSending device sink at size digest)

@@ -1,4 +1,4 @@
--- Which slice of a content is wanted under a key, and what is told of it.
+-- The slice of a content that is wanted under a key, and the report of it.
 use Rattle.std.specs.Prelude.{◌≡◌, ◌≢◌, ℕ, List, [], ◌∷◌, ◌++◌, codes, length, map, Option, Some, None}
 use Rattle.std.specs.Fmt.{decimal}
 use Rattle.sha2.specs.Sha256.{sha256}

@@ -21,14 +21,14 @@ use index_lookup::NamedSlice;
 use memory::Heap;
 
 /// Writes the bytes of the wanted slice to OUT, as [`run_extract`](crate::run_extract) does. The indexes are read, and
-/// their entries say which slice is wanted. It is gone through at its place, piece by piece: once to compare its SHA-256,
-/// before OUT is begun, and once as it goes out, before OUT is published. No other slice is read, unless two that
-/// answer have one length and stand in two archives.
+/// their entries say which slice is wanted. It is gone through at its place, piece by piece: once to compare its
+/// SHA-256, before OUT is begun, and once as it goes out, before OUT is published. No other slice is read, unless two
+/// that answer have one length and stand in two archives.
 ///
 /// # Errors
 ///
-/// `Input` for the first index or archive that is refused, `Stale` at the entry whose slice has another SHA-256; `Output`
-/// and `Report` where that writer failed; `OutOfMemory`.
+/// `Input` for the first index or archive that is refused, `Stale` at the entry whose slice has another SHA-256;
+/// `Output` and `Report` where that writer failed; `OutOfMemory`.
 pub fn run_extract_at<A: Archive + Drop, I: Placed, P: Placed, T: Target, W: Sink>(
     heap: Heap,
     indexes: &mut [I],

@@ -21,10 +21,10 @@
 //!
 //! - A digest of the words finds a slice that does not answer too, as an image whose companion does.
 //! - The line of the slice is made before OUT is begun, so that nothing was written if memory is wanting for it.
-//! - The slice is whole and tested before OUT is begun, so that a pipe gets no byte of one that is refused. By an entry it
-//!   is gone through twice, in the memory of one piece.
-//! - A pass over bytes at a place holds one piece, that of the caller, so that several passes have one. A copy is hashed
-//!   as it goes out, so that who compared a hash before knows whether the same went out.
+//! - The slice is whole and tested before OUT is begun, so that a pipe gets no byte of one that is refused. By an entry
+//!   it is gone through twice, in the memory of one piece.
+//! - A pass over bytes at a place holds one piece, that of the caller, so that several passes have one. A copy is
+//!   hashed as it goes out, so that who compared a hash before knows whether the same went out.
 //! - Of two slices of one length in two archives no entry says which comes first: these are read, to be told in order.
 #![tactic(auto)]
 

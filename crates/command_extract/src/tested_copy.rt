@@ -56,8 +56,8 @@ fn has_digest<P: Placed>(
     }
 }
 
-/// Sends `size` bytes that stand at the place and have this SHA-256 into a sink. They are gone through twice, and none is
-/// sent before they were found to have it; nor are they known to have been sent before they were found so again. The
+/// Sends `size` bytes that stand at the place and have this SHA-256 into a sink. They are gone through twice, and none
+/// is sent before they were found to have it; nor are they known to have been sent before they were found so again. The
 /// buffer has one piece at a time.
 pub fn send_at<P: Placed, W: Sink>(
     device: &mut P,

@@ -27,7 +27,8 @@ use Rattle.index_lookup.proofs.Columns.{zip_as}
 use Rattle.command_index_queries.specs.Several.{AreRefusedLater, AreUnfailedTogether, MakesTogether}
 use Rattle.command_index_queries.specs.Together.{AreAllKept, AreReadWith, HoldNamed, IsKept}
 use Rattle.command_index_queries.proofs.Groups.{later_readers, read_earlier, unfailed_through}
-use Rattle.command_index_frames.specs.Asking.{AreGiven, AreRefusedAsking, AreTiedUnder, AreUntold, IsAnsweredByTables, IsChanged, IsLineless, IsUntoldUnder, IsUnreadTable, TellTables}
+use Rattle.command_index_frames.specs.Asking.{AreGiven, AreRefusedAsking, AreTiedUnder, AreUntold, IsAnsweredByTables}
+use Rattle.command_index_frames.specs.Asking.{IsChanged, IsLineless, IsUntoldUnder, IsUnreadTable, TellTables}
 use Rattle.command_index_frames.specs.Frames.{AreToldAt, IsFrameByTables, TellTablesOfFrames, keys_of}
 use Rattle.command_index_frames.specs.InnerAsking.{AreHeldUnder, AreRefusedUnder, IsUntoldBy, NoneFailed, command_fault}
 use Rattle.command_index_frames.specs.Slices.{IsAnsweringEntryRow}
@@ -90,7 +91,9 @@ module _ {I P : Type 0} (left : I → Option (List ℕ)) (failures : I → ℕ) 
 
   fault_of : (answering : List EntryAt) (fault : AnswerFault) (at : InputName) (why : Why) → command_fault fault ≡ Input at why
       → ((texts : List (List ℕ)) → HaveTexts left mid texts → IsUntoldAmong texts answering fault)
-      → BlamesAmong lines answering (each_known failures mid) (each_known failures new) fault → IsChanged named answering at why ⊎ (IsLineless lines named answering at why ⊎ IsUnreadTable named answering at why)
+      → BlamesAmong lines answering (each_known failures mid) (each_known failures new) fault
+      → IsChanged named answering at why ⊎ (IsLineless lines named answering at why
+      ⊎ IsUnreadTable named answering at why)
   fault_of answering (answer.Damaged input number) at why told says counts = inl (record {
     input = input;
     number = number;
@@ -116,7 +119,9 @@ module _ {I P : Type 0} (left : I → Option (List ℕ)) (failures : I → ℕ) 
         at_is = cc;
         why_is = cc;
         asked = counts.0;
-        failed = fails_alone left failures old new input failed.old failed.new (ap (λ (ds : List ℕ). slice_get ds input) (sym counts_kept) ∙ failed.old_is) failed.failed (failed.others ∙ ap (λ (ds : List ℕ). slice_set ds input failed.new) counts_kept);
+        failed = fails_alone left failures old new input failed.old failed.new
+            (ap (λ (ds : List ℕ). slice_get ds input) (sym counts_kept) ∙ failed.old_is) failed.failed
+            (failed.others ∙ ap (λ (ds : List ℕ). slice_set ds input failed.new) counts_kept);
       }))
   fault_of answering answer.OutOfMemory at why told says counts = absurd (cc told)
 
@@ -190,7 +195,8 @@ module _ {I P : Type 0} (left : I → Option (List ℕ)) (failures : I → ℕ) 
     frames_refused fault r = asked_refused (keys_of listed) AreKeys (λ b. (λ there. there, λ there. there)) still_tied fault r
 
     -- what tables tell, of the bytes that the indexes are given with
-    frames_given : (status : Status) (text : List ℕ) → TellTablesOfFrames (HaveTexts left mid) all lines listed status text → TellTablesOfFrames (AreGiven named) all lines listed status text
+    frames_given : (status : Status) (text : List ℕ) → TellTablesOfFrames (HaveTexts left mid) all lines listed status
+        text → TellTablesOfFrames (AreGiven named) all lines listed status text
     frames_given status text by = record {
       rows = by.rows;
       answered = zip_as (IsFrameByTables (HaveTexts left mid) all lines) (IsFrameByTables (AreGiven named) all lines) listed by.rows
@@ -204,7 +210,8 @@ module _ {I P : Type 0} (left : I → Option (List ℕ)) (failures : I → ℕ) 
 
     pub frames_told : (slices : Bool) (status : Status) (text : List ℕ)
         → AreRead (WithSlices slices (TellTablesOfFrames (HaveTexts left mid) all lines listed) OwnRow (frame_keys listed) status text ⊎
-        (AreTiedUnder (keys_of listed) all × AreHeldUnder AreKeys all later (λ content. WithSlices slices (TellsFrames lines content listed) OwnRow (frame_keys listed) status text)))
+        (AreTiedUnder (keys_of listed) all × AreHeldUnder AreKeys all later
+        (λ content. WithSlices slices (TellsFrames lines content listed) OwnRow (frame_keys listed) status text)))
         (NoneFailed failures mid new × EachUnfailed later)
         → AreRead (AreToldAt lines slices named known listed status text) (AreUnfailedTogether named known)
     frames_told slices status text told = record {
@@ -243,7 +250,9 @@ module _ {I P : Type 0} (left : I → Option (List ℕ)) (failures : I → ℕ) 
         (asked_refused keys (λ others. others ≡ keys) refl (λ others same tied. subst (λ (ks : List (List ℕ)). AreTiedUnder ks all) (sym same) tied) fault r)
 
     -- what tables tell, of the bytes that the indexes are given with
-    addresses_given : (status : Status) (text : List ℕ) → TellTables (HaveTexts left mid) all key load lines addresses status text → TellTables (AreGiven named) all key load lines addresses status text
+    addresses_given : (status : Status) (text : List ℕ)
+        → TellTables (HaveTexts left mid) all key load lines addresses status text
+        → TellTables (AreGiven named) all key load lines addresses status text
     addresses_given status text by = record {
       rows = by.rows;
       addresses_are = by.addresses_are;
@@ -258,7 +267,9 @@ module _ {I P : Type 0} (left : I → Option (List ℕ)) (failures : I → ℕ) 
 
     pub key_told : (slices : Bool) (status : Status) (text : List ℕ)
         → AreRead (WithSlices slices (TellTables (HaveTexts left mid) all key load lines addresses) KeyRow (key ∷ []) status text ⊎
-        (AreTiedUnder keys all × AreHeldUnder (λ others. others ≡ keys) all later (λ content. WithSlices slices (TellsAddresses content key load lines addresses) KeyRow (key ∷ []) status text)))
+        (AreTiedUnder keys all × AreHeldUnder (λ others. others ≡ keys) all later
+        (λ content. WithSlices slices (TellsAddresses content key load lines addresses) KeyRow (key ∷ []) status
+        text)))
         (NoneFailed failures mid new × EachUnfailed later)
         → AreRead ((symbolicate_at named known key load lines slices addresses).Makes status text) (AreUnfailedTogether named known)
     key_told slices status text told = record {
@@ -270,7 +281,9 @@ module _ {I P : Type 0} (left : I → Option (List ℕ)) (failures : I → ℕ) 
               KeyRow (key ∷ []) addresses_given status text by;
         })
         | inr (tied, held) ↦
-            let own : AreHeldUnder (λ others. others ≡ keys) all later (λ content. WithSlices slices (TellsAddresses content key load lines addresses) KeyRow (key ∷ []) status text) = record {
+            let own : AreHeldUnder (λ others. others ≡ keys) all later
+            (λ content. WithSlices slices (TellsAddresses content key load lines addresses) KeyRow (key ∷ []) status
+            text) = record {
               keys = keys;
               sought = refl;
               content = held.content;

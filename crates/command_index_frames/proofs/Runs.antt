@@ -1,5 +1,7 @@
 -- Places that ascend under their keys, key by key, and what is found of them by halving.
-use Rattle.std.proofs.Common.{◌≡◌, ℕ, zero, suc, ◌+◌, ◌<◌, ◌⊎◌, true, List, [], ◌∷◌, ◌++◌, length, take, drop, map, get_or, Some, Result, Ok, Err, refl, sym, ap, ◌∙◌, subst, arith, inl, inr, length-drop, length-take, take-append-drop}
+use Rattle.std.proofs.Common.{◌≡◌, ℕ, zero, suc, ◌+◌, ◌<◌, ◌⊎◌, true, List, [], ◌∷◌, ◌++◌, length, take, drop, map}
+use Rattle.std.proofs.Common.{get_or, Some, Result, Ok, Err, refl, sym, ap, ◌∙◌, subst, arith, inl, inr, length-drop}
+use Rattle.std.proofs.Common.{length-take, take-append-drop}
 use Rattle.std.specs.Prelude.{slice_get}
 use Rattle.std.specs.Cmp.{IsTotalOrder, tied_itself}
 use Rattle.std.specs.Cmp.Lexicographic.{slice_cmp, nat_list_cmp_total}
@@ -14,7 +16,9 @@ use Rattle.std.proofs.lemmas.List.{get_or-drop, get_or-take, get_or_default}
 use Rattle.std.proofs.lemmas.Map.Keys.{Less-from_sorted}
 use Rattle.std.proofs.lemmas.Map.Views.{tells_apart}
 use Rattle.std.proofs.lemmas.Option.{get_or_from_slice_get, slice_get-get_or, slice_get_within}
-use Rattle.std.proofs.lemmas.List.Elements.{All-contains, All-push, Contains-append_cases, Contains-append_left, Contains-append_right, Contains-get_or, Contains-push, Contains-push_cases, recursion_from_All}
+use Rattle.std.proofs.lemmas.List.Elements.{All-contains, All-push, Contains-append_cases, Contains-append_left}
+use Rattle.std.proofs.lemmas.List.Elements.{Contains-append_right, Contains-get_or, Contains-push, Contains-push_cases}
+use Rattle.std.proofs.lemmas.List.Elements.{recursion_from_All}
 use Rattle.std.proofs.lemmas.List.Kept.{Any-dedup, Contains-from_dedup, IsStrictlySortedBy-dedup}
 use Rattle.std.proofs.lemmas.List.Sorted.{Contains-permutation, IsPermutation-sym, searchable_from_sorted}
 use Rattle.std.proofs.lemmas.List.Sums.{prefix_len_passes, prefix_len_stops}
@@ -144,7 +148,8 @@ pub once_sorted : (sorted kept : List AskedPlace) → IsSorted asked_cmp sorted 
 once_sorted sorted kept up once = subst (IsStrictlySortedBy asked_cmp) (sym once) (IsStrictlySortedBy-dedup asked_total (λ x y. refl) sorted up)
 
 -- keys that are kept once each, as their bytes
-pub keys_kept : (keys sorted kept : List SliceKey) (bytes : List (List ℕ)) → map key_bytes keys ≡ bytes → IsPermutation keys sorted → kept ≡ dedup (eq_by_cmp key_cmp) sorted → HaveSameMembers (map key_bytes kept) bytes
+pub keys_kept : (keys sorted kept : List SliceKey) (bytes : List (List ℕ)) → map key_bytes keys ≡ bytes
+    → IsPermutation keys sorted → kept ≡ dedup (eq_by_cmp key_cmp) sorted → HaveSameMembers (map key_bytes kept) bytes
 keys_kept keys sorted kept bytes are moved once = λ b. (
   λ there.
       let one = in_map key_bytes kept b there in
@@ -157,7 +162,8 @@ keys_kept keys sorted kept bytes are moved once = λ b. (
 )
 
 -- bytes that are kept once each
-pub bytes_kept : (all sorted kept bytes : List (List ℕ)) → all ≡ bytes → IsPermutation all sorted → kept ≡ dedup (eq_by_cmp (slice_cmp nat_cmp)) sorted → HaveSameMembers kept bytes
+pub bytes_kept : (all sorted kept bytes : List (List ℕ)) → all ≡ bytes → IsPermutation all sorted → kept
+    ≡ dedup (eq_by_cmp (slice_cmp nat_cmp)) sorted → HaveSameMembers kept bytes
 bytes_kept all sorted kept bytes are moved once = λ b. (
   λ there. subst (λ (l : List (List ℕ)). Contains l b) are (of_kept nat_list_cmp_total all sorted kept moved once b there),
   λ there.
@@ -258,14 +264,17 @@ all_left asked up = record {
   each = λ one there. inl there;
 }
 
-pub none_left : (asked : List AskedPlace) (told : List KeyAnswers) → IsToldSoFar asked [] told → (one : AskedPlace) → Contains asked one → HasTold told (key_bytes one.key) one.place
+pub none_left : (asked : List AskedPlace) (told : List KeyAnswers) → IsToldSoFar asked [] told → (one : AskedPlace)
+    → Contains asked one → HasTold told (key_bytes one.key) one.place
 none_left asked told so one there = elim (so.each one there) [
   | inl left ↦ absurd (omega (arith, left.1))
   | inr h ↦ h
 ]
 
-module _ (asked left : List AskedPlace) (told : List KeyAnswers) (so : IsToldSoFar asked left told) (first : AskedPlace) (is_first : Some first ≡ slice_get left 0)
-    (n : ℕ) (long : n ≡ prefix_len (has_key first.key) left) (next : KeyAnswers) (key_is : next.key ≡ first.key) (places_are : next.places.items ≡ map (λ (one : AskedPlace). one.place) (take n left)) where
+module _ (asked left : List AskedPlace) (told : List KeyAnswers) (so : IsToldSoFar asked left told) (first : AskedPlace)
+    (is_first : Some first ≡ slice_get left 0)
+    (n : ℕ) (long : n ≡ prefix_len (has_key first.key) left) (next : KeyAnswers) (key_is : next.key ≡ first.key)
+    (places_are : next.places.items ≡ map (λ (one : AskedPlace). one.place) (take n left)) where
   abbrev rest : List AskedPlace
   rest = drop n left
 
@@ -357,15 +366,18 @@ module _ (asked left : List AskedPlace) (told : List KeyAnswers) (so : IsToldSoF
 
 module _ (told : List KeyAnswers) (key : SliceKey) (place : Where) (order : AreInOrder told) (has : HasTold told (key_bytes key) place) where
   -- its key is there
-  pub key_found : (r : Result ℕ ℕ) → IsSearchInRange r (length told) → IsBinarySearchResult (λ (one : KeyAnswers). key_cmp one.key key) told r → (i : ℕ) × (r ≡ Ok i)
+  pub key_found : (r : Result ℕ ℕ) → IsSearchInRange r (length told)
+      → IsBinarySearchResult (λ (one : KeyAnswers). key_cmp one.key key) told r → (i : ℕ) × (r ≡ Ok i)
   key_found r within by_key =
       let same : key_cmp has.one.key key ≡ Equal = ap (λ (b : List ℕ). slice_cmp nat_cmp b (key_bytes key)) has.key_is ∙ tied_itself nat_list_cmp_total
       (key_bytes key) in
       found keys_total (λ (one : KeyAnswers). one.key) told key has.one r order.keys has.is_one same within by_key
 
   -- and so is the place under it
-  pub place_found : (i : ℕ) (one : KeyAnswers) (places : List Where) (r : Result ℕ ℕ) → i < length told → HoldsAt (λ (one : KeyAnswers). key_cmp one.key key ≡ Equal) told i
-      → places ≡ (get_or told i one).places.items → IsSearchInRange r (length places) → IsBinarySearchResult (λ (p : Where). place_cmp p place) places r → (n : ℕ) × (r ≡ Ok n)
+  pub place_found : (i : ℕ) (one : KeyAnswers) (places : List Where) (r : Result ℕ ℕ) → i < length told
+      → HoldsAt (λ (one : KeyAnswers). key_cmp one.key key ≡ Equal) told i
+      → places ≡ (get_or told i one).places.items → IsSearchInRange r (length places)
+      → IsBinarySearchResult (λ (p : Where). place_cmp p place) places r → (n : ℕ) × (r ≡ Ok n)
   place_found i one places r lt at are within by_place =
       let this : KeyAnswers = get_or told i one in
       let bytes : key_bytes this.key ≡ key_bytes key = bytes_same (key_bytes this.key) (key_bytes key) (at one) in
@@ -384,5 +396,6 @@ told_in told key place i n one other places lt at are within at_place one_is oth
   place_is =
       let same : one ≡ other = one_is ∙ get_or_default told i one other lt ∙ sym other_is in
       let places_are : other.places.items ≡ places = ap (λ (k : KeyAnswers). k.places.items) (sym same ∙ one_is) ∙ sym are in
-      ap (λ (l : List Where). slice_get l n) places_are ∙ slice_get-get_or places n place within ∙ ap Some (same_place (get_or places n place) place (at_place place));
+      ap (λ (l : List Where). slice_get l n) places_are ∙ slice_get-get_or places n place within
+      ∙ ap Some (same_place (get_or places n place) place (at_place place));
 }

@@ -1,5 +1,7 @@
 -- The rows of entries under UUIDs, and those of the entries that answer.
-use Rattle.std.proofs.Common.{◌≡◌, ◌≢◌, ◌↔◌, ℕ, ◌+◌, ◌<◌, ◌≤◌, ◌⊎◌, Bool, true, false, not, ◌&&◌, ◌||◌, List, [], ◌∷◌, ◌++◌, length, map, take, drop, get_or, refl, sym, ap, ◌∙◌, subst, inl, inr, arith, eqb, take-append-drop}
+use Rattle.std.proofs.Common.{◌≡◌, ◌≢◌, ◌↔◌, ℕ, ◌+◌, ◌<◌, ◌≤◌, ◌⊎◌, Bool, true, false, not, ◌&&◌, ◌||◌, List, [], ◌∷◌}
+use Rattle.std.proofs.Common.{◌++◌, length, map, take, drop, get_or, refl, sym, ap, ◌∙◌, subst, inl, inr, arith, eqb}
+use Rattle.std.proofs.Common.{take-append-drop}
 use Rattle.std.specs.List.{All, Contains, flat_map, list_any}
 use Rattle.std.specs.Str.{bytes_eq}
 use Rattle.std.proofs.Math.Seq.{take-append_seam}
@@ -74,7 +76,8 @@ module _ (e : List ℕ) (row : FindRow) (is : IsEntryRow e row) where
 
   under_own : is_under (key_bytes row.key) e ≡ true
   unfolding is_under
-  under_own = (bytes_eq-Decides (key_bytes row.key) (take (length (key_bytes row.key)) (drop 1 e))).1 (is.key_is ∙ ap (λ (n : ℕ). take n (drop 1 e)) (sym key_long))
+  under_own = (bytes_eq-Decides (key_bytes row.key) (take (length (key_bytes row.key)) (drop 1 e))).1
+      (is.key_is ∙ ap (λ (n : ℕ). take n (drop 1 e)) (sym key_long))
 
   -- its UUID is the first sixteen of them
   uuid_front : take 16 (key_bytes row.key) ≡ row.key.uuid
@@ -169,7 +172,8 @@ module _ (uuids : List (List ℕ)) (keys : List SliceKey) (all : List (List (Lis
       )
 
   -- each entry that begins so has a row in the pool
-  pooled_with : (key : SliceKey) (e : List ℕ) → Contains keys key → Contains es e → key.uuid ≡ take 16 (drop 1 e) → (row : FindRow) × Contains pool row × IsEntryRow e row
+  pooled_with : (key : SliceKey) (e : List ℕ) → Contains keys key → Contains es e → key.uuid ≡ take 16 (drop 1 e)
+      → (row : FindRow) × Contains pool row × IsEntryRow e row
   pooled_with key e there among begins =
       let has = (of_keys key.uuid).1 (to_map (λ (k : SliceKey). k.uuid) keys key there) in
       let under = under_by key.uuid e (long_of key.uuid has) begins in
@@ -216,7 +220,8 @@ module _ (uuids : List (List ℕ)) (keys : List SliceKey) (all : List (List (Lis
   lives_from : (e : List ℕ) (row : FindRow) → IsSought e row → LivesAmong pool row → lives e row
   lives_from e row s (there, admitted, uncovered) =
       and_from (admits_under (key_bytes row.key) e) (not (list_any (covers e) es))
-      (and_from (is_admission e) (is_under (key_bytes row.key) e) (is_number (get_or e 0 0) 2 (sym s.is.tag_is ∙ admitted_tag row.state admitted)) (under_own e row s.is))
+      (and_from (is_admission e) (is_under (key_bytes row.key) e)
+      (is_number (get_or e 0 0) 2 (sym s.is.tag_is ∙ admitted_tag row.state admitted)) (under_own e row s.is))
       (not_from_false (list_any (covers e) es) (false_from_ne_true (list_any (covers e) es) (λ covered. uncovered (retired_to e row s covered))))
 
   -- ---- companions
@@ -241,15 +246,26 @@ module _ (uuids : List (List ℕ)) (keys : List SliceKey) (all : List (List (Lis
       let begins : row.key.uuid ≡ take 16 (drop 1 r.0) = sym (uuid_front e row s.is) ∙ ap (take 16) bytes ∙ take-take 16 24 (drop 1 r.0) (omega arith) in
       let other = pooled_with s.key r.0 s.key_is r.1 (s.uuid ∙ begins) in
       let key : other.0.key ≡ row.key = one_key other.0.key row.key other.2.is_key s.is.is_key (other.2.key_is ∙ sym bytes) in
-      let sought : IsSought r.0 other.0 = record { among = r.1; is = other.2; key = s.key; key_is = s.key_is; uuid = s.uuid ∙ ap (λ (k : SliceKey). k.uuid) (sym key) } in
+      let sought : IsSought r.0 other.0 = record {
+        among = r.1;
+        is = other.2;
+        key = s.key;
+        key_is = s.key_is;
+        uuid =
+            s.uuid ∙ ap (λ (k : SliceKey). k.uuid) (sym key);
+      } in
       let lives_here : lives r.0 other.0 = subst (λ (k : SliceKey). lives_under (key_bytes k) es r.0 ≡ true) (sym key) parts.0 in
       none other.0 (lives_to r.0 other.0 sought lives_here) key (companion_to r.0 other.0 other.2 parts.1)
 
   has_from : (row other : FindRow) → LivesAmong pool other → other.key ≡ row.key → other.state ≡ Dsym → has_live_companion (key_bytes row.key) es ≡ true
   has_from row other live key state =
       let r = sought_in other live.0 in
-      let lives_here : lives_under (key_bytes row.key) es r.0 ≡ true = subst (λ (k : SliceKey). lives_under (key_bytes k) es r.0 ≡ true) key (lives_from r.0 other r.1 live) in
-      has_any (is_live_companion (key_bytes row.key)) es r.0 r.1.among (and_from (lives_under (key_bytes row.key) es r.0) (is_companion r.0) lives_here (companion_from r.0 other r.1.is state))
+      let lives_here : lives_under (key_bytes row.key) es r.0
+      ≡ true = subst (λ (k : SliceKey). lives_under (key_bytes k) es r.0 ≡ true) key (lives_from r.0 other r.1 live)
+      in
+      has_any (is_live_companion (key_bytes row.key)) es r.0 r.1.among
+      (and_from (lives_under (key_bytes row.key) es r.0) (is_companion r.0) lives_here
+      (companion_from r.0 other r.1.is state))
 
   -- ---- answering
 
@@ -261,12 +277,14 @@ module _ (uuids : List (List ℕ)) (keys : List SliceKey) (all : List (List (Lis
       let one : (not (has_live_companion (key_bytes row.key) es) || is_companion e) ≡ true = elim which [
         | inl state ↦ or_right (not (has_live_companion (key_bytes row.key) es)) (is_companion e) (companion_from e row s.is state)
         | inr none ↦ or_left (not (has_live_companion (key_bytes row.key) es)) (is_companion e)
-            (not_from_false (has_live_companion (key_bytes row.key) es) (false_from_ne_true (has_live_companion (key_bytes row.key) es) (λ has. has_to e row s has none)))
+            (not_from_false (has_live_companion (key_bytes row.key) es)
+            (false_from_ne_true (has_live_companion (key_bytes row.key) es) (λ has. has_to e row s has none)))
       ] in
       record {
         entry = e;
         among = s.among;
-        answers = and_from (lives_under (key_bytes row.key) es e) (not (has_live_companion (key_bytes row.key) es) || is_companion e) (lives_from e row s live) one;
+        answers = and_from (lives_under (key_bytes row.key) es e)
+            (not (has_live_companion (key_bytes row.key) es) || is_companion e) (lives_from e row s live) one;
         is_row = s.is;
         asked = (s.key, s.key_is, s.uuid);
       }
@@ -274,10 +292,12 @@ module _ (uuids : List (List ℕ)) (keys : List SliceKey) (all : List (List (Lis
   answers_from : (row : FindRow) → IsAnsweringEntryRow all keys row → AnswersAmong pool row
   answers_from row a =
       let s : IsSought a.entry row = record { among = a.among; is = a.is_row; key = a.asked.0; key_is = a.asked.1; uuid = a.asked.2 } in
-      let parts = and_parts (lives_under (key_bytes row.key) es a.entry) (not (has_live_companion (key_bytes row.key) es) || is_companion a.entry) a.answers in (
+      let parts = and_parts (lives_under (key_bytes row.key) es a.entry)
+      (not (has_live_companion (key_bytes row.key) es) || is_companion a.entry) a.answers in (
         lives_to a.entry row s parts.0,
         elim (or_cases (not (has_live_companion (key_bytes row.key) es)) (is_companion a.entry) parts.1) [
-          | inl none ↦ inr (λ other live key state. true≢false (sym (has_from row other live key state) ∙ not-true (has_live_companion (key_bytes row.key) es) none))
+          | inl none ↦ inr (λ other live key state. true≢false
+              (sym (has_from row other live key state) ∙ not-true (has_live_companion (key_bytes row.key) es) none))
           | inr companion ↦ inl (companion_to a.entry row a.is_row companion)
         ],
       )
@@ -305,16 +325,19 @@ rows_none p = record { of_entries = λ row there. absurd (omega (arith, there.1)
 pub rows_none_under : (es : List (List ℕ)) → AreRowsAmong (is_under_one []) es []
 rows_none_under es = record { of_entries = λ row there. absurd (omega (arith, there.1)); whole = λ e there is. absurd (true≢false (sym is)) }
 
-pub rows_more : (p : List ℕ → Bool) (all : List (List (List ℕ))) (i : ℕ) (entries : List (List ℕ)) (rows more after : List FindRow) → i < length all → entries ≡ get_or all i entries
+pub rows_more : (p : List ℕ → Bool) (all : List (List (List ℕ))) (i : ℕ) (entries : List (List ℕ))
+    (rows more after : List FindRow) → i < length all → entries ≡ get_or all i entries
     → after ≡ rows ++ more → AreRowsAmong p (all_of (take i all)) rows → AreRowsAmong p entries more → AreRowsAmong p (all_of (take (i + 1) all)) after
 rows_more p all i entries rows more after lt is grown first second =
     let seen : take (i + 1) all ≡ take i all ++ entries ∷ [] = take_more all i entries lt ∙ ap (λ (x : List (List ℕ)). take i all ++ x ∷ []) (sym is) in
-    let flat : all_of (take (i + 1) all) ≡ all_of (take i all) ++ entries = ap all_of seen ∙ sym (flat_map_more (λ (x : List (List ℕ)). x) [] (take i all) entries) in
+    let flat : all_of (take (i + 1) all) ≡ all_of (take i all) ++ entries = ap all_of seen
+    ∙ sym (flat_map_more (λ (x : List (List ℕ)). x) [] (take i all) entries) in
     subst (λ (es : List (List ℕ)). AreRowsAmong p es after) (sym flat)
     (subst (AreRowsAmong p (all_of (take i all) ++ entries)) (sym grown) (rows_both p (all_of (take i all)) entries rows more first second))
 
 pub rows_either_more : (es uuids : List (List ℕ)) (i : ℕ) (uuid : List ℕ) (rows more after : List FindRow) → i < length uuids → uuid ≡ get_or uuids i uuid
-    → after ≡ rows ++ more → AreRowsAmong (is_under_one (take i uuids)) es rows → AreRowsAmong (is_under uuid) es more → AreRowsAmong (is_under_one (take (i + 1) uuids)) es after
+    → after ≡ rows ++ more → AreRowsAmong (is_under_one (take i uuids)) es rows → AreRowsAmong (is_under uuid) es more
+    → AreRowsAmong (is_under_one (take (i + 1) uuids)) es after
 rows_either_more es uuids i uuid rows more after lt is grown first second =
     let each : (e : List ℕ) → is_under_one (take (i + 1) uuids) e ≡ (is_under_one (take i uuids) e || is_under uuid e) =
     λ e. list_any_more (λ (u : List ℕ). is_under u e) uuids i uuid lt ∙ ap (λ (u : List ℕ). is_under_one (take i uuids) e || is_under u e) (sym is) in
@@ -324,5 +347,6 @@ rows_either_more es uuids i uuid rows more after lt is grown first second =
     (λ e there h. each e ∙ or_right (is_under_one (take i uuids) e) (is_under uuid e) h)
     (λ e there h. or_cases (is_under_one (take i uuids) e) (is_under uuid e) (sym (each e) ∙ h)))
 
-pub longs_more : (uuids : List (List ℕ)) (i : ℕ) (uuid : List ℕ) → i < length uuids → uuid ≡ get_or uuids i uuid → All (λ u. length u ≡ 16) (take i uuids) → length uuid ≡ 16 → All (λ u. length u ≡ 16) (take (i + 1) uuids)
+pub longs_more : (uuids : List (List ℕ)) (i : ℕ) (uuid : List ℕ) → i < length uuids → uuid ≡ get_or uuids i uuid
+    → All (λ u. length u ≡ 16) (take i uuids) → length uuid ≡ 16 → All (λ u. length u ≡ 16) (take (i + 1) uuids)
 longs_more uuids i uuid lt is before long = All-more (λ (u : List ℕ). length u ≡ 16) uuids i uuid lt before (subst (λ (u : List ℕ). length u ≡ 16) is long)

@@ -10,7 +10,9 @@ use Rattle.command_index_queries.specs.Together.{AreAllKept, AreReadWith}
 use Rattle.command_index_frames.specs.Asking.{AreGiven, FailsAlone}
 
 -- the devices are there in which entries stand
-pub there_among : {D : Type 0} (devices : List D) (prefix : List ℕ) (all : List (List (List ℕ))) (answering : List EntryAt) → length all ≡ length devices → AreAnsweringAmong prefix all answering → AreThere devices answering
+pub there_among : {D : Type 0} (devices : List D) (prefix : List ℕ) (all : List (List (List ℕ)))
+    (answering : List EntryAt) → length all ≡ length devices → AreAnsweringAmong prefix all answering
+    → AreThere devices answering
 there_among devices prefix all answering long among = λ k d lt.
     let x = get_or answering k d in
     let at = among.among k d lt in
@@ -39,7 +41,9 @@ module _ {S : Type 0} (left : S → Option (List ℕ)) (failures : S → ℕ) wh
   all_kept old new k = absurd k
 
   -- what was read with the first states was so whatever the last are
-  pub read_before : {P : Type 0} (archives : List (Reader P)) (all : List (List (List ℕ))) (old mid new : List S) → length mid ≡ length old → length new ≡ length old → AreReadWith (between old mid) archives all → AreReadWith (between old new) archives all
+  pub read_before : {P : Type 0} (archives : List (Reader P)) (all : List (List (List ℕ))) (old mid new : List S)
+      → length mid ≡ length old → length new ≡ length old → AreReadWith (between old mid) archives all
+      → AreReadWith (between old new) archives all
   read_before archives all [] mid new long more read = read
   read_before archives all (x ∷ xs) [] new long more read = absurd (omega (arith, long))
   read_before archives all (x ∷ xs) (y ∷ ys) [] long more read = absurd (omega (arith, more))
@@ -59,7 +63,9 @@ module _ {S : Type 0} (left : S → Option (List ℕ)) (failures : S → ℕ) wh
   none_failed_of old new same = tt
 
   -- one failed, and no other
-  pub fails_alone : (old new : List S) (input was now : ℕ) → slice_get (each_known failures old) input ≡ Some was → FailedIn was now → each_known failures new ≡ slice_set (each_known failures old) input now → FailsAlone (between old new) input
+  pub fails_alone : (old new : List S) (input was now : ℕ) → slice_get (each_known failures old) input ≡ Some was
+      → FailedIn was now → each_known failures new ≡ slice_set (each_known failures old) input now
+      → FailsAlone (between old new) input
   fails_alone [] new input was now at failed same = absurd (cc at)
   fails_alone (x ∷ xs) [] zero was now at failed same = absurd (omega (arith, ap length same))
   fails_alone (x ∷ xs) [] (suc input) was now at failed same = absurd (omega (arith, ap length same))

@@ -1,4 +1,4 @@
--- What is told of addresses by indexes: by the tables of the slices that answer, or by these slices.
+-- The answers for addresses by indexes: from the tables of the slices that answer, or from these slices.
 use Rattle.std.specs.Prelude.{◌≡◌, ◌+◌, ◌⊎◌, ℕ, List, [], Bool, true, false, Option, Some, All, Contains, map}
 use Rattle.std.specs.Prelude.{take, drop, slice_get}
 use Rattle.std.specs.List.{AllZip}

@@ -1,4 +1,4 @@
--- What `frames` tells of archives by their indexes.
+-- The report of `frames` over archives by their indexes.
 use Rattle.std.specs.Prelude.{◌≡◌, ◌⊎◌, ℕ, List, Bool, Ok, map}
 use Rattle.std.specs.List.{AllZip}
 use Rattle.archive_core.specs.Content.{HaveSameMembers}

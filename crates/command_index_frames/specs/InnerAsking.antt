@@ -21,7 +21,8 @@ use Rattle.command_index_frames.specs.Asking.{AreTiedUnder}
 abbrev pub command_fault : AnswerFault → CommandFault
 command_fault (Damaged input entry) = command.Input (Index input) (why.Damaged entry)
 command_fault (NoLines input entry) = command.Input (Index input) (why.NoLines entry)
-command_fault (Device input offset) = command.Input (Index input) (why.Index (record { kind = DeviceKind; offset = offset }))
+command_fault (Device input offset) = command.Input (Index input)
+    (why.Index (record { kind = DeviceKind; offset = offset }))
 command_fault OutOfMemory = command.OutOfMemory
 
 -- Under one of these keys a table is not told, for a fault that a command tells so.

@@ -39,6 +39,7 @@ has_key key one = eq_by_cmp (slice_cmp nat_cmp) (key_bytes one.key) (key_bytes k
 
 -- These are the places that frames mean: each is that of one of them, and of each frame there is one.
 pub record AreAskedOf (frames : List Frame) (asked : List AskedPlace) : Type 0 where
-  pub of_frames : (one : AskedPlace) → Contains asked one → (frame : Frame) × Contains frames frame × (one ≡ place_of frame)
+  pub of_frames : (one : AskedPlace) → Contains asked one → (frame : Frame) × Contains frames frame
+      × (one ≡ place_of frame)
   pub whole : (frame : Frame) → Contains frames frame → (one : AskedPlace) × Contains asked one
       × (key_bytes one.key ≡ key_bytes frame.key) × (one.place ≡ asked_of frame.load frame.address)

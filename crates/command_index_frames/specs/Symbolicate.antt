@@ -1,4 +1,4 @@
--- What `symbolicate` tells of archives by their indexes.
+-- The report of `symbolicate` over archives by their indexes.
 use Rattle.std.specs.Prelude.{◌≡◌, ◌⊎◌, ℕ, List, [], ◌∷◌, Bool, Option}
 use Rattle.archive_core.specs.Key.{key_bytes}
 use Rattle.archive_core.specs.declared.keys.SliceKey.{SliceKey}

@@ -75,7 +75,8 @@ fn tell_by_tables<I: Placed>(
     Ok(Some((status, text.into_bytes())))
 }
 
-/// The lines of the answers to the frames by the slices that the indexes name, with how a command ends that prints them.
+/// The lines of the answers to the frames by the slices that the indexes name, with how a command ends that prints
+/// them.
 fn tell_by_slices<A: Archive + Drop, P: Placed>(
     heap: &Heap,
     lines: bool,

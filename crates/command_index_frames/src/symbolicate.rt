@@ -1,4 +1,5 @@
-//! `symbolicate ARCHIVE UUID ARCH [--load HEX] [--lines] [--slices] ADDRESS... --index INDEX`, over one archive or several.
+//! `symbolicate ARCHIVE UUID ARCH [--load HEX] [--lines] [--slices] ADDRESS... --index INDEX`, over one archive or
+//! several.
 ghost use Rattle.std.specs.Prelude.{◌≡◌, ◌∷◌, [], IfOk, MatchOption, length, string_bytes};
 ghost use Rattle.archive_core.specs.Key.{key_bytes};
 ghost use Rattle.command_queries.specs.Slices.{WithSlices};
@@ -147,9 +148,9 @@ fn tell_addresses_and_slices<A: Archive + Drop, I: Placed, P: Placed>(
 /// Writes what the join of the archives answers for each address to the report, as `run_symbolicate` of
 /// `command_queries` does. The indexes are read, and compared with the lengths of their archives; then their tables
 /// answer, page by page, and if `lines` tell the source frames. The slices that the indexes name under the key are read
-/// at their places, tested and hashed, if two slices of one length answer in two archives. If `slices`, the lines of the
-/// slices that answer under the UUID are after that, made from the entries of the indexes, or that none does under the
-/// key.
+/// at their places, tested and hashed, if two slices of one length answer in two archives. If `slices`, the lines of
+/// the slices that answer under the UUID are after that, made from the entries of the indexes, or that none does under
+/// the key.
 ///
 /// The status is `Done` where each answer is one symbol, and else `Partial`.
 ///

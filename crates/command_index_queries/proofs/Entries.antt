@@ -1,5 +1,7 @@
 -- What an entry tells, as a row and as the entry of a summary; and entries that are gone through one after another.
-use Rattle.std.proofs.Common.{◌≡◌, ℕ, ◌+◌, ◌-◌, ◌<◌, ◌^◌, Bool, true, false, cond, ◌||◌, List, [], ◌∷◌, ◌++◌, length, map, take, drop, get_or, ◌⊎◌, refl, sym, ap, ◌∙◌, subst, arith, length-append, length-take, append_assoc, eqb}
+use Rattle.std.proofs.Common.{◌≡◌, ℕ, ◌+◌, ◌-◌, ◌<◌, ◌^◌, Bool, true, false, cond, ◌||◌, List, [], ◌∷◌, ◌++◌, length}
+use Rattle.std.proofs.Common.{map, take, drop, get_or, ◌⊎◌, refl, sym, ap, ◌∙◌, subst, arith, length-append}
+use Rattle.std.proofs.Common.{length-take, append_assoc, eqb}
 use Rattle.std.specs.Prelude.{filter}
 use Rattle.std.specs.Int.{w64, to_be_bytes}
 use Rattle.std.specs.List.{AllByRecursion, AllZip}
@@ -42,7 +44,8 @@ module _ (t : ℕ) (kb d tail : List ℕ) (key : length kb ≡ 24) (digest : len
   front_there = ap (λ (n : ℕ). take n laid) (sym front_long) ∙ take-append_seam (t ∷ (kb ++ d)) tail
 
   pub kind_there : get_or laid 57 0 ≡ get_or tail 0 0
-  kind_there = get_or-append_right (t ∷ (kb ++ d)) tail 57 0 (omega (arith, front_long)) ∙ (let none : 57 - length (t ∷ (kb ++ d)) ≡ 0 = omega (arith, front_long) in ap (λ (n : ℕ). get_or tail n 0) none)
+  kind_there = get_or-append_right (t ∷ (kb ++ d)) tail 57 0 (omega (arith, front_long))
+      ∙ (let none : 57 - length (t ∷ (kb ++ d)) ≡ 0 = omega (arith, front_long) in ap (λ (n : ℕ). get_or tail n 0) none)
 
 module _ (e : IndexEntry) (is_key : IsKey e.row.key) (digest : length e.row.digest.0 ≡ 32) where
   abbrev kb : List ℕ
@@ -72,7 +75,12 @@ module _ (e : IndexEntry) (is_key : IsKey e.row.key) (digest : length e.row.dige
 
   entry_long : length (placed_bytes e) ≡ 74
   unfolding placed_bytes
-  entry_long = omega (arith, front_long (tag_byte e.row.state) kb e.row.digest.0 tail key_long digest, length-append (tag_byte e.row.state ∷ (kb ++ e.row.digest.0)) tail, length-append (to_be_bytes w64 e.offset) (to_be_bytes w64 e.length))
+  entry_long = omega (
+    arith,
+    front_long (tag_byte e.row.state) kb e.row.digest.0 tail key_long digest,
+    length-append (tag_byte e.row.state ∷ (kb ++ e.row.digest.0)) tail,
+    length-append (to_be_bytes w64 e.offset) (to_be_bytes w64 e.length),
+  )
 
   -- where its record stands
   pub place_is : e.offset < 2 ^ 64 → offset_in (placed_bytes e) ≡ e.offset
@@ -88,7 +96,8 @@ first_kept e long = grind arith
 
 is_entry : (e : List ℕ) → IsPlacedEntry e → IsEntry (take 57 e)
 is_entry e is = record {
-  tag = subst (λ (n : ℕ). (n ≡ 1) ⊎ (n ≡ 2)) (sym (first_kept e is.long)) (tag_either (eqb (get_or e 0 0) 1) (eqb (get_or e 0 0) 2) (get_or e 0 0) refl refl is.tag);
+  tag = subst (λ (n : ℕ). (n ≡ 1) ⊎ (n ≡ 2)) (sym (first_kept e is.long))
+      (tag_either (eqb (get_or e 0 0) 1) (eqb (get_or e 0 0) 2) (get_or e 0 0) refl refl is.tag);
   long = omega (arith, length-take 57 e, is.long);
 }
 
@@ -109,29 +118,40 @@ module _ (entries : List IndexEntry) (i : ℕ) (e : IndexEntry) (lt : i < length
   at = bytes_at entries i e (placed_bytes e) lt is refl
 
   -- one more, which is under the prefix
-  pub one_picked : (prefix : List ℕ) (before after : List IndexEntry) → after ≡ before ++ e ∷ [] → is_under prefix (placed_bytes e) ≡ true → map placed_bytes before ≡ filter (is_under prefix) (take i all)
+  pub one_picked : (prefix : List ℕ) (before after : List IndexEntry) → after ≡ before ++ e ∷ []
+      → is_under prefix (placed_bytes e) ≡ true → map placed_bytes before ≡ filter (is_under prefix) (take i all)
       → map placed_bytes after ≡ filter (is_under prefix) (take (i + 1) all)
   one_picked prefix before after grown under picked =
-      let one : cond (is_under prefix (get_or all i [])) (get_or all i [] ∷ []) [] ≡ placed_bytes e ∷ [] = ap (λ (z : List ℕ). cond (is_under prefix z) (z ∷ []) []) (sym at) ∙ ap (λ (b : Bool). cond b (placed_bytes e ∷ []) []) under in
+      let one : cond (is_under prefix (get_or all i [])) (get_or all i [] ∷ []) [] ≡ placed_bytes e
+      ∷ [] = ap (λ (z : List ℕ). cond (is_under prefix z) (z ∷ []) []) (sym at)
+      ∙ ap (λ (b : Bool). cond b (placed_bytes e ∷ []) []) under in
       ap (map placed_bytes) grown ∙ map-append placed_bytes before (e ∷ []) ∙ ap (λ (ys : List (List ℕ)). ys ++ placed_bytes e ∷ []) picked
       ∙ sym (filter_more (is_under prefix) all i [] within ∙ ap (λ (ys : List (List ℕ)). filter (is_under prefix) (take i all) ++ ys) one)
 
   -- one more, which is not
-  pub one_passed : (prefix : List ℕ) (before : List IndexEntry) → is_under prefix (placed_bytes e) ≡ false → map placed_bytes before ≡ filter (is_under prefix) (take i all)
+  pub one_passed : (prefix : List ℕ) (before : List IndexEntry) → is_under prefix (placed_bytes e) ≡ false
+      → map placed_bytes before ≡ filter (is_under prefix) (take i all)
       → map placed_bytes before ≡ filter (is_under prefix) (take (i + 1) all)
   one_passed prefix before other picked =
-      let none : cond (is_under prefix (get_or all i [])) (get_or all i [] ∷ []) [] ≡ [] = ap (λ (z : List ℕ). cond (is_under prefix z) (z ∷ []) []) (sym at) ∙ ap (λ (b : Bool). cond b (placed_bytes e ∷ []) []) other in
-      picked ∙ sym (filter_more (is_under prefix) all i [] within ∙ ap (λ (ys : List (List ℕ)). filter (is_under prefix) (take i all) ++ ys) none ∙ append-nil (filter (is_under prefix) (take i all)))
+      let none : cond (is_under prefix (get_or all i [])) (get_or all i [] ∷ []) []
+      ≡ [] = ap (λ (z : List ℕ). cond (is_under prefix z) (z ∷ []) []) (sym at)
+      ∙ ap (λ (b : Bool). cond b (placed_bytes e ∷ []) []) other in
+      picked ∙ sym (filter_more (is_under prefix) all i [] within
+      ∙ ap (λ (ys : List (List ℕ)). filter (is_under prefix) (take i all) ++ ys) none
+      ∙ append-nil (filter (is_under prefix) (take i all)))
 
   -- one more row
-  pub one_row : (rows after : List FindRow) (row : FindRow) → after ≡ rows ++ row ∷ [] → IsEntryRow (placed_bytes e) row → AllZip IsEntryRow (take i all) rows → AllZip IsEntryRow (take (i + 1) all) after
+  pub one_row : (rows after : List FindRow) (row : FindRow) → after ≡ rows ++ row ∷ [] → IsEntryRow (placed_bytes e) row
+      → AllZip IsEntryRow (take i all) rows → AllZip IsEntryRow (take (i + 1) all) after
   one_row rows after row grown told each =
       subst (λ (rs : List FindRow). AllZip IsEntryRow (take (i + 1) all) rs) (sym grown)
       (subst (λ (es : List (List ℕ)). AllZip IsEntryRow es (rows ++ row ∷ [])) (sym (take_more all i [] within))
       (pairs_more IsEntryRow (take i all) rows (get_or all i []) row each (subst (λ (x : List ℕ). IsEntryRow x row) at told)))
 
   -- one more entry of a summary
-  pub one_front : {X : Type 0} (bytes_of : X → List ℕ) (made after : List X) (x : X) → after ≡ made ++ x ∷ [] → bytes_of x ≡ take 57 (placed_bytes e) → map bytes_of made ≡ map (take 57) (take i all) → map bytes_of after ≡ map (take 57) (take (i + 1) all)
+  pub one_front : {X : Type 0} (bytes_of : X → List ℕ) (made after : List X) (x : X) → after ≡ made ++ x ∷ []
+      → bytes_of x ≡ take 57 (placed_bytes e) → map bytes_of made ≡ map (take 57) (take i all) → map bytes_of after
+      ≡ map (take 57) (take (i + 1) all)
   one_front bytes_of made after x grown of same =
       ap (map bytes_of) grown ∙ map-append bytes_of made (x ∷ []) ∙ (λ j. same j ++ (of ∙ ap (take 57) at) j ∷ [])
       ∙ sym (ap (map (take 57)) (take_more all i [] within) ∙ map-append (take 57) (take i all) (get_or all i [] ∷ []))

@@ -31,9 +31,11 @@ made records = content_of (set.from_list records)
 
 -- a group for each prefix, of records that its entries name
 abbrev AreGroups : List (List ℕ) → Entries → List (List (List ℕ)) → List ℕ → Type 0
-AreGroups prefixes entries groups text = AllZip (λ (prefix : List ℕ) (records : List (List ℕ)). AllZip (IsNamedBy text) (entries_under prefix entries) records) prefixes groups
+AreGroups prefixes entries groups text = AllZip (λ (prefix : List ℕ) (records : List (List ℕ)). AllZip (IsNamedBy text)
+    (entries_under prefix entries) records) prefixes groups
 
-named_groups : (text : List ℕ) (prefixes : List (List ℕ)) (entries : Entries) (groups : List (List (List ℕ))) → AreGroups prefixes entries groups text → AreNamedUnder prefixes entries text (map made groups)
+named_groups : (text : List ℕ) (prefixes : List (List ℕ)) (entries : Entries) (groups : List (List (List ℕ)))
+    → AreGroups prefixes entries groups text → AreNamedUnder prefixes entries text (map made groups)
 named_groups text [] entries [] a = tt
 named_groups text (f ∷ fs) entries (g ∷ gs) a = (record { records = g; named = a.0; made = refl }, named_groups text fs entries gs a.1)
 named_groups text prefixes entries groups a = absurd a
@@ -41,21 +43,33 @@ named_groups text prefixes entries groups a = absurd a
 pub gathered_none : (whole : Option (List ℕ)) (entries : Entries) (old : List (List ℕ)) → HaveGathered whole [] entries old old
 gathered_none whole entries old = record { groups = []; named = known (AreGroups [] entries []) whole (λ text. tt); behind = sym (append-nil old) }
 
-module _ (whole now : Option (List ℕ)) (prefixes : List KeyPrefix) (i : ℕ) (prefix : KeyPrefix) (entries : Entries) (lt : i < length prefixes) (is : prefix ≡ get_or prefixes i prefix) (keeps : now ≡ whole) where
+module _ (whole now : Option (List ℕ)) (prefixes : List KeyPrefix) (i : ℕ) (prefix : KeyPrefix) (entries : Entries)
+    (lt : i < length prefixes) (is : prefix ≡ get_or prefixes i prefix) (keeps : now ≡ whole) where
   at : prefix_bytes prefix ≡ get_or (map prefix_bytes prefixes) i []
   at = ap prefix_bytes is ∙ sym (get_or-map prefix_bytes prefixes i prefix [] lt)
 
-  pub gathered_more : (old mid new : List (List ℕ)) → HaveGathered whole (take i (map prefix_bytes prefixes)) entries old mid → AreGatheredUnder now (prefix_bytes prefix) entries mid new → HaveGathered whole (take (i + 1) (map prefix_bytes prefixes)) entries old new
+  pub gathered_more : (old mid new : List (List ℕ)) → HaveGathered whole (take i (map prefix_bytes prefixes)) entries
+      old mid → AreGatheredUnder now (prefix_bytes prefix) entries mid new
+      → HaveGathered whole (take (i + 1) (map prefix_bytes prefixes)) entries old new
   gathered_more old mid new before one =
       let bytes = map prefix_bytes prefixes in
       let groups = before.groups ++ one.records ∷ [] in
-      let seen : take (i + 1) bytes ≡ take i bytes ++ prefix_bytes prefix ∷ [] = take_more bytes i [] (omega (arith, lt, length-map prefixes prefix_bytes)) ∙ ap (λ (f : List ℕ). take i bytes ++ f ∷ []) (sym at) in
+      let seen : take (i + 1) bytes ≡ take i bytes ++ prefix_bytes prefix
+      ∷ [] = take_more bytes i [] (omega (arith, lt, length-map prefixes prefix_bytes))
+      ∙ ap (λ (f : List ℕ). take i bytes ++ f ∷ []) (sym at) in
       record {
         groups = groups;
-        named = along_both (AreGroups (take i bytes) entries before.groups) (λ text. AllZip (IsNamedBy text) (entries_under (prefix_bytes prefix) entries) one.records) (AreGroups (take (i + 1) bytes) entries groups) whole
-            (λ text a b. subst (λ (fs : List (List ℕ)). AreGroups fs entries groups text) (sym seen) (pairs_more (λ (f : List ℕ) (records : List (List ℕ)). AllZip (IsNamedBy text) (entries_under f entries) records) (take i bytes) before.groups (prefix_bytes prefix) one.records a b))
-            before.named (subst (λ (w : Option (List ℕ)). IfSome w (λ text. AllZip (IsNamedBy text) (entries_under (prefix_bytes prefix) entries) one.records)) keeps one.named);
-        behind = one.behind ∙ ap (λ (l : List (List ℕ)). l ++ one.records) before.behind ∙ flat_map_more (λ (records : List (List ℕ)). records) old before.groups one.records;
+        named = along_both (AreGroups (take i bytes) entries before.groups)
+            (λ text. AllZip (IsNamedBy text) (entries_under (prefix_bytes prefix) entries) one.records)
+            (AreGroups (take (i + 1) bytes) entries groups) whole
+            (λ text a b. subst (λ (fs : List (List ℕ)). AreGroups fs entries groups text) (sym seen)
+            (pairs_more (λ (f : List ℕ) (records : List (List ℕ)). AllZip (IsNamedBy text) (entries_under f entries)
+            records) (take i bytes) before.groups (prefix_bytes prefix) one.records a b))
+            before.named (subst (λ (w : Option (List ℕ)). IfSome w
+            (λ text. AllZip (IsNamedBy text) (entries_under (prefix_bytes prefix) entries) one.records)) keeps
+            one.named);
+        behind = one.behind ∙ ap (λ (l : List (List ℕ)). l ++ one.records) before.behind
+            ∙ flat_map_more (λ (records : List (List ℕ)). records) old before.groups one.records;
       }
 
   -- a record under it is read
@@ -63,12 +77,18 @@ module _ (whole now : Option (List ℕ)) (prefixes : List KeyPrefix) (i : ℕ) (
   read_at_prefix n h = (i, omega (arith, lt, length-map prefixes prefix_bytes), subst (λ (f : List ℕ). IsReadUnder f entries n) at h)
 
   -- a fault at a prefix
-  pub fault_at : (old mid : List (List ℕ)) (fault : PlaceFault) → HaveGathered whole (take i (map prefix_bytes prefixes)) entries old mid → IfSome now (λ text. IsEntryFault (prefix_bytes prefix) entries text fault) → IfSome whole (λ text. IsFaultAmong (map prefix_bytes prefixes) entries text fault)
+  pub fault_at : (old mid : List (List ℕ)) (fault : PlaceFault)
+      → HaveGathered whole (take i (map prefix_bytes prefixes)) entries old mid
+      → IfSome now (λ text. IsEntryFault (prefix_bytes prefix) entries text fault)
+      → IfSome whole (λ text. IsFaultAmong (map prefix_bytes prefixes) entries text fault)
   fault_at old mid fault before h =
-      along_both (AreGroups (take i (map prefix_bytes prefixes)) entries before.groups) (λ text. IsEntryFault (prefix_bytes prefix) entries text fault) (λ text. IsFaultAmong (map prefix_bytes prefixes) entries text fault) whole (by fault)
+      along_both (AreGroups (take i (map prefix_bytes prefixes)) entries before.groups)
+      (λ text. IsEntryFault (prefix_bytes prefix) entries text fault)
+      (λ text. IsFaultAmong (map prefix_bytes prefixes) entries text fault) whole (by fault)
       before.named (subst (λ (w : Option (List ℕ)). IfSome w (λ text. IsEntryFault (prefix_bytes prefix) entries text fault)) keeps h)
     where
-      by : (f : PlaceFault) (text : List ℕ) → AreGroups (take i (map prefix_bytes prefixes)) entries before.groups text → IsEntryFault (prefix_bytes prefix) entries text f → IsFaultAmong (map prefix_bytes prefixes) entries text f
+      by : (f : PlaceFault) (text : List ℕ) → AreGroups (take i (map prefix_bytes prefixes)) entries before.groups text
+          → IsEntryFault (prefix_bytes prefix) entries text f → IsFaultAmong (map prefix_bytes prefixes) entries text f
       by (Stale None) text a b = absurd b
       by (Stale (Some k)) text a b = (
         i,
@@ -80,43 +100,66 @@ module _ (whole now : Option (List ℕ)) (prefixes : List KeyPrefix) (i : ℕ) (
       by OutOfMemory text a b = tt
 
 -- the text has the length that the index tells, and an entry names no record of it
-pub fault_then : (prefixes : List (List ℕ)) (entries : Entries) (text : List ℕ) (fault : PlaceFault) → HasIndexedLength entries text → IsFaultAmong prefixes entries text fault → IsFaultUnder prefixes entries text fault
+pub fault_then : (prefixes : List (List ℕ)) (entries : Entries) (text : List ℕ) (fault : PlaceFault)
+    → HasIndexedLength entries text → IsFaultAmong prefixes entries text fault
+    → IsFaultUnder prefixes entries text fault
 fault_then prefixes entries text (Stale None) long f = absurd f
 fault_then prefixes entries text (Stale (Some k)) long f = (long, f)
 fault_then prefixes entries text fault long f = tt
 
 -- what was gathered is taken together, as its groups one after another
-taken_groups : (o : Operations) (groups : List (List (List ℕ))) → IsMade o → with_records o (flat_map (λ (records : List (List ℕ)). records) groups) ≡ merged o (map made groups)
+taken_groups : (o : Operations) (groups : List (List (List ℕ))) → IsMade o
+    → with_records o (flat_map (λ (records : List (List ℕ)). records) groups) ≡ merged o (map made groups)
 taken_groups o [] is = refl
 taken_groups o (g ∷ gs) is =
     fold-append with_record o g (flat_map (λ (records : List (List ℕ)). records) gs)
     ∙ taken_groups (with_records o g) gs (made_taken o g is)
     ∙ ap (λ (s : Operations). merged s (map made gs)) (taken_are_joined o g is)
 
-pub joined_together : (whole : Option (List ℕ)) (prefixes : List (List ℕ)) (entries : Entries) (old gathered : List (List ℕ)) (o new : Operations) → IsMade o → old ≡ [] → HaveGathered whole prefixes entries old gathered → new ≡ joined o (content_of (set.from_list gathered)) → HasJoinedNamed whole prefixes entries o new
+pub joined_together : (whole : Option (List ℕ)) (prefixes : List (List ℕ)) (entries : Entries)
+    (old gathered : List (List ℕ)) (o new : Operations) → IsMade o → old ≡ []
+    → HaveGathered whole prefixes entries old gathered → new ≡ joined o (content_of (set.from_list gathered))
+    → HasJoinedNamed whole prefixes entries o new
 joined_together whole prefixes entries old gathered o new is none h taken = record {
   parts = map made h.groups;
-  content = taken ∙ sym (taken_are_joined o gathered is) ∙ ap (with_records o) (h.behind ∙ ap (λ (l : List (List ℕ)). l ++ flat_map (λ (records : List (List ℕ)). records) h.groups) none) ∙ taken_groups o h.groups is;
+  content = taken ∙ sym (taken_are_joined o gathered is)
+      ∙ ap (with_records o) (h.behind ∙ ap (λ (l : List (List ℕ)). l
+      ++ flat_map (λ (records : List (List ℕ)). records) h.groups) none) ∙ taken_groups o h.groups is;
   named = IfSome_then whole h.named (λ text a. named_groups text prefixes entries h.groups a);
 }
 
 -- ---- of an input
 
 -- by what its index says of records
-module _ {S : Type 0} (whole : S → Option (List ℕ)) (failures : S → ℕ) (source after : S) (prefixes : List (List ℕ)) (entries : Entries) (tables : List (List ℕ)) (placed : entries ≡ placed_of tables) where
+module _ {S : Type 0} (whole : S → Option (List ℕ)) (failures : S → ℕ) (source after : S) (prefixes : List (List ℕ))
+    (entries : Entries) (tables : List (List ℕ)) (placed : entries ≡ placed_of tables) where
   abbrev archive : Reader S
   archive = reader whole failures source after
 
-  pub named_in : (old new : Operations) → IfSome (whole source) (HasIndexedLength entries) → HasJoinedNamed (whole source) prefixes entries old new → IsNamedIn archive prefixes (placed_of tables) old new
+  pub named_in : (old new : Operations) → IfSome (whole source) (HasIndexedLength entries)
+      → HasJoinedNamed (whole source) prefixes entries old new → IsNamedIn archive prefixes (placed_of tables) old new
   named_in old new long h = subst (λ (e : Entries). IsNamedIn archive prefixes e old new) placed (record {
     parts = h.parts;
     content = h.content;
-    named = along_both (HasIndexedLength entries) (λ text. AreNamedUnder prefixes entries text h.parts) (λ text. HasIndexedLength entries text × AreNamedUnder prefixes entries text h.parts) (whole source) (λ text l a. (l, a)) long h.named;
+    named = along_both (HasIndexedLength entries) (λ text. AreNamedUnder prefixes entries text h.parts)
+        (λ text. HasIndexedLength entries text × AreNamedUnder prefixes entries text h.parts) (whole source)
+        (λ text l a. (l, a)) long h.named;
   })
 
   -- what is told where this fault came of it
-  pub told_refused : (number : ℕ) (fault : PlaceFault) → IfSome (whole source) (λ text. IsFaultUnder prefixes entries text fault) → BlamesPlaced (IsReadFor prefixes entries) failures source after fault
+  pub told_refused : (number : ℕ) (fault : PlaceFault)
+      → IfSome (whole source) (λ text. IsFaultUnder prefixes entries text fault)
+      → BlamesPlaced (IsReadFor prefixes entries) failures source after fault
       → IsRefusal (IsRefusedAtPlaces prefixes number archive tables) (Unfailed archive) (told_fault number fault)
-  told_refused number (Stale entry) h b = inr (refl, b, (entry, refl, subst (λ (e : Entries). IfSome (whole source) (λ text. IsFaultUnder prefixes e text (Stale entry))) placed h))
+  told_refused number (Stale entry) h b = inr (
+    refl,
+    b,
+    (
+      entry,
+      refl,
+      subst (λ (e : Entries). IfSome (whole source) (λ text. IsFaultUnder prefixes e text (Stale entry)))
+          placed h,
+    ),
+  )
   told_refused number (Device offset) h b = inl (refl, (refl, subst (λ (e : Entries). IsReadFor prefixes e offset) placed b.1, b.0))
   told_refused number OutOfMemory h b = b

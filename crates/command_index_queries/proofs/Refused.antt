@@ -52,7 +52,8 @@ module _ {R S : Type 0} (number : ℕ) (index : Reader R) (archive : Reader S) w
   RefusedSo fault = IsRefusal (IsRefusedByIndex number index archive) (Unfailed index × Unfailed archive) fault
 
   -- the archive is, whose index was read
-  pub archive_refused : (fault : CommandFault) (entries : Entries) → HoldsIndex index entries → Unfailed index → IsRefusal (IsOfOtherLength number archive entries) (Unfailed archive) fault → RefusedSo fault
+  pub archive_refused : (fault : CommandFault) (entries : Entries) → HoldsIndex index entries → Unfailed index
+      → IsRefusal (IsOfOtherLength number archive entries) (Unfailed archive) fault → RefusedSo fault
   archive_refused (Input at why) entries holds unfailed r = inr (entries, holds, unfailed, r)
   archive_refused OutOfMemory entries holds unfailed r = (unfailed, r)
   archive_refused fault entries holds unfailed r = absurd r

@@ -1,5 +1,6 @@
 -- Rows of the entries that pass a test: of a run, of two tests, of several lists.
-use Rattle.std.proofs.Common.{◌≡◌, ℕ, zero, suc, ◌+◌, ◌-◌, ◌<◌, ◌≤◌, ◌⊎◌, Bool, true, false, ◌&&◌, ◌||◌, List, [], ◌∷◌, ◌++◌, length, map, take, drop, get_or, refl, sym, ap, ◌∙◌, subst, inl, inr, arith, eqb}
+use Rattle.std.proofs.Common.{◌≡◌, ℕ, zero, suc, ◌+◌, ◌-◌, ◌<◌, ◌≤◌, ◌⊎◌, Bool, true, false, ◌&&◌, ◌||◌, List, [], ◌∷◌}
+use Rattle.std.proofs.Common.{◌++◌, length, map, take, drop, get_or, refl, sym, ap, ◌∙◌, subst, inl, inr, arith, eqb}
 use Rattle.std.specs.List.{All, AllZip, Contains}
 use Rattle.std.proofs.Math.ListN.{length-map}
 use Rattle.std.proofs.lemmas.Bool.{and_from, and_parts, cases_lt, or_cases, or_left, or_right, true≢false}
@@ -16,7 +17,8 @@ use Rattle.command_index_queries.specs.Rows.{AreRowsAmong, IsEntryRow}
 
 -- ---- rows one by one
 
-zip_of : (es : List (List ℕ)) (rows : List FindRow) (row : FindRow) → AllZip IsEntryRow es rows → Contains rows row → (e : List ℕ) × Contains es e × IsEntryRow e row
+zip_of : (es : List (List ℕ)) (rows : List FindRow) (row : FindRow) → AllZip IsEntryRow es rows → Contains rows row
+    → (e : List ℕ) × Contains es e × IsEntryRow e row
 zip_of [] [] row all h = absurd (omega (arith, h.1))
 zip_of [] (r ∷ rows) row all h = absurd all
 zip_of (e ∷ es) [] row all h = absurd all
@@ -25,7 +27,8 @@ zip_of (e ∷ es) (r ∷ rows) row all h = elim (in_cons r rows row h) [
   | inr there ↦ let one = zip_of es rows row all.1 there in (one.0, in_rest e es one.0 one.1, one.2)
 ]
 
-to_zip : (es : List (List ℕ)) (rows : List FindRow) (e : List ℕ) → AllZip IsEntryRow es rows → Contains es e → (row : FindRow) × Contains rows row × IsEntryRow e row
+to_zip : (es : List (List ℕ)) (rows : List FindRow) (e : List ℕ) → AllZip IsEntryRow es rows → Contains es e
+    → (row : FindRow) × Contains rows row × IsEntryRow e row
 to_zip [] rows e all h = absurd (omega (arith, h.1))
 to_zip (x ∷ es) [] e all h = absurd all
 to_zip (x ∷ es) (r ∷ rows) e all h = elim (in_cons x es e h) [
@@ -77,7 +80,9 @@ tagged_entry x fields = tag_with_claim (placed_bytes x) _ fields.placed.long fie
 -- each entry has a tag
 pub tags_of : (entries : List IndexEntry) (es : List (List ℕ)) → map entry_bytes entries ≡ es → All HasItsFields entries → All (λ e. has_tag e ≡ true) es
 tags_of entries es are fields = subst (λ (l : List (List ℕ)). All (λ e. has_tag e ≡ true) l) are
-    (All-map (λ (e : List ℕ). has_tag e ≡ true) entry_bytes entries (All-weaker HasItsFields (λ (x : IndexEntry). has_tag (entry_bytes x) ≡ true) (λ x f. (tagged_entry x f).tag) entries fields))
+    (All-map (λ (e : List ℕ). has_tag e ≡ true) entry_bytes entries
+    (All-weaker HasItsFields (λ (x : IndexEntry). has_tag (entry_bytes x) ≡ true) (λ x f. (tagged_entry x f).tag)
+    entries fields))
 
 -- ---- those of a run
 
@@ -97,12 +102,14 @@ module _ (entries : List IndexEntry) (es : List (List ℕ)) (are : map entry_byt
       let inside : i < stop - start = omega (arith, lt, long) in
       let place : start + i < length entries = omega (arith, inside, within, run.ordered) in
       let there : get_or entries (start + i) x ≡ x = sym (get_or-take (stop - start) (drop start entries) i x inside ∙ get_or-drop start entries i x) ∙ at in
-      let bytes : get_or (map entry_bytes entries) (start + i) (entry_bytes x) ≡ entry_bytes x = get_or-map entry_bytes entries (start + i) x (entry_bytes x) place ∙ ap entry_bytes there in
+      let bytes : get_or (map entry_bytes entries) (start + i) (entry_bytes x)
+      ≡ entry_bytes x = get_or-map entry_bytes entries (start + i) x (entry_bytes x) place ∙ ap entry_bytes there in
       ((start + i, place, there), ap passes (sym bytes) ∙ run.inside (start + i) (entry_bytes x) (omega arith) (omega (arith, inside)))
 
   to_part : (x : IndexEntry) → Contains entries x → passes (entry_bytes x) ≡ true → Contains part x
   to_part x (k, lt, at) is =
-      let bytes : get_or (map entry_bytes entries) k (entry_bytes x) ≡ entry_bytes x = get_or-map entry_bytes entries k x (entry_bytes x) lt ∙ ap entry_bytes at in
+      let bytes : get_or (map entry_bytes entries) k (entry_bytes x)
+      ≡ entry_bytes x = get_or-map entry_bytes entries k x (entry_bytes x) lt ∙ ap entry_bytes at in
       let passed : passes (get_or (map entry_bytes entries) k (entry_bytes x)) ≡ true = ap passes bytes ∙ is in
       let many : k < length (map entry_bytes entries) = omega (arith, lt, length-map entries entry_bytes) in
       let low : start ≤ k = elim (cases_lt k start) [
@@ -117,7 +124,8 @@ module _ (entries : List IndexEntry) (es : List (List ℕ)) (are : map entry_byt
       let place : start + (k - start) ≡ k = omega (arith, low) in (
         k - start,
         omega (arith, inside, long),
-        get_or-take (stop - start) (drop start entries) (k - start) x inside ∙ get_or-drop start entries (k - start) x ∙ ap (λ (n : ℕ). get_or entries n x) place ∙ at,
+        get_or-take (stop - start) (drop start entries) (k - start) x inside ∙ get_or-drop start entries (k - start) x
+            ∙ ap (λ (n : ℕ). get_or entries n x) place ∙ at,
       )
 
   pub rows_of_run : (rows : List FindRow) → AllZip IsEntryRow (map placed_bytes part) rows → AreRowsAmong passes es rows
@@ -134,8 +142,12 @@ module _ (entries : List IndexEntry) (es : List (List ℕ)) (are : map entry_byt
     whole = λ entry there is.
         let x = in_map entry_bytes entries entry (subst (λ (l : List (List ℕ)). Contains l entry) (sym are) there) in
         let has = to_part x.0 x.1 (ap passes (sym x.2) ∙ is) in
-        let row = to_zip (map placed_bytes part) rows (placed_bytes x.0) each (to_map placed_bytes part x.0 has) in
-        (row.0, row.1, subst (λ (e : List ℕ). IsEntryRow e row.0) (sym x.2) (row_with_claim x.0 row.0 (All-contains HasItsFields entries x.0 fields x.1) row.2));
+        let row = to_zip (map placed_bytes part) rows (placed_bytes x.0) each (to_map placed_bytes part x.0 has) in (
+          row.0,
+          row.1,
+          subst (λ (e : List ℕ). IsEntryRow e row.0) (sym x.2)
+              (row_with_claim x.0 row.0 (All-contains HasItsFields entries x.0 fields x.1) row.2),
+        );
   }
 
 -- ---- those that pass one of two tests
@@ -161,7 +173,8 @@ tag_of t u tag is = elim (or_cases (eqb t 1) (eqb t 2) tag) [
 ]
 
 -- the retirements and the admissions under a prefix
-pub rows_of_tags : (prefix : List ℕ) (es : List (List ℕ)) (rows more : List FindRow) → All (λ e. has_tag e ≡ true) es → AreRowsAmong (is_tagged 1 prefix) es rows → AreRowsAmong (is_tagged 2 prefix) es more
+pub rows_of_tags : (prefix : List ℕ) (es : List (List ℕ)) (rows more : List FindRow) → All (λ e. has_tag e ≡ true) es
+    → AreRowsAmong (is_tagged 1 prefix) es rows → AreRowsAmong (is_tagged 2 prefix) es more
     → AreRowsAmong (is_under prefix) es (rows ++ more)
 rows_of_tags prefix es rows more tags first second =
     rows_either (is_tagged 1 prefix) (is_tagged 2 prefix) (is_under prefix) es rows more first second
@@ -170,7 +183,8 @@ rows_of_tags prefix es rows more tags first second =
 
 -- ---- those of two lists
 
-pub rows_both : (p : List ℕ → Bool) (es fs : List (List ℕ)) (rows more : List FindRow) → AreRowsAmong p es rows → AreRowsAmong p fs more → AreRowsAmong p (es ++ fs) (rows ++ more)
+pub rows_both : (p : List ℕ → Bool) (es fs : List (List ℕ)) (rows more : List FindRow) → AreRowsAmong p es rows
+    → AreRowsAmong p fs more → AreRowsAmong p (es ++ fs) (rows ++ more)
 rows_both p es fs rows more first second = record {
   of_entries = λ row there. elim (Contains-append_cases rows more row there) [
     | inl h ↦ let one = first.of_entries row h in (one.0, Contains-append_left es fs one.0 one.1, one.2, one.3)

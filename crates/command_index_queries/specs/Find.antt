@@ -1,4 +1,4 @@
--- What `find` tells by an index alone, and of several archives by their indexes.
+-- The report of `find` by an index alone, and over several archives by their indexes.
 use Rattle.std.specs.Prelude.{◌≡◌, ℕ, List, [], ◌∷◌}
 use Rattle.archive_core.specs.Summary.{Entries}
 use Rattle.archive_core.specs.declared.find.FindRow.{FindRow}

@@ -1,4 +1,4 @@
--- Archives with their indexes: what an index says, and which of the two is refused, and why.
+-- Archives with their indexes: the entries of an index, and which of the two is refused, and why.
 use Rattle.std.specs.Prelude.{◌≡◌, ◌≢◌, ℕ, List, None, Err, ◌⊎◌}
 use Rattle.archive_core.specs.Summary.{Entries}
 use Rattle.index_format.specs.Index.{AreIndexEntries}
@@ -14,7 +14,8 @@ use Rattle.command_common.specs.declared.faults.Why.{Why}
 use Rattle.archive_records.specs.declared.fault.RecordFaultKind.TheVariants.{Device as DeviceFailed}
 use Rattle.command_common.specs.declared.faults.Why.TheVariants.{CannotOpen as NotOpened, Device as CannotRead, Record}
 use Rattle.command_common.specs.declared.faults.Why.TheVariants.{Take, Script, BadFrame, OldArchive, TooLong}
-use Rattle.command_common.specs.declared.faults.Why.TheVariants.{Index as IndexFaulty, Stale, Damaged, NoArchive, NoIndex, NoLines}
+use Rattle.command_common.specs.declared.faults.Why.TheVariants.{Index as IndexFaulty, Stale, Damaged, NoArchive}
+use Rattle.command_common.specs.declared.faults.Why.TheVariants.{NoIndex, NoLines}
 
 -- The input is an index with these entries, where its bytes are known.
 abbrev pub HoldsTables : {S : Type 0} → Reader S → List (List ℕ) → Type 0

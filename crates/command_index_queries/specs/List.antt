@@ -1,4 +1,4 @@
--- What `list` tells by an index alone.
+-- The report of `list` by an index alone.
 use Rattle.std.specs.Prelude.{◌≡◌, ℕ, List, []}
 use Rattle.archive_core.specs.Summary.{Entries}
 use Rattle.archive_core.specs.declared.find.FindRow.{FindRow}

@@ -1,4 +1,4 @@
--- What an index names under several prefixes of keys.
+-- The records that an index names under several prefixes of keys.
 use Rattle.std.specs.Prelude.{◌≡◌, ◌<◌, ◌⊎◌, ℕ, List, [], Option, Some, None, length, take, slice_index_or}
 use Rattle.std.specs.List.{AllZip}
 use Rattle.archive_core.specs.Content.{Operations}

@@ -1,4 +1,4 @@
--- The rows that an index tells.
+-- The rows that an index has.
 use Rattle.std.specs.Prelude.{◌≡◌, List, ℕ, Bool, true, Contains, take, drop, slice_index}
 use Rattle.std.specs.List.{AllZip, list_any}
 use Rattle.std.specs.List.Sorted.{IsPermutation, IsSortedBy, IsStableBy}

@@ -1,4 +1,4 @@
--- What commands tell of archives that are asked together by their indexes.
+-- The reports of commands over archives that are asked together by their indexes.
 use Rattle.std.specs.Prelude.{ℕ, List, ◌⊎◌}
 use Rattle.archive_core.specs.Content.{Operations}
 use Rattle.command_common.specs.Ends.{Query}

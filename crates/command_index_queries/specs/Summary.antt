@@ -1,4 +1,4 @@
--- What `summary` makes of an index alone.
+-- The summary that is made from an index alone.
 use Rattle.std.specs.Prelude.{◌≡◌, ℕ, List, map, take}
 use Rattle.std.specs.FinSet as set
 use Rattle.join_core.specs.Listing.{listing}

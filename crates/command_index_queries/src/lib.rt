@@ -5,10 +5,10 @@
 //! - `prefixes`: [`KeyPrefix`], what a key begins with; `parts`: what an index names there, read and joined;
 //! - `together`: indexes of several archives, read ([`read_indexes`]), and the slices that they name
 //!   ([`read_prefixes`]);
-//! - `rows`: the rows that an index tells, and those of a UUID alone ([`rows_with_uuid`]); `summaries`: the summary that
-//!   it tells;
-//! - `find`, `list`, `summary`: commands that read entries alone, and the archive's length; `find` over several archives
-//!   reads the slices of the UUID.
+//! - `rows`: the rows that an index tells, and those of a UUID alone ([`rows_with_uuid`]); `summaries`: the summary
+//!   that it tells;
+//! - `find`, `list`, `summary`: commands that read entries alone, and the archive's length; `find` over several
+//!   archives reads the slices of the UUID.
 //!
 //! # Why it is so
 //!

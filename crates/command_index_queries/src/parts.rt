@@ -10,7 +10,8 @@ ghost use Rattle.index_format.specs.Text.{placed_of};
 ghost use Rattle.command_common.specs.Inputs.{ReadsInput, reader};
 ghost use Rattle.index_format.specs.Gathering.{AreGatheredUnder, IsEntryFault, ReadsPlaces};
 ghost use Rattle.command_index_queries.specs.Prefixes.{IsReadFor, IsReadUnderOne, prefix_bytes};
-ghost use Rattle.command_index_queries.specs.InnerParts.{HasJoinedNamed, HaveGathered, IsFaultAmong, IsFaultUnder, IsNamedIn};
+ghost use Rattle.command_index_queries.specs.InnerParts.{HasJoinedNamed, HaveGathered, IsFaultAmong, IsFaultUnder};
+ghost use Rattle.command_index_queries.specs.InnerParts.{IsNamedIn};
 ghost use Rattle.command_index_queries.specs.InnerParts.{told_fault};
 ghost use Rattle.command_index_queries.specs.Together.{IsRefusedAtPlaces};
 
@@ -35,7 +36,8 @@ fn gather_prefix<P: Placed>(
     ensures { ReadsPlaces P.whole P.failures device.old device.new result
         (λ _. AreGatheredUnder (P.whole device.old) (prefix_bytes prefix.now) (placed_of index.now)
         (map record_bytes gathered.old.items) (map record_bytes gathered.new.items))
-        (IsEntryFault (prefix_bytes prefix.now) (placed_of index.now)) (IsReadUnder (prefix_bytes prefix.now) (placed_of index.now)) }
+        (IsEntryFault (prefix_bytes prefix.now) (placed_of index.now))
+        (IsReadUnder (prefix_bytes prefix.now) (placed_of index.now)) }
 {
     match prefix {
         KeyPrefix::Uuid(uuid) => {

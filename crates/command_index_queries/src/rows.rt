@@ -8,7 +8,8 @@ ghost use Rattle.archive_core.specs.Part.{is_under};
 ghost use Rattle.index_format.specs.Entry.{has_tag, offset_in, placed_bytes};
 ghost use Rattle.index_format.specs.Runs.{is_tagged};
 ghost use Rattle.index_format.specs.Text.{placed_of};
-ghost use Rattle.command_index_queries.specs.Rows.{AreIndexRows, AreRowsAmong, IsEntryRow, has_lower_key, stands_before};
+ghost use Rattle.command_index_queries.specs.Rows.{AreIndexRows, AreRowsAmong, IsEntryRow, has_lower_key};
+ghost use Rattle.command_index_queries.specs.Rows.{stands_before};
 
 use crate::prefixes::uuid_bytes;
 use archive_core::{Digest, FindRow, FindState, SliceKey, compare_keys};

@@ -1,5 +1,7 @@
 -- What is told of frames that are asked in the order of their keys.
-use Rattle.std.proofs.Common.{◌≡◌, ℕ, zero, suc, subst, false, ◌+◌, ◌-◌, ◌<◌, ◌≤◌, Bool, ◌&&◌, if◌then◌else◌, List, [], ◌∷◌, ◌++◌, length, map, take, drop, set, get_or, Some, Result, Ok, Err, is_ok, true, refl, sym, ap, ◌∙◌, arith, inl, inr, ◌⊎◌, length-append}
+use Rattle.std.proofs.Common.{◌≡◌, ℕ, zero, suc, subst, false, ◌+◌, ◌-◌, ◌<◌, ◌≤◌, Bool, ◌&&◌, if◌then◌else◌, List, []}
+use Rattle.std.proofs.Common.{◌∷◌, ◌++◌, length, map, take, drop, set, get_or, Some, Result, Ok, Err, is_ok, true, refl}
+use Rattle.std.proofs.Common.{sym, ap, ◌∙◌, arith, inl, inr, ◌⊎◌, length-append}
 use Rattle.std.specs.Prelude.{slice_get, slice_range}
 use Rattle.std.specs.List.{All, AllByRecursion, AllZip, Contains, HoldsAt, flat_map, list_all, list_any, prefix_len}
 use Rattle.std.specs.Str.{bytes_eq}
@@ -16,7 +18,9 @@ use Rattle.std.proofs.lemmas.List.Elements.{All-from_recursion}
 use Rattle.std.proofs.lemmas.List.Sums.{prefix_len_passes}
 use Rattle.std.proofs.lemmas.List.Folds.{Any-from_list_any, list_any-from_Any, list_any_at}
 use Rattle.std.proofs.lemmas.Slice.Eq.{bytes_eq-Decides}
-use Rattle.std.proofs.lemmas.List.{drop_more, get_or-take, length-take, get_or-map, get_or-set_same, get_or-set_other, length-map, length-set, nil_from_length, take_all, drop_at, take-append-le, drop-append-le, length-drop}
+use Rattle.std.proofs.lemmas.List.{drop_more, get_or-take, length-take, get_or-map, get_or-set_same, get_or-set_other}
+use Rattle.std.proofs.lemmas.List.{length-map, length-set, nil_from_length, take_all, drop_at, take-append-le}
+use Rattle.std.proofs.lemmas.List.{drop-append-le, length-drop}
 use Rattle.std.proofs.lemmas.List.Sorted.{Contains-permutation, IsPermutation-sym, searchable_from_sorted}
 use Rattle.std.proofs.lemmas.Option.{get_or_from_slice_get, same_Some, slice_get-get_or, slice_get_within}
 use Rattle.archive_core.specs.Content.{Operations}
@@ -73,11 +77,16 @@ lines_of frames asked moved are permuted = λ one. (
 
     back : (one : AskedFrame) → slice_get frames one.line ≡ Some one.frame → Contains asked one
     back one at =
-        let lt = slice_get_within frames one.line one.frame at in
-        (one.line, omega (arith, are.long, lt), are.each one.line one lt ∙ ap (numbered one.line) (get_or_from_slice_get frames one.line one.frame one.frame at))
+        let lt = slice_get_within frames one.line one.frame at in (
+          one.line,
+          omega (arith, are.long, lt),
+          are.each one.line one lt
+              ∙ ap (numbered one.line) (get_or_from_slice_get frames one.line one.frame one.frame at),
+        )
 
 pub asked_total : IsTotalOrder asked_cmp
-asked_total = then_total (on_total (λ (a : AskedFrame). key_bytes a.frame.key) nat_list_cmp_total) (on_total (λ (a : AskedFrame). a.frame.address) nat_cmp_total)
+asked_total = then_total (on_total (λ (a : AskedFrame). key_bytes a.frame.key) nat_list_cmp_total)
+    (on_total (λ (a : AskedFrame). a.frame.address) nat_cmp_total)
 
 -- the first part of an order
 no_less_first : (a b : Ordering) → is_lt (ordering_then a b) ≡ false → is_lt a ≡ false
@@ -91,7 +100,8 @@ keys_in_order (first ∷ asked) sorted = λ j d _ below.
     rw (get_or-map key_of_asked (first ∷ asked) (j + 1) first d within, get_or-map key_of_asked (first ∷ asked) j first d (omega (arith, within)))
     (no_less_first _ _ (sorted j first (omega arith) within))
 
-pub by_keys : (asked : List AskedFrame) → IsSortedBy (λ (a b : AskedFrame). is_lt (asked_cmp a b)) asked → IsSortedByKey (λ (one : AskedFrame). key_bytes one.frame.key) (slice_cmp nat_cmp) asked
+pub by_keys : (asked : List AskedFrame) → IsSortedBy (λ (a b : AskedFrame). is_lt (asked_cmp a b)) asked
+    → IsSortedByKey (λ (one : AskedFrame). key_bytes one.frame.key) (slice_cmp nat_cmp) asked
 by_keys asked sorted = λ j d below within. no_less_first _ _ (sorted j d below within)
 
 -- ---- whether a record is under one of their keys
@@ -104,13 +114,15 @@ module _ (prefix : List ℕ) where
   has one = bytes_eq (key_bytes one.frame.key) prefix
 
   tied : (one : AskedFrame) → has one ≡ true → place_of one ≡ Equal
-  tied one is = ap (λ (bytes : List ℕ). slice_cmp nat_cmp bytes prefix) ((bytes_eq-Decides (key_bytes one.frame.key) prefix).0 is) ∙ tied_itself nat_list_cmp_total prefix
+  tied one is = ap (λ (bytes : List ℕ). slice_cmp nat_cmp bytes prefix)
+      ((bytes_eq-Decides (key_bytes one.frame.key) prefix).0 is) ∙ tied_itself nat_list_cmp_total prefix
 
   found_at : (asked : List AskedFrame) (i : ℕ) → i < length asked → HoldsAt (λ (one : AskedFrame). place_of one ≡ Equal) asked i → list_any has asked ≡ true
   found_at [] i lt at = absurd (omega (arith, lt))
   found_at (one ∷ asked) i lt at = list_any_at has (one ∷ asked) i one lt ((bytes_eq-Decides _ prefix).1 (bytes_same _ prefix (at one)))
 
-  found_nowhere : (asked : List AskedFrame) (i : ℕ) → IsPartitionPoint (λ (one : AskedFrame). place_of one ≡ Less) (λ (one : AskedFrame). place_of one ≡ Greater) asked i → list_any has asked ≡ false
+  found_nowhere : (asked : List AskedFrame) (i : ℕ) → IsPartitionPoint (λ (one : AskedFrame). place_of one ≡ Less)
+      (λ (one : AskedFrame). place_of one ≡ Greater) asked i → list_any has asked ≡ false
   found_nowhere asked i parts = false_from_ne_true (list_any has asked) (λ is.
       let any = Any-from_list_any has asked is in
       elim (cases_lt any.0 i) [
@@ -119,24 +131,31 @@ module _ (prefix : List ℕ) where
       ])
 
   -- what a binary search by the keys finds
-  pub found_asked : (asked : List AskedFrame) (r : Result ℕ ℕ) → IsSortedByKey (λ (one : AskedFrame). key_bytes one.frame.key) (slice_cmp nat_cmp) asked → IsSearchInRange r (length asked)
+  pub found_asked : (asked : List AskedFrame) (r : Result ℕ ℕ)
+      → IsSortedByKey (λ (one : AskedFrame). key_bytes one.frame.key) (slice_cmp nat_cmp) asked
+      → IsSearchInRange r (length asked)
       → IsBinarySearchResult place_of asked r → is_ok r ≡ list_any has asked
   found_asked asked (Ok i) sorted lt at = sym (found_at asked i lt at)
-  found_asked asked (Err i) sorted le parted = sym (found_nowhere asked i (parted (searchable_from_sorted nat_list_cmp_total (λ (one : AskedFrame). key_bytes one.frame.key) asked prefix sorted)))
+  found_asked asked (Err i) sorted le parted = sym (found_nowhere asked i
+      (parted (searchable_from_sorted nat_list_cmp_total (λ (one : AskedFrame). key_bytes one.frame.key) asked prefix
+      sorted)))
 
 -- each record under a key of theirs is
-pub asked_picked : (asked : List AskedFrame) (key : SliceKey) → Contains (map key_of_asked asked) key → length (key_bytes key) ≡ 24 → (r : List ℕ) → is_under (key_bytes key) r ≡ true → is_asked asked r ≡ true
+pub asked_picked : (asked : List AskedFrame) (key : SliceKey) → Contains (map key_of_asked asked) key
+    → length (key_bytes key) ≡ 24 → (r : List ℕ) → is_under (key_bytes key) r ≡ true → is_asked asked r ≡ true
 unfolding is_under
 asked_picked asked key there long r under =
     let one = in_map key_of_asked asked key there in
     let same : bytes_eq (key_bytes one.0.frame.key) (take 24 (drop 1 r)) ≡ true =
-    ap (λ (k : SliceKey). bytes_eq (key_bytes k) (take 24 (drop 1 r))) (sym one.2) ∙ ap (λ (n : ℕ). bytes_eq (key_bytes key) (take n (drop 1 r))) (sym long) ∙ under in
+    ap (λ (k : SliceKey). bytes_eq (key_bytes k) (take 24 (drop 1 r))) (sym one.2)
+    ∙ ap (λ (n : ℕ). bytes_eq (key_bytes key) (take n (drop 1 r))) (sym long) ∙ under in
     list_any-from_Any (has (take 24 (drop 1 r))) asked (one.1.0, one.0, one.1.1, one.1.2, same)
 
 -- ---- one question after another
 
 -- what was told stays where it stands while the text grows
-told_still : (wanted : Bool) (content : Operations) (text more : List ℕ) (frame : Frame) (told : ToldFrame) → IsFrameTold wanted content text frame told → IsFrameTold wanted content (text ++ more) frame told
+told_still : (wanted : Bool) (content : Operations) (text more : List ℕ) (frame : Frame) (told : ToldFrame)
+    → IsFrameTold wanted content text frame told → IsFrameTold wanted content (text ++ more) frame told
 told_still wanted content text more frame told is = record {
   row = is.row;
   answered = is.answered;
@@ -145,13 +164,17 @@ told_still wanted content text more frame told is = record {
   lines_are =
       let begins = is.begins in
       let ends = is.ends in
-      ap (take (told.to - told.from)) (drop-append-le told.from text more (omega arith)) ∙ take-append-le (told.to - told.from) (drop told.from text) more (omega (arith, length-drop told.from text)) ∙ is.lines_are;
+      ap (take (told.to - told.from)) (drop-append-le told.from text more (omega arith))
+      ∙ take-append-le (told.to - told.from) (drop told.from text) more (omega (arith, length-drop told.from text))
+      ∙ is.lines_are;
   symbol_is = is.symbol_is;
 }
 
 -- what is told of one frame more stands after it
-pub told_now : (wanted : Bool) (content : Operations) (text grown : List ℕ) (frame : Frame) (answer : Answer) (frames : List (List FrameRecord)) (told : ToldFrame)
-    → IsSourced content frame.key wanted (asked_of frame.load frame.address) (answer_view answer) frames → grown ≡ text ++ answer_lines frame.address answer frames
+pub told_now : (wanted : Bool) (content : Operations) (text grown : List ℕ) (frame : Frame) (answer : Answer)
+    (frames : List (List FrameRecord)) (told : ToldFrame)
+    → IsSourced content frame.key wanted (asked_of frame.load frame.address) (answer_view answer) frames → grown ≡ text
+    ++ answer_lines frame.address answer frames
     → told.from ≡ length text → told.to ≡ length grown → told.is_symbol ≡ is_symbol answer → IsFrameTold wanted content grown frame told
 told_now wanted content text grown frame answer frames told is more from to symbol =
     let printed : List ℕ = answer_lines frame.address answer frames in
@@ -161,11 +184,16 @@ told_now wanted content text grown frame answer frames told is more from to symb
       answered = (refl, is);
       begins = omega (arith, long, from, to);
       ends = omega (arith, to);
-      lines_are = ap (λ (t : List ℕ). slice_range t told.from told.to) more ∙ ap (take (told.to - told.from)) (ap (λ (n : ℕ). drop n (text ++ printed)) from ∙ drop_at text printed (length text) refl) ∙ take_all (told.to - told.from) printed (omega (arith, long, from, to));
+      lines_are = ap (λ (t : List ℕ). slice_range t told.from told.to) more
+          ∙ ap (take (told.to - told.from)) (ap (λ (n : ℕ). drop n (text ++ printed)) from
+          ∙ drop_at text printed (length text) refl) ∙ take_all (told.to - told.from) printed
+          (omega (arith, long, from, to));
       symbol_is = symbol;
     }
 
-module _ (wanted : Bool) (content : Operations) (asked : List AskedFrame) (one : AskedFrame) (left : List AskedFrame) (count : ℕ) (told : List ToldFrame) (text : List ℕ) (are : AreTold wanted content asked (one ∷ left) count told text)
+module _ (wanted : Bool) (content : Operations) (asked : List AskedFrame) (one : AskedFrame) (left : List AskedFrame)
+    (count : ℕ) (told : List ToldFrame) (text : List ℕ)
+    (are : AreTold wanted content asked (one ∷ left) count told text)
     (grown more : List ℕ) (grows : grown ≡ text ++ more) (now : ToldFrame) (is : IsFrameTold wanted content grown one.frame now) where
   is_there : Contains asked one
   is_there = are.of_asked one (in_front one left)
@@ -174,7 +202,8 @@ module _ (wanted : Bool) (content : Operations) (asked : List AskedFrame) (one :
   room = omega (arith, are.long, are.within one is_there)
 
   at_once : slice_get (set told one.line now) one.line ≡ Some now
-  at_once = slice_get-get_or (set told one.line now) one.line now (omega (arith, length-set told one.line now, room)) ∙ ap Some (get_or-set_same told one.line now now room)
+  at_once = slice_get-get_or (set told one.line now) one.line now (omega (arith, length-set told one.line now, room))
+      ∙ ap Some (get_or-set_same told one.line now now room)
 
   elsewhere : (n : ℕ) (it : ToldFrame) → (n ≡ one.line → ⊥) → slice_get told n ≡ Some it → slice_get (set told one.line now) n ≡ Some it
   elsewhere n it other at =
@@ -187,7 +216,8 @@ module _ (wanted : Bool) (content : Operations) (asked : List AskedFrame) (one :
   this_one : (it : AskedFrame) → it ≡ one → IsLeftOrTold it
   this_one it same = rw same (inr (now, at_once, is))
 
-  told_before : (it : AskedFrame) → Contains asked it → (t : ToldFrame) → slice_get told it.line ≡ Some t → IsFrameTold wanted content text it.frame t → IsLeftOrTold it
+  told_before : (it : AskedFrame) → Contains asked it → (t : ToldFrame) → slice_get told it.line ≡ Some t
+      → IsFrameTold wanted content text it.frame t → IsLeftOrTold it
   told_before it there t at was = elim (cases_eq it.line one.line) [
     | inl same ↦ this_one it (are.once it one there is_there same)
     | inr other ↦ inr (t, elsewhere it.line t other at, rw grows (told_still wanted content text more it.frame t was))
@@ -217,7 +247,8 @@ module _ (wanted : Bool) (content : Operations) (asked : List AskedFrame) (one :
 abbrev pub of_key : SliceKey → AskedFrame → Bool
 of_key key one = is_key one.frame.key key
 
-pub in_run : (key : SliceKey) (left run : List AskedFrame) (n i : ℕ) (one : AskedFrame) → n ≡ prefix_len (of_key key) left → run ≡ take n left → i < length run → one ≡ get_or run i one
+pub in_run : (key : SliceKey) (left run : List AskedFrame) (n i : ℕ) (one : AskedFrame) → n
+    ≡ prefix_len (of_key key) left → run ≡ take n left → i < length run → one ≡ get_or run i one
     → (one.frame.key ≡ key) × Contains run one × (one ≡ get_or left i one) × (i < length left)
 in_run key left run n i one long prefix lt at =
     let within : length run ≡ length (take n left) = ap length prefix in
@@ -240,9 +271,11 @@ run_long one (next ∷ left) n is long =
     let same : next ≡ one = cc in rw (long, same, key_is_same one.frame.key) (omega arith)
 
 -- one more of them is told
-pub run_told : (content o : Operations) (wanted now : Bool) (all left : List AskedFrame) (i count : ℕ) (one : AskedFrame) (key : SliceKey) (told after : List ToldFrame) (text grown : List ℕ)
+pub run_told : (content o : Operations) (wanted now : Bool) (all left : List AskedFrame) (i count : ℕ)
+    (one : AskedFrame) (key : SliceKey) (told after : List ToldFrame) (text grown : List ℕ)
     → now ≡ wanted → i < length left → one ≡ get_or left i one → one.frame.key ≡ key → first_key (map key_of_asked left) ≡ Some key
-    → ((o : Operations) (all left : List AskedFrame) (count : ℕ) → AnswersAs one.frame.key content o → AreTold now o all (one ∷ left) count told text → AreTold now o all left count after grown)
+    → ((o : Operations) (all left : List AskedFrame) (count : ℕ) → AnswersAs one.frame.key content o
+    → AreTold now o all (one ∷ left) count told text → AreTold now o all left count after grown)
     → ForSome (first_key (map key_of_asked left)) (λ k. AnswersAs k content o)
     → AreTold wanted o all (drop i left) count told text
     → AreTold wanted o all (drop (i + 1) left) count after grown
@@ -250,7 +283,8 @@ run_told content o wanted now all left i count one key told after text grown sam
     rw (← same) (step o all (drop (i + 1) left) count (rw of (answers key first)) (rw (same, at, ← drop_more left i one lt) before))
 
 -- the next question is passed, of which the frame was told
-pub one_less : (ahead : ℕ) (before now left : List AskedFrame) (one : AskedFrame) → now ≡ before → now ≡ one ∷ left → (now ≡ []) ⊎ (0 < ahead) → drop ahead before ≡ drop (ahead - 1) left
+pub one_less : (ahead : ℕ) (before now left : List AskedFrame) (one : AskedFrame) → now ≡ before → now ≡ one ∷ left
+    → (now ≡ []) ⊎ (0 < ahead) → drop ahead before ≡ drop (ahead - 1) left
 one_less zero before now left one same is (inl none) = cc
 one_less zero before now left one same is (inr some) = absurd (omega (arith, some))
 one_less (suc n) before now left one same is some =
@@ -269,7 +303,9 @@ along wanted content text (frame ∷ frames) (it ∷ told) long each =
 along wanted content text frames told long each = absurd (omega (arith, long))
 
 -- each piece of the text is there
-are_pieces : (wanted : Bool) (content : Operations) (text : List ℕ) (frames : List Frame) (told : List ToldFrame) → AllZip (IsFrameTold wanted content text) frames told → AllByRecursion (λ (it : ToldFrame). (it.from ≤ it.to) × (it.to ≤ length text)) told
+are_pieces : (wanted : Bool) (content : Operations) (text : List ℕ) (frames : List Frame) (told : List ToldFrame)
+    → AllZip (IsFrameTold wanted content text) frames told
+    → AllByRecursion (λ (it : ToldFrame). (it.from ≤ it.to) × (it.to ≤ length text)) told
 are_pieces wanted content text [] [] are = tt
 are_pieces wanted content text (frame ∷ frames) (it ∷ told) are = ((are.0.begins, are.0.ends), are_pieces wanted content text frames told are.1)
 are_pieces wanted content text frames told are = absurd are
@@ -281,7 +317,8 @@ record AreRows (wanted : Bool) (content : Operations) (text : List ℕ) (frames 
   symbols_are : list_all (λ (it : ToldFrame). it.is_symbol) told ≡ list_all (λ (row : Answered). is_symbol row.answer) rows
   lines_are : flat_map (λ (it : ToldFrame). slice_range text it.from it.to) told ≡ answers_text rows
 
-rows_of : (wanted : Bool) (content : Operations) (text : List ℕ) (frames : List Frame) (told : List ToldFrame) → AllZip (IsFrameTold wanted content text) frames told → AreRows wanted content text frames told
+rows_of : (wanted : Bool) (content : Operations) (text : List ℕ) (frames : List Frame) (told : List ToldFrame)
+    → AllZip (IsFrameTold wanted content text) frames told → AreRows wanted content text frames told
 rows_of wanted content text [] [] are = record { rows = []; answered = tt; symbols_are = refl; lines_are = refl }
 rows_of wanted content text (frame ∷ frames) (it ∷ told) are =
     let first = are.0 in
@@ -294,9 +331,11 @@ rows_of wanted content text (frame ∷ frames) (it ∷ told) are =
     }
 rows_of wanted content text frames told are = absurd are
 
-module _ (frames : List Frame) (asked left : List AskedFrame) (begin : List ToldFrame) (is : left ≡ asked) (lines : AreLines frames asked) (long : length asked ≡ length frames) (many : length begin ≡ length asked) where
+module _ (frames : List Frame) (asked left : List AskedFrame) (begin : List ToldFrame) (is : left ≡ asked)
+    (lines : AreLines frames asked) (long : length asked ≡ length frames) (many : length begin ≡ length asked) where
   -- none was told yet
-  pub begun : (wanted : Bool) (content : Operations) (ahead : ℕ) (text : List ℕ) → ahead ≡ 0 → AreTold wanted content left (drop ahead left) (length begin) begin text
+  pub begun : (wanted : Bool) (content : Operations) (ahead : ℕ) (text : List ℕ) → ahead ≡ 0
+      → AreTold wanted content left (drop ahead left) (length begin) begin text
   begun wanted content ahead text none = rw (none, is) (record {
     long = refl;
     within = λ one there. omega (arith, many, long, slice_get_within frames one.line one.frame ((lines one).0 there));
@@ -307,12 +346,17 @@ module _ (frames : List Frame) (asked left : List AskedFrame) (begin : List Told
     each = λ one there. inl there;
   })
 
-  module _ (wanted : Bool) (content : Operations) (last : List AskedFrame) (ahead : ℕ) (told : List ToldFrame) (text : List ℕ) (none : map key_of_asked last ≡ []) (are : AreTold wanted content left (drop ahead last) (length begin) told text) where
+  module _ (wanted : Bool) (content : Operations) (last : List AskedFrame) (ahead : ℕ) (told : List ToldFrame)
+      (text : List ℕ) (none : map key_of_asked last ≡ [])
+      (are : AreTold wanted content left (drop ahead last) (length begin) told text) where
     -- where no frame is left
     told_to_the_end : AllZip (IsFrameTold wanted content text) frames told
     told_to_the_end =
         let nothing : last ≡ [] = nil_from_length last (omega (arith, length-map last key_of_asked, ap length none)) in
-        let all : AreTold wanted content asked [] (length begin) told text = subst (λ (l : List AskedFrame). AreTold wanted content l [] (length begin) told text) is (subst (λ (l : List AskedFrame). AreTold wanted content left l (length begin) told text) (ap (drop ahead) nothing ∙ drop-nil ahead) are) in
+        let all : AreTold wanted content asked [] (length begin) told text =
+        subst (λ (l : List AskedFrame). AreTold wanted content l [] (length begin) told text) is
+        (subst (λ (l : List AskedFrame). AreTold wanted content left l (length begin) told text)
+        (ap (drop ahead) nothing ∙ drop-nil ahead) are) in
         along wanted content text frames told (all.long ∙ many ∙ long) (λ i frame at. elim (all.each (numbered i frame) ((lines (numbered i frame)).1 at)) [
           | inl c ↦ absurd (omega (arith, c.1))
           | inr it ↦ it
@@ -321,7 +365,9 @@ module _ (frames : List Frame) (asked left : List AskedFrame) (begin : List Told
     pub pieces : All (λ (it : ToldFrame). (it.from ≤ it.to) × (it.to ≤ length text)) told
     pieces = All-from_recursion _ _ (are_pieces wanted content text frames told told_to_the_end)
 
-    pub frames_told : (status : Status) (printed : List ℕ) → status ≡ (if list_all (λ (it : ToldFrame). it.is_symbol) told then Done else Partial) → printed ≡ flat_map (λ (it : ToldFrame). slice_range text it.from it.to) told
+    pub frames_told : (status : Status) (printed : List ℕ) → status
+        ≡ (if list_all (λ (it : ToldFrame). it.is_symbol) told then Done else Partial) → printed
+        ≡ flat_map (λ (it : ToldFrame). slice_range text it.from it.to) told
         → TellsFrames wanted content frames status printed
     frames_told status printed status_is printed_is =
         let r = rows_of wanted content text frames told told_to_the_end in
@@ -335,11 +381,21 @@ module _ (frames : List Frame) (asked left : List AskedFrame) (begin : List Told
 -- one of the inputs is refused, or memory is wanting for it
 module _ {R S T : Type 0} (Makes : Status → List ℕ → Type 0) (frames : Reader R) (archive : Reader S) (others : List (Reader T)) (report : Writer) where
   abbrev EndsInOrder : Result Status CommandFault → Type 0
-  EndsInOrder result = EndsReport (record { Makes = Makes; Refuses = RefusesFrames frames archive others; Unfailed = Unfailed frames × AreUnfailed archive others }) report result
+  EndsInOrder result = EndsReport (record {
+    Makes = Makes;
+    Refuses = RefusesFrames frames archive others;
+    Unfailed =
+        Unfailed frames × AreUnfailed archive others;
+  }) report result
 
-  pub frames_refused : (fault : CommandFault) → IsRefusal (IsRefusedFrames frames) (Unfailed frames) fault → IsUntouched archive → EachUntouched others → EachUnfailed others → Takes report [] → EndsInOrder (Err fault)
+  pub frames_refused : (fault : CommandFault) → IsRefusal (IsRefusedFrames frames) (Unfailed frames) fault
+      → IsUntouched archive → EachUntouched others → EachUnfailed others → Takes report [] → EndsInOrder (Err fault)
   frames_refused fault r untouched each unfailed =
-      together_refused Makes _ _ report fault (refusal_of _ _ _ _ fault (λ at why refused. inl (refused, untouched, each)) (λ u. (u, (ap archive.failures untouched, unfailed))) r)
+      together_refused Makes _ _ report fault (refusal_of _ _ _ _ fault
+      (λ at why refused. inl (refused, untouched, each)) (λ u. (u, (ap archive.failures untouched, unfailed))) r)
 
-  pub archives_refused : (fault : CommandFault) → IsFrames frames → Unfailed frames → IsRefusal (AreRefused archive others) (AreUnfailed archive others) fault → Takes report [] → EndsInOrder (Err fault)
-  archives_refused fault listed unfailed r = together_refused Makes _ _ report fault (refusal_of _ _ _ _ fault (λ at why refused. inr (listed, unfailed, refused)) (λ u. (unfailed, u)) r)
+  pub archives_refused : (fault : CommandFault) → IsFrames frames → Unfailed frames
+      → IsRefusal (AreRefused archive others) (AreUnfailed archive others) fault → Takes report []
+      → EndsInOrder (Err fault)
+  archives_refused fault listed unfailed r = together_refused Makes _ _ report fault
+      (refusal_of _ _ _ _ fault (λ at why refused. inr (listed, unfailed, refused)) (λ u. (unfailed, u)) r)

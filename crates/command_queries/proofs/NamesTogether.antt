@@ -1,12 +1,14 @@
 -- What is told of two names in the join of several contents.
-use Rattle.std.proofs.Common.{◌≡◌, ◌↔◌, ◌⊎◌, ℕ, true, false, not, ◌&&◌, nat_eq, List, [], ◌∷◌, ◌++◌, map, Contains, fold, get_or, length, refl, sym, ap, ◌∙◌, subst, inl, inr, arith}
+use Rattle.std.proofs.Common.{◌≡◌, ◌↔◌, ◌⊎◌, ℕ, true, false, not, ◌&&◌, nat_eq, List, [], ◌∷◌, ◌++◌, map, Contains}
+use Rattle.std.proofs.Common.{fold, get_or, length, refl, sym, ap, ◌∙◌, subst, inl, inr, arith}
 use Rattle.std.specs.Prelude.{slice_index}
 use Rattle.std.specs.List.{AllByRecursion, AllZip}
 use Rattle.std.specs.List.Sorted.{IsStrictlySortedBy}
 use Rattle.std.specs.Cmp.Lexicographic.{nat_list_cmp_total}
 use Rattle.std.specs.FinSet.{contains, union, contains-union}
 use Rattle.std.proofs.lemmas.Bool.{eqb-true, false_from_ne_true, or_cases, or_left, or_right, and_from}
-use Rattle.std.proofs.lemmas.List.Elements.{All-contains, All-from_recursion, Contains-append_left, Contains-get_or, Contains-push, Contains-push_cases, recursion_from_All}
+use Rattle.std.proofs.lemmas.List.Elements.{All-contains, All-from_recursion, Contains-append_left, Contains-get_or}
+use Rattle.std.proofs.lemmas.List.Elements.{Contains-push, Contains-push_cases, recursion_from_All}
 use Rattle.archive_core.specs.Content.{Operations, IsContent, content_of, is_admission, is_covered, joined}
 use Rattle.archive_core.specs.Names.{IsNameRow, IsNames, NameRecord, name_cmp, owned_name_view}
 use Rattle.archive_core.specs.declared.names.OwnedNameRow.{OwnedNameRow}
@@ -33,7 +35,8 @@ none_in : {X : Type 0} {x : X} → Contains [] x → ⊥
 none_in there = omega (arith, there.1)
 
 -- what is new is in what was there, or in one more
-more : {New Mid Old Early Late Last : Type 0} → (New ↔ (Mid ⊎ Last)) → (Mid ↔ (Old ⊎ Early)) → (Early → Late) → (Last → Late) → (Late → Early ⊎ Last) → New ↔ (Old ⊎ Late)
+more : {New Mid Old Early Late Last : Type 0} → (New ↔ (Mid ⊎ Last)) → (Mid ↔ (Old ⊎ Early)) → (Early → Late)
+    → (Last → Late) → (Late → Early ⊎ Last) → New ↔ (Old ⊎ Late)
 more adds before early last split = (
   λ new. elim (adds.0 new) [
     | inl mid ↦ elim (before.0 mid) [ inl old ↦ inl old | inr one ↦ inr (early one) ]
@@ -56,7 +59,8 @@ module _ {R : Type 0} (name other : List ℕ) where
     retired = λ r. (λ there. inl there, λ told. elim told [ inl there ↦ there | inr one ↦ absurd (none_in one.1) ]);
   }
 
-  module _ (archives seen : List (Reader R)) (archive : Reader R) (old mid new : NamesFound) (o : Operations) (seen_is : seen ≡ archives ++ archive ∷ []) (before : HaveAdded archives name other old mid)
+  module _ (archives seen : List (Reader R)) (archive : Reader R) (old mid new : NamesFound) (o : Operations)
+      (seen_is : seen ≡ archives ++ archive ∷ []) (before : HaveAdded archives name other old mid)
       (content : IsContent o) (holds : HoldsArchive archive o) (adds : AddsNames o name other mid new) where
     abbrev all : List Operations
     all = before.contents ++ o ∷ []
@@ -83,7 +87,8 @@ module _ {R : Type 0} (name other : List ℕ) where
     added_more = record {
       contents = all;
       are_contents = all_more IsContent before.contents o before.are_contents content;
-      archives_are = subst (λ (rs : List (Reader R)). AllZip HoldsArchive rs all) (sym seen_is) (hold_more archives before.contents archive o before.archives_are holds);
+      archives_are = subst (λ (rs : List (Reader R)). AllZip HoldsArchive rs all) (sym seen_is)
+          (hold_more archives before.contents archive o before.archives_are holds);
       rows = λ row. more (adds.rows row) (before.rows row) (row_to name row) (λ told. (o, Contains-push before.contents o, told)) (row_from name row);
       others = λ row. more (adds.others row) (before.others row) (row_to other row) (λ told. (o, Contains-push before.contents o, told)) (row_from other row);
       retired = λ r. more (adds.retired r) (before.retired r) (retired_to r) (λ told. (o, Contains-push before.contents o, told.0, told.1)) (retired_from r);
@@ -98,12 +103,14 @@ module _ {R : Type 0} (name other : List ℕ) where
 abbrev all_of : Operations → List Operations → Operations
 all_of o contents = fold union o contents
 
-merged_made : (a : Operations) (contents : List Operations) → AllByRecursion IsContent contents → merged (content_of a) contents ≡ content_of (all_of a contents)
+merged_made : (a : Operations) (contents : List Operations) → AllByRecursion IsContent contents
+    → merged (content_of a) contents ≡ content_of (all_of a contents)
 merged_made a [] are = refl
 merged_made a (p ∷ contents) are =
     ap (λ (q : Operations). merged q contents) (ap (joined (content_of a)) (sym are.0.itself) ∙ joined_made a p) ∙ merged_made (union a p) contents are.1
 
-merged_all : (o : Operations) (contents : List Operations) → IsContent o → AllByRecursion IsContent contents → merged o contents ≡ content_of (all_of o contents)
+merged_all : (o : Operations) (contents : List Operations) → IsContent o → AllByRecursion IsContent contents
+    → merged o contents ≡ content_of (all_of o contents)
 merged_all o contents content are = ap (λ (q : Operations). merged q contents) (sym content.itself) ∙ merged_made o contents are
 
 in_either : (o p : Operations) (r : List ℕ) → contains (union o p) r ≡ true → (contains o r ≡ true) ⊎ (contains p r ≡ true)
@@ -119,7 +126,8 @@ grows : (o : Operations) (contents : List Operations) (r : List ℕ) → contain
 grows o [] r there = there
 grows o (p ∷ contents) r there = grows (union o p) contents r (to_left o p r there)
 
-member : (o : Operations) (contents : List Operations) (p : Operations) (r : List ℕ) → Contains contents p → contains p r ≡ true → contains (all_of o contents) r ≡ true
+member : (o : Operations) (contents : List Operations) (p : Operations) (r : List ℕ) → Contains contents p
+    → contains p r ≡ true → contains (all_of o contents) r ≡ true
 member o [] p r is there = absurd (none_in is)
 member o (q ∷ contents) p r is there = elim (in_cons q contents p is) [
   | inl same ↦ grows (union o q) contents r (to_right o q r (rw same there))
@@ -129,7 +137,8 @@ member o (q ∷ contents) p r is there = elim (in_cons q contents p is) [
 abbrev IsAmong : Operations → List Operations → Operations → Type 0
 IsAmong o contents p = (o ≡ p) ⊎ Contains contents p
 
-in_all : (o : Operations) (contents : List Operations) (r : List ℕ) → contains (all_of o contents) r ≡ true → (p : Operations) × IsAmong o contents p × (contains p r ≡ true)
+in_all : (o : Operations) (contents : List Operations) (r : List ℕ) → contains (all_of o contents) r ≡ true
+    → (p : Operations) × IsAmong o contents p × (contains p r ≡ true)
 in_all o [] r there = (o, inl refl, there)
 in_all o (q ∷ contents) r there =
     let one = in_all (union o q) contents r there in
@@ -180,7 +189,11 @@ module _ (o : Operations) (contents : List Operations) (content : IsContent o) (
       let one = retirement_of r there in
       elim ((is_content one.0 one.1).records r one.2) [
         | inl a ↦ cc (one.3, ap is_admission a.is)
-        | inr t ↦ record { tag = inl (ap (λ (b : List ℕ). slice_index b 0) t.is); long = ap length t.is ∙ length-retirement_record t.key t.digest t.is_key t.long }
+        | inr t ↦ record {
+          tag = inl (ap (λ (b : List ℕ). slice_index b 0) t.is);
+          long = ap length t.is
+              ∙ length-retirement_record t.key t.digest t.is_key t.long;
+        }
       ]
 
   pub are_entries : AllByRecursion IsEntry retired
@@ -213,13 +226,20 @@ module _ (o : Operations) (contents : List Operations) (content : IsContent o) (
         let told = one.2 in
         let same = ap (λ (r : NameRecord). retirement_record r.key r.digest) told.row_is in
         let free : contains whole (retirement_record row.key row.digest) ≡ false =
-        is_false (contains whole (retirement_record row.key row.digest)) (λ is. cc (held.1, in_set retired (retirement_record row.key row.digest) (retirement_back (retirement_record row.key row.digest) refl is))) in
+        is_false (contains whole (retirement_record row.key row.digest))
+        (λ is. cc (
+          held.1,
+          in_set retired (retirement_record row.key row.digest)
+              (retirement_back (retirement_record row.key row.digest) refl is),
+        )) in
         let uncovered = covered_slice whole told.slice told.valid ∙ sym (ap (contains whole) same) ∙ free in
         record {
           slice = told.slice;
           valid = told.valid;
           live = record {
-            admitted = contains_made whole (admission_record told.slice) ∙ and_from (contains whole (admission_record told.slice)) (not (is_covered whole (admission_record told.slice)))
+            admitted = contains_made whole (admission_record told.slice)
+                ∙ and_from (contains whole (admission_record told.slice))
+                (not (is_covered whole (admission_record told.slice)))
                 (within one.0 (admission_record told.slice) one.1 told.live.admitted) (ap not uncovered);
             under = refl;
             kept = retired_stays _ refl ∙ sym (ap (contains whole) same) ∙ free;
@@ -244,15 +264,23 @@ module _ (o : Operations) (contents : List Operations) (content : IsContent o) (
         let free : contains (set_of retired) (retirement_record row.key row.digest) ≡ false =
         is_false (contains (set_of retired) (retirement_record row.key row.digest)) (λ is.
         let held = retirement_of (retirement_record row.key row.digest) (from_set retired (retirement_record row.key row.digest) is) in
-        cc (told.live.kept, same, retired_stays (retirement_record row.key row.digest) refl, within held.0 (retirement_record row.key row.digest) held.1 held.2)) in
+        cc (
+          told.live.kept,
+          same,
+          retired_stays (retirement_record row.key row.digest) refl,
+          within held.0 (retirement_record row.key row.digest) held.1 held.2,
+        )) in
         (live row).1 (there, free)
 
     pub names_of_join : IsStrictlySortedBy name_cmp rows → IsNames (merged o contents) name rows
-    names_of_join ascending = subst (λ (p : Operations). IsNames p name rows) (sym (merged_all o contents content are)) (record { ascending = ascending; exactly = λ row. (to row, back row) })
+    names_of_join ascending = subst (λ (p : Operations). IsNames p name rows) (sym (merged_all o contents content are))
+        (record { ascending = ascending; exactly = λ row. (to row, back row) })
 
 -- all were read
-module _ {R : Type 0} (archive : Reader R) (others : List (Reader R)) (name other : List ℕ) (none first found : NamesFound) (no_rows : none.told.rows.items ≡ []) (no_others : none.told.others.items ≡ [])
-    (no_retired : none.retired.items ≡ []) (held : HoldsContent archive (λ o. AddsNames o name other none first)) (added : HaveAdded others name other first found) where
+module _ {R : Type 0} (archive : Reader R) (others : List (Reader R)) (name other : List ℕ)
+    (none first found : NamesFound) (no_rows : none.told.rows.items ≡ []) (no_others : none.told.others.items ≡ [])
+    (no_retired : none.retired.items ≡ []) (held : HoldsContent archive (λ o. AddsNames o name other none first))
+    (added : HaveAdded others name other first found) where
   abbrev entries : List (List ℕ)
   entries = map entry_bytes found.retired.items
 
@@ -260,10 +288,12 @@ module _ {R : Type 0} (archive : Reader R) (others : List (Reader R)) (name othe
   retires r = rw no_retired at (held.is_true.retired r)
 
   pub entries_together : AllByRecursion IsEntry entries
-  entries_together = are_entries held.content added.contents held.is_content added.are_contents (map entry_bytes first.retired.items) entries retires added.retired
+  entries_together = are_entries held.content added.contents held.is_content added.are_contents
+      (map entry_bytes first.retired.items) entries retires added.retired
 
   abbrev IsLiveAmong : List NameRecord → List NameRecord → Type 0
-  IsLiveAmong all rows = (row : NameRecord) → Contains rows row ↔ (Contains all row × (contains (set_of entries) (retirement_record row.key row.digest) ≡ false))
+  IsLiveAmong all rows = (row : NameRecord) → Contains rows row
+      ↔ (Contains all row × (contains (set_of entries) (retirement_record row.key row.digest) ≡ false))
 
   pub names_together : (rows also : List NameRecord) → IsStrictlySortedBy name_cmp rows → IsStrictlySortedBy name_cmp also
       → IsLiveAmong (map owned_name_view found.told.rows.items) rows → IsLiveAmong (map owned_name_view found.told.others.items) also
@@ -276,8 +306,12 @@ module _ {R : Type 0} (archive : Reader R) (others : List (Reader R)) (name othe
     archive_is = held.text;
     others_are = added.archives_are;
     is_true = (
-      names_of_join held.content added.contents held.is_content added.are_contents (map entry_bytes first.retired.items) entries retires added.retired name _ _ rows (λ row. rw no_rows at (held.is_true.rows row)) added.rows live ascending,
-      names_of_join held.content added.contents held.is_content added.are_contents (map entry_bytes first.retired.items) entries retires added.retired other _ _ also (λ row. rw no_others at (held.is_true.others row)) added.others others_live others_ascending,
+      names_of_join held.content added.contents held.is_content added.are_contents (map entry_bytes first.retired.items)
+          entries retires added.retired name _ _ rows (λ row. rw no_rows at (held.is_true.rows row)) added.rows live
+          ascending,
+      names_of_join held.content added.contents held.is_content added.are_contents (map entry_bytes first.retired.items)
+          entries retires added.retired other _ _ also (λ row. rw no_others at (held.is_true.others row)) added.others
+          others_live others_ascending,
     );
   }
 
@@ -287,11 +321,14 @@ not_empty : (row : OwnedNameRow) (rows : List OwnedNameRow) → nat_eq (length (
 not_empty row rows = false_from_ne_true (nat_eq (length (row ∷ rows)) 0) (λ t. omega (arith, eqb-true (length (row ∷ rows)) 0 t))
 
 -- whether it alone is there, by the rows of both names
-pub underscored_by : (o : Operations) (name : List ℕ) (rows also : List OwnedNameRow) → IsNames o name (map owned_name_view rows) → IsNames o (underscored name) (map owned_name_view also)
+pub underscored_by : (o : Operations) (name : List ℕ) (rows also : List OwnedNameRow)
+    → IsNames o name (map owned_name_view rows) → IsNames o (underscored name) (map owned_name_view also)
     → SaysUnderscored o name (nat_eq (length rows) 0 && not (nat_eq (length also) 0))
 underscored_by o name [] [] names others = λ is. none_in ((others.exactly is.somewhere.0).1 is.somewhere.1)
 underscored_by o name [] (row ∷ also) names others = rw (not_empty row also) (record {
   nowhere = λ one told. none_in ((names.exactly one).1 told);
   somewhere = (owned_name_view row, (others.exactly (owned_name_view row)).0 (in_front (owned_name_view row) (map owned_name_view also)));
 })
-underscored_by o name (row ∷ rows) also names others = rw (not_empty row rows) (λ is. is.nowhere (owned_name_view row) ((names.exactly (owned_name_view row)).0 (in_front (owned_name_view row) (map owned_name_view rows))))
+underscored_by o name (row ∷ rows) also names others =
+    rw (not_empty row rows) (λ is. is.nowhere (owned_name_view row)
+    ((names.exactly (owned_name_view row)).0 (in_front (owned_name_view row) (map owned_name_view rows))))

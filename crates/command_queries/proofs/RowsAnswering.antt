@@ -35,14 +35,16 @@ found_in o uuid rows is row there =
     let told = (is.exactly one.0).0 one.1 in
     (one.0, told.0, told.1, one.2)
 
-to_found : (o : Operations) (uuid : List ℕ) (rows : List FindRow) → IsFinds o uuid rows → (a : Operation) → IsOperation a → IsFoundUnder o uuid a → Contains rows (row_of a)
+to_found : (o : Operations) (uuid : List ℕ) (rows : List FindRow) → IsFinds o uuid rows → (a : Operation)
+    → IsOperation a → IsFoundUnder o uuid a → Contains rows (row_of a)
 to_found o uuid rows is a operation found =
     subst (λ (l : List FindRow). Contains l (row_of a)) (sym is.rows_are) (to_map row_of is.operations a ((is.exactly a).1 (operation, found)))
 
 abbrev all_of : List (List FindRow) → List FindRow
 all_of lists = flat_map (λ (rows : List FindRow). rows) lists
 
-in_lists : (o : Operations) (uuids : List (List ℕ)) (lists : List (List FindRow)) → AllZip (IsFinds o) uuids lists → (row : FindRow) → Contains (all_of lists) row
+in_lists : (o : Operations) (uuids : List (List ℕ)) (lists : List (List FindRow)) → AllZip (IsFinds o) uuids lists
+    → (row : FindRow) → Contains (all_of lists) row
     → (uuid : List ℕ) × Contains uuids uuid × IsFoundRow o uuid row
 in_lists o [] [] all row there = absurd (omega (arith, there.1))
 in_lists o (uuid ∷ uuids) (rows ∷ lists) all row there = elim (Contains-append_cases rows (all_of lists) row there) [
@@ -57,7 +59,8 @@ to_lists : (o : Operations) (uuids : List (List ℕ)) (lists : List (List FindRo
 to_lists o [] lists all uuid there a operation found = absurd (omega (arith, there.1))
 to_lists o (first ∷ uuids) [] all uuid there a operation found = absurd all
 to_lists o (first ∷ uuids) (rows ∷ lists) all uuid there a operation found = elim (in_cons first uuids uuid there) [
-  | inl same ↦ Contains-append_left rows (all_of lists) (row_of a) (to_found o first rows all.0 a operation (subst (λ (u : List ℕ). IsFoundUnder o u a) (sym same) found))
+  | inl same ↦ Contains-append_left rows (all_of lists) (row_of a)
+      (to_found o first rows all.0 a operation (subst (λ (u : List ℕ). IsFoundUnder o u a) (sym same) found))
   | inr later ↦ Contains-append_right rows (all_of lists) (row_of a) (to_lists o uuids lists all.1 uuid later a operation found)
 ]
 
@@ -78,8 +81,10 @@ live_valid o key slice content whole live = elim (content.records (admission_rec
   | inl admits ↦
       let long : length (key_bytes (key_of slice)) ≡ 24 = length_key_bytes (key_of slice) (ap (λ (k : SliceKey). length k.uuid) live.under ∙ whole) in
       let same : admission slice ≡ admission admits.slice = cc (admits.is) in
-      let behind_key = (same_parts (key_bytes (key_of slice)) (key_bytes (key_of admits.slice)) _ _ (long ∙ sym (length-key_of admits.slice admits.valid)) same).1 in
-      subst IsValid (sym (same_parts (to_be_bytes w64 (length slice)) (to_be_bytes w64 (length admits.slice)) slice admits.slice refl behind_key).1) admits.valid
+      let behind_key = (same_parts (key_bytes (key_of slice)) (key_bytes (key_of admits.slice)) _ _
+      (long ∙ sym (length-key_of admits.slice admits.valid)) same).1 in
+      subst IsValid (sym (same_parts (to_be_bytes w64 (length slice)) (to_be_bytes w64 (length admits.slice)) slice
+      admits.slice refl behind_key).1) admits.valid
   | inr retires ↦ cc (retires.is)
 ]
 
@@ -94,7 +99,8 @@ module _ (o : Operations) (keys : List SliceKey) (uuids : List (List ℕ)) (pool
   found : (row : FindRow) → Contains pool row → (uuid : List ℕ) × Contains uuids uuid × IsFoundRow o uuid row
   found row there = in_lists o uuids rows.lists rows.finds row (subst (λ (l : List FindRow). Contains l row) rows.pool_is there)
 
-  live_of : (row : FindRow) (uuid : List ℕ) → (row.state ≡ Retired → ⊥) → Contains uuids uuid → (a : Operation) → IsFoundUnder o uuid a → row ≡ row_of a → IsLiveRow row
+  live_of : (row : FindRow) (uuid : List ℕ) → (row.state ≡ Retired → ⊥) → Contains uuids uuid → (a : Operation)
+      → IsFoundUnder o uuid a → row ≡ row_of a → IsLiveRow row
   live_of row uuid alive asked (Admit slice) is row_is =
       let key : row.key ≡ key_of slice = ap (λ (r : FindRow). r.key) row_is in (
         slice,
@@ -110,14 +116,17 @@ module _ (o : Operations) (keys : List SliceKey) (uuids : List (List ℕ)) (pool
       let one = found row there in
       live_of row one.0 alive one.1 one.2.0 one.2.2 one.2.3
 
-  retires_not : (row other : FindRow) (slice uuid : List ℕ) → IsLive o row.key slice → row ≡ row_of (Admit slice) → (other.key ≡ row.key) × (other.digest ≡ row.digest) → other.state ≡ Retired
+  retires_not : (row other : FindRow) (slice uuid : List ℕ) → IsLive o row.key slice → row ≡ row_of (Admit slice)
+      → (other.key ≡ row.key) × (other.digest ≡ row.digest) → other.state ≡ Retired
       → (a : Operation) → IsFoundUnder o uuid a → other ≡ row_of a → ⊥
   retires_not row other slice uuid live row_is same state (Admit admitted) is other_is =
       live_state (is_dsym_image admitted) (sym (ap (λ (r : FindRow). r.state) other_is) ∙ state)
   retires_not row other slice uuid live row_is same state (Retire key digest) is other_is =
       let key_is : key ≡ row.key = sym (ap (λ (r : FindRow). r.key) other_is) ∙ same.0 in
-      let digest_is : digest.0 ≡ sha256 slice = ap (λ (r : FindRow). r.digest.0) (sym other_is) ∙ (λ i. (same.1 i).0) ∙ ap (λ (r : FindRow). r.digest.0) row_is in
-      let e : contains o (retirement_record key digest.0) ≡ contains o (retirement_record row.key (sha256 slice)) = λ i. contains o (retirement_record (key_is i) (digest_is i)) in
+      let digest_is : digest.0 ≡ sha256 slice = ap (λ (r : FindRow). r.digest.0) (sym other_is) ∙ (λ i. (same.1 i).0)
+      ∙ ap (λ (r : FindRow). r.digest.0) row_is in
+      let e : contains o (retirement_record key digest.0) ≡ contains o (retirement_record row.key (sha256 slice)) =
+      λ i. contains o (retirement_record (key_is i) (digest_is i)) in
       cc (e, is.1, live.kept)
 
   not_retired : (row : FindRow) (slice : List ℕ) → IsLive o row.key slice → row ≡ row_of (Admit slice) → IsRetiredAmong pool row → ⊥
@@ -126,7 +135,8 @@ module _ (o : Operations) (keys : List SliceKey) (uuids : List (List ℕ)) (pool
       retires_not row retired.0 slice one.0 live row_is retired.3 retired.2 one.2.0 one.2.2 one.2.3
 
   -- a live slice has a row, which lives among the rows
-  live_lives : (row : FindRow) (slice : List ℕ) → IsValid slice → IsLive o row.key slice → row ≡ row_of (Admit slice) → Contains uuids row.key.uuid → LivesAmong pool row
+  live_lives : (row : FindRow) (slice : List ℕ) → IsValid slice → IsLive o row.key slice → row ≡ row_of (Admit slice)
+      → Contains uuids row.key.uuid → LivesAmong pool row
   live_lives row slice valid live row_is asked =
       let there = to_lists o uuids rows.lists rows.finds row.key.uuid asked (Admit slice) valid
       (ap (λ (k : SliceKey). k.uuid) live.under, subst (λ (k : SliceKey). IsLive o k slice) (sym live.under) live) in (
@@ -144,11 +154,13 @@ module _ (o : Operations) (keys : List SliceKey) (uuids : List (List ℕ)) (pool
   pub answers_answer : (row : FindRow) → AnswersAmong pool row → IsAnsweringRow o keys row
   answers_answer row h =
       let of = live_row row h.0.0 h.0.1 in
-      let first = λ (companion : List ℕ) (live : IsLive o row.key companion) (dsym : is_dsym_image companion ≡ true). elim h.1 as (λ _. is_dsym_image of.0 ≡ true) [
+      let first = λ (companion : List ℕ) (live : IsLive o row.key companion) (dsym : is_dsym_image companion ≡ true).
+      elim h.1 as (λ _. is_dsym_image of.0 ≡ true) [
         | inl is ↦ dsym_state (is_dsym_image of.0) (sym (ap (λ (r : FindRow). r.state) of.2) ∙ is)
         | inr none ↦
             let own = subst (λ (k : SliceKey). IsLive o k companion) (sym live.under) live in
-            let lives = live_lives (row_of (Admit companion)) companion (valid_of row.key companion of.3 live) own refl (subst (λ (k : SliceKey). Contains uuids k.uuid) (sym live.under) of.3) in
+            let lives = live_lives (row_of (Admit companion)) companion (valid_of row.key companion of.3 live) own refl
+            (subst (λ (k : SliceKey). Contains uuids k.uuid) (sym live.under) of.3) in
             absurd (none (row_of (Admit companion)) lives live.under (ap (λ (b : Bool). if b then Dsym else Image) dsym))
       ] in
       record {

@@ -1,5 +1,7 @@
 -- What is told of the slices under UUIDs: which records are read, and that what was kept tells what the join does.
-use Rattle.std.proofs.Common.{◌≡◌, ℕ, ◌+◌, ◌<◌, Bool, ◌||◌, if◌then◌else◌, true, false, Option, List, [], ◌∷◌, ◌++◌, length, map, take, drop, get_or, Result, Ok, Err, is_ok, refl, sym, ap, ◌∙◌, subst, arith, inl, inr, length-append}
+use Rattle.std.proofs.Common.{◌≡◌, ℕ, ◌+◌, ◌<◌, Bool, ◌||◌, if◌then◌else◌, true, false, Option, List, [], ◌∷◌, ◌++◌}
+use Rattle.std.proofs.Common.{length, map, take, drop, get_or, Result, Ok, Err, is_ok, refl, sym, ap, ◌∙◌, subst, arith}
+use Rattle.std.proofs.Common.{inl, inr, length-append}
 use Rattle.std.specs.Cmp.{tied_itself}
 use Rattle.std.specs.Cmp.Lexicographic.{slice_cmp, nat_list_cmp_total}
 use Rattle.std.specs.List.{All, AllByRecursion, AllZip, Contains, HoldsAt, dedup, list_any}
@@ -60,7 +62,8 @@ module _ (prefix : List ℕ) where
   found_at [] i lt at = absurd (omega (arith, lt))
   found_at (one ∷ uuids) i lt at = list_any_at is_it (one ∷ uuids) i one lt ((bytes_eq-Decides _ prefix).1 (bytes_same _ prefix (at one)))
 
-  found_nowhere : (uuids : List (List ℕ)) (i : ℕ) → IsPartitionPoint (λ (uuid : List ℕ). place_of uuid ≡ Less) (λ (uuid : List ℕ). place_of uuid ≡ Greater) uuids i → list_any is_it uuids ≡ false
+  found_nowhere : (uuids : List (List ℕ)) (i : ℕ) → IsPartitionPoint (λ (uuid : List ℕ). place_of uuid ≡ Less)
+      (λ (uuid : List ℕ). place_of uuid ≡ Greater) uuids i → list_any is_it uuids ≡ false
   found_nowhere uuids i parts = false_from_ne_true (list_any is_it uuids) (λ is.
       let any = Any-from_list_any is_it uuids is in
       elim (cases_lt any.0 i) [
@@ -69,10 +72,12 @@ module _ (prefix : List ℕ) where
       ])
 
   -- what a binary search of them finds
-  pub found_uuid : (uuids : List (List ℕ)) (r : Result ℕ ℕ) → IsSortedByKey (λ (uuid : List ℕ). uuid) (slice_cmp nat_cmp) uuids → IsSearchInRange r (length uuids)
+  pub found_uuid : (uuids : List (List ℕ)) (r : Result ℕ ℕ)
+      → IsSortedByKey (λ (uuid : List ℕ). uuid) (slice_cmp nat_cmp) uuids → IsSearchInRange r (length uuids)
       → IsBinarySearchResult place_of uuids r → is_ok r ≡ list_any is_it uuids
   found_uuid uuids (Ok i) sorted lt at = sym (found_at uuids i lt at)
-  found_uuid uuids (Err i) sorted le parted = sym (found_nowhere uuids i (parted (searchable_from_sorted nat_list_cmp_total (λ (uuid : List ℕ). uuid) uuids prefix sorted)))
+  found_uuid uuids (Err i) sorted le parted = sym (found_nowhere uuids i
+      (parted (searchable_from_sorted nat_list_cmp_total (λ (uuid : List ℕ). uuid) uuids prefix sorted)))
 
 pub uuid_picked : (uuids : List (List ℕ)) (uuid r : List ℕ) → Contains uuids uuid → length uuid ≡ 16 → is_under uuid r ≡ true → is_under_one uuids r ≡ true
 unfolding is_under
@@ -100,7 +105,8 @@ eq_true : (o : Ordering) → is_eq o ≡ true → o ≡ Equal
 eq_true Equal e = refl
 eq_true o e = absurd (cc e)
 
-module _ (keys : List SliceKey) (uuids sorted kept : List (List ℕ)) (each : uuids ≡ map (λ (key : SliceKey). key.uuid) keys) (moved : IsPermutation uuids sorted)
+module _ (keys : List SliceKey) (uuids sorted kept : List (List ℕ))
+    (each : uuids ≡ map (λ (key : SliceKey). key.uuid) keys) (moved : IsPermutation uuids sorted)
     (once : kept ≡ dedup (eq_by_cmp (slice_cmp nat_cmp)) sorted) where
   pub uuids_are : AreUuidsOf keys kept
   uuids_are = λ uuid. (
@@ -110,23 +116,28 @@ module _ (keys : List SliceKey) (uuids sorted kept : List (List ℕ)) (each : uu
         let one = in_map (λ (key : SliceKey). key.uuid) keys uuid (subst (λ (l : List (List ℕ)). Contains l uuid) each before) in
         (one.0, one.1, sym one.2),
     λ has.
-        let before : Contains uuids uuid = subst (λ (l : List (List ℕ)). Contains l uuid) (sym each) (subst (Contains (map (λ (key : SliceKey). key.uuid) keys)) has.2 (to_map (λ (key : SliceKey). key.uuid) keys has.0 has.1)) in
+        let before : Contains uuids uuid = subst (λ (l : List (List ℕ)). Contains l uuid) (sym each)
+        (subst (Contains (map (λ (key : SliceKey). key.uuid) keys)) has.2
+        (to_map (λ (key : SliceKey). key.uuid) keys has.0 has.1)) in
         let any = Any-dedup (eq_by_cmp_equiv nat_list_cmp_total) sorted uuid (Contains-permutation uuids sorted uuid moved before) in
         let other : Contains kept any.1 = subst (λ (l : List (List ℕ)). Contains l any.1) (sym once) (any.0, any.2, any.3) in
         subst (Contains kept) (sym (bytes_same uuid any.1 (eq_true _ any.4))) other,
   )
 
-pub uuids_sorted : (sorted kept : List (List ℕ)) → IsSorted (slice_cmp nat_cmp) sorted → kept ≡ dedup (eq_by_cmp (slice_cmp nat_cmp)) sorted → IsSortedByKey (λ (uuid : List ℕ). uuid) (slice_cmp nat_cmp) kept
+pub uuids_sorted : (sorted kept : List (List ℕ)) → IsSorted (slice_cmp nat_cmp) sorted → kept
+    ≡ dedup (eq_by_cmp (slice_cmp nat_cmp)) sorted → IsSortedByKey (λ (uuid : List ℕ). uuid) (slice_cmp nat_cmp) kept
 uuids_sorted sorted kept up once =
     neighbours nat_list_cmp_total (λ (uuid : List ℕ). uuid) kept
     (subst (IsStrictlySortedBy (slice_cmp nat_cmp)) (sym once) (IsStrictlySortedBy-dedup nat_list_cmp_total (λ x y. refl) sorted up))
 
 -- one search more
-pub search_more : (o : Operations) (uuids : List (List ℕ)) (i : ℕ) (uuid : List ℕ) (pool rows grown : List FindRow) → i < length uuids → uuid ≡ get_or uuids i uuid → IsFinds o uuid rows
+pub search_more : (o : Operations) (uuids : List (List ℕ)) (i : ℕ) (uuid : List ℕ) (pool rows grown : List FindRow)
+    → i < length uuids → uuid ≡ get_or uuids i uuid → IsFinds o uuid rows
     → grown ≡ pool ++ rows → AreRowsUnder o (take i uuids) pool → AreRowsUnder o (take (i + 1) uuids) grown
 search_more o uuids i uuid pool rows grown within is finds grown_is before = record {
   lists = before.lists ++ rows ∷ [];
-  finds = subst (λ (l : List (List ℕ)). AllZip (IsFinds o) l (before.lists ++ rows ∷ [])) (sym (take_more uuids i uuid within ∙ ap (λ (u : List ℕ). take i uuids ++ u ∷ []) (sym is)))
+  finds = subst (λ (l : List (List ℕ)). AllZip (IsFinds o) l (before.lists ++ rows ∷ []))
+      (sym (take_more uuids i uuid within ∙ ap (λ (u : List ℕ). take i uuids ++ u ∷ []) (sym is)))
       (pairs_more (IsFinds o) (take i uuids) before.lists uuid rows before.finds finds);
   pool_is = grown_is ∙ ap (λ (l : List FindRow). l ++ rows) before.pool_is ∙ flat_map_more (λ (l : List FindRow). l) [] before.lists rows;
 }
@@ -138,7 +149,8 @@ merged_is o [] content are = content
 merged_is o (p ∷ contents) content are = merged_is (joined o p) contents (joined_content o p content are.0) are.1
 
 -- what is true of each content that is alike is true of the join
-pub content_tells : {R S : Type 0} (archive : Reader R) (others : List (Reader S)) (IsAlike IsTrue : Operations → Type 0) → ((o : Operations) → IsContent o → IsAlike o → IsTrue o)
+pub content_tells : {R S : Type 0} (archive : Reader R) (others : List (Reader S))
+    (IsAlike IsTrue : Operations → Type 0) → ((o : Operations) → IsContent o → IsAlike o → IsTrue o)
     → HoldTogether archive others IsAlike → HoldTogether archive others IsTrue
 content_tells archive others IsAlike IsTrue tells held = record {
   content = held.content;
@@ -150,17 +162,24 @@ content_tells archive others IsAlike IsTrue tells held = record {
   is_true = tells (merged held.content held.contents) (merged_is held.content held.contents held.is_content held.are_contents) held.is_true;
 }
 
-lists_alike : (o p : Operations) (uuids : List (List ℕ)) (lists : List (List FindRow)) → ((uuid : List ℕ) → Contains uuids uuid → AreAlikeUnder uuid o p) → AllZip (IsFinds o) uuids lists → AllZip (IsFinds p) uuids lists
+lists_alike : (o p : Operations) (uuids : List (List ℕ)) (lists : List (List FindRow))
+    → ((uuid : List ℕ) → Contains uuids uuid → AreAlikeUnder uuid o p) → AllZip (IsFinds o) uuids lists
+    → AllZip (IsFinds p) uuids lists
 lists_alike o p [] [] alike all = tt
-lists_alike o p (uuid ∷ uuids) (rows ∷ lists) alike all =
-    (finds_alike o p uuid rows (alike uuid (in_front uuid uuids)) all.0, lists_alike o p uuids lists (λ other there. alike other (in_rest uuid uuids other there)) all.1)
+lists_alike o p (uuid ∷ uuids) (rows ∷ lists) alike all = (
+  finds_alike o p uuid rows (alike uuid (in_front uuid uuids)) all.0,
+  lists_alike o p uuids lists (λ other there. alike other (in_rest uuid uuids other there)) all.1,
+)
 lists_alike o p [] (rows ∷ lists) alike all = absurd all
 lists_alike o p (uuid ∷ uuids) [] alike all = absurd all
 
-rows_alike : (o p : Operations) (uuids : List (List ℕ)) (pool : List FindRow) → ((uuid : List ℕ) → Contains uuids uuid → AreAlikeUnder uuid o p) → AreRowsUnder o uuids pool → AreRowsUnder p uuids pool
+rows_alike : (o p : Operations) (uuids : List (List ℕ)) (pool : List FindRow)
+    → ((uuid : List ℕ) → Contains uuids uuid → AreAlikeUnder uuid o p) → AreRowsUnder o uuids pool
+    → AreRowsUnder p uuids pool
 rows_alike o p uuids pool alike rows = record { lists = rows.lists; finds = lists_alike o p uuids rows.lists alike rows.finds; pool_is = rows.pool_is }
 
-answered_alike : (lines : Bool) (o p : Operations) (frames : List Frame) (rows : List Answered) → ((frame : Frame) → Contains frames frame → AnswersAs frame.key o p)
+answered_alike : (lines : Bool) (o p : Operations) (frames : List Frame) (rows : List Answered)
+    → ((frame : Frame) → Contains frames frame → AnswersAs frame.key o p)
     → AllZip (IsFrameAnswered lines o) frames rows → AllZip (IsFrameAnswered lines p) frames rows
 answered_alike lines o p [] [] alike all = tt
 answered_alike lines o p (frame ∷ frames) (row ∷ rows) alike all = (
@@ -170,7 +189,8 @@ answered_alike lines o p (frame ∷ frames) (row ∷ rows) alike all = (
 answered_alike lines o p [] (row ∷ rows) alike all = absurd all
 answered_alike lines o p (frame ∷ frames) [] alike all = absurd all
 
-frames_alike : (lines : Bool) (o p : Operations) (frames : List Frame) (status : Status) (text : List ℕ) → ((frame : Frame) → Contains frames frame → AnswersAs frame.key o p)
+frames_alike : (lines : Bool) (o p : Operations) (frames : List Frame) (status : Status) (text : List ℕ)
+    → ((frame : Frame) → Contains frames frame → AnswersAs frame.key o p)
     → TellsFrames lines o frames status text → TellsFrames lines p frames status text
 frames_alike lines o p frames status text alike told = record {
   rows = told.rows;
@@ -179,7 +199,8 @@ frames_alike lines o p frames status text alike told = record {
   text_is = told.text_is;
 }
 
-slices_same : (P Q : FindRow → Type 0) (keys : List SliceKey) (text : List ℕ) → ((row : FindRow) → P row → Q row) → ((row : FindRow) → Q row → P row) → TellsSlices P keys text → TellsSlices Q keys text
+slices_same : (P Q : FindRow → Type 0) (keys : List SliceKey) (text : List ℕ) → ((row : FindRow) → P row → Q row)
+    → ((row : FindRow) → Q row → P row) → TellsSlices P keys text → TellsSlices Q keys text
 slices_same P Q keys text to from told = record {
   rows = told.rows;
   absent = told.absent;
@@ -215,7 +236,8 @@ module _ (kept o : Operations) (keys : List SliceKey) (uuids : List (List ℕ)) 
       answers_alike kept o key (alike (key_bytes key) (omega (arith, long)) (λ r under. uuid_picked uuids key.uuid r asked whole.uuid (under_uuid key r under)))
 
   -- rows that were kept tell the slices that answer in the join
-  pub tells_after : (Tells Told : Status → List ℕ → Type 0) (status : Status) (text : List ℕ) → ((answers : List ℕ) → Tells status answers → Told status answers)
+  pub tells_after : (Tells Told : Status → List ℕ → Type 0) (status : Status) (text : List ℕ)
+      → ((answers : List ℕ) → Tells status answers → Told status answers)
       → TellsRowsAfter Tells kept uuids keys status text → TellsSlicesAfter Told (IsAnsweringRow o keys) keys status text
   tells_after Tells Told status text to after =
       let rows = rows_alike kept o uuids after.rows.pool under_one after.rows.rows in
@@ -224,19 +246,24 @@ module _ (kept o : Operations) (keys : List SliceKey) (uuids : List (List ℕ)) 
         told = to after.answers after.told;
         slices = after.slices;
         tells_slices = slices_same (AnswersAmong after.rows.pool) (IsAnsweringRow o keys) keys after.slices
-            (answers_answer o keys uuids after.rows.pool content keyed are rows) (answer_answers o keys uuids after.rows.pool content keyed are rows) after.rows.tells;
+            (answers_answer o keys uuids after.rows.pool content keyed are rows)
+            (answer_answers o keys uuids after.rows.pool content keyed are rows) after.rows.tells;
         text_is = after.text_is;
       }
 
 -- the same of frames, with their keys
 pub frames_after : (lines : Bool) (kept o : Operations) (frames : List Frame) (keys : List SliceKey) (uuids : List (List ℕ)) (status : Status) (text : List ℕ)
     → IsContent o → keys ≡ frame_keys frames → All IsKey keys → AreUuidsOf keys uuids → AreAlikeWhere (is_under_one uuids) kept o
-    → TellsRowsAfter (TellsFrames lines kept frames) kept uuids keys status text → TellsSlicesAfter (TellsFrames lines o frames) (IsAnsweringRow o (frame_keys frames)) (frame_keys frames) status text
+    → TellsRowsAfter (TellsFrames lines kept frames) kept uuids keys status text
+    → TellsSlicesAfter (TellsFrames lines o frames) (IsAnsweringRow o (frame_keys frames)) (frame_keys frames)
+    status text
 frames_after lines kept o frames keys uuids status text content same keyed are alike after =
     subst (λ (ks : List SliceKey). TellsSlicesAfter (TellsFrames lines o frames) (IsAnsweringRow o ks) ks status text) same
     (tells_after kept o keys uuids content keyed are alike (TellsFrames lines kept frames) (TellsFrames lines o frames) status text
     (λ answers told. frames_alike lines kept o frames status answers
-    (λ frame there. answers_of kept o keys uuids content keyed are alike frame.key (subst (λ (ks : List SliceKey). Contains ks frame.key) (sym same) (to_map (λ (one : Frame). one.key) frames frame there))) told) after)
+    (λ frame there. answers_of kept o keys uuids content keyed are alike frame.key
+    (subst (λ (ks : List SliceKey). Contains ks frame.key) (sym same)
+    (to_map (λ (one : Frame). one.key) frames frame there))) told) after)
 
 -- ---- one key
 
@@ -270,15 +297,20 @@ front_uuid : (key : SliceKey) → length key.uuid ≡ 16 → take 16 (key_bytes 
 unfolding key_bytes
 front_uuid key long = take_at key.uuid _ 16 long
 
-pub addresses_with : (slices : Bool) (kept o : Operations) (key : SliceKey) (load : Option ℕ) (lines : Bool) (addresses : List ℕ) (status : Status) (text : List ℕ) → IsContent o → IsKey key
+pub addresses_with : (slices : Bool) (kept o : Operations) (key : SliceKey) (load : Option ℕ) (lines : Bool)
+    (addresses : List ℕ) (status : Status) (text : List ℕ) → IsContent o → IsKey key
     → AreAlikeWhere (is_under (if slices then take 16 (key_bytes key) else key_bytes key)) kept o
-    → WithRows slices (TellsAddresses kept key load lines addresses) kept (key.uuid ∷ []) (key ∷ []) status text → TellsAddressesWith o key load lines slices addresses status text
+    → WithRows slices (TellsAddresses kept key load lines addresses) kept (key.uuid ∷ []) (key ∷ []) status text
+    → TellsAddressesWith o key load lines slices addresses status text
 addresses_with false kept o key load lines addresses status text content is_key alike told =
     told_alike kept o key load lines addresses status text (alike (key_bytes key) (omega (arith, length_key_bytes key is_key.uuid)) (λ r under. under)) told
 addresses_with true kept o key load lines addresses status text content is_key alike told =
-    let by_uuid : AreAlikeWhere (is_under key.uuid) kept o = subst (λ (front : List ℕ). AreAlikeWhere (is_under front) kept o) (front_uuid key is_key.uuid) alike in
-    let by_one : AreAlikeWhere (is_under_one (key.uuid ∷ [])) kept o = λ prefix short all. by_uuid prefix short (λ r under. one_picked key.uuid r is_key.uuid (all r under)) in
+    let by_uuid : AreAlikeWhere (is_under key.uuid) kept o =
+    subst (λ (front : List ℕ). AreAlikeWhere (is_under front) kept o) (front_uuid key is_key.uuid) alike in
+    let by_one : AreAlikeWhere (is_under_one (key.uuid ∷ [])) kept o =
+    λ prefix short all. by_uuid prefix short (λ r under. one_picked key.uuid r is_key.uuid (all r under)) in
     let whole = All-cons IsKey key [] is_key (All-nil IsKey) in
-    tells_after kept o (key ∷ []) (key.uuid ∷ []) content whole (own_uuid key) by_one (TellsAddresses kept key load lines addresses) (TellsAddresses o key load lines addresses) status text
+    tells_after kept o (key ∷ []) (key.uuid ∷ []) content whole (own_uuid key) by_one
+    (TellsAddresses kept key load lines addresses) (TellsAddresses o key load lines addresses) status text
     (λ answers before. told_alike kept o key load lines addresses status answers
     (by_uuid (key_bytes key) (omega (arith, length_key_bytes key is_key.uuid)) (λ r under. under_uuid key r under)) before) told

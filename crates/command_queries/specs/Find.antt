@@ -1,4 +1,4 @@
--- What `find` tells of archives.
+-- The report of `find` over archives.
 use Rattle.std.specs.Prelude.{ℕ, List}
 use Rattle.command_common.specs.declared.faults.Status.{Status}
 use Rattle.command_common.specs.Archives.{AreRefused, AreUnfailed, HoldTogether}

@@ -1,4 +1,4 @@
--- What `frames` tells of the frames of a crash.
+-- The report of `frames` for the frames of a crash.
 use Rattle.std.specs.Prelude.{◌≡◌, ℕ, List, [], ◌∷◌, Bool, true, false, Ok, ◌⊎◌, if◌then◌else◌, map}
 use Rattle.std.specs.List.{AllZip, flat_map, list_all}
 use Rattle.archive_core.specs.Content.{Operations}
@@ -36,7 +36,8 @@ frame_keys frames = map (λ frame. frame.key) frames
 -- what a content tells of frames, and if they are wanted the lines of the slices that answer
 abbrev pub TellsFramesWith : Bool → Bool → Operations → List Frame → Status → List ℕ → Type 0
 TellsFramesWith lines slices content frames status text =
-    WithSlices slices (TellsFrames lines content frames) (IsAnsweringRow content (frame_keys frames)) (frame_keys frames)
+    WithSlices slices (TellsFrames lines content frames) (IsAnsweringRow content (frame_keys frames))
+    (frame_keys frames)
     status text
 
 -- FRAMES says these frames, ARCHIVE and the others are the texts of contents, and the join of these tells this of the

@@ -1,4 +1,4 @@
--- What `list` tells of an archive.
+-- The report of `list` over an archive.
 use Rattle.std.specs.Prelude.{◌≡◌, ℕ, List}
 use Rattle.archive_core.specs.Content.{Operations, IsContent}
 use Rattle.archive_core.specs.Lists.{IsList}

@@ -1,4 +1,4 @@
--- What `name` tells of archives.
+-- The report of `name` over archives.
 use Rattle.std.specs.Prelude.{◌≡◌, ℕ, Bool, true, false, List, ◌++◌, codes}
 use Rattle.archive_core.specs.Content.{Operations}
 use Rattle.archive_core.specs.Names.{IsNameRow, IsNames, NameRecord}

@@ -1,4 +1,4 @@
--- What a content answers for a place, with the source frames of the slices that answer.
+-- The answer of a content for a place, with the source frames of the slices that answer.
 use Rattle.std.specs.Prelude.{◌≡◌, ℕ, List, [], Bool, true, false, MatchOption}
 use Rattle.std.specs.List.{AllZip}
 use Rattle.archive_core.specs.Content.{Operations}

@@ -1,4 +1,4 @@
--- What `symbolicate` tells of archives.
+-- The report of `symbolicate` over archives.
 use Rattle.std.specs.Prelude.{◌≡◌, ℕ, List, [], ◌∷◌, Bool, true, false, Option, Some, None, map, if◌then◌else◌}
 use Rattle.std.specs.List.{AllByRecursion, flat_map, list_all}
 use Rattle.archive_core.specs.Content.{Operations}

@@ -80,8 +80,8 @@ fn gather_others<R: Source>(
     Ok(now)
 }
 
-/// Reads the archives in the order of the words, each to its end, and gives the rows of the names in their join. Rows of
-/// slices that one of them retires are dropped at the end.
+/// Reads the archives in the order of the words, each to its end, and gives the rows of the names in their join. Rows
+/// of slices that one of them retires are dropped at the end.
 fn gather_rows<R: Source>(
     heap: &Heap,
     sought: SoughtNames<'_>,

@@ -161,8 +161,8 @@ fn asked_front(prefix: &[u8; 24], slices: bool) -> &[u8]
 /// the image where it was loaded, if `load` says where that was, and else of its file. The archives are read one after
 /// another, each to its end. If `lines`, what each slice answers is followed by the source frames of the address in it.
 ///
-/// If `slices`, the lines of the slices that answer under the UUID follow, and the key's if none does under it. Then all
-/// slices under the UUID are held.
+/// If `slices`, the lines of the slices that answer under the UUID follow, and the key's if none does under it. Then
+/// all slices under the UUID are held.
 ///
 /// The status is `Done` where each answer is one symbol, and else `Partial`.
 ///

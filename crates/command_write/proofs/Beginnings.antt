@@ -19,7 +19,8 @@ use Rattle.archive_records.proofs.Versions.{formed}
 use Rattle.archive_merge.proofs.Fronts.{both_taken}
 
 -- the good records of the text of records are these
-pub good_formed : (f : Format) → kind_of f ≡ Archive_text → (t : List ℕ) (xs : List (List ℕ)) → InOrder f [] xs → AreApart f xs → t ≡ text_of f xs → AreGoodRecords t xs
+pub good_formed : (f : Format) → kind_of f ≡ Archive_text → (t : List ℕ) (xs : List (List ℕ)) → InOrder f [] xs
+    → AreApart f xs → t ≡ text_of f xs → AreGoodRecords t xs
 good_formed f k t xs a p e =
     let end : List ℕ = ending f (length xs) in
     let is : is_end end ≡ true = ap is_end (ending_of f k (length xs)) ∙ end-is_end (length xs) in
@@ -30,12 +31,17 @@ abbrev ForBoth : Option (List ℕ) → Option (List ℕ) → (List (List ℕ) �
 ForBoth a b P = IfSome a (λ t. IfSome b (λ u. (xs ys : List (List ℕ)) → AreGoodRecords t xs → AreGoodRecords u ys → P xs ys))
 
 -- a first part of what the good records of two archives make is one of the text of their join
-pub first_of_join : (a b w0 w1 : Option (List ℕ)) (n : ℕ) (o p : Operations) (t u : List ℕ) → IsContent o → IsContent p → IsArchiveOf o t → IsArchiveOf p u → a ≡ Some t → b ≡ Some u → ForBoth a b (λ xs ys. WritesFirst w0 w1 (written (of_both xs ys)) n) → WritesFirst w0 w1 (written (joined o p)) n
+pub first_of_join : (a b w0 w1 : Option (List ℕ)) (n : ℕ) (o p : Operations) (t u : List ℕ) → IsContent o → IsContent p
+    → IsArchiveOf o t → IsArchiveOf p u → a ≡ Some t → b ≡ Some u
+    → ForBoth a b (λ xs ys. WritesFirst w0 w1 (written (of_both xs ys)) n) → WritesFirst w0 w1 (written (joined o p)) n
 first_of_join a b w0 w1 n o p t u c d i j e f h =
     let both = rw (e, f) at h in
     let l = formed o t c i in
     let r = formed p u d j in
     let join : of_both l.records r.records ≡ joined o p =
-    both_taken l.format r.format l.archive r.archive l.records r.records l.ordered l.apart r.ordered r.apart ∙ ap (λ (x : Operations). joined x (set.from_list (taken_of r.format r.records))) (sym l.content) ∙ ap (joined o) (sym r.content) in
+    both_taken l.format r.format l.archive r.archive l.records r.records l.ordered l.apart r.ordered r.apart
+    ∙ ap (λ (x : Operations). joined x (set.from_list (taken_of r.format r.records))) (sym l.content)
+    ∙ ap (joined o) (sym r.content) in
     subst (λ (q : Operations). WritesFirst w0 w1 (written q) n) join
-    (both l.records r.records (good_formed l.format l.archive t l.records l.ordered l.apart l.whole) (good_formed r.format r.archive u r.records r.ordered r.apart r.whole))
+    (both l.records r.records (good_formed l.format l.archive t l.records l.ordered l.apart l.whole)
+    (good_formed r.format r.archive u r.records r.ordered r.apart r.whole))

@@ -46,16 +46,26 @@ module _ {R : Type 0} (input : Reader R) (Accepted : Type 0) (draft : Writer) wh
 
 module _ (out : Out) (report : Writer) where
   -- its inputs are accepted, and what they make is published
-  pub published : (command : Streamed) (result : Result Status CommandFault) (text told : List ℕ) → command.Unfailed → command.Makes text told → Publishes out report text told result → EndsStreamed command out report result
+  pub published : (command : Streamed) (result : Result Status CommandFault) (text told : List ℕ) → command.Unfailed
+      → command.Makes text told → Publishes out report text told result → EndsStreamed command out report result
   published command (Err (Input at why)) text told u makes p = absurd p
   published command (Err (Output n)) text told u makes p = inr (u, record { text = text; told = told; makes = makes; published = p })
   published command (Err OutOfMemory) text told u makes p = inr (u, record { text = text; told = told; makes = makes; published = p })
   published command result text told u makes p = (u, record { text = text; told = told; makes = makes; published = p })
 
   -- one that makes all that another makes, and is stopped by all that stops that one
-  module _ (from to : Streamed) (makes : (text told : List ℕ) → from.Makes text told → to.Makes text told) (unfailed : from.Unfailed → to.Unfailed) (stops : (fault : CommandFault) → from.Stops fault → to.Stops fault) where
+  module _ (from to : Streamed) (makes : (text told : List ℕ) → from.Makes text told → to.Makes text told)
+      (unfailed : from.Unfailed → to.Unfailed) (stops : (fault : CommandFault) → from.Stops fault
+      → to.Stops fault) where
     stopped : (fault : CommandFault) → IsStopped from out report fault → IsStopped to out report fault
-    stopped fault s = record { stops = stops fault s.stops; bytes = s.bytes; took = s.took; count = s.count; nothing_published = s.nothing_published; unreported = s.unreported }
+    stopped fault s = record {
+      stops = stops fault s.stops;
+      bytes = s.bytes;
+      took = s.took;
+      count = s.count;
+      nothing_published = s.nothing_published;
+      unreported = s.unreported;
+    }
 
     carried : (r : Result Status CommandFault) → from.Unfailed × Carries from.Makes out report r → to.Unfailed × Carries to.Makes out report r
     carried r c = (unfailed c.0, record { text = c.1.text; told = c.1.told; makes = makes c.1.text c.1.told c.1.makes; published = c.1.published })
@@ -67,27 +77,45 @@ module _ (out : Out) (report : Writer) where
     ends_so r e = carried r e
 
   -- one that ended so, with a draft that is unfinished
-  pub begun : {R : Type 0} (input : Reader R) (Accepted : Type 0) (command : Streamed) → IsUnfinished input Accepted out.draft → (r : Result Status CommandFault) → EndsStreamed command out report r
+  pub begun : {R : Type 0} (input : Reader R) (Accepted : Type 0) (command : Streamed)
+      → IsUnfinished input Accepted out.draft → (r : Result Status CommandFault) → EndsStreamed command out report r
       → EndsStreamed (begins_behind input Accepted out.draft command) out report r
   begun input Accepted command u = ends_so command (begins_behind input Accepted out.draft command) (λ text told m. m) (λ f. f) (λ fault s. (s, u))
 
 -- what makes no more of content and lines makes no more of their texts
-makes_alike : (P Q : Operations → List ℕ → Type 0) → ((o : Operations) (lines : List ℕ) → P o lines → Q o lines) → (text told : List ℕ) → MakesArchive P text told → MakesArchive Q text told
-makes_alike P Q makes text told m = record { content = m.content; lines = m.lines; makes = makes m.content m.lines m.makes; text_is = m.text_is; told_is = m.told_is }
+makes_alike : (P Q : Operations → List ℕ → Type 0) → ((o : Operations) (lines : List ℕ) → P o lines → Q o lines)
+    → (text told : List ℕ) → MakesArchive P text told → MakesArchive Q text told
+makes_alike P Q makes text told m = record {
+  content = m.content;
+  lines = m.lines;
+  makes =
+      makes m.content m.lines m.makes;
+  text_is = m.text_is;
+  told_is = m.told_is;
+}
 
-module _ {R : Type 0} (Makes : Operations → List ℕ → Type 0) (input : Reader R) (IsRefusedBehind : InputName → Why → Type 0) (OthersUnfailed Known Accepted : Type 0) (out : Out) (report : Writer) where
+module _ {R : Type 0} (Makes : Operations → List ℕ → Type 0) (input : Reader R)
+    (IsRefusedBehind : InputName → Why → Type 0) (OthersUnfailed Known Accepted : Type 0) (out : Out)
+    (report : Writer) where
   abbrev command : Command
   command = record { Makes = MakesArchive Makes; Refuses = IsRefusedInTurn input IsRefusedBehind; Unfailed = Unfailed input × OthersUnfailed }
 
   abbrev EndsSo : Result Status CommandFault → Type 0
-  EndsSo result = EndsStreamed (begins_behind input Accepted out.draft (writes_in_turn command (IsWantedInTurn input IsRefusedBehind) Known out.draft)) out report result
+  EndsSo result = EndsStreamed (begins_behind input Accepted out.draft
+      (writes_in_turn command (IsWantedInTurn input IsRefusedBehind) Known out.draft)) out report result
 
-  ends : (fault : CommandFault) → IsRefusal (IsRefusedInTurn input IsRefusedBehind) ((Unfailed input × OthersUnfailed) ⊎ IsWantedInTurn input IsRefusedBehind) fault → IsKept out → Takes report [] → EndsSo (Err fault)
+  ends : (fault : CommandFault) → IsRefusal (IsRefusedInTurn input IsRefusedBehind)
+      ((Unfailed input × OthersUnfailed) ⊎ IsWantedInTurn input IsRefusedBehind) fault → IsKept out → Takes report []
+      → EndsSo (Err fault)
   ends fault refusal kept unreported =
-      begun out report input Accepted (writes_in_turn command (IsWantedInTurn input IsRefusedBehind) Known out.draft) (untouched input Accepted out.draft kept.0) (Err fault)
-      (refused_in_turn Makes (IsRefusedInTurn input IsRefusedBehind) (Unfailed input × OthersUnfailed) (IsWantedInTurn input IsRefusedBehind) Known out report fault refusal kept unreported)
+      begun out report input Accepted (writes_in_turn command (IsWantedInTurn input IsRefusedBehind) Known out.draft)
+      (untouched input Accepted out.draft kept.0) (Err fault)
+      (refused_in_turn Makes (IsRefusedInTurn input IsRefusedBehind) (Unfailed input × OthersUnfailed)
+      (IsWantedInTurn input IsRefusedBehind) Known out report fault refusal kept unreported)
 
-  refused : (at : InputName) (why : Why) → IsRefusedBehind at why → (fault : CommandFault) → IsRefusal (IsRefusedInTurn input (λ place reason. (place ≡ at) × (reason ≡ why))) (Unfailed input) fault → IsKept out → Takes report [] → EndsSo (Err fault)
+  refused : (at : InputName) (why : Why) → IsRefusedBehind at why → (fault : CommandFault)
+      → IsRefusal (IsRefusedInTurn input (λ place reason. (place ≡ at) × (reason ≡ why))) (Unfailed input) fault
+      → IsKept out → Takes report [] → EndsSo (Err fault)
   refused at why is (Input place reason) (inl first) = ends (Input place reason) (inl first)
   refused at why is (Input place reason) (inr behind) = ends (Input place reason) (inr (behind.0, behind.1, rw (behind.2.0, behind.2.1) is))
   refused at why is OutOfMemory r = ends OutOfMemory (inr (r, (at, why, is)))
@@ -98,16 +126,23 @@ module _ {R : Type 0} (Makes : Operations → List ℕ → Type 0) (input : Read
   wanting unfailed others = ends OutOfMemory (inl (unfailed, others))
 
   -- what is after it was refused, or memory wanted for it
-  pub told_behind : (fault told : CommandFault) → IsRefusal IsRefusedBehind OthersUnfailed fault → TellsInTurn input fault told → IsKept out → Takes report [] → EndsSo (Err told)
+  pub told_behind : (fault told : CommandFault) → IsRefusal IsRefusedBehind OthersUnfailed fault
+      → TellsInTurn input fault told → IsKept out → Takes report [] → EndsSo (Err told)
   told_behind (Input at why) told r t = refused at why r told t
   told_behind OutOfMemory told r t = rw t.0 (wanting (ap input.failures t.1) r)
   told_behind fault told r t = absurd r
 
   -- what is after it was read: as the command ends that reads the first input alone and makes the same of it
-  pub read_behind : (Others : Operations → List ℕ → Type 0) → OthersUnfailed → Accepted → (Known → IsKnown input) → ((o : Operations) (lines : List ℕ) → Others o lines → Makes o lines) → (Known → (o : Operations) (lines : List ℕ) → Makes o lines → Others o lines)
-      → (result : Result Status CommandFault) → EndsBegun input (record { Makes = MakesArchive Others; Refuses = IsRefusedArchive 0 input; Unfailed = Unfailed input }) out report result → EndsSo result
+  pub read_behind : (Others : Operations → List ℕ → Type 0) → OthersUnfailed → Accepted → (Known → IsKnown input)
+      → ((o : Operations) (lines : List ℕ) → Others o lines → Makes o lines)
+      → (Known → (o : Operations) (lines : List ℕ) → Makes o lines → Others o lines)
+      → (result : Result Status CommandFault) → EndsBegun input
+      (record { Makes = MakesArchive Others; Refuses = IsRefusedArchive 0 input; Unfailed = Unfailed input }) out
+      report result → EndsSo result
   read_behind Others unfailed all known forth back =
-      ends_so out report (begins_alone input out.draft other) (begins_behind input Accepted out.draft (writes_in_turn command (IsWantedInTurn input IsRefusedBehind) Known out.draft))
+      ends_so out report (begins_alone input out.draft other)
+      (begins_behind input Accepted out.draft (writes_in_turn command (IsWantedInTurn input IsRefusedBehind) Known
+      out.draft))
       (makes_alike Others Makes forth) (λ u. (u, unfailed)) (λ fault s. (stops fault s.0, accepted input Accepted out.draft all s.1))
     where
       other : Command
@@ -116,7 +151,8 @@ module _ {R : Type 0} (Makes : Operations → List ℕ → Type 0) (input : Read
       first : (n : ℕ) → HasFirst other (IsKnown input) out.draft n → HasFirst command Known out.draft n
       first n f k text told m = f (known k) text told (makes_alike Makes Others (back k) text told m)
 
-      stops : (fault : CommandFault) → StopsAmidst other (IsKnown input) out.draft fault → StopsInTurn command (IsWantedInTurn input IsRefusedBehind) Known out.draft fault
+      stops : (fault : CommandFault) → StopsAmidst other (IsKnown input) out.draft fault
+          → StopsInTurn command (IsWantedInTurn input IsRefusedBehind) Known out.draft fault
       stops (Input at why) s = (inl s.0, s.1, (s.2.0, first s.2.0 s.2.1))
       stops (Output n) s = ((s.0, unfailed), s.1, first n s.2)
       stops (Report n) s = absurd s
@@ -125,11 +161,14 @@ module _ {R : Type 0} (Makes : Operations → List ℕ → Type 0) (input : Read
 -- ---- inputs whose bytes are known
 
 -- bytes that are a text of one thing alone give one
-pub one_given : {S T : Type 0} (IsOf : T → List ℕ → Type 0) (left : S → Option (List ℕ)) (failures : S → ℕ) (old new : S) (x y : T) → ((text : List ℕ) → IsOf x text → IsOf y text → x ≡ y)
+pub one_given : {S T : Type 0} (IsOf : T → List ℕ → Type 0) (left : S → Option (List ℕ)) (failures : S → ℕ)
+    (old new : S) (x y : T) → ((text : List ℕ) → IsOf x text → IsOf y text → x ≡ y)
     → IsKnown (reader left failures old new) → Gives (reader left failures old new) (IsOf x) → Gives (reader left failures old new) (IsOf y) → x ≡ y
 one_given IsOf left failures old new x y one known h k = one known.0 (rw known.1 at h) (rw known.1 at k)
 
-pub all_given : {S T : Type 0} (IsOf : T → List ℕ → Type 0) (Is : T → Type 0) → ((text : List ℕ) (x y : T) → Is x → Is y → IsOf x text → IsOf y text → x ≡ y) → (inputs : List (Reader S)) (xs ys : List T) → AllByRecursion Is xs → AllByRecursion Is ys → EachKnown inputs
+pub all_given : {S T : Type 0} (IsOf : T → List ℕ → Type 0) (Is : T → Type 0)
+    → ((text : List ℕ) (x y : T) → Is x → Is y → IsOf x text → IsOf y text → x ≡ y)
+    → (inputs : List (Reader S)) (xs ys : List T) → AllByRecursion Is xs → AllByRecursion Is ys → EachKnown inputs
     → AllZip (λ (input : Reader S) (x : T). Gives input (IsOf x)) inputs xs → AllZip (λ (input : Reader S) (x : T). Gives input (IsOf x)) inputs ys → xs ≡ ys
 all_given IsOf Is one [] [] [] are also known h k = refl
 all_given IsOf Is one [] (_ ∷ _) ys are also known h k = absurd h

@@ -28,7 +28,8 @@ use Rattle.command_write.proofs.Begun.{one_given, read_behind}
 
 -- ---- an archive
 
-module _ {R W : Type 0} (left : R → Option (List ℕ)) (failures : R → ℕ) (l l' : R) (held : W → Option (List ℕ)) (draft_failures : W → ℕ) (w w' : W) (s : Entries) where
+module _ {R W : Type 0} (left : R → Option (List ℕ)) (failures : R → ℕ) (l l' : R) (held : W → Option (List ℕ))
+    (draft_failures : W → ℕ) (w w' : W) (s : Entries) where
   abbrev archive : Reader R
   archive = reader left failures l l'
 
@@ -36,16 +37,21 @@ module _ {R W : Type 0} (left : R → Option (List ℕ)) (failures : R → ℕ) 
   draft = writer held draft_failures w w'
 
   -- it was copied
-  pub copied_opened : (sizes : Sizes) → CopiesUnnamed (stream left failures l l') (stream held draft_failures w w') s sizes → IsUnnamed archive s (stream held draft_failures w w') sizes
+  pub copied_opened : (sizes : Sizes) → CopiesUnnamed (stream left failures l l') (stream held draft_failures w w') s
+      sizes → IsUnnamed archive s (stream held draft_failures w w') sizes
   copied_opened sizes c = record { before = c.content; is_content = c.read.is; archive_is = c.read.text; unfailed = c.read.unfailed; written_is = c.written_is }
 
-  first : (e : MergeFault) → StopsCopy (stream left failures l l') (stream held draft_failures w w') s e → HasFirst (copying archive s) (IsKnown archive) draft e.written
+  first : (e : MergeFault) → StopsCopy (stream left failures l l') (stream held draft_failures w w') s e
+      → HasFirst (copying archive s) (IsKnown archive) draft e.written
   first e st known text told m =
       let made = m.makes in
       let given = gives_known left failures l l' made.before known made.archive_is in
-      subst (λ (t : List ℕ). WritesFirst (held w) (held w') t e.written) (sym (m.text_is ∙ ap written made.content_is)) (st.first made.before given.0 made.is_content given.1 given.2)
+      subst (λ (t : List ℕ). WritesFirst (held w) (held w') t e.written) (sym (m.text_is ∙ ap written made.content_is))
+      (st.first made.before given.0 made.is_content given.1 given.2)
 
-  stops : (cause : MergeCause) (n : ℕ) (fault : CommandFault) → StopsCopyBy (stream left failures l l') (stream held draft_failures w w') cause → HasFirst (copying archive s) (IsKnown archive) draft n
+  stops : (cause : MergeCause) (n : ℕ) (fault : CommandFault)
+      → StopsCopyBy (stream left failures l l') (stream held draft_failures w w') cause
+      → HasFirst (copying archive s) (IsKnown archive) draft n
       → IsMergeFaultTold (record { cause = cause; written = n }) fault → StopsAmidst (copying archive s) (IsKnown archive) draft fault
   stops (Left why) n (Input place says) st f t = ((t.0, (why, t.1, t.2, st.0)), st.1, (n, f))
   stops (Left why) n (Output k) st f t = absurd (cc (ap (λ (e : MergeFault). e.cause) t))
@@ -58,13 +64,16 @@ module _ {R W : Type 0} (left : R → Option (List ℕ)) (failures : R → ℕ) 
   pub unfinished_copy : (e : MergeFault) → StopsCopy (stream left failures l l') (stream held draft_failures w w') s e → IsUnfinished archive (Unit {0}) draft
   unfinished_copy e st = record { no_text = st.no_text; begun = ⊎_map (λ (none : Takes draft []). none) (λ (begun : HasBegun archive). (tt, begun)) st.begun }
 
-  pub stopped_copy : (e : MergeFault) (fault : CommandFault) → StopsCopy (stream left failures l l') (stream held draft_failures w w') s e → IsMergeFaultTold e fault → StopsAmidst (copying archive s) (IsKnown archive) draft fault
+  pub stopped_copy : (e : MergeFault) (fault : CommandFault)
+      → StopsCopy (stream left failures l l') (stream held draft_failures w w') s e → IsMergeFaultTold e fault
+      → StopsAmidst (copying archive s) (IsKnown archive) draft fault
   stopped_copy e fault st told = stops e.cause e.written fault st.by (first e st) told
 
 -- ---- OUT, and the report
 
 module _ {R : Type 0} (archive : Reader R) (s : Entries) where
-  pub unnamed_published : {W : Type 0} (draft : Stream W) (sizes : Sizes) (u : IsUnnamed archive s draft sizes) (lines : List ℕ) → lines ≡ [] → (out : Out) (report : Writer) (result : Result Status CommandFault)
+  pub unnamed_published : {W : Type 0} (draft : Stream W) (sizes : Sizes) (u : IsUnnamed archive s draft sizes)
+      (lines : List ℕ) → lines ≡ [] → (out : Out) (report : Writer) (result : Result Status CommandFault)
       → Publishes out report (written (delta u.before s)) (lines ++ archive_line sizes) result → EndsBegun archive (copying archive s) out report result
   unnamed_published draft sizes u lines none out report result =
       archive_published (MakesUnnamed archive s) _ (Unfailed archive) draft sizes (delta u.before s) lines out report result u.unfailed
@@ -80,9 +89,12 @@ module _ {R S : Type 0} (archive : Reader R) (left : S → Option (List ℕ)) (f
   EndsSo result = EndsStreamed (delta_as_it_comes archive summary out.draft) out report result
 
   -- SUMMARY was read
-  pub named : (s : Entries) → AreEntries s → Holds summary (summary_text s) → Unfailed summary → (result : Result Status CommandFault) → EndsBegun archive (copying archive s) out report result → EndsSo result
+  pub named : (s : Entries) → AreEntries s → Holds summary (summary_text s) → Unfailed summary
+      → (result : Result Status CommandFault) → EndsBegun archive (copying archive s) out report result → EndsSo result
   named s are holds unfailed =
-      read_behind (MakesDelta archive summary) archive (IsRefusedSummary summary) (Unfailed summary) (IsKnown archive × IsKnown summary) (GivesSummary summary × Unfailed summary) out report (MakesUnnamed archive s) unfailed ((s, are, holds), unfailed) (λ known. known.0)
+      read_behind (MakesDelta archive summary) archive (IsRefusedSummary summary) (Unfailed summary)
+      (IsKnown archive × IsKnown summary) (GivesSummary summary × Unfailed summary) out report
+      (MakesUnnamed archive s) unfailed ((s, are, holds), unfailed) (λ known. known.0)
       (λ o lines m. record {
         before = m.before;
         entries = s;
@@ -94,7 +106,8 @@ module _ {R S : Type 0} (archive : Reader R) (left : S → Option (List ℕ)) (f
         lines_are = m.lines_are;
       })
       (λ known o lines m.
-      let same = one_given (λ s text. text ≡ summary_text s) left failures old new m.entries s (λ text h k. one_summary m.entries s m.are_entries are (sym h ∙ k)) known.1 m.summary_is holds in
+      let same = one_given (λ s text. text ≡ summary_text s) left failures old new m.entries s
+      (λ text h k. one_summary m.entries s m.are_entries are (sym h ∙ k)) known.1 m.summary_is holds in
       record {
         before = m.before;
         is_content = m.is_content;

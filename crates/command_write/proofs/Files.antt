@@ -17,7 +17,8 @@ use Rattle.text_reports.specs.declared.rows.AdmitRow.{AdmitRow}
 use Rattle.byte_openings.specs.declared.openings.Opening.{Opening}
 use Rattle.command_write.specs.Admit.{admit_rows, file_rows, images_of, MakesAdmitted, admit_as_it_comes}
 use Rattle.command_write.specs.FileRows.{file_lines, file_row_text}
-use Rattle.command_write.specs.InnerArriving.{images_in, record_in, records_by, records_in, records_of, row_again, rows_again, slice_rows, taken_again, AreFirstRows}
+use Rattle.command_write.specs.InnerArriving.{images_in, record_in, records_by, records_in, records_of, row_again}
+use Rattle.command_write.specs.InnerArriving.{rows_again, slice_rows, taken_again, AreFirstRows}
 use Rattle.command_write.specs.InnerArriving.{Brings, HasCome, lines_again}
 use Rattle.command_write.specs.InnerNotes.{IsNoted}
 use Rattle.command_write.specs.Notes.{NotesRetired, retired_notes}
@@ -61,7 +62,13 @@ joined_more o p r =
     let u : Operations = set.union o p in
     made_alike (set.insert (content_of u) r) (set.insert u r) (alike_insert (content_of u) u r (made_is_alike u))
     ∙ ap content_of (same_set nat_list_cmp_total bytes_same (set.insert u r) (set.union o (set.insert p r)) (λ q.
-    grind (arith, contains-insert nat_list_cmp_total u r q, contains-union nat_list_cmp_total o p q, contains-union nat_list_cmp_total o (set.insert p r) q, contains-insert nat_list_cmp_total p r q)))
+    grind (
+      arith,
+      contains-insert nat_list_cmp_total u r q,
+      contains-union nat_list_cmp_total o p q,
+      contains-union nat_list_cmp_total o (set.insert p r) q,
+      contains-insert nat_list_cmp_total p r q,
+    )))
     ∙ sym (joined_made_right o (set.insert p r))
 
 joined_taken : (o p : Operations) (rs : List (List ℕ)) → with_records (joined o p) rs ≡ joined o (with_records p rs)
@@ -93,15 +100,19 @@ takens_again f [] rs = []
 takens_again f (t ∷ ts) [] = t ∷ ts
 takens_again f (t ∷ ts) (r ∷ rs) = taken_again (f r) t ∷ takens_again f ts rs
 
-file_again : (f : List ℕ → Bool) (index slice : ℕ) (ts : List Taken) (rs : List (List ℕ)) → rows_again f (part_rows index slice ts) rs ≡ part_rows index slice (takens_again f ts rs)
+file_again : (f : List ℕ → Bool) (index slice : ℕ) (ts : List Taken) (rs : List (List ℕ))
+    → rows_again f (part_rows index slice ts) rs ≡ part_rows index slice (takens_again f ts rs)
 unfolding rows_again file_rows takens_again
-file_again f index slice (t ∷ ts) (r ∷ rs) = ap (λ (rest : List FileRow). Part (record { file = index; slice = slice; taken = taken_again (f r) t }) ∷ rest) (file_again f index (slice + 1) ts rs)
+file_again f index slice (t ∷ ts) (r ∷ rs) = ap (λ (rest : List FileRow). Part
+    (record { file = index; slice = slice; taken = taken_again (f r) t }) ∷ rest) (file_again f index (slice + 1) ts rs)
 file_again f index slice ts rs = refl
 
-again_append : (f : List ℕ → Bool) (xs ys : List FileRow) (rs ss : List (List ℕ)) → length rs ≡ length xs → rows_again f (xs ++ ys) (rs ++ ss) ≡ rows_again f xs rs ++ rows_again f ys ss
+again_append : (f : List ℕ → Bool) (xs ys : List FileRow) (rs ss : List (List ℕ)) → length rs ≡ length xs
+    → rows_again f (xs ++ ys) (rs ++ ss) ≡ rows_again f xs rs ++ rows_again f ys ss
 unfolding rows_again
 again_append f [] ys [] ss long = refl
-again_append f (x ∷ xs) ys (r ∷ rs) ss long = let rest : length rs ≡ length xs = omega (arith, long) in ap (λ (rows : List FileRow). row_again (f r) x ∷ rows) (again_append f xs ys rs ss rest)
+again_append f (x ∷ xs) ys (r ∷ rs) ss long = let rest : length rs ≡ length xs = omega (arith, long)
+    in ap (λ (rows : List FileRow). row_again (f r) x ∷ rows) (again_append f xs ys rs ss rest)
 again_append f xs ys rs ss long = absurd (omega (arith, long))
 
 file_long : (index slice : ℕ) (ts : List Taken) → length (part_rows index slice ts) ≡ length ts
@@ -114,21 +125,30 @@ one_joined : (o p : Operations) (image : List ℕ) → taken_again (changes o (a
 unfolding taken_of
 one_joined o p image = grind (arith, changes_joined o p (admission_record image))
 
-takens_joined : (o p : Operations) (xs : List (List ℕ)) → takens_again (changes o) (taken_rows p xs) (map record_in (map slice_in xs)) ≡ taken_rows (joined o p) xs
+takens_joined : (o p : Operations) (xs : List (List ℕ))
+    → takens_again (changes o) (taken_rows p xs) (map record_in (map slice_in xs)) ≡ taken_rows (joined o p) xs
 unfolding takens_again taken_rows
 takens_joined o p [] = refl
-takens_joined o p (x ∷ xs) = grind (arith, one_joined o p x, takens_joined o (admitted p (x ∷ [])) xs, joined_more o p (admission_record x), takens_joined o p xs)
+takens_joined o p (x ∷ xs) = grind (
+  arith,
+  one_joined o p x,
+  takens_joined o (admitted p (x ∷ [])) xs,
+  joined_more o p (admission_record x),
+  takens_joined o p xs,
+)
 
 -- each row of a file has its record
 records_long : (p : Operations) (index : ℕ) (x : Outcome) → length (records_by x) ≡ length (rows_by p index x)
 records_long p index (Ok bytes) =
-    length-map (map slice_in (parts bytes)) record_in ∙ length-map (parts bytes) slice_in ∙ sym (rows_number p (parts bytes)) ∙ sym (file_long index 0 (taken_rows p (parts bytes)))
+    length-map (map slice_in (parts bytes)) record_in ∙ length-map (parts bytes) slice_in
+    ∙ sym (rows_number p (parts bytes)) ∙ sym (file_long index 0 (taken_rows p (parts bytes)))
 records_long p index (Err why) = refl
 
 -- the rows of a file over a join are those over one side, told again by the other
 one_rows_joined : (o p : Operations) (index : ℕ) (x : Outcome) → rows_again (changes o) (rows_by p index x) (records_by x) ≡ rows_by (joined o p) index x
 unfolding rows_again
-one_rows_joined o p index (Ok bytes) = file_again (changes o) index 0 (taken_rows p (parts bytes)) (records_in bytes) ∙ ap (part_rows index 0) (takens_joined o p (parts bytes))
+one_rows_joined o p index (Ok bytes) = file_again (changes o) index 0 (taken_rows p (parts bytes)) (records_in bytes)
+    ∙ ap (part_rows index 0) (takens_joined o p (parts bytes))
 one_rows_joined o p index (Err why) = refl
 
 rows_joined : (o p : Operations) (index : ℕ) (xs : List Outcome) → rows_again (changes o) (rows_of p index xs) (records_of xs) ≡ rows_of (joined o p) index xs
@@ -136,7 +156,9 @@ unfolding rows_of rows_again
 rows_joined o p index [] = refl
 rows_joined o p index (x ∷ xs) =
     let first = one_rows_joined o p index x in
-    let rest = rows_joined o (admitted p (images_by x)) (index + 1) xs ∙ ap (λ (q : Operations). rows_of q (index + 1) xs) (sym (joined_taken o p (map admission_record (images_by x)))) in
+    let rest = rows_joined o (admitted p (images_by x)) (index + 1) xs
+    ∙ ap (λ (q : Operations). rows_of q (index + 1) xs)
+    (sym (joined_taken o p (map admission_record (images_by x)))) in
     again_append (changes o) (rows_by p index x) (rows_of (admitted p (images_by x)) (index + 1) xs) (records_by x) (records_of xs) (records_long p index x)
     ∙ (λ i. first i ++ rest i)
 
@@ -145,7 +167,8 @@ pub rows_over : (o : Operations) (xs : List Outcome) → IsMade o → rows_again
 rows_over o xs is = rows_joined o set.empty 0 xs ∙ ap (λ (q : Operations). rows_of q 0 xs) (join_with_nothing o is)
 
 -- the rows of some files and of others after them
-rows_of-append : (o : Operations) (place : ℕ) (xs ys : List Outcome) → rows_of o place (xs ++ ys) ≡ rows_of o place xs ++ rows_of (admitted o (images_from xs)) (place + length xs) ys
+rows_of-append : (o : Operations) (place : ℕ) (xs ys : List Outcome) → rows_of o place (xs ++ ys) ≡ rows_of o place xs
+    ++ rows_of (admitted o (images_from xs)) (place + length xs) ys
 unfolding rows_of
 rows_of-append o place [] ys = ap (λ (n : ℕ). rows_of o n ys) (omega arith)
 rows_of-append o place (x ∷ xs) ys =
@@ -158,7 +181,8 @@ unfolding rows_of
 one_row o place x = append-nil (rows_by o place x)
 
 -- the same of rows of files that are all accepted
-pub admit_rows-append : (o : Operations) (place : ℕ) (xs ys : List (List ℕ)) → admit_rows o place (xs ++ ys) ≡ admit_rows o place xs ++ admit_rows (admitted o (images_of xs)) (place + length xs) ys
+pub admit_rows-append : (o : Operations) (place : ℕ) (xs ys : List (List ℕ)) → admit_rows o place (xs ++ ys)
+    ≡ admit_rows o place xs ++ admit_rows (admitted o (images_of xs)) (place + length xs) ys
 unfolding admit_rows
 admit_rows-append o place [] ys = ap (λ (n : ℕ). admit_rows o n ys) (omega arith)
 admit_rows-append o place (x ∷ xs) ys =
@@ -168,25 +192,32 @@ admit_rows-append o place (x ∷ xs) ys =
 -- ---- one file more
 
 module _ {S : Type 0} (opening : S → Opening) where
-  pub come_none : (came : Operations) (first_rows : List ℕ) (rows : List FileRow) → came ≡ set.empty → rows ≡ [] → AreFirstRows (listing came) first_rows rows [] → HasCome {S = S} opening [] [] came first_rows rows
+  pub come_none : (came : Operations) (first_rows : List ℕ) (rows : List FileRow) → came ≡ set.empty → rows ≡ []
+      → AreFirstRows (listing came) first_rows rows [] → HasCome {S = S} opening [] [] came first_rows rows
   unfolding rows_of
   come_none came first_rows rows is no_rows are_first = record { become = tt; content = is; rows_are = no_rows; are_first = are_first }
 
   pub come_more : (files seen : List (Reader S)) (place : ℕ) (file : Reader S) (outcomes : List Outcome) (x : Outcome) (old new : Arrivals)
-      → length files ≡ place → seen ≡ files ++ file ∷ [] → HasCome opening files outcomes old.came old.first_rows.items old.rows.items → Becomes opening file x → Brings old new place x
+      → length files ≡ place → seen ≡ files ++ file ∷ []
+      → HasCome opening files outcomes old.came old.first_rows.items old.rows.items → Becomes opening file x
+      → Brings old new place x
       → HasCome opening seen (outcomes ++ x ∷ []) new.came new.first_rows.items new.rows.items
   come_more files seen place file outcomes x old new place_is seen_is come is brings =
       let long : 0 + length outcomes ≡ place = omega (arith, pairs_long (Becomes opening) files outcomes come.become, place_is) in
       record {
         become = rw seen_is (pairs_more (Becomes opening) files outcomes file x come.become is);
-        content = brings.came ∙ rw (come.content, flat_map-append images_by outcomes (x ∷ []), append-nil (images_by x)) (sym (admitted-append set.empty (images_from outcomes) (images_by x)));
+        content = brings.came ∙ rw (come.content, flat_map-append images_by outcomes (x ∷ []), append-nil (images_by x))
+            (sym (admitted-append set.empty (images_from outcomes) (images_by x)));
         rows_are = brings.rows ∙ rw (come.content, come.rows_are, rows_of-append set.empty 0 outcomes (x ∷ []), long, one_row) refl;
         are_first = rw (flat_map-append records_by outcomes (x ∷ []), append-nil (records_by x)) (brings.are_first (records_of outcomes) come.are_first);
       }
 
 -- a file whose slices were taken
-pub brings_slices : (old new : Arrivals) (index : ℕ) (bytes : List ℕ) (slices : List (Option (List ℕ))) → slices ≡ map slice_in (parts bytes) → new.came ≡ admitted old.came (images_in slices) → new.rows.items ≡ old.rows.items ++ part_rows index 0 (slice_rows old.came slices)
-    → ((records : List (List ℕ)) → AreFirstRows (listing old.came) old.first_rows.items old.rows.items records → AreFirstRows (listing new.came) new.first_rows.items new.rows.items (records ++ map record_in slices))
+pub brings_slices : (old new : Arrivals) (index : ℕ) (bytes : List ℕ) (slices : List (Option (List ℕ))) → slices
+    ≡ map slice_in (parts bytes) → new.came ≡ admitted old.came (images_in slices) → new.rows.items ≡ old.rows.items
+    ++ part_rows index 0 (slice_rows old.came slices)
+    → ((records : List (List ℕ)) → AreFirstRows (listing old.came) old.first_rows.items old.rows.items records
+    → AreFirstRows (listing new.came) new.first_rows.items new.rows.items (records ++ map record_in slices))
     → Brings old new index (Ok bytes)
 brings_slices old new index bytes slices is came rows are_first = record {
   came = came ∙ rw (is, images_sliced (parts bytes)) refl;
@@ -196,7 +227,8 @@ brings_slices old new index bytes slices is came rows are_first = record {
 
 -- one that is passed over
 pub brings_none : (old new : Arrivals) (index : ℕ) (why : Why) → new.came ≡ old.came → new.rows.items ≡ old.rows.items ++ PassedOver index why ∷ []
-    → ((records : List (List ℕ)) → AreFirstRows (listing old.came) old.first_rows.items old.rows.items records → AreFirstRows (listing new.came) new.first_rows.items new.rows.items (records ++ [] ∷ []))
+    → ((records : List (List ℕ)) → AreFirstRows (listing old.came) old.first_rows.items old.rows.items records
+    → AreFirstRows (listing new.came) new.first_rows.items new.rows.items (records ++ [] ∷ []))
     → Brings old new index (Err why)
 brings_none old new index why came rows are_first = record { came = came; rows = rows; are_first = are_first }
 
@@ -238,7 +270,10 @@ module _ {S : Type 0} (opening : S → Opening) where
   all_accepted (_ ∷ _) [] all = absurd all
 
   -- their notes
-  pub retired_noted : {R : Type 0} (input : Reader R) (files : List (Reader S)) (texts : List (List ℕ)) (came : Operations) (first_rows : List ℕ) (rows : List FileRow) → HasCome opening files (map Ok texts) came first_rows rows → (old new : List Note) → IsNoted input came old new → NotesRetired input files old new
+  pub retired_noted : {R : Type 0} (input : Reader R) (files : List (Reader S)) (texts : List (List ℕ))
+      (came : Operations) (first_rows : List ℕ) (rows : List FileRow)
+      → HasCome opening files (map Ok texts) came first_rows rows → (old new : List Note) → IsNoted input came old new
+      → NotesRetired input files old new
   retired_noted input files texts came first_rows rows h old new noted = record {
     before = noted.before;
     texts = texts;
@@ -246,11 +281,15 @@ module _ {S : Type 0} (opening : S → Opening) where
     archive = noted.archive;
     files_are = all_hold files texts h.become;
     accepted = all_taken files texts h.become;
-    added = noted.added ∙ ap (λ (o : Operations). old ++ retired_notes noted.before o) (h.content ∙ ap (λ (images : List (List ℕ)). admitted set.empty images) (all_images texts));
+    added = noted.added ∙ ap (λ (o : Operations). old ++ retired_notes noted.before o)
+        (h.content ∙ ap (λ (images : List (List ℕ)). admitted set.empty images) (all_images texts));
   }
 
   -- the notes of those that are
-  pub retired_passing : {R : Type 0} (input : Reader R) (files : List (Reader S)) (outcomes : List Outcome) (came : Operations) (first_rows : List ℕ) (rows : List FileRow) → HasCome opening files outcomes came first_rows rows → (old new : List Note) → IsNoted input came old new → NotesRetiredPassing opening input files old new
+  pub retired_passing : {R : Type 0} (input : Reader R) (files : List (Reader S)) (outcomes : List Outcome)
+      (came : Operations) (first_rows : List ℕ) (rows : List FileRow)
+      → HasCome opening files outcomes came first_rows rows → (old new : List Note) → IsNoted input came old new
+      → NotesRetiredPassing opening input files old new
   retired_passing input files outcomes came first_rows rows h old new noted = record {
     before = noted.before;
     outcomes = outcomes;
@@ -262,7 +301,9 @@ module _ {S : Type 0} (opening : S → Opening) where
 
 -- ---- what came, and then IN
 
-module _ {R S : Type 0} (opening : S → Opening) (input : Reader R) (files : List (Reader S)) (outcomes : List Outcome) (came : Operations) (first_rows : List ℕ) (rows : List FileRow) (h : HasCome opening files outcomes came first_rows rows) where
+module _ {R S : Type 0} (opening : S → Opening) (input : Reader R) (files : List (Reader S)) (outcomes : List Outcome)
+    (came : Operations) (first_rows : List ℕ) (rows : List FileRow)
+    (h : HasCome opening files outcomes came first_rows rows) where
   pub with_images : (o : Operations) → IsMade o → joined o (content_of came) ≡ admitted o (images_from outcomes)
   with_images o is = rw h.content (admitted_joined o (images_from outcomes) is)
 
@@ -270,10 +311,15 @@ module _ {R S : Type 0} (opening : S → Opening) (input : Reader R) (files : Li
   with_rows o is = ap file_lines (ap (λ (rs : List FileRow). rows_again (changes o) rs (records_of outcomes)) h.rows_are ∙ rows_over o outcomes is)
 
 module _ {R S : Type 0} (input : Reader R) (files : List (Reader S)) (out : Out) (report : Writer) where
-  pub admitted_in_turn : (opening : S → Opening) (texts : List (List ℕ)) (came : Operations) (first_rows : List ℕ) (rows : List FileRow) (h : HasCome opening files (map Ok texts) came first_rows rows) → EachUnfailed files → (result : Result Status CommandFault)
-      → EndsBegun input (telling input came (lines_again rows (records_of (map Ok texts)))) out report result → EndsStreamed (admit_as_it_comes input files out.draft) out report result
+  pub admitted_in_turn : (opening : S → Opening) (texts : List (List ℕ)) (came : Operations) (first_rows : List ℕ)
+      (rows : List FileRow) (h : HasCome opening files (map Ok texts) came first_rows rows) → EachUnfailed files
+      → (result : Result Status CommandFault)
+      → EndsBegun input (telling input came (lines_again rows (records_of (map Ok texts)))) out report result
+      → EndsStreamed (admit_as_it_comes input files out.draft) out report result
   admitted_in_turn opening texts came first_rows rows h unfailed =
-      read_behind (MakesAdmitted input files) input (IsFirstRefused File IsAccepted IsFileRefused files) (EachUnfailed files) (IsKnown input × EachKnown files) (AllByRecursion IsAccepted files × EachUnfailed files) out report (MakesTold input came (lines_again rows (records_of (map Ok texts))))
+      read_behind (MakesAdmitted input files) input (IsFirstRefused File IsAccepted IsFileRefused files)
+      (EachUnfailed files) (IsKnown input × EachKnown files) (AllByRecursion IsAccepted files × EachUnfailed files)
+      out report (MakesTold input came (lines_again rows (records_of (map Ok texts))))
       unfailed (all_accepted opening files texts h.become, unfailed) (λ known. known.0)
       (λ o lines m. record {
         before = m.before;
@@ -286,7 +332,8 @@ module _ {R S : Type 0} (input : Reader R) (files : List (Reader S)) (out : Out)
         lines_are = m.lines_are ∙ lines_of m.before m.is_content.itself;
       })
       (λ known o lines m.
-      let same = all_given (λ x text. text ≡ x) IsAcceptedFile (λ text x y _ _ h k. sym h ∙ k) files m.texts texts m.accepted accepted known.1 m.files_are hold in
+      let same = all_given (λ x text. text ≡ x) IsAcceptedFile (λ text x y _ _ h k. sym h ∙ k) files m.texts texts
+      m.accepted accepted known.1 m.files_are hold in
       record {
         before = m.before;
         is_content = m.is_content;
@@ -305,4 +352,5 @@ module _ {R S : Type 0} (input : Reader R) (files : List (Reader S)) (out : Out)
       images o is = with_images opening input files (map Ok texts) came first_rows rows h o is ∙ ap (λ (xs : List (List ℕ)). admitted o xs) (all_images texts)
 
       lines_of : (o : Operations) → IsMade o → lines_again rows (records_of (map Ok texts)) (changes o) ≡ admit_lines (admit_rows o 0 texts)
-      lines_of o is = with_rows opening input files (map Ok texts) came first_rows rows h o is ∙ ap file_lines (all_rows o 0 texts) ∙ part_lines (admit_rows o 0 texts)
+      lines_of o is = with_rows opening input files (map Ok texts) came first_rows rows h o is
+          ∙ ap file_lines (all_rows o 0 texts) ∙ part_lines (admit_rows o 0 texts)

@@ -44,7 +44,8 @@ along_pairs P Q [] [] step all = tt
 along_pairs P Q (x ∷ xs) (y ∷ ys) step all = (step x y all.0, along_pairs P Q xs ys step all.1)
 along_pairs P Q xs ys step all = absurd all
 
-pairs_insert : {X Y : Type 0} (R : X → Y → Type 0) (xs : List X) (ys : List Y) (i : ℕ) (x : X) (y : Y) → AllZip R xs ys → R x y → AllZip R (insert xs i x) (insert ys i y)
+pairs_insert : {X Y : Type 0} (R : X → Y → Type 0) (xs : List X) (ys : List Y) (i : ℕ) (x : X) (y : Y) → AllZip R xs ys
+    → R x y → AllZip R (insert xs i x) (insert ys i y)
 pairs_insert R [] [] zero x y all one = (one, tt)
 pairs_insert R [] [] (suc i) x y all one = (one, tt)
 pairs_insert R [] (_ ∷ _) i x y all one = absurd all
@@ -70,10 +71,13 @@ pub no_listing : listing {R = slice_cmp nat_cmp} empty ≡ []
 unfolding IsStrictlySortedBy
 no_listing = listing_ascending nat_list_cmp_total bytes_same [] tt
 
-pub first_none : (came : List (List ℕ)) (first_rows : List ℕ) (rows : List FileRow) → came ≡ [] → first_rows ≡ [] → rows ≡ [] → AreFirstRows came first_rows rows []
-first_none came first_rows rows no_records no_first_rows no_rows = rw (no_records, no_first_rows, no_rows) (record { long = refl; beside = tt; each = λ place row at added. cc })
+pub first_none : (came : List (List ℕ)) (first_rows : List ℕ) (rows : List FileRow) → came ≡ [] → first_rows ≡ [] → rows
+    ≡ [] → AreFirstRows came first_rows rows []
+first_none came first_rows rows no_records no_first_rows no_rows =
+    rw (no_records, no_first_rows, no_rows) (record { long = refl; beside = tt; each = λ place row at added. cc })
 
-module _ (came : List (List ℕ)) (first_rows : List ℕ) (rows : List FileRow) (records : List (List ℕ)) (row : FileRow) (r : List ℕ) (are_first : AreFirstRows came first_rows rows records) where
+module _ (came : List (List ℕ)) (first_rows : List ℕ) (rows : List FileRow) (records : List (List ℕ)) (row : FileRow)
+    (r : List ℕ) (are_first : AreFirstRows came first_rows rows records) where
   longer : length (records ++ r ∷ []) ≡ length (rows ++ row ∷ [])
   longer = omega (arith, are_first.long, length-append records (r ∷ []), length-append rows (row ∷ []))
 
@@ -92,7 +96,8 @@ module _ (came : List (List ℕ)) (first_rows : List ℕ) (rows : List FileRow) 
   }
 
   -- of one that was added, at its place among those that came
-  pub first_added : (more : List (List ℕ)) (more_first_rows : List ℕ) (place number : ℕ) → more ≡ insert came place r → place ≤ length came → more_first_rows ≡ insert first_rows place number → number ≡ length rows
+  pub first_added : (more : List (List ℕ)) (more_first_rows : List ℕ) (place number : ℕ) → more ≡ insert came place r
+      → place ≤ length came → more_first_rows ≡ insert first_rows place number → number ≡ length rows
       → AreFirstRows more more_first_rows (rows ++ row ∷ []) (records ++ r ∷ [])
   first_added more more_first_rows place number more_is within first_rows_is number_is = rw (more_is, first_rows_is) (record {
     long = longer;
@@ -141,7 +146,9 @@ module _ (f : List ℕ → Bool) (was : List FileRow) (records : List (List ℕ)
     all = λ n lt. inl (ap (λ (rows : List FileRow). row_at rows n) is);
   }
 
-  pub marked_more : (first_rows : List ℕ) (k p : ℕ) (now more : List FileRow) (new : Bool) → AreMarked f was records first_rows k now → slice_get first_rows k ≡ Some p → p < length was → new ≡ f (get_or records p [])
+  pub marked_more : (first_rows : List ℕ) (k p : ℕ) (now more : List FileRow) (new : Bool)
+      → AreMarked f was records first_rows k now → slice_get first_rows k ≡ Some p → p < length was → new
+      ≡ f (get_or records p [])
       → more ≡ set now p (row_again new (row_at now p)) → AreMarked f was records first_rows (k + 1) more
   marked_more first_rows k p now more new before at within new_is more_is = record {
     long = ap length more_is ∙ length-set now p (row_again new (row_at now p)) ∙ before.long;
@@ -185,23 +192,28 @@ unfolding rows_again
 again_long f (row ∷ rows) (r ∷ records) = ap suc (again_long f rows records)
 again_long f rows records = refl
 
-again_at : (f : List ℕ → Bool) (rows : List FileRow) (records : List (List ℕ)) (n : ℕ) → length records ≡ length rows → n < length rows → row_at (rows_again f rows records) n ≡ row_again (f (get_or records n [])) (row_at rows n)
+again_at : (f : List ℕ → Bool) (rows : List FileRow) (records : List (List ℕ)) (n : ℕ) → length records ≡ length rows
+    → n < length rows → row_at (rows_again f rows records) n ≡ row_again (f (get_or records n [])) (row_at rows n)
 unfolding rows_again
 again_at f [] records n long inside = absurd (omega (arith, inside))
 again_at f (row ∷ rows) [] n long inside = absurd (omega (arith, long))
 again_at f (row ∷ rows) (r ∷ records) zero long inside = refl
 again_at f (row ∷ rows) (r ∷ records) (suc n) long inside = again_at f rows records n (omega (arith, long)) (omega (arith, inside))
 
-pair_at : (records : List (List ℕ)) (first_rows : List ℕ) (came : List (List ℕ)) (k p : ℕ) → AllZip (λ (place : ℕ) (r : List ℕ). slice_get records place ≡ Some r) first_rows came → slice_get first_rows k ≡ Some p → slice_get records p ≡ Some (get_or came k [])
+pair_at : (records : List (List ℕ)) (first_rows : List ℕ) (came : List (List ℕ)) (k p : ℕ)
+    → AllZip (λ (place : ℕ) (r : List ℕ). slice_get records place ≡ Some r) first_rows came → slice_get first_rows k
+    ≡ Some p → slice_get records p ≡ Some (get_or came k [])
 pair_at records [] came k p all at = cc
 pair_at records (x ∷ xs) [] k p all at = absurd all
 pair_at records (x ∷ xs) (y ∷ ys) zero p all at = rw (← same_Some x p at) all.0
 pair_at records (x ∷ xs) (y ∷ ys) (suc k) p all at = pair_at records xs ys k p all.1 at
 
-module _ (came : List (List ℕ)) (first_rows : List ℕ) (rows : List FileRow) (records : List (List ℕ)) (are_first : AreFirstRows came first_rows rows records) where
+module _ (came : List (List ℕ)) (first_rows : List ℕ) (rows : List FileRow) (records : List (List ℕ))
+    (are_first : AreFirstRows came first_rows rows records) where
   -- a number that stands beside a record is that of a row
   pub row_inside : (k p : ℕ) → slice_get first_rows k ≡ Some p → p < length rows
-  row_inside k p at = let within = slice_get_within records p (get_or came k []) (pair_at records first_rows came k p are_first.beside at) in omega (arith, within, are_first.long)
+  row_inside k p at = let within = slice_get_within records p (get_or came k [])
+      (pair_at records first_rows came k p are_first.beside at) in omega (arith, within, are_first.long)
 
   -- and the record is that of the row
   pub record_at : (k p : ℕ) → slice_get first_rows k ≡ Some p → get_or came k [] ≡ get_or records p []
@@ -210,7 +222,8 @@ module _ (came : List (List ℕ)) (first_rows : List ℕ) (rows : List FileRow) 
   pub as_many : length came ≡ length first_rows
   as_many = pairs_long (λ (place : ℕ) (r : List ℕ). slice_get records place ≡ Some r) first_rows came are_first.beside
 
-  pub all_marked : (f : List ℕ → Bool) (k : ℕ) (now : List FileRow) → AreMarked f rows records first_rows k now → k ≡ length first_rows → now ≡ rows_again f rows records
+  pub all_marked : (f : List ℕ → Bool) (k : ℕ) (now : List FileRow) → AreMarked f rows records first_rows k now → k
+      ≡ length first_rows → now ≡ rows_again f rows records
   all_marked f k now marked end =
       ext_get_or no_row now (rows_again f rows records) (marked.long ∙ sym (again_long f rows records)) (λ n lt.
       let inside : n < length rows = omega (arith, lt, marked.long) in

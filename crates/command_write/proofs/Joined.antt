@@ -80,7 +80,8 @@ pub empty_content : IsContent set.empty
 empty_content = record { itself = made_empty; records = λ r h. absurd (false≢true (sym (contains-empty (slice_cmp nat_cmp) r) ∙ h)) }
 
 -- its text
-of_nothing : (xs : List (List ℕ)) → length xs ≡ 0 → (magic ++ concat xs) ++ end_record 0 ≡ 77 ∷ 83 ∷ 89 ∷ 77 ∷ 65 ∷ 82 ∷ 67 ∷ 50 ∷ 3 ∷ 0 ∷ 0 ∷ 0 ∷ 0 ∷ 0 ∷ 0 ∷ 0 ∷ 0 ∷ []
+of_nothing : (xs : List (List ℕ)) → length xs ≡ 0 → (magic ++ concat xs) ++ end_record 0 ≡ 77 ∷ 83 ∷ 89 ∷ 77 ∷ 65 ∷ 82
+    ∷ 67 ∷ 50 ∷ 3 ∷ 0 ∷ 0 ∷ 0 ∷ 0 ∷ 0 ∷ 0 ∷ 0 ∷ 0 ∷ []
 unfolding end_record
 of_nothing [] h = refl
 of_nothing (x ∷ xs) h = let k : ℕ = length xs in absurd (omega (arith, h))
@@ -93,10 +94,13 @@ empty_written =
 -- the join with nothing
 pub join_with_nothing : (o : Operations) → IsMade o → joined o set.empty ≡ o
 join_with_nothing o is =
-    ap content_of (same_set nat_list_cmp_total bytes_same (set.union o set.empty) o (λ r. grind (arith, contains-union nat_list_cmp_total o set.empty r, contains-empty (slice_cmp nat_cmp) r))) ∙ is
+    ap content_of (same_set nat_list_cmp_total bytes_same (set.union o set.empty) o
+    (λ r. grind (arith, contains-union nat_list_cmp_total o set.empty r, contains-empty (slice_cmp nat_cmp) r)))
+    ∙ is
 
 -- the text in memory is that of the join of the files
-pub text_of_join : {S G : Type 0} (held : G → Option (List ℕ)) (r : Result G CommandFault) (files : List (Reader S)) (none p : Operations) → none ≡ set.empty → AreRead (HasJoined files none p) (EachUnfailed files)
+pub text_of_join : {S G : Type 0} (held : G → Option (List ℕ)) (r : Result G CommandFault) (files : List (Reader S))
+    (none p : Operations) → none ≡ set.empty → AreRead (HasJoined files none p) (EachUnfailed files)
     → IfOk r (λ text. held text ≡ Some (written p)) → OnOk r (IsContent p) → IfErr r (λ fault. fault ≡ OutOfMemory)
     → ReadsOthers files r (λ files text. (q : Operations) × IsContent q × (held text ≡ Some (written q)) × HasJoined files set.empty q)
 text_of_join held (Ok text) files none p is j there content wanting = record { is = (p, content, there, rw (← is) j.is); unfailed = j.unfailed }
@@ -109,7 +113,8 @@ join_behind o c m is =
     ap (joined (joined o c)) (sym is) ∙ joined_made (set.union o c) m ∙ ap content_of (union_assoc o c m) ∙ sym (joined_made_right o (set.union c m))
 
 nothing_joined : (c : Operations) → IsMade c → joined set.empty c ≡ c
-nothing_joined c is = ap content_of (same_set nat_list_cmp_total bytes_same (set.union set.empty c) c (λ r. grind (arith, contains-union nat_list_cmp_total set.empty c r, contains-empty (slice_cmp nat_cmp) r))) ∙ is
+nothing_joined c is = ap content_of (same_set nat_list_cmp_total bytes_same (set.union set.empty c) c
+    (λ r. grind (arith, contains-union nat_list_cmp_total set.empty c r, contains-empty (slice_cmp nat_cmp) r))) ∙ is
 
 merged_made : (o : Operations) (cs : List Operations) → IsMade o → IsMade (merged o cs)
 merged_made o [] is = is
@@ -127,10 +132,13 @@ merged_again o (c ∷ cs) is are =
 -- ---- FILEs, and then IN
 
 module _ {R S : Type 0} (input : Reader R) (files : List (Reader S)) (out : Out) (report : Writer) where
-  pub merged_in_turn : (p : Operations) → HasJoined files set.empty p → EachUnfailed files → (result : Result Status CommandFault) → EndsBegun input (joins input p) out report result
+  pub merged_in_turn : (p : Operations) → HasJoined files set.empty p → EachUnfailed files
+      → (result : Result Status CommandFault) → EndsBegun input (joins input p) out report result
       → EndsStreamed (merge_in_turn input files out.draft) out report result
   merged_in_turn p j unfailed =
-      read_behind (MakesMerged input files) input (IsFirstRefused further_name IsArchive IsArchiveRefused files) (EachUnfailed files) (IsKnown input × EachKnown files) (AllByRecursion IsArchive files × EachUnfailed files) out report (MakesJoined input p) unfailed (joined_archives files set.empty p j, unfailed) (λ known. known.0)
+      read_behind (MakesMerged input files) input (IsFirstRefused further_name IsArchive IsArchiveRefused files)
+      (EachUnfailed files) (IsKnown input × EachKnown files) (AllByRecursion IsArchive files × EachUnfailed files)
+      out report (MakesJoined input p) unfailed (joined_archives files set.empty p j, unfailed) (λ known. known.0)
       (λ o lines m. record {
         before = m.before;
         contents = j.contents;
@@ -146,7 +154,8 @@ module _ {R S : Type 0} (input : Reader R) (files : List (Reader S)) (out : Out)
         is_content = m.is_content;
         archive = m.archive;
         content_is = m.content_is
-            ∙ ap (merged m.before) (all_given IsArchiveOf IsContent one_content files m.contents j.contents m.are_contents j.are_contents known.1 m.files_are j.files_are) ∙ all_joined m.before m.is_content;
+            ∙ ap (merged m.before) (all_given IsArchiveOf IsContent one_content files m.contents j.contents
+            m.are_contents j.are_contents known.1 m.files_are j.files_are) ∙ all_joined m.before m.is_content;
         lines_are = m.lines_are;
       })
     where
@@ -158,35 +167,46 @@ module _ {R S : Type 0} (input : Reader R) (files : List (Reader S)) (out : Out)
 abbrev pub set_of : List Operation → Operations
 set_of operations = set.from_list {R = slice_cmp nat_cmp} (map record_bytes operations)
 
-pub listed_in_order : (operations : List Operation) → IsStrictlySortedBy (slice_cmp nat_cmp) (map record_bytes operations) → listing (set_of operations) ≡ map record_bytes operations
+pub listed_in_order : (operations : List Operation) → IsStrictlySortedBy (slice_cmp nat_cmp)
+    (map record_bytes operations) → listing (set_of operations) ≡ map record_bytes operations
 listed_in_order operations up = listing_ascending nat_list_cmp_total bytes_same (map record_bytes operations) up
 
 -- their text
-pub text_in_order : (operations : List Operation) → IsStrictlySortedBy (slice_cmp nat_cmp) (map record_bytes operations) → text_of OldArchive (map record_bytes operations) ≡ old_written (set_of operations)
+pub text_in_order : (operations : List Operation) → IsStrictlySortedBy (slice_cmp nat_cmp) (map record_bytes operations)
+    → text_of OldArchive (map record_bytes operations) ≡ old_written (set_of operations)
 text_in_order operations up = ap (text_of OldArchive) (sym (listed_in_order operations up)) ∙ sym (old_written_text (set_of operations))
 
 -- ---- IN, merged with them
 
 module _ {R : Type 0} (input : Reader R) (operations : Operations) (lines_of : (List ℕ → Bool) → List ℕ) where
   -- what stops the join with what they make stops it
-  pub told_stopped : (out : Out) (report : Writer) (fault : CommandFault) → StopsAmidst (joining input (content_of operations)) (IsKnown input) out.draft fault → IsUnfinished input (Unit {0}) out.draft → HasTaken out.draft fault → PublishesNothing out → Takes report []
+  pub told_stopped : (out : Out) (report : Writer) (fault : CommandFault)
+      → StopsAmidst (joining input (content_of operations)) (IsKnown input) out.draft fault
+      → IsUnfinished input (Unit {0}) out.draft → HasTaken out.draft fault → PublishesNothing out → Takes report []
       → EndsBegun input (telling input operations lines_of) out report (Err fault)
-  told_stopped = join_stopped input (content_of operations) (MakesTold input operations lines_of) (λ o lines m. (m.before, m.is_content, m.archive, m.content_is))
+  told_stopped = join_stopped input (content_of operations) (MakesTold input operations lines_of)
+      (λ o lines m. (m.before, m.is_content, m.archive, m.content_is))
 
   -- and what it makes is published
-  pub told_published : {W : Type 0} (draft : Stream W) (sizes : Sizes) (arrived : List Arrival) (withdraws : Bool) (j : IsJoinedTelling input operations draft sizes arrived withdraws) (lines : List ℕ) → lines ≡ lines_of (changes j.joined.content) → (out : Out) (report : Writer) (result : Result Status CommandFault)
-      → Publishes out report (written (joined j.joined.content (content_of operations))) (lines ++ archive_line sizes) result → EndsBegun input (telling input operations lines_of) out report result
+  pub told_published : {W : Type 0} (draft : Stream W) (sizes : Sizes) (arrived : List Arrival) (withdraws : Bool)
+      (j : IsJoinedTelling input operations draft sizes arrived withdraws) (lines : List ℕ) → lines
+      ≡ lines_of (changes j.joined.content) → (out : Out) (report : Writer) (result : Result Status CommandFault)
+      → Publishes out report (written (joined j.joined.content (content_of operations))) (lines ++ archive_line sizes)
+      result → EndsBegun input (telling input operations lines_of) out report result
   told_published draft sizes arrived withdraws j lines lines_are out report result =
       let i = j.joined in
-      archive_published (MakesTold input operations lines_of) _ (Unfailed input) draft sizes (joined i.content (content_of operations)) lines out report result i.unfailed
+      archive_published (MakesTold input operations lines_of) _ (Unfailed input) draft sizes
+      (joined i.content (content_of operations)) lines out report result i.unfailed
       (record { before = i.content; is_content = i.is_content; archive = i.archive; content_is = refl; lines_are = lines_are }) i.written_is
 
 -- no more are new than there are
-pub few_new : (all sorted : List Operation) → AreSortedWithSameEffect all sorted → (o : Operations) → IsMade o → count_by (changes o) (map record_bytes sorted) ≤ length all
+pub few_new : (all sorted : List Operation) → AreSortedWithSameEffect all sorted → (o : Operations) → IsMade o
+    → count_by (changes o) (map record_bytes sorted) ≤ length all
 few_new all sorted is o made = rw (is.counted o made, ← length-map all record_bytes) (new_within o (map record_bytes all))
 
 -- the join with what they make is the content with all of them
-joined_all : (all sorted : List Operation) → AreSortedWithSameEffect all sorted → (o : Operations) → IsMade o → joined o (content_of (set_of sorted)) ≡ with_records o (map record_bytes all)
+joined_all : (all sorted : List Operation) → AreSortedWithSameEffect all sorted → (o : Operations) → IsMade o
+    → joined o (content_of (set_of sorted)) ≡ with_records o (map record_bytes all)
 joined_all all sorted is o made = sym (taken_are_joined o (map record_bytes sorted) made) ∙ is.content o made
 
 -- and so is the line
@@ -200,9 +220,13 @@ module _ {R S : Type 0} (input : Reader R) (left : S → Option (List ℕ)) (fai
 
   -- OPS was read
   pub applied : (sorted : List Operation) (number : ℕ) → HasNewOf ops sorted number → Unfailed ops → (result : Result Status CommandFault)
-      → EndsBegun input (telling input (set_of sorted) (counts_of (map record_bytes sorted) number)) out report result → EndsStreamed (apply_as_it_comes input ops out.draft) out report result
+      → EndsBegun input (telling input (set_of sorted) (counts_of (map record_bytes sorted) number)) out report result
+      → EndsStreamed (apply_as_it_comes input ops out.draft) out report result
   applied sorted number has unfailed =
-      read_behind (MakesApplied input ops) input (IsRefusedOps ops) (Unfailed ops) (IsKnown input × IsKnown ops) (GivesOperations ops × Unfailed ops) out report (MakesTold input (set_of sorted) (counts_of (map record_bytes sorted) number)) unfailed ((has.operations, has.ops_are), unfailed) (λ known. known.0)
+      read_behind (MakesApplied input ops) input (IsRefusedOps ops) (Unfailed ops) (IsKnown input × IsKnown ops)
+      (GivesOperations ops × Unfailed ops) out report
+      (MakesTold input (set_of sorted) (counts_of (map record_bytes sorted) number)) unfailed
+      ((has.operations, has.ops_are), unfailed) (λ known. known.0)
       (λ o lines m. record {
         before = m.before;
         operations = has.operations;
@@ -213,7 +237,8 @@ module _ {R S : Type 0} (input : Reader R) (left : S → Option (List ℕ)) (fai
         lines_are = m.lines_are ∙ counts_all has.operations sorted number has.sorted_is has.number_is m.before m.is_content.itself;
       })
       (λ known o lines m.
-      let same = one_given (λ xs text. IsOperationsText text xs) left failures old new m.operations has.operations (λ text. one_operations text m.operations has.operations) known.1 m.ops_are has.ops_are in
+      let same = one_given (λ xs text. IsOperationsText text xs) left failures old new m.operations has.operations
+      (λ text. one_operations text m.operations has.operations) known.1 m.ops_are has.ops_are in
       record {
         before = m.before;
         is_content = m.is_content;
@@ -236,7 +261,9 @@ module _ (key : SliceKey) (digest : Digest) where
   listed_alone = listing_ascending nat_list_cmp_total bytes_same (record_of ∷ []) (tt, tt)
 
   module _ {R : Type 0} (input : Reader R) where
-    pub retired : {W : Type 0} (draft : Stream W) (sizes : Sizes) (arrived : List Arrival) (had changed : Bool) (j : IsJoinedTelling input alone draft sizes arrived had) → ((x : Arrival) → arrived ≡ x ∷ [] → changed ≡ is_new x) → IsRetired input key digest draft sizes changed had
+    pub retired : {W : Type 0} (draft : Stream W) (sizes : Sizes) (arrived : List Arrival) (had changed : Bool)
+        (j : IsJoinedTelling input alone draft sizes arrived had)
+        → ((x : Arrival) → arrived ≡ x ∷ [] → changed ≡ is_new x) → IsRetired input key digest draft sizes changed had
     retired draft sizes arrived had changed j first =
         let o : Operations = j.joined.content in
         let same : joined o (content_of alone) ≡ with_record o record_of = sym (taken_are_joined o (record_of ∷ []) j.joined.is_content.itself) in
@@ -245,20 +272,35 @@ module _ (key : SliceKey) (digest : Digest) where
           is_content = j.joined.is_content;
           archive = j.joined.archive;
           unfailed = j.joined.unfailed;
-          written_is = subst (λ (q : Operations). IsWrittenWhole draft.bytes draft.failures draft.old draft.new (set.len q) (written q) sizes) same j.joined.written_is;
+          written_is = subst (λ (q : Operations). IsWrittenWhole draft.bytes draft.failures draft.old draft.new
+              (set.len q) (written q) sizes) same j.joined.written_is;
           changed_is = first (arrival_of o record_of) (j.arrivals_are ∙ ap (map (arrival_of o)) listed_alone) ∙ new_changes o record_of;
           had_is = j.withdraws_is;
         }
 
     -- what stops the join with what the retirement makes stops it
-    pub retire_stops : (draft : Writer) (fault : CommandFault) → StopsAmidst (joining input (content_of alone)) (IsKnown input) draft fault → StopsAmidst (retire input key digest) (IsKnown input) draft fault
+    pub retire_stops : (draft : Writer) (fault : CommandFault)
+        → StopsAmidst (joining input (content_of alone)) (IsKnown input) draft fault
+        → StopsAmidst (retire input key digest) (IsKnown input) draft fault
     retire_stops =
         join_stops input (content_of alone) (MakesRetired input key digest)
         (λ o lines m. (m.before, m.is_content, m.archive, m.content_is ∙ taken_are_joined m.before (record_of ∷ []) m.is_content.itself))
 
     -- and what it makes is published
-    pub retire_published : {W : Type 0} (draft : Stream W) (sizes : Sizes) (changed had : Bool) (i : IsRetired input key digest draft sizes changed had) (out : Out) (report : Writer) (result : Result Status CommandFault)
-        → Publishes out report (written (with_record i.before record_of)) (retire_line changed key digest ++ archive_line sizes) result → EndsBegun input (retire input key digest) out report result
+    pub retire_published : {W : Type 0} (draft : Stream W) (sizes : Sizes) (changed had : Bool)
+        (i : IsRetired input key digest draft sizes changed had) (out : Out) (report : Writer)
+        (result : Result Status CommandFault)
+        → Publishes out report (written (with_record i.before record_of))
+        (retire_line changed key digest ++ archive_line sizes) result
+        → EndsBegun input (retire input key digest) out report result
     retire_published draft sizes changed had i out report result =
-        archive_published (MakesRetired input key digest) _ (Unfailed input) draft sizes (with_record i.before record_of) (retire_line changed key digest) out report result i.unfailed
-        (record { before = i.before; is_content = i.is_content; archive = i.archive; content_is = refl; lines_are = ap (λ (b : Bool). retire_line b key digest) i.changed_is }) i.written_is
+        archive_published (MakesRetired input key digest) _ (Unfailed input) draft sizes
+        (with_record i.before record_of) (retire_line changed key digest) out report result i.unfailed
+        (record {
+          before = i.before;
+          is_content = i.is_content;
+          archive = i.archive;
+          content_is = refl;
+          lines_are =
+              ap (λ (b : Bool). retire_line b key digest) i.changed_is;
+        }) i.written_is

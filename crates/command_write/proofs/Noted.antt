@@ -28,23 +28,29 @@ one_note : (slice : List ℕ) → IsValid slice → Retired (key_of slice) (reco
 one_note slice valid = rw (slice_of slice valid) refl
 
 -- each has its own
-noted : (o : Operations) (operations : List Operation) → AllByRecursion IsOperation operations → flat_map (note_by o) operations ≡ map retired_note (filter (is_covered o) (map record_bytes operations))
+noted : (o : Operations) (operations : List Operation) → AllByRecursion IsOperation operations
+    → flat_map (note_by o) operations ≡ map retired_note (filter (is_covered o) (map record_bytes operations))
 unfolding arrival_of
 noted o [] all = refl
 noted o (Admit slice ∷ rest) all = grind (arith, one_note slice all.0, noted o rest all.1)
 noted o (Retire key digest ∷ rest) all = grind (arith, noted o rest all.1)
 
-pub all_noted : (o : Operations) (operations : List Operation) → AllByRecursion IsOperation operations → (came : Operations) → map record_bytes operations ≡ listing came → flat_map (note_by o) operations ≡ retired_notes o came
+pub all_noted : (o : Operations) (operations : List Operation) → AllByRecursion IsOperation operations
+    → (came : Operations) → map record_bytes operations ≡ listing came → flat_map (note_by o) operations
+    ≡ retired_notes o came
 all_noted o operations all came listed = noted o operations all ∙ ap (λ (rs : List (List ℕ)). map retired_note (filter (is_covered o) rs)) listed
 
 -- one more
-pub noted_more : (f : Operation → List Note) (old : List Note) (operations : List Operation) (i : ℕ) (operation : Operation) → i < length operations → operation ≡ get_or operations i operation
-    → (now : List Note) → now ≡ old ++ flat_map f (take i operations) → (new : List Note) → new ≡ now ++ f operation → new ≡ old ++ flat_map f (take (i + 1) operations)
+pub noted_more : (f : Operation → List Note) (old : List Note) (operations : List Operation) (i : ℕ)
+    (operation : Operation) → i < length operations → operation ≡ get_or operations i operation
+    → (now : List Note) → now ≡ old ++ flat_map f (take i operations) → (new : List Note) → new ≡ now ++ f operation
+    → new ≡ old ++ flat_map f (take (i + 1) operations)
 noted_more f old operations i operation lt at now before new more =
     more ∙ ap (λ ns. ns ++ f operation) before ∙ flat_map_more f old (take i operations) operation
     ∙ ap (λ xs. old ++ flat_map f xs) (ap (λ x. take i operations ++ x ∷ []) at ∙ sym (take_more operations i operation lt))
 
 -- ---- a slice that is missing
 
-pub missing_noted : (o : Operations) (key : SliceKey) (digest : Digest) (old : List Note) (had : Bool) → had ≡ has_slice o key digest → old ++ (if had then [] else Missing key digest ∷ []) ≡ old ++ missing_notes o key digest
+pub missing_noted : (o : Operations) (key : SliceKey) (digest : Digest) (old : List Note) (had : Bool) → had
+    ≡ has_slice o key digest → old ++ (if had then [] else Missing key digest ∷ []) ≡ old ++ missing_notes o key digest
 missing_noted o key digest old had is = ap (λ (b : Bool). old ++ (if b then [] else Missing key digest ∷ [])) is

@@ -24,7 +24,8 @@ use Rattle.command_write.specs.Begun.{EndsBegun, begins_alone, begins_behind}
 use Rattle.command_write.specs.FileRows.{file_lines}
 use Rattle.command_write.specs.InnerArriving.{HasCome, is_passed, lines_again, records_of, with_status}
 use Rattle.command_write.specs.InnerTelling.{MakesTold, telling}
-use Rattle.command_write.specs.PassedOver.{Becomes, BecomeSome, EachCounted, EndsPassing, IsCounted, MakesPassing, Outcome, admit_passing, admit_passing_as_it_comes}
+use Rattle.command_write.specs.PassedOver.{Becomes, BecomeSome, EachCounted, EndsPassing, IsCounted, MakesPassing}
+use Rattle.command_write.specs.PassedOver.{Outcome, admit_passing, admit_passing_as_it_comes}
 use Rattle.command_write.specs.PassedOver.{images_by, images_from, rows_of, status_over}
 use Rattle.command_write.specs.declared.file_rows.FileRow.{FileRow}
 use Rattle.command_write.proofs.Begun.{accepted, ends_so, untouched}
@@ -62,7 +63,8 @@ module _ (none : HaveNone) where
     abbrev file : Reader S
     file = reader left failures old new
 
-    pub not_both : (text bytes : List ℕ) (why : Why) → left old ≡ Some text → failures old < most_failures → IsAcceptedFile bytes → Holds file bytes → Unfailed file → IsFileRefused file why → ⊥
+    pub not_both : (text bytes : List ℕ) (why : Why) → left old ≡ Some text → failures old < most_failures
+        → IsAcceptedFile bytes → Holds file bytes → Unfailed file → IsFileRefused file why → ⊥
     not_both text bytes why known low is holds unfailed (inl device) = not_failed (failures old) (failures new) low unfailed device.1
     not_both text bytes why known low is holds unfailed (inr taken) =
         let same : text ≡ bytes = rw known at holds in
@@ -70,16 +72,23 @@ module _ (none : HaveNone) where
         taken.2 (none bytes taken.0 is (rw same at fault))
 
   -- one file brings one list of images
-  one_image_list : {S : Type 0} (opening : S → Opening) (file : Reader S) (x y : Outcome) → IsCounted file → Becomes opening file x → Becomes opening file y → images_by x ≡ images_by y
+  one_image_list : {S : Type 0} (opening : S → Opening) (file : Reader S) (x y : Outcome) → IsCounted file
+      → Becomes opening file x → Becomes opening file y → images_by x ≡ images_by y
   one_image_list opening file (Ok a) (Ok b) known p q =
       let first : known.0.0 ≡ a = rw known.0.1 at p.1 in
       let other : known.0.0 ≡ b = rw known.0.1 at q.1 in
       ap admissible (sym first ∙ other)
-  one_image_list opening file (Ok a) (Err why) known p q = absurd (not_both file.left file.failures file.old file.new known.0.0 a q.as_read known.0.1 known.1 p.0 p.1 p.2 q.refused)
-  one_image_list opening file (Err why) (Ok b) known p q = absurd (not_both file.left file.failures file.old file.new known.0.0 b p.as_read known.0.1 known.1 q.0 q.1 q.2 p.refused)
+  one_image_list opening file (Ok a) (Err why) known p q =
+      absurd (not_both file.left file.failures file.old file.new known.0.0 a q.as_read known.0.1 known.1 p.0 p.1 p.2
+      q.refused)
+  one_image_list opening file (Err why) (Ok b) known p q =
+      absurd (not_both file.left file.failures file.old file.new known.0.0 b p.as_read known.0.1 known.1 q.0 q.1 q.2
+      p.refused)
   one_image_list opening file (Err _) (Err _) known p q = refl
 
-  pub one_image_lists : {S : Type 0} (opening : S → Opening) (files : List (Reader S)) (xs ys : List Outcome) → EachCounted files → AllZip (Becomes opening) files xs → AllZip (Becomes opening) files ys → images_from xs ≡ images_from ys
+  pub one_image_lists : {S : Type 0} (opening : S → Opening) (files : List (Reader S)) (xs ys : List Outcome)
+      → EachCounted files → AllZip (Becomes opening) files xs → AllZip (Becomes opening) files ys → images_from xs
+      ≡ images_from ys
   one_image_lists opening [] [] [] known p q = refl
   one_image_lists opening (file ∷ files) (x ∷ xs) (y ∷ ys) known p q =
       let first = one_image_list opening file x y known.0 p.0 q.0 in
@@ -100,9 +109,21 @@ module _ {R S : Type 0} (opening : S → Opening) (input : Reader R) (files : Li
   Makes content lines = (status : Status) × MakesPassing opening input files status content lines
 
   -- memory was wanted before IN was read
-  pub wanting : Unfailed input → IsKept out → Takes report [] → EndsPassing (admit_passing_as_it_comes opening input files out.draft) out report (Err OutOfMemory)
+  pub wanting : Unfailed input → IsKept out → Takes report []
+      → EndsPassing (admit_passing_as_it_comes opening input files out.draft) out report (Err OutOfMemory)
   wanting unfailed kept unreported = inl (record {
-    stops = ((unfailed, kept.0.1, (0, λ known text told m. nothing_first Makes out.draft.old out.draft.new text told kept.0.0 m)), untouched input (BecomeSome opening files) out.draft kept.0);
+    stops = (
+      (
+        unfailed,
+        kept.0.1,
+        (
+          0,
+          λ known text told m. nothing_first Makes out.draft.old out.draft.new text told
+              kept.0.0 m,
+        ),
+      ),
+      untouched input (BecomeSome opening files) out.draft kept.0,
+    );
     bytes = [];
     took = kept.0.0;
     count = λ n h. cc;
@@ -110,7 +131,8 @@ module _ {R S : Type 0} (opening : S → Opening) (input : Reader R) (files : Li
     unreported = unreported;
   })
 
-  module _ (none : HaveNone) (outcomes : List Outcome) (came : Operations) (first_rows : List ℕ) (rows : List FileRow) (h : HasCome opening files outcomes came first_rows rows) where
+  module _ (none : HaveNone) (outcomes : List Outcome) (came : Operations) (first_rows : List ℕ) (rows : List FileRow)
+      (h : HasCome opening files outcomes came first_rows rows) where
     abbrev lines : (List ℕ → Bool) → List ℕ
     lines = lines_again rows (records_of outcomes)
 
@@ -130,17 +152,31 @@ module _ {R S : Type 0} (opening : S → Opening) (input : Reader R) (files : Li
     }
 
     archive_forth : (text told : List ℕ) → MakesArchive Others text told → MakesArchive (MakesPassing opening input files (status_over outcomes)) text told
-    archive_forth text told m = record { content = m.content; lines = m.lines; makes = forth m.content m.lines m.makes; text_is = m.text_is; told_is = m.told_is }
+    archive_forth text told m = record {
+      content = m.content;
+      lines = m.lines;
+      makes = forth m.content m.lines m.makes;
+      text_is = m.text_is;
+      told_is = m.told_is;
+    }
 
     archive_any : (text told : List ℕ) → MakesArchive Others text told → MakesArchive Makes text told
-    archive_any text told m = record { content = m.content; lines = m.lines; makes = (status_over outcomes, forth m.content m.lines m.makes); text_is = m.text_is; told_is = m.told_is }
+    archive_any text told m = record {
+      content = m.content;
+      lines = m.lines;
+      makes =
+          (status_over outcomes, forth m.content m.lines m.makes);
+      text_is = m.text_is;
+      told_is = m.told_is;
+    }
 
     -- what files whose bytes are known make has the text that these make
     back : Known → (text told : List ℕ) → MakesArchive Makes text told → (other : List ℕ) × MakesArchive Others text other
     back known text told m =
         let made = m.makes.1 in
         let o = made.before in
-        let same = ap (λ (images : List (List ℕ)). admitted o images) (one_image_lists none opening files made.outcomes outcomes known.1 made.become h.become) in (
+        let same = ap (λ (images : List (List ℕ)). admitted o images)
+        (one_image_lists none opening files made.outcomes outcomes known.1 made.become h.become) in (
           report_of m.content (lines (changes o)),
           record {
             content = m.content;
@@ -172,12 +208,16 @@ module _ {R S : Type 0} (opening : S → Opening) (input : Reader R) (files : Li
     stops (Report n) s = absurd s
     stops OutOfMemory s = (s.0, s.1, (s.2.0, first s.2.0 s.2.1))
 
-    stopped : (fault : CommandFault) → EndsBegun input other out report (Err fault) → EndsStreamed (begins_behind input (BecomeSome opening files) out.draft (writes_amidst command Known out.draft)) out report (Err fault)
+    stopped : (fault : CommandFault) → EndsBegun input other out report (Err fault)
+        → EndsStreamed (begins_behind input (BecomeSome opening files) out.draft
+        (writes_amidst command Known out.draft)) out report (Err fault)
     stopped fault =
-        ends_so out report (begins_alone input out.draft other) (begins_behind input (BecomeSome opening files) out.draft (writes_amidst command Known out.draft))
+        ends_so out report (begins_alone input out.draft other)
+        (begins_behind input (BecomeSome opening files) out.draft (writes_amidst command Known out.draft))
         archive_any (λ u. u) (λ fault s. (stops fault s.0, accepted input (BecomeSome opening files) out.draft (outcomes, h.become) s.1)) (Err fault)
 
-    done : (status was : Status) → status ≡ status_over outcomes → EndsBegun input other out report (Ok was) → EndsPassing (admit_passing_as_it_comes opening input files out.draft) out report (Ok status)
+    done : (status was : Status) → status ≡ status_over outcomes → EndsBegun input other out report (Ok was)
+        → EndsPassing (admit_passing_as_it_comes opening input files out.draft) out report (Ok status)
     done status was is e =
         let c = e.1 in
         (e.0, rw is (record { text = c.text; told = c.told; makes = archive_forth c.text c.told c.makes; published = (refl, c.published.1, c.published.2) }))
@@ -213,8 +253,10 @@ module _ {R S : Type 0} (opening : S → Opening) (input : Reader R) (files : Li
         archive = m.archive;
         files_are = all_hold opening files all.0 become;
         accepted = all_taken opening files all.0 become;
-        content_is = m.content_is ∙ ap (λ (xs : List Outcome). admitted m.before (images_from xs)) all.1 ∙ ap (λ (images : List (List ℕ)). admitted m.before images) (all_images all.0);
-        lines_are = m.lines_are ∙ ap (λ (xs : List Outcome). file_lines (rows_of m.before 0 xs)) all.1 ∙ ap file_lines (all_rows m.before 0 all.0) ∙ part_lines (admit_rows m.before 0 all.0);
+        content_is = m.content_is ∙ ap (λ (xs : List Outcome). admitted m.before (images_from xs)) all.1
+            ∙ ap (λ (images : List (List ℕ)). admitted m.before images) (all_images all.0);
+        lines_are = m.lines_are ∙ ap (λ (xs : List Outcome). file_lines (rows_of m.before 0 xs)) all.1
+            ∙ ap file_lines (all_rows m.before 0 all.0) ∙ part_lines (admit_rows m.before 0 all.0);
       }
 
   -- and the other way round
@@ -230,7 +272,8 @@ module _ {R S : Type 0} (opening : S → Opening) (input : Reader R) (files : Li
     status_is = all_done m.texts;
   }
     where
-      become : (read : List (Reader S)) (texts : List (List ℕ)) → AllZip Holds read texts → AllByRecursion IsAcceptedFile texts → EachUnfailed read → AllZip (Becomes opening) read (map Ok texts)
+      become : (read : List (Reader S)) (texts : List (List ℕ)) → AllZip Holds read texts
+          → AllByRecursion IsAcceptedFile texts → EachUnfailed read → AllZip (Becomes opening) read (map Ok texts)
       become [] [] hold accepted each = tt
       become (_ ∷ read) (text ∷ texts) hold accepted each = ((accepted.0, hold.0, each.0), become read texts hold.1 accepted.1 each.1)
       become [] (_ ∷ _) hold accepted each = absurd hold

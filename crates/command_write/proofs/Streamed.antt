@@ -48,43 +48,70 @@ sizes_are sizes o r b = λ i. record { records = r i; bytes = b i }
 -- ---- a command whose archive was written
 
 -- it is published
-pub archive_published : (Makes : Operations → List ℕ → Type 0) (Stops : CommandFault → Type 0) (NoneFailed : Type 0) {W : Type 0} (draft : Stream W) (sizes : Sizes) (o : Operations) (lines : List ℕ) (out : Out) (report : Writer) (result : Result Status CommandFault)
-    → NoneFailed → Makes o lines → IsWrittenWhole draft.bytes draft.failures draft.old draft.new (set.len o) (written o) sizes → Publishes out report (written o) (lines ++ archive_line sizes) result
+pub archive_published : (Makes : Operations → List ℕ → Type 0) (Stops : CommandFault → Type 0) (NoneFailed : Type 0)
+    {W : Type 0} (draft : Stream W) (sizes : Sizes) (o : Operations) (lines : List ℕ) (out : Out) (report : Writer)
+    (result : Result Status CommandFault)
+    → NoneFailed → Makes o lines → IsWrittenWhole draft.bytes draft.failures draft.old draft.new (set.len o) (written o)
+    sizes → Publishes out report (written o) (lines ++ archive_line sizes) result
     → EndsStreamed (record { Makes = MakesArchive Makes; Stops = Stops; Unfailed = NoneFailed }) out report result
 archive_published Makes Stops NoneFailed draft sizes o lines out report result unfailed makes whole =
     published out report (record { Makes = MakesArchive Makes; Stops = Stops; Unfailed = NoneFailed }) result (written o) (lines ++ archive_line sizes) unfailed
-    (record { content = o; lines = lines; makes = makes; text_is = refl; told_is = ap (λ (s : Sizes). lines ++ archive_line s) (sizes_are sizes o whole.records_are whole.bytes_are) })
+    (record {
+      content = o;
+      lines = lines;
+      makes = makes;
+      text_is = refl;
+      told_is =
+          ap (λ (s : Sizes). lines ++ archive_line s) (sizes_are sizes o whole.records_are whole.bytes_are);
+    })
 
 -- one that was stopped
-pub stopped_begun : {R : Type 0} (input : Reader R) (Makes : List ℕ → List ℕ → Type 0) (Refuses : InputName → Why → Type 0) (NoneFailed : Type 0) (out : Out) (report : Writer) (fault : CommandFault)
-    → StopsAmidst (record { Makes = Makes; Refuses = Refuses; Unfailed = NoneFailed }) (IsKnown input) out.draft fault → IsUnfinished input (Unit {0}) out.draft → HasTaken out.draft fault → PublishesNothing out → Takes report []
+pub stopped_begun : {R : Type 0} (input : Reader R) (Makes : List ℕ → List ℕ → Type 0)
+    (Refuses : InputName → Why → Type 0) (NoneFailed : Type 0) (out : Out) (report : Writer) (fault : CommandFault)
+    → StopsAmidst (record { Makes = Makes; Refuses = Refuses; Unfailed = NoneFailed }) (IsKnown input) out.draft fault
+    → IsUnfinished input (Unit {0}) out.draft → HasTaken out.draft fault → PublishesNothing out → Takes report []
     → EndsBegun input (record { Makes = Makes; Refuses = Refuses; Unfailed = NoneFailed }) out report (Err fault)
 stopped_begun input Makes Refuses NoneFailed out report fault s u taken nothing unreported =
-    begun out report input (Unit {0}) (writes_amidst (record { Makes = Makes; Refuses = Refuses; Unfailed = NoneFailed }) (IsKnown input) out.draft) u (Err fault)
+    begun out report input (Unit {0}) (writes_amidst (record
+    { Makes = Makes; Refuses = Refuses; Unfailed = NoneFailed }) (IsKnown input) out.draft) u (Err fault)
     (stopped_amidst Makes Refuses NoneFailed (IsKnown input) out report fault s taken nothing unreported)
 
 module _ {R : Type 0} (input : Reader R) (p : Operations) (Makes : Operations → List ℕ → Type 0)
-    (makes : (o : Operations) (lines : List ℕ) → Makes o lines → (before : Operations) × IsContent before × HoldsArchive input before × (o ≡ joined before p)) where
+    (makes : (o : Operations) (lines : List ℕ) → Makes o lines → (before : Operations) × IsContent before
+    × HoldsArchive input before × (o ≡ joined before p)) where
   -- what stops a join stops what makes no more
   pub join_stops : (draft : Writer) (fault : CommandFault) → StopsAmidst (joining input p) (IsKnown input) draft fault
       → StopsAmidst (record { Makes = MakesArchive Makes; Refuses = IsRefusedArchive 0 input; Unfailed = Unfailed input }) (IsKnown input) draft fault
   join_stops draft =
-      stops_alike (MakesJoin input p) (MakesArchive Makes) (IsRefusedArchive 0 input) (IsRefusedArchive 0 input) (Unfailed input) (Unfailed input) (IsKnown input) (IsKnown input) draft
-      (λ text told m. let j = makes m.content m.lines m.makes in record { content = j.0; is_content = j.1; archive = j.2; text_is = m.text_is ∙ ap written j.3 }) (λ at why r. r) (λ u. u) (λ k. k)
+      stops_alike (MakesJoin input p) (MakesArchive Makes) (IsRefusedArchive 0 input) (IsRefusedArchive 0 input)
+      (Unfailed input) (Unfailed input) (IsKnown input) (IsKnown input) draft
+      (λ text told m. let j = makes m.content m.lines m.makes
+      in record { content = j.0; is_content = j.1; archive = j.2; text_is = m.text_is ∙ ap written j.3 })
+      (λ at why r. r) (λ u. u) (λ k. k)
 
-  pub join_stopped : (out : Out) (report : Writer) (fault : CommandFault) → StopsAmidst (joining input p) (IsKnown input) out.draft fault → IsUnfinished input (Unit {0}) out.draft → HasTaken out.draft fault → PublishesNothing out → Takes report []
+  pub join_stopped : (out : Out) (report : Writer) (fault : CommandFault)
+      → StopsAmidst (joining input p) (IsKnown input) out.draft fault → IsUnfinished input (Unit {0}) out.draft
+      → HasTaken out.draft fault → PublishesNothing out → Takes report []
       → EndsBegun input (record { Makes = MakesArchive Makes; Refuses = IsRefusedArchive 0 input; Unfailed = Unfailed input }) out report (Err fault)
-  join_stopped out report fault s = stopped_begun input (MakesArchive Makes) (IsRefusedArchive 0 input) (Unfailed input) out report fault (join_stops out.draft fault s)
+  join_stopped out report fault s = stopped_begun input (MakesArchive Makes) (IsRefusedArchive 0 input) (Unfailed input)
+      out report fault (join_stops out.draft fault s)
 
 -- what a join makes is published
-pub join_published : {R W : Type 0} (input : Reader R) (p : Operations) (Makes : Operations → List ℕ → Type 0) (draft : Stream W) (sizes : Sizes) (j : IsJoined input p draft sizes) (lines : List ℕ) → Makes (joined j.content p) lines
-    → (out : Out) (report : Writer) (result : Result Status CommandFault) → Publishes out report (written (joined j.content p)) (lines ++ archive_line sizes) result
+pub join_published : {R W : Type 0} (input : Reader R) (p : Operations) (Makes : Operations → List ℕ → Type 0)
+    (draft : Stream W) (sizes : Sizes) (j : IsJoined input p draft sizes) (lines : List ℕ)
+    → Makes (joined j.content p) lines
+    → (out : Out) (report : Writer) (result : Result Status CommandFault)
+    → Publishes out report (written (joined j.content p)) (lines ++ archive_line sizes) result
     → EndsBegun input (record { Makes = MakesArchive Makes; Refuses = IsRefusedArchive 0 input; Unfailed = Unfailed input }) out report result
-join_published input p Makes draft sizes j lines makes out report result = archive_published Makes _ (Unfailed input) draft sizes (joined j.content p) lines out report result j.unfailed makes j.written_is
+join_published input p Makes draft sizes j lines makes out report result =
+    archive_published Makes _ (Unfailed input) draft sizes (joined j.content p) lines out report result j.unfailed makes
+    j.written_is
 
 -- what a draft has where a merge into it was stopped
-module _ {R S W : Type 0} (left : R → Option (List ℕ)) (failures : R → ℕ) (l l' : R) (other : Stream S) (held : W → Option (List ℕ)) (draft_failures : W → ℕ) (w w' : W) where
-  begun_by : (cause : MergeCause) (n : ℕ) → StopsBy (stream left failures l l') other (stream held draft_failures w w') cause n → Takes (writer held draft_failures w w') [] ⊎ (Unit {0} × HasBegun (reader left failures l l'))
+module _ {R S W : Type 0} (left : R → Option (List ℕ)) (failures : R → ℕ) (l l' : R) (other : Stream S)
+    (held : W → Option (List ℕ)) (draft_failures : W → ℕ) (w w' : W) where
+  begun_by : (cause : MergeCause) (n : ℕ) → StopsBy (stream left failures l l') other (stream held draft_failures w w')
+      cause n → Takes (writer held draft_failures w w') [] ⊎ (Unit {0} × HasBegun (reader left failures l l'))
   begun_by (Left why) n s = elim s.order [
     | inl magic ↦ inl (magic.0.2, s.out_unfailed)
     | inr behind ↦ inr (tt, taken_begun (stream left failures l l') behind.lefts behind.left_next behind.left_taken)
@@ -95,7 +122,8 @@ module _ {R S W : Type 0} (left : R → Option (List ℕ)) (failures : R → ℕ
   ]
   begun_by Write n s = inr (tt, s.left_begun)
 
-  pub unfinished_opened : (e : MergeFault) → Merges (stream left failures l l') other (stream held draft_failures w w') (Err e) → IsUnfinished (reader left failures l l') (Unit {0}) (writer held draft_failures w w')
+  pub unfinished_opened : (e : MergeFault) → Merges (stream left failures l l') other (stream held draft_failures w w')
+      (Err e) → IsUnfinished (reader left failures l l') (Unit {0}) (writer held draft_failures w w')
   unfinished_opened e merges = record { no_text = merges.2; begun = begun_by e.cause e.written merges.0 }
 
 module _ {S : Type 0} (left2 : S → Option (List ℕ)) (failures2 : S → ℕ) (r r' : S) (p : Operations) (at : IsAtHand (stream left2 failures2 r r') p) where
@@ -107,7 +135,8 @@ module _ {S : Type 0} (left2 : S → Option (List ℕ)) (failures2 : S → ℕ) 
   right_memory why refused =
       let alone : (m : Operations) → IsContent m → IsArchiveOf m at.text → (why.kind ≡ Device) ⊎ (why.kind ≡ RecordOutOfMemory) = rw at.bytes at refused.1 in
       elim (alone p at.is_content at.is_text) [
-        | inl device ↦ let failed : FailedIn (failures2 r) (failures2 r') = refused.0.blames.0 device in absurd (omega (arith, at.unfailed_before, at.unfailed, failed))
+        | inl device ↦ let failed : FailedIn (failures2 r) (failures2 r') = refused.0.blames.0 device
+            in absurd (omega (arith, at.unfailed_before, at.unfailed, failed))
         | inr memory ↦ memory
       ]
 
@@ -134,7 +163,8 @@ module _ {S : Type 0} (left2 : S → Option (List ℕ)) (failures2 : S → ℕ) 
           is_content = m.left_is.is;
           archive = m.left_is.text;
           unfailed = m.left_is.unfailed;
-          written_is = subst (λ (q : Operations). IsWrittenWhole held draft_failures w w' (set.len (joined m.o q)) (written (joined m.o q)) sizes) same m.written_is;
+          written_is = subst (λ (q : Operations). IsWrittenWhole held draft_failures w w' (set.len (joined m.o q))
+              (written (joined m.o q)) sizes) same m.written_is;
         }
 
     -- a first part of the join was written
@@ -142,10 +172,13 @@ module _ {S : Type 0} (left2 : S → Option (List ℕ)) (failures2 : S → ℕ) 
     first e merges known text told m =
         let given = gives_known left failures l l' m.content known m.archive in
         subst (λ (t : List ℕ). WritesFirst (held w) (held w') t e.written) (sym m.text_is)
-        (first_of_join (left l) (left2 r) (held w) (held w') e.written m.content p given.0 at.text m.is_content at.is_content given.1 at.is_text given.2 at.bytes merges.1)
+        (first_of_join (left l) (left2 r) (held w) (held w') e.written m.content p given.0 at.text m.is_content
+        at.is_content given.1 at.is_text given.2 at.bytes merges.1)
 
     -- what stopped it stops the command
-    stops : (cause : MergeCause) (n : ℕ) (fault : CommandFault) → StopsBy (stream left failures l l') other (stream held draft_failures w w') cause n → HasFirst (joining input p) (IsKnown input) draft n
+    stops : (cause : MergeCause) (n : ℕ) (fault : CommandFault)
+        → StopsBy (stream left failures l l') other (stream held draft_failures w w') cause n
+        → HasFirst (joining input p) (IsKnown input) draft n
         → IsMergeFaultTold (record { cause = cause; written = n }) fault → StopsAmidst (joining input p) (IsKnown input) draft fault
     stops (Left why) n (Input place says) s f t = ((t.0, (why, t.1, t.2, s.refused)), s.out_unfailed, (n, f))
     stops (Left why) n (Output k) s f t = absurd (cc (ap (λ (e : MergeFault). e.cause) t))
@@ -153,10 +186,15 @@ module _ {S : Type 0} (left2 : S → Option (List ℕ)) (failures2 : S → ℕ) 
     stops (Right why) n (Input place says) s f t = absurd (t.2 (right_memory why s.refused))
     stops (Right why) n (Output k) s f t = absurd (cc (ap (λ (e : MergeFault). e.cause) t))
     stops (Right why) n OutOfMemory s f t = (s.left_unfailed, s.out_unfailed, (n, f))
-    stops Write n (Output k) s f t = (s.left_unfailed, s.failed, subst (HasFirst (joining input p) (IsKnown input) draft) (ap (λ (e : MergeFault). e.written) t) f)
+    stops Write n (Output k) s f t = (
+      s.left_unfailed,
+      s.failed,
+      subst (HasFirst (joining input p) (IsKnown input) draft) (ap (λ (e : MergeFault). e.written) t) f,
+    )
     stops cause n fault s f t = absurd t
 
-    pub stopped_opened : (e : MergeFault) (fault : CommandFault) → MergesSo (Err e) → IsMergeFaultTold e fault → StopsAmidst (joining input p) (IsKnown input) draft fault
+    pub stopped_opened : (e : MergeFault) (fault : CommandFault) → MergesSo (Err e) → IsMergeFaultTold e fault
+        → StopsAmidst (joining input p) (IsKnown input) draft fault
     stopped_opened e fault merges told = stops e.cause e.written fault merges.0 (first e merges) told
 
 -- what is told of OUT is how much was written when the merge was stopped
@@ -166,7 +204,9 @@ counted e (Report m) k n is told h = absurd told
 counted e fault k n is told h = cc
 
 -- its draft took as much
-pub taken_of : {W : Type 0} (held : W → Option (List ℕ)) (failures : W → ℕ) (w w' : W) (e : MergeFault) (fault : CommandFault) → GainsCount (stream held failures w w') e.written → IsMergeFaultTold e fault → HasTaken (writer held failures w w') fault
+pub taken_of : {W : Type 0} (held : W → Option (List ℕ)) (failures : W → ℕ) (w w' : W) (e : MergeFault)
+    (fault : CommandFault) → GainsCount (stream held failures w w') e.written → IsMergeFaultTold e fault
+    → HasTaken (writer held failures w w') fault
 taken_of held failures w w' e fault g told = (g.0, g.1, λ n h. counted e fault (length g.0) n (sym g.2) told h)
 
 -- so the archive that they make is at hand
@@ -180,22 +220,29 @@ makes_at_hand side operations at = record {
   unfailed = at.unfailed;
 }
 
-module _ {S : Type 0} (left2 : S → Option (List ℕ)) (failures2 : S → ℕ) (r r' : S) (operations : Operations) (at : HoldsVersion1Text (stream left2 failures2 r r') operations)
+module _ {S : Type 0} (left2 : S → Option (List ℕ)) (failures2 : S → ℕ) (r r' : S) (operations : Operations)
+    (at : HoldsVersion1Text (stream left2 failures2 r r') operations)
     {R W : Type 0} (left : R → Option (List ℕ)) (failures : R → ℕ) (l l' : R) (held : W → Option (List ℕ)) (draft_failures : W → ℕ) (w w' : W) where
-  pub told_opened : (sizes : Sizes) (arrived : List Arrival) (withdraws : Bool) → IsMergedTelling (stream left failures l l') (stream left2 failures2 r r') (stream held draft_failures w w') sizes arrived withdraws → IsJoinedTelling (reader left failures l l') operations (stream held draft_failures w w') sizes arrived withdraws
+  pub told_opened : (sizes : Sizes) (arrived : List Arrival) (withdraws : Bool)
+      → IsMergedTelling (stream left failures l l') (stream left2 failures2 r r') (stream held draft_failures w w')
+      sizes arrived withdraws → IsJoinedTelling (reader left failures l l') operations (stream held draft_failures w w')
+      sizes arrived withdraws
   unfolding joined_opened
   told_opened sizes arrived withdraws t =
       let has : HasOperations t.operations (old_written operations) = rw at.bytes at t.right_is in
       let same : t.operations ≡ operations = one_set (old_written operations) t.operations operations has (record { are = at.are; whole = inr refl }) in
       record {
-        joined = joined_opened left2 failures2 r r' (content_of operations) (makes_at_hand (stream left2 failures2 r r') operations at) left failures l l' held draft_failures w w' sizes t.merged;
+        joined = joined_opened left2 failures2 r r' (content_of operations)
+            (makes_at_hand (stream left2 failures2 r r') operations at) left failures l l' held draft_failures w w'
+            sizes t.merged;
         arrivals_are = t.arrivals_are ∙ ap (λ (q : Operations). map (arrival_of t.merged.o) (listing q)) same;
         withdraws_is = t.withdraws_is ∙ ap (λ (q : Operations). list_any (is_covered q) (listing t.merged.o)) same;
       }
 
 -- ---- one FILE
 
-module _ {R S D T : Type 0} (left : R → Option (List ℕ)) (failures : R → ℕ) (l l' : R) (left2 : S → Option (List ℕ)) (failures2 : S → ℕ) (r r' : S) (out : Outs D T) (report : Writer) where
+module _ {R S D T : Type 0} (left : R → Option (List ℕ)) (failures : R → ℕ) (l l' : R) (left2 : S → Option (List ℕ))
+    (failures2 : S → ℕ) (r r' : S) (out : Outs D T) (report : Writer) where
   abbrev left_input : Reader R
   left_input = reader left failures l l'
 
@@ -226,10 +273,14 @@ module _ {R S D T : Type 0} (left : R → Option (List ℕ)) (failures : R → �
       by_fault f t = inl (is f t)
 
   -- it was done, and is published
-  pub merged : (draft : D) (sizes : Sizes) (m : IsMerged (stream left failures l l') (stream left2 failures2 r r') (stream out.held out.draft_failures out.old.draft draft) sizes) (lines : List ℕ) → lines ≡ []
+  pub merged : (draft : D) (sizes : Sizes) (m : IsMerged (stream left failures l l') (stream left2 failures2 r r')
+      (stream out.held out.draft_failures out.old.draft draft) sizes) (lines : List ℕ) → lines ≡ []
       → (result : Result Status CommandFault) → Publishes (out_of out) report (written (joined m.o m.p)) (lines ++ archive_line sizes) result → EndsSo result
   merged draft sizes m lines none result =
-      archive_published (MakesMerged left_input (right_input ∷ [])) _ (Unfailed left_input × EachUnfailed (right_input ∷ [])) (stream out.held out.draft_failures out.old.draft draft) sizes (joined m.o m.p) lines (out_of out) report result
+      archive_published (MakesMerged left_input (right_input ∷ [])) _
+      (Unfailed left_input × EachUnfailed (right_input ∷ []))
+      (stream out.held out.draft_failures out.old.draft draft) sizes (joined m.o m.p) lines (out_of out) report
+      result
       (m.left_is.unfailed, (m.right_is.unfailed, tt))
       (record {
         before = m.o;
@@ -253,17 +304,22 @@ module _ {R S D T : Type 0} (input : Reader R) (out : Outs D T) (report : Writer
 
 -- ---- accepted inputs
 
-device_side : {R S W : Type 0} (left : Stream R) (right : Stream S) (out : Stream W) (o p : Operations) (at : InputName) (why : Why) (cause : MergeCause) (n : ℕ) (t u : List ℕ) → IsContent o → IsContent p → IsArchiveOf o t → IsArchiveOf p u → left.bytes left.old ≡ Some t → right.bytes right.old ≡ Some u
+device_side : {R S W : Type 0} (left : Stream R) (right : Stream S) (out : Stream W) (o p : Operations) (at : InputName)
+    (why : Why) (cause : MergeCause) (n : ℕ) (t u : List ℕ) → IsContent o → IsContent p → IsArchiveOf o t
+    → IsArchiveOf p u → left.bytes left.old ≡ Some t → right.bytes right.old ≡ Some u
     → StopsBy left right out cause n → IsSide cause at why → IsDeviceFault why
 device_side left right out o p at why (Left fault) n t u co cp is_o is_p go gp s told = by_device fault why told.1 told.2 ((rw go at s.refused.1) o co is_o)
 device_side left right out o p at why (Right fault) n t u co cp is_o is_p go gp s told = by_device fault why told.1 told.2 ((rw gp at s.refused.1) p cp is_p)
 device_side left right out o p at why Write n t u co cp is_o is_p go gp s told = absurd told
 
-module _ {R S D : Type 0} (left : R → Option (List ℕ)) (failures : R → ℕ) (left2 : S → Option (List ℕ)) (failures2 : S → ℕ) (new : R) (new2 : S) (draft : Stream D) where
+module _ {R S D : Type 0} (left : R → Option (List ℕ)) (failures : R → ℕ) (left2 : S → Option (List ℕ))
+    (failures2 : S → ℕ) (new : R) (new2 : S) (draft : Stream D) where
   abbrev StopsSo : R → S → CommandFault → Type 0
   StopsSo old old2 fault = StopsMergeOfOne (reader left failures old new) (reader left2 failures2 old2 new2) draft fault
 
-  pub one_device : (old : R) (old2 : S) (o p : Operations) (at : InputName) (why : Why) → IsContent o → IsContent p → IsGivenArchive (reader left failures old new) o → IsGivenArchive (reader left2 failures2 old2 new2) p
+  pub one_device : (old : R) (old2 : S) (o p : Operations) (at : InputName) (why : Why) → IsContent o → IsContent p
+      → IsGivenArchive (reader left failures old new) o → IsGivenArchive (reader left2 failures2 old2 new2) p
       → StopsSo old old2 (Input at why) → IsDeviceFault why
   one_device old old2 o p at why co cp go gp s =
-      device_side (stream left failures old new) (stream left2 failures2 old2 new2) draft o p at why s.stopped.cause s.stopped.written go.0 gp.0 co cp go.1 gp.1 go.2 gp.2 s.merges.0 s.told
+      device_side (stream left failures old new) (stream left2 failures2 old2 new2) draft o p at why s.stopped.cause
+      s.stopped.written go.0 gp.0 co cp go.1 gp.1 go.2 gp.2 s.merges.0 s.told

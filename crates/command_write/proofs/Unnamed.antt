@@ -54,7 +54,8 @@ module _ (s : Entries) (w0 w1 w2 : Option (List ℕ)) (records : List (List ℕ)
   abbrev one : List ℕ
   one = concat (missing s (x ∷ []))
 
-  pub copied_more : (new : Sizes) → new.bytes ≡ old.bytes + length one → new.records ≡ old.records + length (missing s (x ∷ [])) → Appends w1 w2 one → IsCopied s w0 w2 (records ++ x ∷ []) new
+  pub copied_more : (new : Sizes) → new.bytes ≡ old.bytes + length one → new.records
+      ≡ old.records + length (missing s (x ∷ [])) → Appends w1 w2 one → IsCopied s w0 w2 (records ++ x ∷ []) new
   copied_more new b n p =
       let whole = copy_more s records (x ∷ []) in
       let more = filter-append (λ r. not (set.contains s (entry r))) records (x ∷ []) in
@@ -67,11 +68,16 @@ module _ (s : Entries) (w0 w1 w2 : Option (List ℕ)) (records : List (List ℕ)
   -- the writer failed within it
   pub copied_in : (written k : ℕ) → written ≡ old.bytes + k → WritesFirst w1 w2 one k → WritesFirst w0 w2 (copy_of s (records ++ x ∷ [])) written
   copied_in written k is p =
-      let whole : copy_of s (records ++ x ∷ []) ≡ copy_of s records ++ (one ++ []) = copy_more s records (x ∷ []) ∙ ap (λ (t : List ℕ). copy_of s records ++ t) (sym (append-nil one)) in
-      subst (WritesFirst w0 w2 (copy_of s (records ++ x ∷ []))) (sym is) (stopped w0 w1 w2 (copy_of s records) one [] (copy_of s (records ++ x ∷ [])) old.bytes k c.bytes_are whole c.gained p)
+      let whole : copy_of s (records ++ x ∷ []) ≡ copy_of s records ++ (one ++ []) = copy_more s records (x ∷ [])
+      ∙ ap (λ (t : List ℕ). copy_of s records ++ t) (sym (append-nil one)) in
+      subst (WritesFirst w0 w2 (copy_of s (records ++ x ∷ []))) (sym is)
+      (stopped w0 w1 w2 (copy_of s records) one [] (copy_of s (records ++ x ∷ [])) old.bytes k c.bytes_are whole
+      c.gained p)
 
 -- reading stopped after the records
-pub copied_to : (file : Format) (s : Entries) (a b w0 w1 : Option (List ℕ)) (records : List (List ℕ)) (fault : RecordFault) (sizes : Sizes) → Stopped file a b records fault → IsCopied s w0 w1 (taken_of file records) sizes → IsCopiedUpTo file s a b w0 w1 sizes.bytes
+pub copied_to : (file : Format) (s : Entries) (a b w0 w1 : Option (List ℕ)) (records : List (List ℕ))
+    (fault : RecordFault) (sizes : Sizes) → Stopped file a b records fault
+    → IsCopied s w0 w1 (taken_of file records) sizes → IsCopiedUpTo file s a b w0 w1 sizes.bytes
 copied_to file s a b w0 w1 records fault sizes stop c = record {
   records = records;
   rest = stop.rest;
@@ -83,7 +89,9 @@ copied_to file s a b w0 w1 records fault sizes stop c = record {
 }
 
 -- the writer failed within the last of the records that were read
-pub copied_within : (file : Format) (s : Entries) (a b w0 w1 : Option (List ℕ)) (records : List (List ℕ)) (position : Position) (n : ℕ) → HasRead file a b records position → WritesFirst w0 w1 (copy_of s (taken_of file records)) n → IsCopiedUpTo file s a b w0 w1 n
+pub copied_within : (file : Format) (s : Entries) (a b w0 w1 : Option (List ℕ)) (records : List (List ℕ))
+    (position : Position) (n : ℕ) → HasRead file a b records position
+    → WritesFirst w0 w1 (copy_of s (taken_of file records)) n → IsCopiedUpTo file s a b w0 w1 n
 copied_within file s a b w0 w1 records position n read p = record {
   records = records;
   rest = [];
@@ -97,7 +105,9 @@ copied_within file s a b w0 w1 records position n read p = record {
 -- ---- its beginning
 
 -- the writer failed within the magic
-pub begun_within : (s : Entries) (a b w0 w1 : Option (List ℕ)) (position : Position) (n k : ℕ) (x : List ℕ) → HasRead position.file a b [] position → x ≡ magic → n ≡ 0 + k → WritesFirst w0 w1 x k → IsCopiedUpTo position.file s a b w0 w1 n
+pub begun_within : (s : Entries) (a b w0 w1 : Option (List ℕ)) (position : Position) (n k : ℕ) (x : List ℕ)
+    → HasRead position.file a b [] position → x ≡ magic → n ≡ 0 + k → WritesFirst w0 w1 x k
+    → IsCopiedUpTo position.file s a b w0 w1 n
 begun_within s a b w0 w1 position n k x read is e p =
     let same : n ≡ k = omega arith in
     copied_within position.file s a b w0 w1 [] position n read (rw (taken_none position.file, same) (rw is at p))
@@ -106,17 +116,21 @@ pub begun_copied : (s : Entries) (w0 w1 : Option (List ℕ)) (n : ℕ) → n ≡
 begun_copied s w0 w1 n is p = record { gained = p; bytes_are = is; records_are = refl }
 
 -- and so the magic was read
-pub read_behind_magic : (file : Format) → kind_of file ≡ Archive_text → (a b : Option (List ℕ)) (position : Position) → HasRead file a b [] position → ReadsBehindMagic a b
+pub read_behind_magic : (file : Format) → kind_of file ≡ Archive_text → (a b : Option (List ℕ)) (position : Position)
+    → HasRead file a b [] position → ReadsBehindMagic a b
 read_behind_magic file k a b position read = (file, k, [], read.taken)
 
-pub cause_of : (file : Format) → kind_of file ≡ Archive_text → (s : Entries) (a b w0 w1 : Option (List ℕ)) (n : ℕ) (cause : MergeCause) → StopsRecords file a b cause → IsCopiedUpTo file s a b w0 w1 n → IsCause a b cause
+pub cause_of : (file : Format) → kind_of file ≡ Archive_text
+    → (s : Entries) (a b w0 w1 : Option (List ℕ)) (n : ℕ) (cause : MergeCause) → StopsRecords file a b cause
+    → IsCopiedUpTo file s a b w0 w1 n → IsCause a b cause
 cause_of file k s a b w0 w1 n (Left fault) st u = inr (file, k, st.0, st.1)
 cause_of file k s a b w0 w1 n (Right fault) st u = absurd st
 cause_of file k s a b w0 w1 n Write st u = (file, k, concat u.records ++ u.rest, u.taken)
 
 -- ---- its end
 
-module _ (s : Entries) (a b c w0 w1 w2 : Option (List ℕ)) (file : Format) (kind : kind_of file ≡ Archive_text) (sizes : Sizes) (position : Position) (all : GathersAll file (IsCopied s w0 w1) a b sizes position) where
+module _ (s : Entries) (a b c w0 w1 w2 : Option (List ℕ)) (file : Format) (kind : kind_of file ≡ Archive_text)
+    (sizes : Sizes) (position : Position) (all : GathersAll file (IsCopied s w0 w1) a b sizes position) where
   abbrev kept : List (List ℕ)
   kept = taken_of file all.records
 
@@ -131,8 +145,15 @@ module _ (s : Entries) (a b c w0 w1 w2 : Option (List ℕ)) (file : Format) (kin
               records = all.records;
               read = all.read;
               makes = record {
-                written_is = Appends-then w0 w1 w2 (copy_of s kept) (end_record (length (missing s kept))) m.gained (subst (λ (n : ℕ). Appends w1 w2 (end_record n)) m.records_are ok.2);
-                bytes_are = omega (arith, ok.0, m.bytes_are, length-append (copy_of s kept) (end_record (length (missing s kept))), ap (λ (n : ℕ). length (end_record n)) m.records_are);
+                written_is = Appends-then w0 w1 w2 (copy_of s kept) (end_record (length (missing s kept))) m.gained
+                    (subst (λ (n : ℕ). Appends w1 w2 (end_record n)) m.records_are ok.2);
+                bytes_are = omega (
+                  arith,
+                  ok.0,
+                  m.bytes_are,
+                  length-append (copy_of s kept) (end_record (length (missing s kept))),
+                  ap (λ (n : ℕ). length (end_record n)) m.records_are,
+                );
                 records_are = ok.1 ∙ m.records_are;
               };
             })
@@ -140,7 +161,8 @@ module _ (s : Entries) (a b c w0 w1 w2 : Option (List ℕ)) (file : Format) (kin
         at.0,
       )
 
-  stopped_at : (fault : RecordFault) → ((f : Format) (d : Option (List ℕ)) (records : List (List ℕ)) → end_length f ≡ Some 9 → HasReadAll f d b records position → Stopped f d c records fault) → Stopped file a c all.records fault
+  stopped_at : (fault : RecordFault) → ((f : Format) (d : Option (List ℕ)) (records : List (List ℕ)) → end_length f
+      ≡ Some 9 → HasReadAll f d b records position → Stopped f d c records fault) → Stopped file a c all.records fault
   stopped_at fault stops = stops file a all.records (counts_of file kind) all.read
 
   ended_by : (cause : MergeCause) (n : ℕ) → StopsEnd position b c w1 w2 sizes cause n → IsCause a c cause × HasDraft s a c w0 w2 n
@@ -169,18 +191,21 @@ module _ (s : Entries) (a b c w0 w1 w2 : Option (List ℕ)) (file : Format) (kin
         ),
       )
 
-  pub ended_early : (r : Result Sizes MergeFault) → IfErr r (λ e. StopsEnd position b c w1 w2 sizes e.cause e.written) → IfErr r (λ e. IsCause a c e.cause × HasDraft s a c w0 w2 e.written)
+  pub ended_early : (r : Result Sizes MergeFault) → IfErr r (λ e. StopsEnd position b c w1 w2 sizes e.cause e.written)
+      → IfErr r (λ e. IsCause a c e.cause × HasDraft s a c w0 w2 e.written)
   ended_early r = IfErr-weaker r _ _ (λ e. ended_by e.cause e.written)
 
 -- ---- devices that did not fail in the first steps are blamed for the next
 
-module _ {R : Type 0} (left : R → Option (List ℕ)) (failures : R → ℕ) (old mid new : R) (w_old w_mid w_new : ℕ) (unfailed : failures mid ≡ failures old) (same : w_mid ≡ w_old) where
+module _ {R : Type 0} (left : R → Option (List ℕ)) (failures : R → ℕ) (old mid new : R) (w_old w_mid w_new : ℕ)
+    (unfailed : failures mid ≡ failures old) (same : w_mid ≡ w_old) where
   pub blamed : (cause : MergeCause) → BlamesOne left failures mid new w_mid w_new cause → BlamesOne left failures old new w_old w_new cause
   blamed (Left fault) b = (blames_behind left failures old mid new unfailed fault.kind b.0, b.1 ∙ same)
   blamed (Right fault) b = absurd b
   blamed Write b = (b.0 ∙ unfailed, subst (λ (n : ℕ). FailedIn n w_new) same b.1)
 
-  pub devices_behind : {T : Type 0} (r : Result T MergeFault) → BlamesDevices left failures mid new w_mid w_new r → BlamesDevices left failures old new w_old w_new r
+  pub devices_behind : {T : Type 0} (r : Result T MergeFault) → BlamesDevices left failures mid new w_mid w_new r
+      → BlamesDevices left failures old new w_old w_new r
   devices_behind (Ok x) b = (b.0 ∙ unfailed, b.1 ∙ same)
   devices_behind (Err e) b = blamed e.cause b
 
@@ -210,7 +235,8 @@ in_front : (low : List ℕ) (xs ys : List (List ℕ)) → InOrder Archive low (x
 in_front low [] ys a = tt
 in_front low (x ∷ xs) ys a = (a.0, a.1, in_front x xs ys a.2)
 
-taken_front : (f : Format) → kind_of f ≡ Archive_text → (done more : List (List ℕ)) → InOrder f [] (done ++ more) → (ms : List (List ℕ)) × (taken_of f (done ++ more) ≡ taken_of f done ++ ms)
+taken_front : (f : Format) → kind_of f ≡ Archive_text → (done more : List (List ℕ)) → InOrder f [] (done ++ more)
+    → (ms : List (List ℕ)) × (taken_of f (done ++ more) ≡ taken_of f done ++ ms)
 taken_front Archive k done more a = (more, refl)
 taken_front OldArchive k done more a =
     let b = in_order_old [] (done ++ more) a in
@@ -220,7 +246,8 @@ taken_front Operations_file k done more a = absurd (no_operations_text k)
 taken_front Summary_file k done more a = absurd (no_summary_text k)
 
 -- the first bytes of a front are those of the whole
-first_in : (w0 w1 : Option (List ℕ)) (front tail whole : List ℕ) (n : ℕ) → whole ≡ front ++ tail → 0 < length tail → n ≤ length front → Appends w0 w1 (take n front) → WritesFirst w0 w1 whole n
+first_in : (w0 w1 : Option (List ℕ)) (front tail whole : List ℕ) (n : ℕ) → whole ≡ front ++ tail → 0 < length tail
+    → n ≤ length front → Appends w0 w1 (take n front) → WritesFirst w0 w1 whole n
 first_in w0 w1 front tail whole n is some within gained = record {
   within = omega (arith, ap length is, length-append front tail);
   gained = rw (is, take-append-le n front tail within) gained;
@@ -238,10 +265,12 @@ module _ (s : Entries) (text : List ℕ) (o : Operations) (content : IsContent o
       let k = taken_rest text (magic_of file ++ (concat u.records ++ u.rest)) b u.taken in
       let begun : text ≡ magic_of file ++ ((concat u.records ++ u.rest) ++ k.0) = k.1 ∙ append_assoc (magic_of file) (concat u.records ++ u.rest) k.0 in
       let split : text ≡ (magic_of file ++ concat u.records) ++ (u.rest ++ k.0) = k.1 ∙ simp append_assoc in
-      let longest = front_of file kind text f.records ((concat u.records ++ u.rest) ++ k.0, begun) (good_formed f.format f.archive text f.records f.ordered f.apart f.whole) in
+      let longest = front_of file kind text f.records ((concat u.records ++ u.rest) ++ k.0, begun)
+      (good_formed f.format f.archive text f.records f.ordered f.apart f.whole) in
       let more = before file text (Some (u.rest ++ k.0)) u.records f.records split u.ordered u.apart longest in
       let same : f.format ≡ file =
-      sym (format_magic f.format f.archive text (concat f.records ++ ending f.format (length f.records)) f.whole) ∙ format_magic file kind text ((concat u.records ++ u.rest) ++ k.0) begun in
+      sym (format_magic f.format f.archive text (concat f.records ++ ending f.format (length f.records)) f.whole)
+      ∙ format_magic file kind text ((concat u.records ++ u.rest) ++ k.0) begun in
       let ordered : InOrder file [] (u.records ++ more.0) = rw (← more.1, ← same) f.ordered in
       let ms = taken_front file kind u.records more.0 ordered in
       let o_is : o ≡ set_of (taken_of file (u.records ++ more.0)) = rw (← more.1, ← same) f.content in
@@ -250,14 +279,27 @@ module _ (s : Entries) (text : List ℕ) (o : Operations) (content : IsContent o
       ap (λ (p : Operations). written (delta p s)) o_is ∙ delta_text s file kind (u.records ++ more.0) ordered
       ∙ ap (λ (rs : List (List ℕ)). copy_of s rs ++ end) ms.1 ∙ ap (λ (t : List ℕ). t ++ end) (copy_more s (taken_of file u.records) ms.0)
       ∙ append_assoc (copy_of s (taken_of file u.records)) (concat (missing s ms.0)) end in
-      let some : 0 < length (concat (missing s ms.0) ++ end) = omega (arith, length-append (concat (missing s ms.0)) end, length-end_record (length (missing s (taken_of file (u.records ++ more.0))))) in
+      let some : 0 < length (concat (missing s ms.0) ++ end) =
+      omega (
+        arith,
+        length-append (concat (missing s ms.0)) end,
+        length-end_record (length (missing s (taken_of file (u.records ++ more.0)))),
+      ) in
       first_in w0 w1 (copy_of s (taken_of file u.records)) (concat (missing s ms.0) ++ end) (written (delta o s)) n whole some u.within u.gained
 
   first_to_end : (file : Format) → kind_of file ≡ Archive_text → IsCopiedToEnd file s (Some text) b w0 w1 n → First
   first_to_end file kind u =
       let all = text_whole file text b u.records u.taken u.at_end in
       let made = set_of (taken_of file u.records) in
-      let form : Formed made text = record { format = file; archive = kind; records = u.records; ordered = u.ordered; apart = u.apart; whole = all; content = refl } in
+      let form : Formed made text = record {
+        format = file;
+        archive = kind;
+        records = u.records;
+        ordered = u.ordered;
+        apart = u.apart;
+        whole = all;
+        content = refl;
+      } in
       let same : o ≡ made = one_content text o made content (formed_content made text form) is (formed_text made text form) in
       rw (same, delta_text s file kind u.records u.ordered) u.first
 
@@ -266,7 +308,9 @@ module _ (s : Entries) (text : List ℕ) (o : Operations) (content : IsContent o
       let f = formed o text content is in
       let kept_of = taken_of f.format f.records in
       let end = end_record (length (missing s kept_of)) in
-      let whole : written (delta o s) ≡ copy_of s kept_of ++ end = ap (λ (p : Operations). written (delta p s)) f.content ∙ delta_text s f.format f.archive f.records f.ordered in
+      let whole : written (delta o s) ≡ copy_of s kept_of
+      ++ end = ap (λ (p : Operations). written (delta p s)) f.content
+      ∙ delta_text s f.format f.archive f.records f.ordered in
       let some : 0 < length (copy_of s kept_of ++ end) = omega (arith, length-append (copy_of s kept_of) end, length-end_record (length (missing s kept_of))) in
       rw zero (first_in w0 w1 [] (copy_of s kept_of ++ end) (written (delta o s)) 0 whole some (omega arith) gained)
 
@@ -279,7 +323,8 @@ module _ (s : Entries) (text : List ℕ) (o : Operations) (content : IsContent o
 
 drafted : (s : Entries) (a b w0 w1 : Option (List ℕ)) (n : ℕ) → HasDraft s a b w0 w1 n → (bytes : List ℕ) × Appends w0 w1 bytes × (n ≡ length bytes)
 drafted s a b w0 w1 n (inl none) = ([], none.1, none.0)
-drafted s a b w0 w1 n (inr (file, kind, inl u)) = let front = copy_of s (taken_of file u.records) in (take n front, u.gained, sym (length-take-le n front u.within))
+drafted s a b w0 w1 n (inr (file, kind, inl u)) = let front = copy_of s (taken_of file u.records)
+    in (take n front, u.gained, sym (length-take-le n front u.within))
 drafted s a b w0 w1 n (inr (file, kind, inr u)) =
     let p = u.first in
     let lt = p.within in
@@ -292,10 +337,21 @@ module _ (s : Entries) (a b w0 w1 : Option (List ℕ)) (n : ℕ) where
   abbrev NoText : Type 0
   NoText = IfSome w0 (λ _. (bytes : List ℕ) → Appends w0 w1 bytes → IsArchiveText bytes → ⊥)
 
-  none_of : (f : Format) (kind : kind_of f ≡ Archive_text) (xs : List (List ℕ)) → InOrder f [] xs → AreApart f xs → WritesFirst w0 w1 (whole_of s (taken_of f xs)) n → NoText
+  none_of : (f : Format) (kind : kind_of f ≡ Archive_text) (xs : List (List ℕ)) → InOrder f [] xs → AreApart f xs
+      → WritesFirst w0 w1 (whole_of s (taken_of f xs)) n → NoText
   none_of f kind xs ordered apart w =
       let made : Operations = set_of (taken_of f xs) in
-      let content : IsContent made = formed_content made (text_of f xs) (record { format = f; archive = kind; records = xs; ordered = ordered; apart = apart; whole = refl; content = refl }) in
+      let content : IsContent made = formed_content made (text_of f xs)
+      (record {
+        format = f;
+        archive = kind;
+        records = xs;
+        ordered = ordered;
+        apart = apart;
+        whole = refl;
+        content =
+            refl;
+      }) in
       first_no_text w0 w1 (delta made s) n (delta_content made s content) (rw (delta_text s f kind xs ordered) w)
 
   pub draft_no_text : HasDraft s a b w0 w1 n → NoText
@@ -303,19 +359,25 @@ module _ (s : Entries) (a b w0 w1 : Option (List ℕ)) (n : ℕ) where
   draft_no_text (inr (file, kind, inl u)) =
       let kept_of = taken_of file u.records in
       let end = end_record (length (missing s kept_of)) in
-      none_of file kind u.records u.ordered u.apart (first_in w0 w1 (copy_of s kept_of) end (whole_of s kept_of) n refl (omega (arith, length-end_record (length (missing s kept_of)))) u.within u.gained)
+      none_of file kind u.records u.ordered u.apart (first_in w0 w1 (copy_of s kept_of) end (whole_of s kept_of) n refl
+      (omega (arith, length-end_record (length (missing s kept_of)))) u.within u.gained)
   draft_no_text (inr (file, kind, inr u)) = none_of file kind u.records u.ordered u.apart u.first
 
 -- ---- what came of it
 
-module _ {R W : Type 0} (left : R → Option (List ℕ)) (failures : R → ℕ) (old new : R) (held : W → Option (List ℕ)) (write_failures : W → ℕ) (w w' : W) (s : Entries) where
-  stops_by : (cause : MergeCause) → IsCause (left old) (left new) cause → BlamesOne left failures old new (write_failures w) (write_failures w') cause → StopsCopyBy (stream left failures old new) (stream held write_failures w w') cause
+module _ {R W : Type 0} (left : R → Option (List ℕ)) (failures : R → ℕ) (old new : R) (held : W → Option (List ℕ))
+    (write_failures : W → ℕ) (w w' : W) (s : Entries) where
+  stops_by : (cause : MergeCause) → IsCause (left old) (left new) cause
+      → BlamesOne left failures old new (write_failures w) (write_failures w') cause
+      → StopsCopyBy (stream left failures old new) (stream held write_failures w w') cause
   stops_by (Left fault) st blames = (refused Archive_text left failures old new fault st blames.0, blames.1)
   stops_by (Right fault) st blames = absurd st
   stops_by Write st blames = blames
 
   -- the magic was taken, or nothing was written
-  begun_by : (cause : MergeCause) (n : ℕ) → IsCause (left old) (left new) cause → HasDraft s (left old) (left new) (held w) (held w') n → BlamesOne left failures old new (write_failures w) (write_failures w') cause
+  begun_by : (cause : MergeCause) (n : ℕ) → IsCause (left old) (left new) cause
+      → HasDraft s (left old) (left new) (held w) (held w') n
+      → BlamesOne left failures old new (write_failures w) (write_failures w') cause
       → (Appends (held w) (held w') [] × (write_failures w' ≡ write_failures w)) ⊎ IsBegun (stream left failures old new)
   begun_by (Left fault) n st (inl none) blames = inl (none.1, blames.1)
   begun_by (Left fault) n st (inr (file, kind, inl u)) blames = inr (file, kind, concat u.records ++ u.rest, u.taken)
@@ -323,10 +385,13 @@ module _ {R W : Type 0} (left : R → Option (List ℕ)) (failures : R → ℕ) 
   begun_by (Right fault) n st draft blames = absurd st
   begun_by Write n st draft blames = inr st
 
-  pub unnamed : (r : Result Sizes MergeFault) → IfOk r (λ sizes. IsGathered Archive_text (IsCopiedWhole s (held w) (held w')) (left old) (left new) sizes × IsAtEnd (left new))
+  pub unnamed : (r : Result Sizes MergeFault) → IfOk r
+      (λ sizes. IsGathered Archive_text (IsCopiedWhole s (held w) (held w')) (left old) (left new) sizes
+      × IsAtEnd (left new))
       → IfErr r (λ e. IsCause (left old) (left new) e.cause × HasDraft s (left old) (left new) (held w) (held w') e.written)
       → BlamesDevices left failures old new (write_failures w) (write_failures w') r
-      → MatchResult r (CopiesUnnamed (stream left failures old new) (stream held write_failures w w') s) (StopsCopy (stream left failures old new) (stream held write_failures w w') s)
+      → MatchResult r (CopiesUnnamed (stream left failures old new) (stream held write_failures w w') s)
+      (StopsCopy (stream left failures old new) (stream held write_failures w w') s)
   unnamed (Ok sizes) (g, end) stops blames =
       let c = g.makes in
       let o = set_of (taken_of g.format g.records) in

@@ -1,4 +1,4 @@
--- What `admit` makes of an archive and files.
+-- The archive and the report that `admit` makes from an archive and files.
 use Rattle.std.specs.Prelude.{◌≡◌, ℕ, ◌+◌, List, [], ◌∷◌, ◌++◌}
 use Rattle.std.specs.List.{AllByRecursion, AllZip, flat_map}
 use Rattle.archive_core.specs.Content.{Operations, IsContent}

@@ -1,4 +1,4 @@
--- What `apply` makes of an archive and an operations file.
+-- The archive that `apply` makes from an archive and an operations file.
 use Rattle.std.specs.Prelude.{◌≡◌, ℕ, ◌-◌, List, length, map}
 use Rattle.archive_core.specs.Content.{Operations, IsContent, with_records, new_among}
 use Rattle.archive_core.specs.Record.{record_bytes}

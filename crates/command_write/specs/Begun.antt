@@ -1,4 +1,4 @@
--- OUT that is written as an input comes: when it is begun, and what its draft has where the command is stopped.
+-- OUT that is written as an input is read: when it is begun, and the bytes of its draft if the command is stopped.
 use Rattle.std.specs.Prelude.{ℕ, List, [], IfSome, Result, ◌⊎◌}
 use Rattle.std.specs.Io.KnownBytes.{Appends}
 use Rattle.byte_device.specs.Devices.{stream}

@@ -90,7 +90,8 @@ HasDraft s a b w0 w1 n =
 
 -- the magic of an archive was read, and what stands after it so far
 abbrev pub ReadsBehindMagic : Option (List ℕ) → Option (List ℕ) → Type 0
-ReadsBehindMagic a b = (file : Format) × (kind_of file ≡ Archive_text) × (rest : List ℕ) × Consumes a b (magic_of file ++ rest)
+ReadsBehindMagic a b = (file : Format) × (kind_of file ≡ Archive_text) × (rest : List ℕ)
+    × Consumes a b (magic_of file ++ rest)
 
 -- what stopped it: reading, or, after the magic, writing
 abbrev pub IsCause : Option (List ℕ) → Option (List ℕ) → MergeCause → Type 0

@@ -1,4 +1,4 @@
--- What `delta` makes of an archive and a summary.
+-- The archive that `delta` makes from an archive and a summary.
 use Rattle.std.specs.Prelude.{◌≡◌, ℕ, List, []}
 use Rattle.archive_core.specs.Content.{Operations, IsContent}
 use Rattle.archive_core.specs.Summary as exchange

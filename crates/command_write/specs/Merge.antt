@@ -1,4 +1,4 @@
--- What `merge` makes of archives.
+-- The archive that `merge` makes from archives.
 use Rattle.std.specs.Prelude.{◌≡◌, ℕ, List, [], fold}
 use Rattle.std.specs.List.{AllByRecursion, AllZip}
 use Rattle.std.specs.FinSet as set

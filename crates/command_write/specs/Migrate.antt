@@ -1,4 +1,4 @@
--- What `migrate` makes of an archive.
+-- The archive that `migrate` makes from an archive.
 use Rattle.std.specs.Prelude.{◌≡◌, ℕ, List, []}
 use Rattle.archive_core.specs.Content.{Operations, IsContent}
 use Rattle.command_common.specs.Ends.{Command, MakesArchive, Streamed}

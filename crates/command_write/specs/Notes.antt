@@ -1,4 +1,4 @@
--- What a command that ended well notes of what it was asked for and is not there.
+-- The notes of a command that succeeded, about records that were asked for and are not there.
 use Rattle.std.specs.Prelude.{◌≡◌, ℕ, List, [], ◌∷◌, ◌++◌, Bool, codes, drop, map, if◌then◌else◌}
 use Rattle.std.specs.FinSet as set
 use Rattle.std.specs.List.{AllByRecursion, AllZip, filter, list_any}

@@ -138,8 +138,8 @@ EndsAdmit false opening input files out report result =
 EndsAdmit true opening input files out report result =
     EndsPassing (admit_passing_as_it_comes opening input files out.draft) out report result
 
--- `admit` notes so: IN is the text of a content, and these become of the files; of each slice of those that are accepted
--- that the content retires there is a note more.
+-- `admit` notes so: IN is the text of a content, and these become of the files; of each slice of those that are
+-- accepted that the content retires there is a note more.
 pub record NotesRetiredPassing {R S : Type 0} (opening : S → Opening) (input : Reader R) (files : List (Reader S))
     (old new : List Note) : Type 0 where
   pub before : Operations

@@ -1,4 +1,4 @@
--- What `retire` makes of an archive.
+-- The archive that `retire` makes from an archive.
 use Rattle.std.specs.Prelude.{◌≡◌, ℕ, List}
 use Rattle.archive_core.specs.Record.{retirement_record}
 use Rattle.archive_core.specs.Content.{Operations, IsContent, with_record, changes}

@@ -1,4 +1,4 @@
--- What `summary` makes of an archive.
+-- The summary that `summary` makes from an archive.
 use Rattle.std.specs.Prelude.{◌≡◌, ℕ, List}
 use Rattle.archive_core.specs.Content.{Operations, IsContent}
 use Rattle.archive_core.specs.Summary as exchange

@@ -141,8 +141,8 @@ fn pass_file<S: Source + Opens>(
     Ok(())
 }
 
-/// Takes the slices of the file of this number, and adds their rows, or passes it over, and adds its row. Returns whether
-/// it was passed over.
+/// Takes the slices of the file of this number, and adds their rows, or passes it over, and adds its row. Returns
+/// whether it was passed over.
 fn take_file<S: Source + Opens>(
     heap: &Heap,
     arrivals: &mut Arrivals,
@@ -304,8 +304,8 @@ fn admit_passing<R: Source, S: Source + Opens, T: Target, P: Sink>(
 ///
 /// # Errors
 ///
-/// `Input` for IN or, without `keep_going`, for the first input that is refused, in the order of the words; `Output` and
-/// `Report` where that writer failed; `OutOfMemory`.
+/// `Input` for IN or, without `keep_going`, for the first input that is refused, in the order of the words; `Output`
+/// and `Report` where that writer failed; `OutOfMemory`.
 pub fn run_admit<R: Source, S: Source + Opens, T: Target, P: Sink>(
     heap: Heap,
     keep_going: bool,

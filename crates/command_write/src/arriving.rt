@@ -179,7 +179,8 @@ fn tell_row(rows: &mut [FileRow], number: usize, new: bool)
 pub fn tell_rows(rows: &mut [FileRow], first_rows: &[u64], told: &[Arrival])
     requires { (came records : List (List ℕ)) × AreFirstRows came first_rows.now rows.old records
         × (length told.now ≡ length came) }
-    ensures { (arrival : List ℕ → Arrival) (came records : List (List ℕ)) → AreFirstRows came first_rows.now rows.old records
+    ensures { (arrival : List ℕ → Arrival) (came records : List (List ℕ))
+        → AreFirstRows came first_rows.now rows.old records
         → told.now ≡ map arrival came → rows.new ≡ rows_again (λ r. is_new (arrival r)) rows.old records }
 {
     'told: for (index, arrival) in told.iter().enumerate() {

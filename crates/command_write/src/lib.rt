@@ -24,9 +24,10 @@
 //!   merged. An operation changes a join if it changes either side. `admit` keeps beside each slice the number of the
 //!   row that first brought it. A slice that OPS retires after its admission stands beside its retirement in what IN is
 //!   merged with, as in a text of version 1: it counts as new if IN has neither, and does not come in.
-//! - With `--keep-going` a FILE that is refused is a row, so what stops `admit` is IN, OUT or want of memory. A reader that
-//!   fails fails for its own FILE; no clause speaks of what the readers of other FILEs do, but that those of accepted ones
-//!   do not fail. Whether a FILE could not be opened its reader says (`Opens`), since the report is written here.
+//! - With `--keep-going` a FILE that is refused is a row, so what stops `admit` is IN, OUT or want of memory. A reader
+//!   that fails fails for its own FILE; no clause speaks of what the readers of other FILEs do, but that those of
+//!   accepted ones do not fail. Whether a FILE could not be opened its reader says (`Opens`), since the report is
+//!   written here.
 //! - `migrate` is such a merge with the 17 bytes of the archive that holds nothing.
 //! - A note is a value, added to a list of the caller's before OUT is published, so that nothing was done if memory is
 //!   wanting for it. A note names IN by its word in the help and not by its path.

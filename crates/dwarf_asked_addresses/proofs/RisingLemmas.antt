@@ -29,7 +29,8 @@ parted starts a rising i j d below within holds = elim (cases_Bool (nat_lt i j))
       subst (λ (k : ℕ). nat_lt (get_or starts k d) a ≡ true) (sym same) holds
 ]
 
-pub below_of_point : (starts : List ℕ) (a n : ℕ) → n ≤ length starts → IsPartitionPoint (λ t. nat_lt t a ≡ true) (λ t. nat_lt t a ≡ false) starts n → IsCountBelow starts a n
+pub below_of_point : (starts : List ℕ) (a n : ℕ) → n ≤ length starts
+    → IsPartitionPoint (λ t. nat_lt t a ≡ true) (λ t. nat_lt t a ≡ false) starts n → IsCountBelow starts a n
 below_of_point starts a n within point = record {
   within = within;
   below = λ i less. ltb-true (get_or starts i 0) a (point.0 i 0 (omega arith) less);
@@ -37,7 +38,8 @@ below_of_point starts a n within point = record {
 }
 
 -- at a start itself those before it are below it
-pub count_at : (starts : List ℕ) (address near : ℕ) → AreRising starts → near < length starts → get_or starts near 0 ≡ address → IsCountBelow starts address near
+pub count_at : (starts : List ℕ) (address near : ℕ) → AreRising starts → near < length starts → get_or starts near 0
+    ≡ address → IsCountBelow starts address near
 count_at starts address near rising within here = record {
   within = omega (arith, within);
   below = λ i less. let r = rising i near 0 less within in omega (arith, r, here);

@@ -40,7 +40,8 @@ same_rest x y xs ys r e a h k = elim (first_or_rest y ys a k) [
   | inr m ↦ m
 ]
 
-pub one_rising : (xs ys : List ℕ) → AreRising xs → AreRising ys → ((a : ℕ) → Contains xs a → Contains ys a) → ((a : ℕ) → Contains ys a → Contains xs a) → xs ≡ ys
+pub one_rising : (xs ys : List ℕ) → AreRising xs → AreRising ys → ((a : ℕ) → Contains xs a → Contains ys a)
+    → ((a : ℕ) → Contains ys a → Contains xs a) → xs ≡ ys
 one_rising [] [] r s to from = refl
 one_rising [] (y ∷ ys) r s to from = let h = from y (first_is y ys) in absurd (omega (arith, h.1))
 one_rising (x ∷ xs) [] r s to from = let h = to x (first_is x xs) in absurd (omega (arith, h.1))

@@ -6,7 +6,8 @@ use Rattle.std.specs.BTreeMap as tree_map
 
 -- each pending address from one on and below another one was given this value and is pending no longer; all others are
 -- as they were
-pub record Assigns {T : Type 0} (from end : ℕ) (value : T) (pending : tree_set.BTreeSet ℕ) (found : tree_map.BTreeMap ℕ T)
+pub record Assigns {T : Type 0} (from end : ℕ) (value : T) (pending : tree_set.BTreeSet ℕ)
+    (found : tree_map.BTreeMap ℕ T)
     (left : tree_set.BTreeSet ℕ) (now_found : tree_map.BTreeMap ℕ T) : Type 0 where
   pub none_within : (a : ℕ) → from ≤ a → a < end → tree_set.contains nat_cmp left a ≡ false
   pub was_pending : (a : ℕ) → tree_set.contains nat_cmp left a ≡ true → tree_set.contains nat_cmp pending a ≡ true

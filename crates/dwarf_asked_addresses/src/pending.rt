@@ -1,6 +1,7 @@
 //! The set of the addresses that wait.
 
-ghost use Rattle.std.specs.Prelude.{◌≡◌, ◌≤◌, ◌<◌, ◌+◌, ℕ, true, false, OnOk, IfOk, IfSome, IfNone, slice_index, EachIndex};
+ghost use Rattle.std.specs.Prelude.{◌≡◌, ◌≤◌, ◌<◌, ◌+◌, ℕ, true, false, OnOk, IfOk, IfSome, IfNone, slice_index};
+ghost use Rattle.std.specs.Prelude.{EachIndex};
 ghost use Rattle.std.specs.Ordering.{nat_cmp};
 ghost use Rattle.std.specs.BTreeSet as tree_set;
 ghost use Rattle.dwarf_asked_addresses.specs.Assigned.{Assigns};

@@ -25,7 +25,8 @@ use Rattle.dwarf_asked_frames.specs.FoundFrames.{frames_of_list, frames_or_none,
 use Rattle.dwarf_asked_frames.specs.declared.found.FrameList.{FrameList}
 
 -- the frames of an address of a unit
-pub frames_by : (s : DebugSectionsRecord) (unit : UnitRecord) (lines : LinesRecord) (links : List LinkRecord) (a number : ℕ) (row : Option Row) (frames : List FrameRecord) → IsInUnit s unit a → lines ≡ lines_of s unit
+pub frames_by : (s : DebugSectionsRecord) (unit : UnitRecord) (lines : LinesRecord) (links : List LinkRecord)
+    (a number : ℕ) (row : Option Row) (frames : List FrameRecord) → IsInUnit s unit a → lines ≡ lines_of s unit
     → IsLinkOf s unit links a number → IsCovering (rows_of lines) a row → AreFramesOfRowAndLink lines links row number frames → AreFramesBy s a frames
 frames_by s unit lines links a number row frames h same link covers are = record {
   place = Some h.place;
@@ -34,14 +35,17 @@ frames_by s unit lines links a number row frames h same link covers are = record
 }
 
 -- what holds of each of some addresses holds of each of those among them
-pub each_among : (P : ℕ → Type 0) (xs ys : List ℕ) → ((a : ℕ) → Contains ys a → Contains xs a) → ((i : ℕ) → i < length xs → P (get_or xs i 0)) → (i : ℕ) → i < length ys → P (get_or ys i 0)
+pub each_among : (P : ℕ → Type 0) (xs ys : List ℕ) → ((a : ℕ) → Contains ys a → Contains xs a)
+    → ((i : ℕ) → i < length xs → P (get_or xs i 0)) → (i : ℕ) → i < length ys → P (get_or ys i 0)
 each_among P xs ys to each i h =
     let a = get_or ys i 0 in
     let there = to a (i, h, sym (get_or_default ys i 0 a h)) in
     subst P (sym (get_or_default_zero xs there.0 a there.1) ∙ there.2) (each there.0 there.1)
 
 -- what was found before, or nothing
-found_or : (s : DebugSectionsRecord) (a : ℕ) (place : Option ℕ) (found : Option FrameList) → IfSome found (λ list. AreFramesBy s a (frames_of_list list)) → AreFramesBy s a [] → AreFramesBy s a (frames_or_none found)
+found_or : (s : DebugSectionsRecord) (a : ℕ) (place : Option ℕ) (found : Option FrameList)
+    → IfSome found (λ list. AreFramesBy s a (frames_of_list list)) → AreFramesBy s a []
+    → AreFramesBy s a (frames_or_none found)
 found_or s a place None right none = none
 found_or s a place (Some list) right none = right
 
@@ -52,7 +56,8 @@ no_place s found a right h = record {
 }
 
 -- an address of a unit that cannot be read
-pub no_unit : (s : DebugSectionsRecord) (found : tree_map.BTreeMap ℕ FrameList) (a place : ℕ) → AreRight s found → IsUnitOf s a (Some place) → None ≡ read_unit s place → IsFound s found a
+pub no_unit : (s : DebugSectionsRecord) (found : tree_map.BTreeMap ℕ FrameList) (a place : ℕ) → AreRight s found
+    → IsUnitOf s a (Some place) → None ≡ read_unit s place → IsFound s found a
 no_unit s found a place right h none = record {
   frames = found_or s a (Some place) (tree_map.get nat_cmp found a) (right.each a)
       (record { place = Some place; is_unit = h; are_frames = subst (λ (u : Option UnitRecord). AreFramesIn s u a []) none refl });
@@ -92,7 +97,8 @@ abbrev pub AreUnder : List ℕ → List (Option ℕ) → tree_map.BTreeMap ℕ A
 AreUnder addresses places by_unit = (place a : ℕ) → Contains (addresses_under by_unit place) a ↔ IsPlaced addresses places a (Some place)
 
 -- so they are of these units
-pub of_unit_placed : (s : DebugSectionsRecord) (addresses : List ℕ) (places : List (Option ℕ)) (by_unit : tree_map.BTreeMap ℕ AddressList) → AreUnitsOf s addresses places → AreUnder addresses places by_unit
+pub of_unit_placed : (s : DebugSectionsRecord) (addresses : List ℕ) (places : List (Option ℕ))
+    (by_unit : tree_map.BTreeMap ℕ AddressList) → AreUnitsOf s addresses places → AreUnder addresses places by_unit
     → (place : ℕ) → AreOfUnit s place (addresses_under by_unit place)
 of_unit_placed s addresses places by_unit units under place = record {
   each = λ i h.
@@ -106,7 +112,9 @@ of_unit_placed s addresses places by_unit units under place = record {
 abbrev pub IsUnder : tree_map.BTreeMap ℕ AddressList → ℕ → Option ℕ → Type 0
 IsUnder by_unit a own = IfSome own (λ place. Contains (addresses_under by_unit place) a)
 
-pub is_under : (addresses : List ℕ) (places : List (Option ℕ)) (by_unit : tree_map.BTreeMap ℕ AddressList) → AreUnder addresses places by_unit → (a : ℕ) (own : Option ℕ) → IsPlaced addresses places a own → IsUnder by_unit a own
+pub is_under : (addresses : List ℕ) (places : List (Option ℕ)) (by_unit : tree_map.BTreeMap ℕ AddressList)
+    → AreUnder addresses places by_unit → (a : ℕ) (own : Option ℕ) → IsPlaced addresses places a own
+    → IsUnder by_unit a own
 is_under addresses places by_unit under a None is = tt
 is_under addresses places by_unit under a (Some place) is = (under place a).1 is
 
@@ -118,10 +126,12 @@ pub record AreFound (s : DebugSectionsRecord) (found : tree_map.BTreeMap ℕ Fra
 abbrev pub AreDone : DebugSectionsRecord → tree_map.BTreeMap ℕ FrameList → List ℕ → List ℕ → Type 0
 AreDone s found left all = (left ≡ all) ⊎ AreFound s found all
 
-found_kept : (s : DebugSectionsRecord) (old new : tree_map.BTreeMap ℕ FrameList) (addresses : List ℕ) → ((a : ℕ) → IsFound s old a → IsFound s new a) → AreFound s old addresses → AreFound s new addresses
+found_kept : (s : DebugSectionsRecord) (old new : tree_map.BTreeMap ℕ FrameList) (addresses : List ℕ)
+    → ((a : ℕ) → IsFound s old a → IsFound s new a) → AreFound s old addresses → AreFound s new addresses
 found_kept s old new addresses kept before = record { each = λ i h. kept (get_or addresses i 0) (before.each i h) }
 
-pub done_next : (s : DebugSectionsRecord) (old new : tree_map.BTreeMap ℕ FrameList) (by_unit next : tree_map.BTreeMap ℕ AddressList) (place : ℕ) (taken : List ℕ)
+pub done_next : (s : DebugSectionsRecord) (old new : tree_map.BTreeMap ℕ FrameList)
+    (by_unit next : tree_map.BTreeMap ℕ AddressList) (place : ℕ) (taken : List ℕ)
     → ((a : ℕ) → IsFound s old a → IsFound s new a) → ((i : ℕ) → i < length taken → IsFound s new (get_or taken i 0)) → addresses_under by_unit place ≡ taken
     → ((other : ℕ) → other ≢ place → addresses_under next other ≡ addresses_under by_unit other)
     → (other : ℕ) (all : List ℕ) → AreDone s old (addresses_under by_unit other) all → AreDone s new (addresses_under next other) all
@@ -135,12 +145,15 @@ done_next s old new by_unit next place taken kept each was others other all (inl
       inl (others other apart ∙ before)
 ]
 
-pub done_all : (s : DebugSectionsRecord) (found : tree_map.BTreeMap ℕ FrameList) (left all : List ℕ) → left ≡ [] → AreDone s found left all → AreFound s found all
+pub done_all : (s : DebugSectionsRecord) (found : tree_map.BTreeMap ℕ FrameList) (left all : List ℕ) → left ≡ []
+    → AreDone s found left all → AreFound s found all
 done_all s found left all none (inr before) = before
 done_all s found left all none (inl same) = record { each = λ i h. absurd (omega (arith, ap length (sym same ∙ none), h)) }
 
 -- each address was found
-pub found_under : (s : DebugSectionsRecord) (found : tree_map.BTreeMap ℕ FrameList) (by_unit : tree_map.BTreeMap ℕ AddressList) (a : ℕ) (own : Option ℕ) → AreRight s found → IsUnitOf s a own → IsUnder by_unit a own
+pub found_under : (s : DebugSectionsRecord) (found : tree_map.BTreeMap ℕ FrameList)
+    (by_unit : tree_map.BTreeMap ℕ AddressList) (a : ℕ) (own : Option ℕ) → AreRight s found → IsUnitOf s a own
+    → IsUnder by_unit a own
     → ((place i : ℕ) → i < length (addresses_under by_unit place) → IsFound s found (get_or (addresses_under by_unit place) i 0)) → IsFound s found a
 found_under s found by_unit a None right is under each = no_place s found a right is
 found_under s found by_unit a (Some place) right is under each =
@@ -153,7 +166,8 @@ right_none s found none = record {
 }
 
 -- the addresses of the units that are left
-pub of_unit_next : (s : DebugSectionsRecord) (by_unit next : tree_map.BTreeMap ℕ AddressList) (place : ℕ) → ((other : ℕ) → AreOfUnit s other (addresses_under by_unit other)) → addresses_under next place ≡ []
+pub of_unit_next : (s : DebugSectionsRecord) (by_unit next : tree_map.BTreeMap ℕ AddressList) (place : ℕ)
+    → ((other : ℕ) → AreOfUnit s other (addresses_under by_unit other)) → addresses_under next place ≡ []
     → ((other : ℕ) → other ≢ place → addresses_under next other ≡ addresses_under by_unit other) → (other : ℕ) → AreOfUnit s other (addresses_under next other)
 of_unit_next s by_unit next place before gone others other = elim (cases_Bool (other == place)) [
   | inl t ↦

@@ -1,5 +1,6 @@
 -- How the last byte of a LEB128 number tells it.
-use Rattle.std.proofs.Common.{◌≡◌, ℕ, zero, suc, ◌+◌, ◌^◌, ◌<◌, ◌≤◌, List, [], ◌∷◌, length, get_or, take, drop, Some, None, refl, ap, ◌∙◌, sym, arith, ◌-◌, add-one}
+use Rattle.std.proofs.Common.{◌≡◌, ℕ, zero, suc, ◌+◌, ◌^◌, ◌<◌, ◌≤◌, List, [], ◌∷◌, length, get_or, take, drop, Some}
+use Rattle.std.proofs.Common.{None, refl, ap, ◌∙◌, sym, arith, ◌-◌, add-one}
 use Rattle.std.specs.Option.{option_map}
 use Rattle.std.proofs.lemmas.List.{drop_more}
 use Rattle.std.proofs.lemmas.Bool.{le-ltb, lt-ltb}
@@ -12,7 +13,8 @@ unfolding onto_high_bits
 onto_none high = refl
 
 -- one byte more at the front
-pub onto_more : (bytes : List ℕ) (n high : ℕ) → 0 < n → n ≤ length bytes → onto_high_bits (drop (n - 1) bytes) high ≡ onto (get_or bytes (n - 1) 0) (onto_high_bits (drop n bytes) high)
+pub onto_more : (bytes : List ℕ) (n high : ℕ) → 0 < n → n ≤ length bytes → onto_high_bits (drop (n - 1) bytes) high
+    ≡ onto (get_or bytes (n - 1) 0) (onto_high_bits (drop n bytes) high)
 unfolding onto_high_bits
 onto_more bytes n high some within =
     let back : n - 1 + 1 ≡ n = omega arith in

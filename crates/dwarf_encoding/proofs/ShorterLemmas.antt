@@ -1,5 +1,6 @@
 -- Fewer bytes are left after a value.
-use Rattle.std.proofs.Common.{◌≡◌, ℕ, ◌+◌, ◌<◌, ◌≤◌, Bool, true, false, List, [], ◌∷◌, length, take, drop, cond, Option, Some, None, ap, inl, inr, arith, length-drop, nat_lt}
+use Rattle.std.proofs.Common.{◌≡◌, ℕ, ◌+◌, ◌<◌, ◌≤◌, Bool, true, false, List, [], ◌∷◌, length, take, drop, cond, Option}
+use Rattle.std.proofs.Common.{Some, None, ap, inl, inr, arith, length-drop, nat_lt}
 use Rattle.std.specs.List.{position_or_len, before_first, after_first}
 use Rattle.std.specs.Option.{option_map, option_and_then}
 use Rattle.std.proofs.lemmas.Bool.{cases_Bool, ltb-true}
@@ -31,7 +32,12 @@ text_shorter bytes x e = elim (cases_Bool (nat_lt (position_or_len is_nul bytes)
   | inl t ↦
       let found : ◌≡◌ {A = Option (List ℕ × List ℕ)} (Some (before_first is_nul bytes, after_first is_nul bytes)) (Some x) = rw t at e in
       let same : (before_first is_nul bytes, after_first is_nul bytes) ≡ x = cc found in
-      omega (arith, ap (λ (y : List ℕ × List ℕ). length y.1) same, length-drop (position_or_len is_nul bytes + 1) bytes, ltb-true (position_or_len is_nul bytes) (length bytes) t)
+      omega (
+        arith,
+        ap (λ (y : List ℕ × List ℕ). length y.1) same,
+        length-drop (position_or_len is_nul bytes + 1) bytes,
+        ltb-true (position_or_len is_nul bytes) (length bytes) t,
+      )
   | inr f ↦ let gone : None ≡ Some x = rw f at e in absurd (none-some x gone)
 ]
 
@@ -49,7 +55,8 @@ leaves_some v count rest h = record {
       omega (arith, ap (λ z. length z.1) same);
 }
 
-pub leaves_either : {A : Type 0} (b : Bool) (count : ℕ) (read other : Option (A × List ℕ)) → Leaves count read → Leaves count other → Leaves count (cond b read other)
+pub leaves_either : {A : Type 0} (b : Bool) (count : ℕ) (read other : Option (A × List ℕ)) → Leaves count read
+    → Leaves count other → Leaves count (cond b read other)
 leaves_either true count read other h k = h
 leaves_either false count read other h k = k
 
@@ -96,7 +103,8 @@ leaves_block size bytes = record {
       omega (arith, block_shorter size bytes y.0 y.1, ap (λ (z : ValueRecord × List ℕ). length z.1) y.2);
 }
 
-leaves_expression : (bytes : List ℕ) → Leaves (length bytes) (option_and_then (λ x. option_map (λ y. (Other_, y.1)) (split_at x.0 x.1)) (unsigned_leb128_at bytes))
+leaves_expression : (bytes : List ℕ) → Leaves (length bytes)
+    (option_and_then (λ x. option_map (λ y. (Other_, y.1)) (split_at x.0 x.1)) (unsigned_leb128_at bytes))
 leaves_expression bytes = record {
   most = λ x e.
       option_and_then_some (λ (z : ℕ × List ℕ). option_map (λ (y : List ℕ × List ℕ). (Other_, y.1)) (split_at z.0 z.1)) (unsigned_leb128_at bytes) x e
@@ -127,5 +135,6 @@ leaves_value version form implicit bytes =
     leaves_either _ _ _ _ (leaves_some _ (length bytes) bytes (omega arith)) (leaves_sized (fixed_size version form) form bytes)
 
 -- a value has no byte or more
-pub value_shorter : (version form implicit : ℕ) (bytes : List ℕ) (x : ValueRecord × List ℕ) → value_at version form implicit bytes ≡ Some x → length x.1 ≤ length bytes
+pub value_shorter : (version form implicit : ℕ) (bytes : List ℕ) (x : ValueRecord × List ℕ)
+    → value_at version form implicit bytes ≡ Some x → length x.1 ≤ length bytes
 value_shorter version form implicit bytes x e = (leaves_value version form implicit bytes).most x e

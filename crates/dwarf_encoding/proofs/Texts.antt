@@ -13,7 +13,8 @@ first_nul bytes k h = position_or_len_is is_nul bytes k 0 (omega (arith, h.0.hig
 
 -- none has one
 no_nul : (bytes : List ℕ) → IsFirstByte (is_byte 0) bytes None → position_or_len is_nul bytes ≡ length bytes
-no_nul bytes h = position_or_len_is is_nul bytes (length bytes) 0 (omega arith) (λ j l. false_from_ne_true _ (h j (omega arith) l)) (λ l. absurd (omega (arith, l)))
+no_nul bytes h = position_or_len_is is_nul bytes (length bytes) 0 (omega arith)
+    (λ j l. false_from_ne_true _ (h j (omega arith) l)) (λ l. absurd (omega (arith, l)))
 
 -- what stands before the first NUL
 pub nul_some : (bytes : List ℕ) (k : ℕ) → IsFirstByte (is_byte 0) bytes (Some k) → take k bytes ≡ before_first is_nul bytes
@@ -26,7 +27,8 @@ nul_none bytes h = sym (take_all (position_or_len is_nul bytes) bytes (omega (ar
 pub ruleset parts_at_nul = (nul_some, nul_none)
 
 -- the text up to the first NUL
-pub text_found : (bytes : List ℕ) (k : ℕ) → IsFirstByte (is_byte 0) bytes (Some k) → ◌≡◌ {A = Option (List ℕ × List ℕ)} (Some (take k bytes, drop (k + 1) bytes)) (text_at bytes)
+pub text_found : (bytes : List ℕ) (k : ℕ) → IsFirstByte (is_byte 0) bytes (Some k)
+    → ◌≡◌ {A = Option (List ℕ × List ℕ)} (Some (take k bytes, drop (k + 1) bytes)) (text_at bytes)
 text_found bytes k h =
     let first = first_nul bytes k h in
     rw (lt-ltb (position_or_len is_nul bytes) (length bytes) (omega (arith, first, h.0.high))) (rw first refl)

@@ -1,5 +1,6 @@
 -- Units that stand one after another.
-use Rattle.std.proofs.Common.{◌≡◌, ℕ, ◌+◌, ◌-◌, ◌==◌, cond, List, ◌∷◌, length, take, drop, Option, Some, None, sym, ap, ◌∙◌, inl, inr, arith, length-drop, nat_lt}
+use Rattle.std.proofs.Common.{◌≡◌, ℕ, ◌+◌, ◌-◌, ◌==◌, cond, List, ◌∷◌, length, take, drop, Option, Some, None, sym, ap}
+use Rattle.std.proofs.Common.{◌∙◌, inl, inr, arith, length-drop, nat_lt}
 use Rattle.std.specs.Option.{option_or}
 use Rattle.std.proofs.lemmas.Bool.{cases_Bool, ltb-false}
 use Rattle.std.proofs.lemmas.Option.{none-some}
@@ -16,7 +17,9 @@ unit_shortens = record {
     | inr f ↦ elim (cases_Bool (nat_lt (length bytes) (4 + unit_length bytes))) [
       | inl t ↦ let gone : None ≡ Some x = rw (f, t) at e in absurd (none-some x gone)
       | inr g ↦
-          let found : ◌≡◌ {A = Option (List ℕ × List ℕ)} (Some (take (4 + unit_length bytes) bytes, drop (4 + unit_length bytes) bytes)) (Some x) = rw (f, g) at e in
+          let found : ◌≡◌ {A = Option (List ℕ × List ℕ)}
+          (Some (take (4 + unit_length bytes) bytes, drop (4 + unit_length bytes) bytes)) (Some x) = rw (f, g) at e
+          in
           let same : (take (4 + unit_length bytes) bytes, drop (4 + unit_length bytes) bytes) ≡ x = cc found in
           omega (arith, ap (λ (y : List ℕ × List ℕ). length y.1) same, length-drop (4 + unit_length bytes) bytes, ltb-false (length bytes) 4 f)
     ]
@@ -24,7 +27,8 @@ unit_shortens = record {
 }
 
 -- a unit more in the table
-pub table_step : (old new : Option (List ℕ)) (q size offset : ℕ) (bytes unit rest : List ℕ) (whole : Option (List ℕ)) → ◌≡◌ {A = Option (List ℕ × List ℕ)} (Some (unit, rest)) (unit_at bytes)
+pub table_step : (old new : Option (List ℕ)) (q size offset : ℕ) (bytes unit rest : List ℕ) (whole : Option (List ℕ))
+    → ◌≡◌ {A = Option (List ℕ × List ℕ)} (Some (unit, rest)) (unit_at bytes)
     → offset ≡ size - length bytes → new ≡ cond (q == offset) (option_or old (Some unit)) old
     → option_or old (item_at q (placed_from unit_at size bytes)) ≡ whole → option_or new (item_at q (placed_from unit_at size rest)) ≡ whole
 table_step old new q size offset bytes unit rest whole read place added before =

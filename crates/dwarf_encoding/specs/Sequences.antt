@@ -1,5 +1,5 @@
--- Items that stand in bytes one after another. `item` reads the item that begins some bytes, and gives it with the
--- bytes after it.
+-- Items that follow one another in bytes. `item` reads the item that begins some bytes, and returns it with the bytes
+-- after it.
 use Rattle.std.specs.Prelude.{ℕ, zero, suc, List, [], ◌∷◌, ◌≡◌, ◌<◌, ◌-◌, ◌==◌, length, if◌then◌else◌, Option, Some}
 use Rattle.std.specs.Prelude.{None}
 use Rattle.std.specs.Option.{option_map, option_map_or, option_and_then}

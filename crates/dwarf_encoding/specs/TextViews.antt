@@ -1,4 +1,4 @@
--- What sections of texts of the code are in the definitions.
+-- Sections of texts of the code, as the definitions have them.
 use Rattle.dwarf_encoding.specs.TextSections.{TextSectionsRecord}
 use Rattle.dwarf_encoding.specs.declared.text_sections.TextSections.{TextSections}
 

@@ -1,5 +1,4 @@
--- Units that stand in a section one after another (DWARF 5, sections 7.2.2, 6.1.2, 6.2.4 and 7.5.1), in the 32-bit
--- format.
+-- Units that follow one another in a section (DWARF 5, sections 7.2.2, 6.1.2, 6.2.4 and 7.5.1), in the 32-bit format.
 use Rattle.std.specs.Prelude.{ℕ, List, ◌≡◌, ◌<◌, ◌≤◌, ◌+◌, length, take, drop, nat_lt, if◌then◌else◌, Option, Some}
 use Rattle.std.specs.Prelude.{None, MatchOption}
 use Rattle.dwarf_encoding.specs.LittleEndian.{u32_le_at}

@@ -1,4 +1,4 @@
--- What values of the code are in the definitions.
+-- Values of the code, as the definitions have them.
 use Rattle.dwarf_encoding.specs.Values.{ValueRecord, Address as Address_, AddressIndex as AddressIndex_}
 use Rattle.dwarf_encoding.specs.Values.{Constant as Constant_}
 use Rattle.dwarf_encoding.specs.Values.{InlineString as InlineString_, StringOffset as StringOffset_}
@@ -11,7 +11,8 @@ use Rattle.dwarf_encoding.specs.declared.value.Value.{Value}
 use Rattle.dwarf_encoding.specs.declared.value.Value.TheVariants.{Address, AddressIndex, Constant, InlineString}
 use Rattle.dwarf_encoding.specs.declared.value.Value.TheVariants.{StringOffset, LineStringOffset, StringIndex}
 use Rattle.dwarf_encoding.specs.declared.value.Value.TheVariants.{UnitReference}
-use Rattle.dwarf_encoding.specs.declared.value.Value.TheVariants.{SectionReference, SectionOffset, RangeListIndex, Other}
+use Rattle.dwarf_encoding.specs.declared.value.Value.TheVariants.{SectionReference, SectionOffset, RangeListIndex}
+use Rattle.dwarf_encoding.specs.declared.value.Value.TheVariants.{Other}
 
 -- a value, without where its text lies
 abbrev pub value_view : Value → ValueRecord

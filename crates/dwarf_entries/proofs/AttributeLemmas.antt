@@ -7,7 +7,9 @@ use Rattle.dwarf_entries.specs.Attributes.{attribute_of, with_attribute, with_va
 use Rattle.dwarf_entries.specs.AttributeViews.{of_slots, slot_of}
 use Rattle.dwarf_entries.specs.declared.attributes.Attribute.{Attribute}
 use Rattle.dwarf_entries.specs.declared.attributes.Attribute.TheVariants.{Name, StmtList, LowPc, HighPc, CompDir, AbstractOrigin, Specification, Ranges}
-use Rattle.dwarf_entries.specs.declared.attributes.Attribute.TheVariants.{CallColumn, CallFile, CallLine, LinkageName, StrOffsetsBase, AddrBase, RnglistsBase, MipsLinkageName}
+use Rattle.dwarf_entries.specs.declared.attributes.Attribute.TheVariants.{CallColumn, CallFile, CallLine, LinkageName}
+use Rattle.dwarf_entries.specs.declared.attributes.Attribute.TheVariants.{StrOffsetsBase, AddrBase, RnglistsBase}
+use Rattle.dwarf_entries.specs.declared.attributes.Attribute.TheVariants.{MipsLinkageName}
 
 -- ---- a list of values
 
@@ -26,7 +28,8 @@ over (suc n) P holds (x ∷ xs) long = over n (λ ys. P (x ∷ ys)) (holds x) xs
 -- a value that is put at its slot is of that attribute alone
 abbrev Puts : Attribute → ValueRecord → List (Option ValueRecord) → Type 0
 Puts attribute value values =
-    of_slots (slice_set values (slot_of attribute) (option_or (slice_index_or values (slot_of attribute) None) (Some value))) ≡ with_value (of_slots values) attribute value
+    of_slots (slice_set values (slot_of attribute) (option_or (slice_index_or values (slot_of attribute) None)
+    (Some value))) ≡ with_value (of_slots values) attribute value
 
 module _ (x0 x1 x2 x3 x4 x5 x6 x7 x8 x9 x10 x11 x12 x13 x14 x15 : Option ValueRecord) (value : ValueRecord) where
   put_there : (attribute : Attribute) → Puts attribute value (x0 ∷ x1 ∷ x2 ∷ x3 ∷ x4 ∷ x5 ∷ x6 ∷ x7 ∷ x8 ∷ x9 ∷ x10 ∷ x11 ∷ x12 ∷ x13 ∷ x14 ∷ x15 ∷ [])
@@ -50,7 +53,8 @@ module _ (x0 x1 x2 x3 x4 x5 x6 x7 x8 x9 x10 x11 x12 x13 x14 x15 : Option ValueRe
 
 put_slot : (values : List (Option ValueRecord)) (attribute : Attribute) (value : ValueRecord) → length values ≡ 16 → Puts attribute value values
 put_slot values attribute value long =
-    over 16 (Puts attribute value) (λ x0 x1 x2 x3 x4 x5 x6 x7 x8 x9 x10 x11 x12 x13 x14 x15. put_there x0 x1 x2 x3 x4 x5 x6 x7 x8 x9 x10 x11 x12 x13 x14 x15 value attribute) values long
+    over 16 (Puts attribute value) (λ x0 x1 x2 x3 x4 x5 x6 x7 x8 x9 x10 x11 x12 x13 x14 x15. put_there x0 x1 x2 x3 x4 x5
+    x6 x7 x8 x9 x10 x11 x12 x13 x14 x15 value attribute) values long
 
 -- ---- a list of what has views
 
@@ -65,11 +69,14 @@ or_mapped g None x = refl
 or_mapped g (Some y) x = refl
 
 -- of two values of one attribute the first is kept
-pub put_is : {A : Type 0} (g : A → ValueRecord) (values : List (Option A)) (number slot : ℕ) (attribute : Attribute) (value : A) (new : Option A) → length values ≡ 16
+pub put_is : {A : Type 0} (g : A → ValueRecord) (values : List (Option A)) (number slot : ℕ) (attribute : Attribute)
+    (value : A) (new : Option A) → length values ≡ 16
     → Some attribute ≡ attribute_of number → slot ≡ slot_of attribute → slot < 16 → new ≡ option_or (slice_index_or values slot None) (Some value)
     → of_slots (map (option_map g) (slice_set values slot new)) ≡ with_attribute (of_slots (map (option_map g) values)) number (g value)
 put_is g values number slot attribute value new long asked place within is =
-    let was : slice_index_or (map (option_map g) values) slot None ≡ option_map g (slice_index_or values slot None) = get_or-map (option_map g) values slot None None (omega (arith, long)) in
-    let put : option_map g new ≡ option_or (slice_index_or (map (option_map g) values) slot None) (Some (g value)) = rw (is, was) (or_mapped g (slice_index_or values slot None) value) in
+    let was : slice_index_or (map (option_map g) values) slot None ≡ option_map g (slice_index_or values slot None) =
+    get_or-map (option_map g) values slot None None (omega (arith, long)) in
+    let put : option_map g new ≡ option_or (slice_index_or (map (option_map g) values) slot None) (Some (g value)) =
+    rw (is, was) (or_mapped g (slice_index_or values slot None) value) in
     let there = put_slot (map (option_map g) values) attribute (g value) (length-map values (option_map g) ∙ long) in
     ap of_slots (map_put (option_map g) values slot new ∙ ap (slice_set (map (option_map g) values) slot) put) ∙ rw (sym asked) (rw (sym place) at there)

@@ -1,5 +1,6 @@
 -- Steps over the declarations of a section.
-use Rattle.std.proofs.Common.{◌≡◌, ℕ, zero, suc, ◌-◌, ◌<◌, ◌≤◌, ◌==◌, ◌&&◌, cond, List, [], ◌∷◌, length, Option, Some, None, refl, sym, ap, ◌∙◌, inl, inr, arith}
+use Rattle.std.proofs.Common.{◌≡◌, ℕ, zero, suc, ◌-◌, ◌<◌, ◌≤◌, ◌==◌, ◌&&◌, cond, List, [], ◌∷◌, length, Option, Some}
+use Rattle.std.proofs.Common.{None, refl, sym, ap, ◌∙◌, inl, inr, arith}
 use Rattle.std.specs.Option.{option_map, option_or}
 use Rattle.std.proofs.lemmas.Bool.{cases_Bool}
 use Rattle.std.proofs.lemmas.Option.{option_and_then_some}
@@ -37,7 +38,13 @@ body_shorter bytes x e =
     (λ y first more. option_and_then_some _ (byte_at y.1) x more
     (λ z second last.
     let w = mapped_some _ (shape_at z.1) x last in
-    omega (arith, leb128_shorter last_unsigned bytes y first, byte_shorter y.1 z second, shape_shorter z.1 w.0 w.1, ap (λ (v : DeclarationRecord × List ℕ). length v.1) w.2)))
+    omega (
+      arith,
+      leb128_shorter last_unsigned bytes y first,
+      byte_shorter y.1 z second,
+      shape_shorter z.1 w.0 w.1,
+      ap (λ (v : DeclarationRecord × List ℕ). length v.1) w.2,
+    )))
 
 -- a declaration has a byte
 pub declaration_shortens : Shortens declaration_at
@@ -51,9 +58,16 @@ declaration_shortens = record {
             let same : (None, y.1) ≡ x = cc here in
             omega (arith, leb128_shorter last_unsigned bytes y first, ap (λ (w : Option (ℕ × DeclarationRecord) × List ℕ). length w.1) same)
         | inr f ↦
-            let here : option_map {U = Option (ℕ × DeclarationRecord) × List ℕ} (λ (z : DeclarationRecord × List ℕ). (Some (y.0, z.0), z.1)) (declaration_body_at y.1) ≡ Some x = rw f at more in
+            let here : option_map {U = Option (ℕ × DeclarationRecord) × List ℕ}
+            (λ (z : DeclarationRecord × List ℕ). (Some (y.0, z.0), z.1)) (declaration_body_at y.1)
+            ≡ Some x = rw f at more in
             let z = mapped_some _ (declaration_body_at y.1) x here in
-            omega (arith, leb128_shorter last_unsigned bytes y first, body_shorter y.1 z.0 z.1, ap (λ (w : Option (ℕ × DeclarationRecord) × List ℕ). length w.1) z.2)
+            omega (
+              arith,
+              leb128_shorter last_unsigned bytes y first,
+              body_shorter y.1 z.0 z.1,
+              ap (λ (w : Option (ℕ × DeclarationRecord) × List ℕ). length w.1) z.2,
+            )
       ]);
 }
 
@@ -74,10 +88,14 @@ unfolding declarations_within
 within_end count size table bytes rest e = rw e refl
 
 -- as many as there are bytes are enough
-same_within : (m n size table : ℕ) (bytes : List ℕ) → length bytes ≤ m → length bytes ≤ n → declarations_within m size table bytes ≡ declarations_within n size table bytes
-same_within zero n size table [] k l = within_missing 0 size table [] (nothing declaration_at declaration_shortens) ∙ sym (within_missing n size table [] (nothing declaration_at declaration_shortens))
+same_within : (m n size table : ℕ) (bytes : List ℕ) → length bytes ≤ m → length bytes ≤ n
+    → declarations_within m size table bytes ≡ declarations_within n size table bytes
+same_within zero n size table [] k l = within_missing 0 size table [] (nothing declaration_at declaration_shortens)
+    ∙ sym (within_missing n size table [] (nothing declaration_at declaration_shortens))
 same_within zero n size table (b ∷ bytes) k l = absurd (omega arith)
-same_within (suc m) zero size table [] k l = within_missing (suc m) size table [] (nothing declaration_at declaration_shortens) ∙ sym (within_missing 0 size table [] (nothing declaration_at declaration_shortens))
+same_within (suc m) zero size table [] k l = within_missing (suc m) size table []
+    (nothing declaration_at declaration_shortens) ∙ sym
+    (within_missing 0 size table [] (nothing declaration_at declaration_shortens))
 same_within (suc m) zero size table (b ∷ bytes) k l = absurd (omega arith)
 same_within (suc m) (suc n) size table bytes k l = elim (none_or_some (declaration_at bytes)) [
   | inl e ↦ within_missing (suc m) size table bytes e ∙ sym (within_missing (suc n) size table bytes e)
@@ -86,7 +104,8 @@ same_within (suc m) (suc n) size table bytes k l = elim (none_or_some (declarati
       elim (none_or_some x.0.0) [
         | inl none ↦
             let e : declaration_at bytes ≡ Some (None, x.0.1) = x.1 ∙ ap (λ (a : Option (ℕ × DeclarationRecord)). Some (a, x.0.1)) none in
-            within_end m size table bytes x.0.1 e ∙ same_within m n size (size - length x.0.1) x.0.1 (omega arith) (omega arith) ∙ sym (within_end n size table bytes x.0.1 e)
+            within_end m size table bytes x.0.1 e ∙ same_within m n size (size - length x.0.1) x.0.1 (omega arith)
+            (omega arith) ∙ sym (within_end n size table bytes x.0.1 e)
         | inr d ↦
             let e : declaration_at bytes ≡ Some (Some d.0, x.0.1) = x.1 ∙ ap (λ (a : Option (ℕ × DeclarationRecord)). Some (a, x.0.1)) d.1 in
             within_some m size table bytes x.0.1 d.0 e
@@ -119,7 +138,8 @@ from_missing size table bytes e = within_missing (length bytes) size table bytes
 
 -- what was found under a key, or is still to be found, where one more was found
 found_step : (old new : Option DeclarationRecord) (table code : ℕ) (d : (ℕ × ℕ) × DeclarationRecord) (ds : List ((ℕ × ℕ) × DeclarationRecord))
-    → new ≡ cond ((table == d.0.0) && (code == d.0.1)) (option_or old (Some d.1)) old → option_or new (declared table code ds) ≡ option_or old (declared table code (d ∷ ds))
+    → new ≡ cond ((table == d.0.0) && (code == d.0.1)) (option_or old (Some d.1)) old
+    → option_or new (declared table code ds) ≡ option_or old (declared table code (d ∷ ds))
 found_step (Some x) new table code d ds h = elim (cases_Bool ((table == d.0.0) && (code == d.0.1))) [
   | inl t ↦ let here : new ≡ Some x = h ∙ rw t refl in rw here refl
   | inr f ↦ let here : new ≡ Some x = h ∙ rw f refl in rw here refl
@@ -130,9 +150,12 @@ found_step None new table code d ds h = elim (cases_Bool ((table == d.0.0) && (c
 ]
 
 -- a step of the walk: a declaration
-pub read_step : (old new : Option DeclarationRecord) (table code size place : ℕ) (d : ℕ × DeclarationRecord) (bytes rest : List ℕ) (whole : Option DeclarationRecord)
-    → ◌≡◌ {A = Option (Option (ℕ × DeclarationRecord) × List ℕ)} (Some (Some d, rest)) (declaration_at bytes) → new ≡ cond ((table == place) && (code == d.0)) (option_or old (Some d.1)) old
-    → option_or old (declared table code (declarations_from size place bytes)) ≡ whole → option_or new (declared table code (declarations_from size place rest)) ≡ whole
+pub read_step : (old new : Option DeclarationRecord) (table code size place : ℕ) (d : ℕ × DeclarationRecord)
+    (bytes rest : List ℕ) (whole : Option DeclarationRecord)
+    → ◌≡◌ {A = Option (Option (ℕ × DeclarationRecord) × List ℕ)} (Some (Some d, rest)) (declaration_at bytes) → new
+    ≡ cond ((table == place) && (code == d.0)) (option_or old (Some d.1)) old
+    → option_or old (declared table code (declarations_from size place bytes)) ≡ whole
+    → option_or new (declared table code (declarations_from size place rest)) ≡ whole
 read_step old new table code size place d bytes rest whole read added before =
     found_step old new table code ((place, d.0), d.1) (declarations_from size place rest) added
     ∙ ap (λ ds. option_or old (declared table code ds)) (sym (from_some size place bytes rest d (sym read))) ∙ before
@@ -140,7 +163,8 @@ read_step old new table code size place d bytes rest whole read added before =
 -- the end of a table
 pub read_end : (old : Option DeclarationRecord) (table code size place next : ℕ) (bytes rest : List ℕ) (whole : Option DeclarationRecord)
     → ◌≡◌ {A = Option (Option (ℕ × DeclarationRecord) × List ℕ)} (Some (None, rest)) (declaration_at bytes) → next ≡ size - length rest
-    → option_or old (declared table code (declarations_from size place bytes)) ≡ whole → option_or old (declared table code (declarations_from size next rest)) ≡ whole
+    → option_or old (declared table code (declarations_from size place bytes)) ≡ whole
+    → option_or old (declared table code (declarations_from size next rest)) ≡ whole
 read_end old table code size place next bytes rest whole read moved before =
     ap (λ n. option_or old (declared table code (declarations_from size n rest))) moved
     ∙ ap (λ ds. option_or old (declared table code ds)) (sym (from_end size place bytes rest (sym read))) ∙ before

@@ -1,5 +1,6 @@
 -- A table whose keys are the offset of a table and a code, and rows.
-use Rattle.std.proofs.Common.{◌≡◌, ◌≢◌, ℕ, zero, suc, ◌+◌, ◌==◌, ◌&&◌, Bool, true, false, cond, List, [], ◌∷◌, ◌++◌, length, Option, Some, None, slice_get, refl, sym, ap, ◌∙◌, inl, inr, arith}
+use Rattle.std.proofs.Common.{◌≡◌, ◌≢◌, ℕ, zero, suc, ◌+◌, ◌==◌, ◌&&◌, Bool, true, false, cond, List, [], ◌∷◌, ◌++◌}
+use Rattle.std.proofs.Common.{length, Option, Some, None, slice_get, refl, sym, ap, ◌∙◌, inl, inr, arith}
 use Rattle.std.specs.Option.{is_some, option_map, option_or}
 use Rattle.std.specs.Result.{OnOk}
 use Rattle.std.specs.declared.result.Result.{Result}
@@ -34,7 +35,8 @@ row_not [] d (suc index) h = refl
 row_not (r ∷ rows) d zero h = refl
 row_not (r ∷ rows) d (suc index) h = row_not rows d index (λ e. h (ap suc e))
 
-row_with : (rows : List Declaration) (d : Declaration) (code c : ℕ) → code ≡ length rows + 1 → row_in (rows ++ d ∷ []) c ≡ cond (c == code) (Some d) (row_in rows c)
+row_with : (rows : List Declaration) (d : Declaration) (code c : ℕ) → code ≡ length rows + 1 → row_in (rows ++ d ∷ []) c
+    ≡ cond (c == code) (Some d) (row_in rows c)
 row_with rows d code zero e = rw (ne_eqb 0 code (λ same. omega (arith, same))) refl
 row_with rows d code (suc index) e = elim (cases_Bool (suc index == code)) [
   | inl t ↦
@@ -46,11 +48,13 @@ row_with rows d code (suc index) e = elim (cases_Bool (suc index == code)) [
 ]
 
 -- of two answers the first one counts
-first_of : (same : Bool) (d : Declaration) (row other : Option Declaration) → option_or (cond same (Some d) row) other ≡ cond same (Some d) (option_or row other)
+first_of : (same : Bool) (d : Declaration) (row other : Option Declaration) → option_or (cond same (Some d) row) other
+    ≡ cond same (Some d) (option_or row other)
 first_of true d row other = refl
 first_of false d row other = refl
 
-second_of : (same : Bool) (d : Declaration) (row other : Option Declaration) → (same ≡ true → row ≡ None) → option_or row (cond same (Some d) other) ≡ cond same (Some d) (option_or row other)
+second_of : (same : Bool) (d : Declaration) (row other : Option Declaration) → (same ≡ true → row ≡ None)
+    → option_or row (cond same (Some d) other) ≡ cond same (Some d) (option_or row other)
 second_of true d row other none = rw (none refl) refl
 second_of false d row other none = refl
 
@@ -60,15 +64,18 @@ none_first None other e = refl
 none_first (Some x) other e = cc e
 
 -- a declaration more, as a row
-pub put_row : (old new : Declarations) (table code : ℕ) (d : Declaration) → new.others ≡ old.others → code ≡ length (rows_or_none (tree_map.get nat_cmp old.rows table)) + 1
+pub put_row : (old new : Declarations) (table code : ℕ) (d : Declaration) → new.others ≡ old.others → code
+    ≡ length (rows_or_none (tree_map.get nat_cmp old.rows table)) + 1
     → rows_or_none (tree_map.get nat_cmp new.rows table) ≡ rows_or_none (tree_map.get nat_cmp old.rows table) ++ d ∷ []
     → ((t : ℕ) → t ≢ table → rows_or_none (tree_map.get nat_cmp new.rows t) ≡ rows_or_none (tree_map.get nat_cmp old.rows t))
     → (t c : ℕ) → declaration_in new t c ≡ cond ((t == table) && (c == code)) (Some d) (declaration_in old t c)
 put_row old new table code d same next here others t c = elim (cases_Bool (t == table)) [
   | inl is ↦
       let at : t ≡ table = eqb-true t table is in
-      let row : row_in (rows_or_none (tree_map.get nat_cmp new.rows t)) c ≡ cond (c == code) (Some d) (row_in (rows_or_none (tree_map.get nat_cmp old.rows t)) c) =
-      ap (λ k. row_in (rows_or_none (tree_map.get nat_cmp new.rows k)) c) at ∙ ap (λ rows. row_in rows c) here ∙ row_with (rows_or_none (tree_map.get nat_cmp old.rows table)) d code c next
+      let row : row_in (rows_or_none (tree_map.get nat_cmp new.rows t)) c
+      ≡ cond (c == code) (Some d) (row_in (rows_or_none (tree_map.get nat_cmp old.rows t)) c) =
+      ap (λ k. row_in (rows_or_none (tree_map.get nat_cmp new.rows k)) c) at ∙ ap (λ rows. row_in rows c) here
+      ∙ row_with (rows_or_none (tree_map.get nat_cmp old.rows table)) d code c next
       ∙ ap (λ k. cond (c == code) (Some d) (row_in (rows_or_none (tree_map.get nat_cmp old.rows k)) c)) (sym at) in
       rw (is, row, same) (first_of (c == code) d (row_in (rows_or_none (tree_map.get nat_cmp old.rows t)) c) (tree_map.get key_cmp old.others (t, c)))
   | inr not_is ↦
@@ -84,8 +91,11 @@ pub put_other : (old new : Declarations) (table code : ℕ) (d : Declaration) �
 put_other old new table code d same none updated t c =
     let other : tree_map.get key_cmp new.others (t, c) ≡ cond ((t == table) && (c == code)) (Some d) (tree_map.get key_cmp old.others (t, c)) =
     updated (t, c) ∙ ap (λ b. cond b (Some d) (tree_map.get key_cmp old.others (t, c))) (same_key table code t c) in
-    let row : row_in (rows_or_none (tree_map.get nat_cmp new.rows t)) c ≡ row_in (rows_or_none (tree_map.get nat_cmp old.rows t)) c = ap (λ rows. row_in (rows_or_none (tree_map.get nat_cmp rows t)) c) same in
-    rw (other, row) (second_of ((t == table) && (c == code)) d (row_in (rows_or_none (tree_map.get nat_cmp old.rows t)) c) (tree_map.get key_cmp old.others (t, c))
+    let row : row_in (rows_or_none (tree_map.get nat_cmp new.rows t)) c
+    ≡ row_in (rows_or_none (tree_map.get nat_cmp old.rows t)) c =
+    ap (λ rows. row_in (rows_or_none (tree_map.get nat_cmp rows t)) c) same in
+    rw (other, row) (second_of ((t == table) && (c == code)) d
+    (row_in (rows_or_none (tree_map.get nat_cmp old.rows t)) c) (tree_map.get key_cmp old.others (t, c))
     (λ is. ap (λ (k : ℕ × ℕ). row_in (rows_or_none (tree_map.get nat_cmp old.rows k.0)) k.1) (same_parts t c table code is) ∙ none_first _ _ none))
 
 -- what a call ensures by two clauses, if it succeeds
@@ -107,7 +117,8 @@ kept old new d false e absent = ap (option_map declaration_view) e
 pub kept_first : (old new : Declarations) (table code : ℕ) (d : Declaration) → is_some (declaration_in old table code) ≡ false
     → ((t c : ℕ) → declaration_in new t c ≡ cond ((t == table) && (c == code)) (Some d) (declaration_in old t c))
     → (t c : ℕ) → option_map declaration_view (declaration_in new t c)
-    ≡ cond ((t == table) && (c == code)) (option_or (option_map declaration_view (declaration_in old t c)) (Some (declaration_view d))) (option_map declaration_view (declaration_in old t c))
+    ≡ cond ((t == table) && (c == code)) (option_or (option_map declaration_view (declaration_in old t c))
+    (Some (declaration_view d))) (option_map declaration_view (declaration_in old t c))
 kept_first old new table code d absent put t c =
     kept (declaration_in old t c) (declaration_in new t c) d ((t == table) && (c == code)) (put t c)
     (λ is. ap (λ (k : ℕ × ℕ). declaration_in old k.0 k.1) (same_parts t c table code is) ∙ none_is (declaration_in old table code) absent)

@@ -27,11 +27,15 @@ specification_shortens = record {
             omega (arith, known, ap (λ (w : Option Specification × List ℕ). length w.1) same)
         | inr f ↦ elim (cases_Bool (z.0 == DW_FORM_implicit_const)) [
           | inl t ↦
-              let here : option_map {U = Option Specification × List ℕ} (λ (w : ℕ × List ℕ). (Some (record { attribute = y.0; form = z.0; implicit = w.0 }), w.1)) (signed_leb128_at z.1) ≡ Some x = rw (f, t) at rest in
+              let here : option_map {U = Option Specification × List ℕ}
+              (λ (w : ℕ × List ℕ). (Some (record { attribute = y.0; form = z.0; implicit = w.0 }), w.1))
+              (signed_leb128_at z.1) ≡ Some x = rw (f, t) at rest in
               let v = mapped_some _ (signed_leb128_at z.1) x here in
               omega (arith, known, leb128_shorter last_signed z.1 v.0 v.1, ap (λ (w : Option Specification × List ℕ). length w.1) v.2)
           | inr g ↦
-              let here : ◌≡◌ {A = Option (Option Specification × List ℕ)} (Some (Some (record { attribute = y.0; form = z.0; implicit = 0 }), z.1)) (Some x) = rw (f, g) at rest in
+              let here : ◌≡◌ {A = Option (Option Specification × List ℕ)}
+              (Some (Some (record { attribute = y.0; form = z.0; implicit = 0 }), z.1)) (Some x) = rw (f, g) at rest
+              in
               let same : (Some (record { attribute = y.0; form = z.0; implicit = 0 }), z.1) ≡ x = cc here in
               omega (arith, known, ap (λ (w : Option Specification × List ℕ). length w.1) same)
         ]
@@ -46,14 +50,17 @@ shape_first shape next s None made = refl
 shape_first shape next s (Some y) made = ap (λ (sh : ShapeRecord). shaped sh (Some y)) made
 
 -- a step of the walk
-pub shape_step : (shape next : ShapeRecord) (s : Specification) (bytes rest : List ℕ) (whole : Option (ShapeRecord × List ℕ)) → ◌≡◌ {A = Option (Option Specification × List ℕ)} (Some (Some s, rest)) (specification_at bytes)
+pub shape_step : (shape next : ShapeRecord) (s : Specification) (bytes rest : List ℕ)
+    (whole : Option (ShapeRecord × List ℕ)) → ◌≡◌ {A = Option (Option Specification × List ℕ)} (Some (Some s, rest))
+    (specification_at bytes)
     → next ≡ with_specification shape s → shaped shape (ended specification_at bytes) ≡ whole → shaped next (ended specification_at rest) ≡ whole
 shape_step shape next s bytes rest whole read made before =
     shape_first shape next s (ended specification_at rest) made
     ∙ ap (shaped shape) (sym (ended_some specification_at specification_shortens bytes s rest (sym read))) ∙ before
 
 -- the two zeros
-pub shape_done : (shape : ShapeRecord) (bytes rest : List ℕ) (whole : Option (ShapeRecord × List ℕ)) → ◌≡◌ {A = Option (Option Specification × List ℕ)} (Some (None, rest)) (specification_at bytes)
+pub shape_done : (shape : ShapeRecord) (bytes rest : List ℕ) (whole : Option (ShapeRecord × List ℕ))
+    → ◌≡◌ {A = Option (Option Specification × List ℕ)} (Some (None, rest)) (specification_at bytes)
     → shaped shape (ended specification_at bytes) ≡ whole → ◌≡◌ {A = Option (ShapeRecord × List ℕ)} (Some (shape, rest)) whole
 unfolding shape_from
 shape_done shape bytes rest whole read before = ap (shaped shape) (sym (ended_end specification_at specification_shortens bytes rest (sym read))) ∙ before

@@ -1,4 +1,4 @@
--- The tables of __debug_abbrev (DWARF 5, section 7.5.3), which stand one after another.
+-- The tables of __debug_abbrev (DWARF 5, section 7.5.3), which follow one another.
 use Rattle.std.specs.Prelude.{ℕ, zero, suc, List, [], ◌∷◌, ◌-◌, ◌==◌, ◌&&◌, Bool, length, if◌then◌else◌, Option, Some}
 use Rattle.std.specs.Prelude.{None}
 use Rattle.std.specs.Option.{option_map, option_map_or, option_and_then}

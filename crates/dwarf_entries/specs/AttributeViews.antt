@@ -1,12 +1,15 @@
--- What attributes of the code are in the definitions.
+-- Attributes of the code, as the definitions have them.
 use Rattle.std.specs.Prelude.{ℕ, List, Option, None, map, slice_index_or}
 use Rattle.std.specs.Option.{option_map}
 use Rattle.dwarf_encoding.specs.Values.{ValueRecord}
 use Rattle.dwarf_encoding.specs.Views.{value_view}
 use Rattle.dwarf_entries.specs.Attributes.{AttributesRecord}
 use Rattle.dwarf_entries.specs.declared.attributes.Attribute.{Attribute}
-use Rattle.dwarf_entries.specs.declared.attributes.Attribute.TheVariants.{Name, StmtList, LowPc, HighPc, CompDir, AbstractOrigin, Specification, Ranges}
-use Rattle.dwarf_entries.specs.declared.attributes.Attribute.TheVariants.{CallColumn, CallFile, CallLine, LinkageName, StrOffsetsBase, AddrBase, RnglistsBase, MipsLinkageName}
+use Rattle.dwarf_entries.specs.declared.attributes.Attribute.TheVariants.{Name, StmtList, LowPc, HighPc, CompDir}
+use Rattle.dwarf_entries.specs.declared.attributes.Attribute.TheVariants.{AbstractOrigin, Specification, Ranges}
+use Rattle.dwarf_entries.specs.declared.attributes.Attribute.TheVariants.{CallColumn, CallFile, CallLine, LinkageName}
+use Rattle.dwarf_entries.specs.declared.attributes.Attribute.TheVariants.{StrOffsetsBase, AddrBase, RnglistsBase}
+use Rattle.dwarf_entries.specs.declared.attributes.Attribute.TheVariants.{MipsLinkageName}
 use Rattle.dwarf_entries.specs.declared.attributes.Attributes.{Attributes}
 
 -- where the value of an attribute stands

@@ -3,8 +3,11 @@ use Rattle.std.specs.Prelude.{ℕ, ◌==◌, if◌then◌else◌, Option, Some, 
 use Rattle.std.specs.Option.{option_map_or, option_or}
 use Rattle.dwarf_encoding.specs.Values.{ValueRecord}
 use Rattle.dwarf_entries.specs.declared.attributes.Attribute.{Attribute}
-use Rattle.dwarf_entries.specs.declared.attributes.Attribute.TheVariants.{Name, StmtList, LowPc, HighPc, CompDir, AbstractOrigin, Specification, Ranges}
-use Rattle.dwarf_entries.specs.declared.attributes.Attribute.TheVariants.{CallColumn, CallFile, CallLine, LinkageName, StrOffsetsBase, AddrBase, RnglistsBase, MipsLinkageName}
+use Rattle.dwarf_entries.specs.declared.attributes.Attribute.TheVariants.{Name, StmtList, LowPc, HighPc, CompDir}
+use Rattle.dwarf_entries.specs.declared.attributes.Attribute.TheVariants.{AbstractOrigin, Specification, Ranges}
+use Rattle.dwarf_entries.specs.declared.attributes.Attribute.TheVariants.{CallColumn, CallFile, CallLine, LinkageName}
+use Rattle.dwarf_entries.specs.declared.attributes.Attribute.TheVariants.{StrOffsetsBase, AddrBase, RnglistsBase}
+use Rattle.dwarf_entries.specs.declared.attributes.Attribute.TheVariants.{MipsLinkageName}
 
 -- their numbers; the last is of LLVM's vendor range, from before DW_AT_linkage_name
 abbrev pub DW_AT_name : ℕ

@@ -1,4 +1,4 @@
--- What declarations of the code are in the definitions, and the table of them.
+-- Declarations of the code and their table, as the definitions have them.
 use Rattle.std.specs.Prelude.{ℕ, zero, suc, List, [], ◌≡◌, slice_get, Option, Some, None}
 use Rattle.std.specs.Option.{option_map, option_or}
 use Rattle.std.specs.Ordering.{nat_cmp, ordering_then}

@@ -1,4 +1,4 @@
--- What entries of the code are in the definitions.
+-- Entries of the code, as the definitions have them.
 use Rattle.dwarf_entries.specs.AttributeViews.{attributes_view}
 use Rattle.dwarf_entries.specs.Entries.{EntryRecord, PlacedRecord, attributes_of}
 use Rattle.dwarf_entries.specs.ShapeViews.{shape_view}

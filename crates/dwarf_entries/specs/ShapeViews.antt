@@ -1,4 +1,4 @@
--- What the shape of an entry of the code is in the definitions.
+-- The shape of an entry of the code, as the definitions have it.
 use Rattle.dwarf_entries.specs.AttributeViews.{attributes_view}
 use Rattle.dwarf_entries.specs.Specifications.{ShapeRecord}
 use Rattle.dwarf_entries.specs.declared.specification.Shape.{Shape}

@@ -62,7 +62,8 @@ pub(crate) struct Table<'t, 'a> {
     rows: Option<&'t Rows<'a>>,
     others: &'t DeclarationsByCode<'a>,
     ghost each: { (code : ℕ) →
-        option_map declaration_view (option_or (row_in (rows_or_none (option_map (λ r. r.now) rows)) code) (tree_map.get key_cmp others.now (offset, code)))
+        option_map declaration_view (option_or (row_in (rows_or_none (option_map (λ r. r.now) rows)) code)
+        (tree_map.get key_cmp others.now (offset, code)))
         ≡ declaration_of section.now offset code },
 }
 

@@ -3,9 +3,9 @@
 //! error: what stands before it counts.
 //!
 //! The modules in reading order: `dw`, the constants; `attributes`, those that are asked here; `specification`,
-//! `declaration`, `reading`, `declarations` and `abbreviations`, what `__debug_abbrev` says of entries; `unit_header`; `entry`, one of
-//! them with its values, `unread_entry`, one whose values are read when they are asked for, and `one_entry`, the one at an
-//! offset; `entries`, those of a unit with their depths.
+//! `declaration`, `reading`, `declarations` and `abbreviations`, what `__debug_abbrev` says of entries; `unit_header`;
+//! `entry`, one of them with its values, `unread_entry`, one whose values are read when they are asked for, and
+//! `one_entry`, the one at an offset; `entries`, those of a unit with their depths.
 #![tactic(auto)]
 
 mod abbreviations;

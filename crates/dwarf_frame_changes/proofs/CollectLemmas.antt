@@ -18,7 +18,9 @@ pub pushed_all : (xs rest all : List ℕ) → rest ≡ [] → xs ++ rest ≡ all
 pushed_all xs rest all none h = sym (append-nil xs) ∙ ap (λ (zs : List ℕ). xs ++ zs) (sym none) ∙ h
 
 -- the units of a section, one after another
-pub units_step : (size : ℕ) (bytes unit rest : List ℕ) → ◌≡◌ {A = Option (List ℕ × List ℕ)} (Some (unit, rest)) (unit_at bytes) → placed_from unit_at size bytes ≡ (size - length bytes, unit) ∷ placed_from unit_at size rest
+pub units_step : (size : ℕ) (bytes unit rest : List ℕ)
+    → ◌≡◌ {A = Option (List ℕ × List ℕ)} (Some (unit, rest)) (unit_at bytes) → placed_from unit_at size bytes
+    ≡ (size - length bytes, unit) ∷ placed_from unit_at size rest
 units_step size bytes unit rest read = placed_some unit_at unit_shortens size bytes (unit, rest) (sym read)
 
 pub units_end : (size : ℕ) (bytes : List ℕ) → ◌≡◌ {A = Option (List ℕ × List ℕ)} None (unit_at bytes) → placed_from unit_at size bytes ≡ []
@@ -27,7 +29,8 @@ units_end size bytes read = placed_missing unit_at size bytes (sym read)
 abbrev pub own_ends : DebugSectionsRecord → ℕ × List ℕ → List ℕ
 own_ends s u = ends_of (own_ranges s u.0 u.1)
 
-pub units_more : (s : DebugSectionsRecord) (size : ℕ) (bytes unit rest starts next all : List ℕ) → ◌≡◌ {A = Option (List ℕ × List ℕ)} (Some (unit, rest)) (unit_at bytes)
+pub units_more : (s : DebugSectionsRecord) (size : ℕ) (bytes unit rest starts next all : List ℕ)
+    → ◌≡◌ {A = Option (List ℕ × List ℕ)} (Some (unit, rest)) (unit_at bytes)
     → next ≡ starts ++ ends_of (own_ranges s (size - length bytes) unit)
     → starts ++ flat_map (own_ends s) (placed_from unit_at size bytes) ≡ all → next ++ flat_map (own_ends s) (placed_from unit_at size rest) ≡ all
 units_more s size bytes unit rest starts next all read e before =
@@ -39,7 +42,8 @@ pub units_all : (s : DebugSectionsRecord) (size : ℕ) (bytes starts all : List 
 units_all s size bytes starts all read before =
     pushed_all starts (flat_map (own_ends s) (placed_from unit_at size bytes)) all (ap (flat_map (own_ends s)) (units_end size bytes read)) before
 
-pub boundaries_are : (s : DebugSectionsRecord) (first second third : List ℕ) (tuples : List Arange) → first ≡ [] → tuples ≡ aranges_of s.debug_aranges → second ≡ first ++ flat_map ends_of_tuple tuples
+pub boundaries_are : (s : DebugSectionsRecord) (first second third : List ℕ) (tuples : List Arange) → first ≡ []
+    → tuples ≡ aranges_of s.debug_aranges → second ≡ first ++ flat_map ends_of_tuple tuples
     → third ≡ second ++ flat_map (own_ends s) (placed unit_at s.debug_info) → third ≡ boundaries s
 unfolding boundaries
 boundaries_are s first second third tuples none all more last =

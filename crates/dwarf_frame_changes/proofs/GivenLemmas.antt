@@ -59,12 +59,15 @@ pub takes_more : (P Q R : List TurnRecord → Type 0) (xs ys : List TurnRecord) 
 takes_more P Q R xs ys first then before h = subst R (append_assoc before xs ys) (then (before ++ xs) (first before h))
 
 -- an element more of a list that is mapped
-pub takes_next : (P Q R : List TurnRecord → Type 0) (f : ℕ → TurnRecord) (xs : List ℕ) (i : ℕ) → i < length xs → Takes P Q (map f (take i xs)) → Takes Q R (f (get_or xs i 0) ∷ []) → Takes P R (map f (take (i + 1) xs))
+pub takes_next : (P Q R : List TurnRecord → Type 0) (f : ℕ → TurnRecord) (xs : List ℕ) (i : ℕ) → i < length xs
+    → Takes P Q (map f (take i xs)) → Takes Q R (f (get_or xs i 0) ∷ []) → Takes P R (map f (take (i + 1) xs))
 takes_next P Q R f xs i within first then =
-    let grown : map f (take i xs) ++ f (get_or xs i 0) ∷ [] ≡ map f (take (i + 1) xs) = sym (ap (map f) (take_more xs i 0 within) ∙ map-append f (take i xs) (get_or xs i 0 ∷ [])) in
+    let grown : map f (take i xs) ++ f (get_or xs i 0) ∷ [] ≡ map f (take (i + 1) xs) =
+    sym (ap (map f) (take_more xs i 0 within) ∙ map-append f (take i xs) (get_or xs i 0 ∷ [])) in
     subst (λ (ts : List TurnRecord). Takes P R ts) grown (takes_more P Q R (map f (take i xs)) (f (get_or xs i 0) ∷ []) first then)
 
-pub takes_all : (P Q : List TurnRecord → Type 0) (f : ℕ → TurnRecord) (xs : List ℕ) (n : ℕ) → length xs ≤ n → Takes P Q (map f (take n xs)) → Takes P Q (map f xs)
+pub takes_all : (P Q : List TurnRecord → Type 0) (f : ℕ → TurnRecord) (xs : List ℕ) (n : ℕ) → length xs ≤ n
+    → Takes P Q (map f (take n xs)) → Takes P Q (map f xs)
 takes_all P Q f xs n all h = subst (λ (ys : List ℕ). Takes P Q (map f ys)) (take_all n xs all) h
 
 -- ---- addresses with their frames
@@ -81,7 +84,8 @@ pub by_index : (P : ℕ → Type 0) (xs : List ℕ) → ((i : ℕ) → i < lengt
 by_index P xs each a (i, within, is) = subst P (get_or_default xs i 0 a within ∙ is) (each i within)
 
 pub turns_in : (s : DebugSectionsRecord) (place : Option ℕ) (frames : ℕ → List FrameRecord) (xs : List ℕ) → AreRising xs
-    → ((a : ℕ) → Contains xs a ↔ (IsUnitOf s a place × IsTurnBy s a)) → ((a : ℕ) → Contains xs a → AreFramesBy s a (frames a)) → AreTurnsIn s place (map (turn_with frames) xs)
+    → ((a : ℕ) → Contains xs a ↔ (IsUnitOf s a place × IsTurnBy s a))
+    → ((a : ℕ) → Contains xs a → AreFramesBy s a (frames a)) → AreTurnsIn s place (map (turn_with frames) xs)
 turns_in s place frames xs rising are found = record {
   each = All-map (λ (t : TurnRecord). IsUnitOf s t.address place × IsTurnWithFrames s t) (turn_with frames) xs
       (All-weaker (Contains xs) (λ (a : ℕ). IsUnitOf s a place × IsTurnWithFrames s (turn_with frames a))
@@ -104,11 +108,15 @@ pub no_frames : (s : DebugSectionsRecord) (a : ℕ) (place : Option ℕ) → opt
 no_frames s a place none is = record { place = place; is_unit = is; are_frames = subst (λ (u : Option UnitRecord). AreFramesIn s u a []) (sym none) refl }
 
 module _ (s : DebugSectionsRecord) (starts : List ℕ) (places : List (Option ℕ)) (steps : AreUnitSteps s starts places) (place : Option ℕ) (own xs : List ℕ)
-    (given : (a : ℕ) → Contains own a ↔ IsPlaced starts places a place) (rising : AreRising xs) (fits : (a : ℕ) → Contains xs a → a < 2 ^ 64) (same : (a : ℕ) → Contains xs a ↔ Contains own a)
+    (given : (a : ℕ) → Contains own a ↔ IsPlaced starts places a place) (rising : AreRising xs)
+    (fits : (a : ℕ) → Contains xs a → a < 2 ^ 64) (same : (a : ℕ) → Contains xs a ↔ Contains own a)
     (none : option_and_then (read_unit s) place ≡ None) (apart : (a : ℕ) → IsUnitOf s a place → IsUnitTurn s a → ⊥) where
   bare : (a : ℕ) → Contains xs a ↔ (IsUnitOf s a place × IsTurnBy s a)
   bare a = (
-    λ h. let step = (given a).0 ((same a).0 h) in (step_unit s starts places steps a place step, (fits a h, inl (step_boundary s starts places steps a place step))),
+    λ h. let step = (given a).0 ((same a).0 h) in (
+      step_unit s starts places steps a place step,
+      (fits a h, inl (step_boundary s starts places steps a place step)),
+    ),
     λ h. elim h.1.1 [
       | inl boundary ↦ (same a).1 ((given a).1 (boundary_step s starts places steps a place boundary h.0))
       | inr turn ↦ absurd (apart a h.0 turn)
@@ -120,7 +128,8 @@ module _ (s : DebugSectionsRecord) (starts : List ℕ) (places : List (Option �
 
 -- ---- all
 
-pub all_turns : (s : DebugSectionsRecord) (without with : List TurnRecord) → AreTurnsIn s None without → AreTurnsWithUnits s with → ((a : ℕ) → a < 2 ^ 64 → (place : Option ℕ) × IsUnitOf s a place)
+pub all_turns : (s : DebugSectionsRecord) (without with : List TurnRecord) → AreTurnsIn s None without
+    → AreTurnsWithUnits s with → ((a : ℕ) → a < 2 ^ 64 → (place : Option ℕ) × IsUnitOf s a place)
     → AreTurnsBy s (without ++ with)
 all_turns s without with one other units = record { each = each; all = all; once = once }
   where
@@ -143,7 +152,8 @@ all_turns s without with one other units = record { each = each; all = all; once
 
     lone : All (λ (a : ℕ). IsUnitOf s a None) (addresses without)
     lone = All-map (λ (a : ℕ). IsUnitOf s a None) (λ (t : TurnRecord). t.address) without
-        (All-weaker (λ (t : TurnRecord). IsUnitOf s t.address None × IsTurnWithFrames s t) (λ (t : TurnRecord). IsUnitOf s t.address None) (λ t h. h.0) without one.each)
+        (All-weaker (λ (t : TurnRecord). IsUnitOf s t.address None × IsTurnWithFrames s t)
+        (λ (t : TurnRecord). IsUnitOf s t.address None) (λ t h. h.0) without one.each)
 
     housed : All (HasUnit s) (addresses with)
     housed = All-map (HasUnit s) (λ (t : TurnRecord). t.address) with
@@ -176,7 +186,8 @@ far_start s all = record {
   once = λ i j d less within. absurd (omega (arith, within));
 }
 
-module _ (s : DebugSectionsRecord) (all : List ℕ) (count place : ℕ) (given new : List TurnRecord) (within : count < length all) (here : place ≡ get_or all count 0)
+module _ (s : DebugSectionsRecord) (all : List ℕ) (count place : ℕ) (given new : List TurnRecord)
+    (within : count < length all) (here : place ≡ get_or all count 0)
     (distinct : AreDistinct all) (far : SoFar s all count given) (are : AreTurnsIn s (Some place) new) where
   split : addresses (given ++ new) ≡ addresses given ++ addresses new
   split = map-append (λ (t : TurnRecord). t.address) given new
@@ -195,9 +206,11 @@ module _ (s : DebugSectionsRecord) (all : List ℕ) (count place : ℕ) (given n
 
   each_more : All (λ t. IsAmong s (take (count + 1) all) t.address × IsTurnWithFrames s t) (given ++ new)
   each_more = All-append (λ (t : TurnRecord). IsAmong s (take (count + 1) all) t.address × IsTurnWithFrames s t) given new
-      (All-weaker (λ (t : TurnRecord). IsAmong s (take count all) t.address × IsTurnWithFrames s t) (λ (t : TurnRecord). IsAmong s (take (count + 1) all) t.address × IsTurnWithFrames s t)
+      (All-weaker (λ (t : TurnRecord). IsAmong s (take count all) t.address × IsTurnWithFrames s t)
+      (λ (t : TurnRecord). IsAmong s (take (count + 1) all) t.address × IsTurnWithFrames s t)
       (λ t h. (old t.address h.0, h.1)) given far.each)
-      (All-weaker (λ (t : TurnRecord). IsUnitOf s t.address (Some place) × IsTurnWithFrames s t) (λ (t : TurnRecord). IsAmong s (take (count + 1) all) t.address × IsTurnWithFrames s t)
+      (All-weaker (λ (t : TurnRecord). IsUnitOf s t.address (Some place) × IsTurnWithFrames s t)
+      (λ (t : TurnRecord). IsAmong s (take (count + 1) all) t.address × IsTurnWithFrames s t)
       (λ t h. (added t.address h.0, h.1)) new are.each)
 
   every_more : (a own : ℕ) → Contains (take (count + 1) all) own → IsUnitOf s a (Some own) → IsTurnBy s a → Contains (addresses (given ++ new)) a
@@ -211,11 +224,13 @@ module _ (s : DebugSectionsRecord) (all : List ℕ) (count place : ℕ) (given n
 
   done : All (IsAmong s (take count all)) (addresses given)
   done = All-map (IsAmong s (take count all)) (λ (t : TurnRecord). t.address) given
-      (All-weaker (λ (t : TurnRecord). IsAmong s (take count all) t.address × IsTurnWithFrames s t) (λ (t : TurnRecord). IsAmong s (take count all) t.address) (λ t h. h.0) given far.each)
+      (All-weaker (λ (t : TurnRecord). IsAmong s (take count all) t.address × IsTurnWithFrames s t)
+      (λ (t : TurnRecord). IsAmong s (take count all) t.address) (λ t h. h.0) given far.each)
 
   owned : All (λ (a : ℕ). IsUnitOf s a (Some place)) (addresses new)
   owned = All-map (λ (a : ℕ). IsUnitOf s a (Some place)) (λ (t : TurnRecord). t.address) new
-      (All-weaker (λ (t : TurnRecord). IsUnitOf s t.address (Some place) × IsTurnWithFrames s t) (λ (t : TurnRecord). IsUnitOf s t.address (Some place)) (λ t h. h.0) new are.each)
+      (All-weaker (λ (t : TurnRecord). IsUnitOf s t.address (Some place) × IsTurnWithFrames s t)
+      (λ (t : TurnRecord). IsUnitOf s t.address (Some place)) (λ t h. h.0) new are.each)
 
   -- the offset is none of those before it
   not_before : Contains (take count all) place → ⊥
@@ -235,16 +250,21 @@ module _ (s : DebugSectionsRecord) (all : List ℕ) (count place : ℕ) (given n
   far_more = record {
     each = each_more;
     every = every_more;
-    once = subst (λ (xs : List ℕ). AreDistinct xs) (sym split) (distinct_append (addresses given) (addresses new) far.once (distinct_by (addresses new) are.rising) apart_from);
+    once = subst (λ (xs : List ℕ). AreDistinct xs) (sym split)
+        (distinct_append (addresses given) (addresses new) far.once (distinct_by (addresses new) are.rising)
+        apart_from);
   }
 
-pub far_end : (s : DebugSectionsRecord) (starts : List ℕ) (at : List (Option ℕ)) (by_unit : tree_map.BTreeMap ℕ AddressList) (units : List UnitBoundaries) (count : ℕ) (given : List TurnRecord)
-    → AreUnitSteps s starts at → ((place a : ℕ) → Contains (addresses_under by_unit place) a ↔ IsPlaced starts at a (Some place)) → AreBoundariesBy by_unit units
+pub far_end : (s : DebugSectionsRecord) (starts : List ℕ) (at : List (Option ℕ))
+    (by_unit : tree_map.BTreeMap ℕ AddressList) (units : List UnitBoundaries) (count : ℕ) (given : List TurnRecord)
+    → AreUnitSteps s starts at → ((place a : ℕ) → Contains (addresses_under by_unit place) a
+    ↔ IsPlaced starts at a (Some place)) → AreBoundariesBy by_unit units
     → length (places units) ≤ count → SoFar s (places units) count given → AreTurnsWithUnits s given
 far_end s starts at by_unit units count given steps under are past far =
     let all : take count (places units) ≡ places units = take_all count (places units) past in
     record {
-      each = All-weaker (λ (t : TurnRecord). IsAmong s (take count (places units)) t.address × IsTurnWithFrames s t) (λ (t : TurnRecord). HasUnit s t.address × IsTurnWithFrames s t)
+      each = All-weaker (λ (t : TurnRecord). IsAmong s (take count (places units)) t.address × IsTurnWithFrames s t)
+          (λ (t : TurnRecord). HasUnit s t.address × IsTurnWithFrames s t)
           (λ t h. ((h.0.0, h.0.2), h.1)) given far.each;
       all = λ a place is turn.
           let step = last_step s starts at a place steps turn.0 is in

@@ -4,11 +4,14 @@ use Rattle.std.proofs.Common.{IfSome, IfNone, All, Contains}
 use Rattle.std.specs.Option.{option_map_or}
 use Rattle.std.proofs.lemmas.Bool.{cases_eq, cases_lt}
 use Rattle.std.proofs.lemmas.List.{map-append, take_all, take_more}
-use Rattle.std.proofs.lemmas.List.Elements.{All-append, All-contains, All-map, All-nil, All-push, All-weaker, Contains-append_cases, Contains-append_left, Contains-append_right, Contains-get_or}
+use Rattle.std.proofs.lemmas.List.Elements.{All-append, All-contains, All-map, All-nil, All-push, All-weaker}
+use Rattle.std.proofs.lemmas.List.Elements.{Contains-append_cases, Contains-append_left, Contains-append_right}
+use Rattle.std.proofs.lemmas.List.Elements.{Contains-get_or}
 use Rattle.std.proofs.lemmas.Option.{same_Some}
 use Rattle.dwarf_source_frames.specs.Frames.{FrameRecord}
 use Rattle.dwarf_asked_addresses.specs.Rising.{AreRising, IsCountBelow}
-use Rattle.dwarf_frame_changes.specs.Between.{AreFramesAt, AreTurnsBetween, AreTurnsFrom, IsBelow, IsFrom, IsMerged, IsNextAbove, IsNextStart, IsStart, IsTurnOfParts, PartsRecord}
+use Rattle.dwarf_frame_changes.specs.Between.{AreFramesAt, AreTurnsBetween, AreTurnsFrom, IsBelow, IsFrom, IsMerged}
+use Rattle.dwarf_frame_changes.specs.Between.{IsNextAbove, IsNextStart, IsStart, IsTurnOfParts, PartsRecord}
 use Rattle.dwarf_frame_changes.specs.Given.{TurnRecord, addresses}
 use Rattle.dwarf_source_frames.proofs.ByUnitLemmas.{in_one, of_one}
 use Rattle.dwarf_frame_changes.proofs.GivenLemmas.{pairs_append}
@@ -49,7 +52,8 @@ none_below parts from end =
 pub merged_first : (parts : PartsRecord) (from : ℕ) (end : Option ℕ) → IsBelow from end → IsMerged parts from end from
 merged_first parts from end below = record { not_below = omega arith; below = below; begins = inl refl }
 
-pub all_below : (parts : PartsRecord) (from : ℕ) (end : Option ℕ) (turns : List TurnRecord) → AreTurnsBelow parts from end None turns → AreTurnsBetween parts from end turns
+pub all_below : (parts : PartsRecord) (from : ℕ) (end : Option ℕ) (turns : List TurnRecord)
+    → AreTurnsBelow parts from end None turns → AreTurnsBetween parts from end turns
 all_below parts from end turns are = record { each = are.each; all = λ a is. are.all a is tt; rising = are.rising }
 
 -- an address is below what is next, of which the one after an end does not count
@@ -57,11 +61,13 @@ abbrev pub IsUpto : Option ℕ → Option ℕ → Option ℕ → Type 0
 IsUpto next end upto =
     IfSome upto (λ a. (next ≡ Some a) × IsBelow a end) × IfNone upto (IfSome next (λ a. (e : ℕ) × (end ≡ Some e) × (e ≤ a)))
 
-pub above_upto : (rows links : List ℕ) (at row link : ℕ) (next end upto : Option ℕ) → IsNextStart rows links at row link next → IsUpto next end upto → IsBelow at upto
+pub above_upto : (rows links : List ℕ) (at row link : ℕ) (next end upto : Option ℕ)
+    → IsNextStart rows links at row link next → IsUpto next end upto → IsBelow at upto
 above_upto rows links at row link next end None is_next is_upto = tt
 above_upto rows links at row link next end (Some u) is_next is_upto = (subst (λ (o : Option ℕ). IsNextStart rows links at row link o) is_upto.0.0 is_next).0
 
-module _ (parts : PartsRecord) (from : ℕ) (end : Option ℕ) (at : ℕ) (turns : List TurnRecord) (frames : List FrameRecord) (far : AreTurnsBelow parts from end (Some at) turns)
+module _ (parts : PartsRecord) (from : ℕ) (end : Option ℕ) (at : ℕ) (turns : List TurnRecord)
+    (frames : List FrameRecord) (far : AreTurnsBelow parts from end (Some at) turns)
     (here : IsMerged parts from end at) (fits : at < 2 ^ 64) (are : AreFramesAt parts at frames) (row link : ℕ) where
   abbrev Starts : ℕ → Type 0
   Starts a = IsStart parts.row_starts parts.link_starts a
@@ -125,10 +131,12 @@ module _ (parts : PartsRecord) (from : ℕ) (end : Option ℕ) (at : ℕ) (turns
           ]
         ]);
         rising = subst (λ (xs : List ℕ). AreRising xs) (sym more) (rising_append (addresses turns) (at ∷ []) far.rising (rising_one at) (λ a b h k.
-            let low : a < at = All-contains (λ (x : ℕ). x < at) (addresses turns) a (All-map (λ (x : ℕ). x < at) (λ (t : TurnRecord). t.address) turns far.below) h in
+            let low : a < at = All-contains (λ (x : ℕ). x < at) (addresses turns) a
+            (All-map (λ (x : ℕ). x < at) (λ (t : TurnRecord). t.address) turns far.below) h in
             let e = in_one at b k in omega (arith, low, e)));
         below = All-push (λ (t : TurnRecord). IsBelow t.address upto) turns turn
-            (All-weaker (λ (t : TurnRecord). t.address < at) (λ (t : TurnRecord). IsBelow t.address upto) (λ t h. below_still upto t.address (above_at next upto is_next is_upto) h) turns far.below)
+            (All-weaker (λ (t : TurnRecord). t.address < at) (λ (t : TurnRecord). IsBelow t.address upto)
+            (λ t h. below_still upto t.address (above_at next upto is_next is_upto) h) turns far.below)
             (above_at next upto is_next is_upto);
       }
 
@@ -163,8 +171,10 @@ module _ (parts : PartsRecord) (starts froms : List ℕ) where
   pub all_turns_given : (count : ℕ) (turns : List TurnRecord) → length froms ≤ count → AreTurnsSoFar count turns → AreTurnsFrom parts starts froms turns
   all_turns_given count turns past far = subst (λ (xs : List ℕ). AreTurnsFrom parts starts xs turns) (take_all count froms past) far.are
 
-  module _ (count : ℕ) (turns new : List TurnRecord) (from : ℕ) (end : Option ℕ) (within : count < length froms) (is : from ≡ get_or froms count 0) (rising : AreRising froms)
-      (stand : (a : ℕ) → Contains froms a → Contains starts a) (far : AreTurnsSoFar count turns) (next : IsNextAbove starts from end) (are : AreTurnsBetween parts from end new) where
+  module _ (count : ℕ) (turns new : List TurnRecord) (from : ℕ) (end : Option ℕ) (within : count < length froms)
+      (is : from ≡ get_or froms count 0) (rising : AreRising froms)
+      (stand : (a : ℕ) → Contains froms a → Contains starts a) (far : AreTurnsSoFar count turns)
+      (next : IsNextAbove starts from end) (are : AreTurnsBetween parts from end new) where
     grown : take (count + 1) froms ≡ take count froms ++ from ∷ []
     grown = subst (λ (x : ℕ). take (count + 1) froms ≡ take count froms ++ x ∷ []) (sym is) (take_more froms count 0 within)
 
@@ -199,22 +209,27 @@ module _ (parts : PartsRecord) (starts froms : List ℕ) where
     split = map-append (λ (t : TurnRecord). t.address) turns new
 
     all_more : (f a : ℕ) → Contains (take (count + 1) froms) f → IsFrom parts starts f a → Contains (addresses (turns ++ new)) a
-    all_more f a h i = subst (λ (xs : List ℕ). Contains xs a) (sym split) (elim (Contains-append_cases (take count froms) (from ∷ []) f (subst (λ (xs : List ℕ). Contains xs f) grown h)) [
-      | inl old ↦ Contains-append_left (addresses turns) (addresses new) a (far.are.all f a old i)
-      | inr one ↦
-          let same : from ≡ f = in_one from f one in
-          Contains-append_right (addresses turns) (addresses new) a (are.all a (merged a (subst (λ (x : ℕ). IsFrom parts starts x a) (sym same) i)))
-    ])
+    all_more f a h i = subst (λ (xs : List ℕ). Contains xs a) (sym split)
+        (elim (Contains-append_cases (take count froms) (from ∷ []) f (subst (λ (xs : List ℕ). Contains xs f) grown h)) [
+          | inl old ↦ Contains-append_left (addresses turns) (addresses new) a (far.are.all f a old i)
+          | inr one ↦
+              let same : from ≡ f = in_one from f one in
+              Contains-append_right (addresses turns) (addresses new) a (are.all a (merged a (subst (λ (x : ℕ). IsFrom parts starts x a) (sym same) i)))
+        ])
 
     old_below : (a : ℕ) → Contains (addresses turns) a → a < from
     old_below a h =
-        let low : a < get_or froms count 0 = All-contains (λ (x : ℕ). x < get_or froms count 0) (addresses turns) a (All-map (λ (x : ℕ). x < get_or froms count 0) (λ (t : TurnRecord). t.address) turns (far.below count (omega arith) within)) h in
+        let low : a < get_or froms count 0 = All-contains (λ (x : ℕ). x < get_or froms count 0) (addresses turns) a
+        (All-map (λ (x : ℕ). x < get_or froms count 0) (λ (t : TurnRecord). t.address) turns
+        (far.below count (omega arith) within)) h in
         omega (arith, low, is)
 
     new_above : (a : ℕ) → Contains (addresses new) a → from ≤ a
     new_above a h =
         All-contains (λ (x : ℕ). from ≤ x) (addresses new) a
-        (All-map (λ (x : ℕ). from ≤ x) (λ (t : TurnRecord). t.address) new (All-weaker (IsTurnHere parts from end) (λ (t : TurnRecord). from ≤ t.address) (λ t m. m.0.not_below) new are.each)) h
+        (All-map (λ (x : ℕ). from ≤ x) (λ (t : TurnRecord). t.address) new
+        (All-weaker (IsTurnHere parts from end) (λ (t : TurnRecord). from ≤ t.address) (λ t m. m.0.not_below) new
+        are.each)) h
 
     new_below : (i : ℕ) → count + 1 ≤ i → i < length froms → (t : TurnRecord) → IsTurnHere parts from end t → t.address < get_or froms i 0
     new_below i h l t m =
@@ -226,10 +241,13 @@ module _ (parts : PartsRecord) (starts froms : List ℕ) where
         record {
           are =
               record {
-                each = All-append (IsFromThese (take (count + 1) froms)) turns new (All-weaker (IsFromThese (take count froms)) (IsFromThese (take (count + 1) froms)) old_turn turns far.are.each)
+                each = All-append (IsFromThese (take (count + 1) froms)) turns new
+                    (All-weaker (IsFromThese (take count froms)) (IsFromThese (take (count + 1) froms)) old_turn turns
+                    far.are.each)
                     (All-weaker (IsTurnHere parts from end) (IsFromThese (take (count + 1) froms)) new_turn new are.each);
                 all = all_more;
-                rising = subst (λ (xs : List ℕ). AreRising xs) (sym split) (rising_append (addresses turns) (addresses new) far.are.rising are.rising (λ a b h k.
+                rising = subst (λ (xs : List ℕ). AreRising xs) (sym split)
+                    (rising_append (addresses turns) (addresses new) far.are.rising are.rising (λ a b h k.
                     let low = old_below a h in let high = new_above b k in omega (arith, low, high)));
               };
           below = λ i h l. All-append (λ (t : TurnRecord). t.address < get_or froms i 0) turns new (far.below i (omega (arith, h)) l)

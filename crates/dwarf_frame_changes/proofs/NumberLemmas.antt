@@ -36,52 +36,73 @@ set_elsewhere (y ∷ ys) (suc i) zero x h = refl
 set_elsewhere (y ∷ ys) (suc i) (suc j) x h = set_elsewhere ys i j x (λ e. h (ap suc e))
 
 -- none is kept
-pub no_names : (P : ℕ → Option (List ℕ) → Type 0) (links : Links) (names : Names) → length names.by_number.items ≡ links.name_count → ((n number : ℕ) → slice_get names.by_number.items n ≡ Some (Some number) → ⊥) → AreNameNumbers P links names
+pub no_names : (P : ℕ → Option (List ℕ) → Type 0) (links : Links) (names : Names) → length names.by_number.items
+    ≡ links.name_count → ((n number : ℕ) → slice_get names.by_number.items n ≡ Some (Some number) → ⊥)
+    → AreNameNumbers P links names
 no_names P links names count none = record { count = count; each = λ i link number there is. absurd (none link.name_number number is) }
 
 -- links of one number have one name
-same_name : (count : ℕ) (links : List Link) (i j : ℕ) (a b : Link) → AreNamesNumbered count links → slice_get links i ≡ Some a → slice_get links j ≡ Some b → a.name_number ≡ b.name_number → (link_view a).name ≡ (link_view b).name
+same_name : (count : ℕ) (links : List Link) (i j : ℕ) (a b : Link) → AreNamesNumbered count links → slice_get links i
+    ≡ Some a → slice_get links j ≡ Some b → a.name_number ≡ b.name_number → (link_view a).name ≡ (link_view b).name
 same_name count links i j a b numbered at_a at_b same =
     same_Some (link_view a).name (link_view b).name (sym (numbered.each i a at_a) ∙ (ap (λ n. slice_get numbered.names n) same ∙ numbered.each j b at_b))
 
-pub number_within : (links : Links) (i : ℕ) (link : Link) → AreNamesNumbered links.name_count links.links.items → slice_get links.links.items i ≡ Some link → link.name_number < links.name_count
+pub number_within : (links : Links) (i : ℕ) (link : Link) → AreNamesNumbered links.name_count links.links.items
+    → slice_get links.links.items i ≡ Some link → link.name_number < links.name_count
 number_within links i link numbered there =
-    let w = slice_get_within numbered.names link.name_number (link_view link).name (numbered.each i link there) in let n = numbered.count_is in omega (arith, w, n)
+    let w = slice_get_within numbered.names link.name_number (link_view link).name (numbered.each i link there)
+    in let n = numbered.count_is in omega (arith, w, n)
 
 -- one more is kept
-pub names_more : (P Q : ℕ → Option (List ℕ) → Type 0) (links : Links) (names next : Names) (i number : ℕ) (link : Link) → AreNamesNumbered links.name_count links.links.items → StillTells P Q → AreNameNumbers P links names → slice_get links.links.items i ≡ Some link
+pub names_more : (P Q : ℕ → Option (List ℕ) → Type 0) (links : Links) (names next : Names) (i number : ℕ) (link : Link)
+    → AreNamesNumbered links.name_count links.links.items → StillTells P Q → AreNameNumbers P links names
+    → slice_get links.links.items i ≡ Some link
     → Q number (link_view link).name → next.by_number.items ≡ set names.by_number.items link.name_number (Some number) → AreNameNumbers Q links next
 names_more P Q links names next i number link numbered still are there tells wrote = record {
   count = ap (λ (l : List (Option ℕ)). length l) wrote ∙ (length-set names.by_number.items link.name_number (Some number) ∙ are.count);
   each = λ j other told at_j is.
-      let now : slice_get (set names.by_number.items link.name_number (Some number)) other.name_number ≡ Some (Some told) = ap (λ (l : List (Option ℕ)). slice_get l other.name_number) (sym wrote) ∙ is in
+      let now : slice_get (set names.by_number.items link.name_number (Some number)) other.name_number
+      ≡ Some (Some told) = ap (λ (l : List (Option ℕ)). slice_get l other.name_number) (sym wrote) ∙ is in
       elim (cases_eq other.name_number link.name_number) [
         | inl same ↦
-            let within : link.name_number < length names.by_number.items = let w = number_within links i link numbered there in let n = are.count in omega (arith, w, n) in
+            let within : link.name_number < length names.by_number.items = let w =
+            number_within links i link numbered there in let n = are.count in omega (arith, w, n) in
             let here : slice_get (set names.by_number.items link.name_number (Some number)) other.name_number ≡ Some (Some number) =
-            ap (λ n. slice_get (set names.by_number.items link.name_number (Some number)) n) same ∙ set_here names.by_number.items link.name_number (Some number) within in
+            ap (λ n. slice_get (set names.by_number.items link.name_number (Some number)) n) same
+            ∙ set_here names.by_number.items link.name_number (Some number) within in
             let equal : number ≡ told = cc (here, now) in
             let name = same_name links.name_count links.links.items i j link other numbered there at_j (sym same) in
             subst (λ n. Q n (link_view other).name) equal (subst (λ (n : Option (List ℕ)). Q number n) name tells)
-        | inr not ↦ still told (link_view other).name (are.each j other told at_j (sym (set_elsewhere names.by_number.items link.name_number other.name_number (Some number) not) ∙ now))
+        | inr not ↦ still told (link_view other).name (are.each j other told at_j
+            (sym (set_elsewhere names.by_number.items link.name_number other.name_number (Some number) not) ∙ now))
       ];
 }
 
 -- ---- what is read
 
-pub link_read : (links : Links) (index : ℕ) (link : Link) → index < length links.links.items → link ≡ get_or links.links.items index link → slice_get links.links.items index ≡ Some link
+pub link_read : (links : Links) (index : ℕ) (link : Link) → index < length links.links.items → link
+    ≡ get_or links.links.items index link → slice_get links.links.items index ≡ Some link
 link_read links index link within is = slice_get_read links.links.items (length links.links.items) index link refl within is
 
-pub same_link : (P : ℕ → Option (List ℕ) → Type 0) (links : Links) (index number : ℕ) (link other : Link) → slice_get links.links.items index ≡ Some link → slice_get links.links.items index ≡ Some other → P number (link_view link).name → P number (link_view other).name
-same_link P links index number link other there at_other tells = subst (λ (l : Link). P number (link_view l).name) (same_Some link other (sym there ∙ at_other)) tells
+pub same_link : (P : ℕ → Option (List ℕ) → Type 0) (links : Links) (index number : ℕ) (link other : Link)
+    → slice_get links.links.items index ≡ Some link → slice_get links.links.items index ≡ Some other
+    → P number (link_view link).name → P number (link_view other).name
+same_link P links index number link other there at_other tells =
+    subst (λ (l : Link). P number (link_view l).name) (same_Some link other (sym there ∙ at_other)) tells
 
-pub slot_within : (P : ℕ → Option (List ℕ) → Type 0) (links : Links) (names : Names) (index : ℕ) (link : Link) → AreNamesNumbered links.name_count links.links.items → AreNameNumbers P links names → slice_get links.links.items index ≡ Some link → link.name_number < length names.by_number.items
+pub slot_within : (P : ℕ → Option (List ℕ) → Type 0) (links : Links) (names : Names) (index : ℕ) (link : Link)
+    → AreNamesNumbered links.name_count links.links.items → AreNameNumbers P links names
+    → slice_get links.links.items index ≡ Some link → link.name_number < length names.by_number.items
 slot_within P links names index link numbered are there = let w = number_within links index link numbered there in let n = are.count in omega (arith, w, n)
 
-pub known_name : (P : ℕ → Option (List ℕ) → Type 0) (links : Links) (names : Names) (index known : ℕ) (link : Link) (slot : Option ℕ) → AreNamesNumbered links.name_count links.links.items → AreNameNumbers P links names → slice_get links.links.items index ≡ Some link
+pub known_name : (P : ℕ → Option (List ℕ) → Type 0) (links : Links) (names : Names) (index known : ℕ) (link : Link)
+    (slot : Option ℕ) → AreNamesNumbered links.name_count links.links.items → AreNameNumbers P links names
+    → slice_get links.links.items index ≡ Some link
     → slot ≡ get_or names.by_number.items link.name_number slot → slot ≡ Some known → P known (link_view link).name
 known_name P links names index known link slot numbered are there read is =
-    let at_slot : slice_get names.by_number.items link.name_number ≡ Some slot = slice_get_read names.by_number.items (length names.by_number.items) link.name_number slot refl (slot_within P links names index link numbered are there) read in
+    let at_slot : slice_get names.by_number.items link.name_number
+    ≡ Some slot = slice_get_read names.by_number.items (length names.by_number.items) link.name_number slot refl
+    (slot_within P links names index link numbered are there) read in
     are.each index link known there (at_slot ∙ ap (λ (s : Option ℕ). Some s) is)
 
 -- ---- the numbers that a taker gave to paths and links
@@ -94,20 +115,23 @@ takes_nothing P Q R first then = takes_more P Q R [] [] first then
 pub still_more : {N A : Type 0} (P Q R : N → A → Type 0) → StillTells P Q → StillTells Q R → StillTells P R
 still_more P Q R first then number told h = then number told (first number told h)
 
-pub paths_still : (P Q : ℕ → Option PathRecord → Type 0) (lines : LinesRecord) (paths : Paths) → StillTells P Q → ArePathNumbers P lines paths → ArePathNumbers Q lines paths
+pub paths_still : (P Q : ℕ → Option PathRecord → Type 0) (lines : LinesRecord) (paths : Paths) → StillTells P Q
+    → ArePathNumbers P lines paths → ArePathNumbers Q lines paths
 paths_still P Q lines paths still are =
     record {
       by_index = λ i. IfSome_then (tree_map.get nat_cmp paths.by_index i) (are.by_index i) (λ n h. still n (path_in lines (Some i)) h);
       last = IfSome_then paths.last are.last (λ k h. still k.1 (path_in lines (Some k.0)) h);
     }
 
-pub names_still : (P Q : ℕ → Option (List ℕ) → Type 0) (links : Links) (names : Names) → StillTells P Q → AreNameNumbers P links names → AreNameNumbers Q links names
+pub names_still : (P Q : ℕ → Option (List ℕ) → Type 0) (links : Links) (names : Names) → StillTells P Q
+    → AreNameNumbers P links names → AreNameNumbers Q links names
 names_still P Q links names still are = record {
   count = are.count;
   each = λ i link number there is. still number (link_view link).name (are.each i link number there is);
 }
 
-module _ (P P' : ℕ → Option (List ℕ) → Type 0) (F F' : Option ℕ → List FrameRecord → Type 0) (names : StillTells P P') (frames : StillTells F F') (lines : LinesRecord) (links : List LinkRecord) where
+module _ (P P' : ℕ → Option (List ℕ) → Type 0) (F F' : Option ℕ → List FrameRecord → Type 0) (names : StillTells P P')
+    (frames : StillTells F F') (lines : LinesRecord) (links : List LinkRecord) where
   pub is_linked_still : (link : LinkRecord) (linked : Linked) → IsLinked P F lines links link linked → IsLinked P' F' lines links link linked
   is_linked_still link linked is =
       record { name = names linked.name link.name is.name; outer = is.outer; are_outer = is.are_outer; callers = frames linked.callers is.outer is.callers }
@@ -123,9 +147,11 @@ link_there links all index link is within here =
     slice_get-map link_view links (length all)
     ∙ ap (option_map link_view) (slice_get_read links (length links) (length all) link refl within (here ∙ ap (λ n. get_or links n link) is))
 
-pub linked_at : (P : ℕ → Option (List ℕ) → Type 0) (F : Option ℕ → List FrameRecord → Type 0) (lines : LinesRecord) (links : List LinkRecord) (i : ℕ) (link : LinkRecord) (linked : Linked) → slice_get links i ≡ Some link
+pub linked_at : (P : ℕ → Option (List ℕ) → Type 0) (F : Option ℕ → List FrameRecord → Type 0) (lines : LinesRecord)
+    (links : List LinkRecord) (i : ℕ) (link : LinkRecord) (linked : Linked) → slice_get links i ≡ Some link
     → IsLinked P F lines links link linked → IsLinkedAt P F lines links i linked
-linked_at P F lines links i link linked there is other at = subst (λ (l : LinkRecord). IsLinked P F lines links l linked) (same_Some link other (sym there ∙ at)) is
+linked_at P F lines links i link linked there is other at =
+    subst (λ (l : LinkRecord). IsLinked P F lines links l linked) (same_Some link other (sym there ∙ at)) is
 
 -- the link of an index, and its numbers
 link_of : (links : List LinkRecord) (i : ℕ) → i < length links → (link : LinkRecord) × (slice_get links i ≡ Some link)
@@ -133,7 +159,8 @@ link_of [] i within = absurd (omega (arith, within))
 link_of (link ∷ links) zero within = (link, refl)
 link_of (link ∷ links) (suc i) within = link_of links i (omega (arith, within))
 
-pub numbers_of : (P : ℕ → Option (List ℕ) → Type 0) (F : Option ℕ → List FrameRecord → Type 0) (lines : LinesRecord) (links : List Link) (count : ℕ) (all : List Linked) (i : ℕ) (linked : Linked)
+pub numbers_of : (P : ℕ → Option (List ℕ) → Type 0) (F : Option ℕ → List FrameRecord → Type 0) (lines : LinesRecord)
+    (links : List Link) (count : ℕ) (all : List Linked) (i : ℕ) (linked : Linked)
     → AreLinked P F lines (links_view links) count all → i < length all → linked ≡ get_or all i linked → i < length links
     → (link : LinkRecord) × (slice_get (links_view links) i ≡ Some link) × IsLinked P F lines (links_view links) link linked
 numbers_of P F lines links count all i linked are within here inside =
@@ -141,7 +168,9 @@ numbers_of P F lines links count all i linked are within here inside =
     let there = link_of (links_view links) i (omega (arith, inside, n)) in
     (there.0, there.1, are.each i linked (slice_get_read all (length all) i linked refl within here) there.0 there.1)
 
-pub parts_still : (P P' : ℕ → Option (List ℕ) → Type 0) (Q Q' : ℕ → Option PathRecord → Type 0) (F F' : Option ℕ → List FrameRecord → Type 0) (lines : LinesRecord) (parts : UnitParts) → StillTells P P' → StillTells Q Q' → StillTells F F'
+pub parts_still : (P P' : ℕ → Option (List ℕ) → Type 0) (Q Q' : ℕ → Option PathRecord → Type 0)
+    (F F' : Option ℕ → List FrameRecord → Type 0) (lines : LinesRecord) (parts : UnitParts) → StillTells P P'
+    → StillTells Q Q' → StillTells F F'
     → ArePartsTold P Q F lines parts → ArePartsTold P' Q' F' lines parts
 parts_still P P' Q Q' F F' lines parts names paths frames told =
     record {
@@ -151,34 +180,43 @@ parts_still P P' Q Q' F F' lines parts names paths frames told =
     }
 
 -- the frames of a link with those of the links that it stands in
-pub frames_of_link : (lines : LinesRecord) (links : List LinkRecord) (place : SourceLocation) (number n : ℕ) (link : LinkRecord) (outer : List FrameRecord) → number ≡ suc n → slice_get links n ≡ Some link → link.caller ≤ n
+pub frames_of_link : (lines : LinesRecord) (links : List LinkRecord) (place : SourceLocation) (number n : ℕ)
+    (link : LinkRecord) (outer : List FrameRecord) → number ≡ suc n → slice_get links n ≡ Some link → link.caller ≤ n
     → AreFramesOfLink lines links link.call link.caller outer → AreFramesOfLink lines links place number (frame_at_place lines link.name place ∷ outer)
 frames_of_link lines links place number n link outer is at before are =
     subst (λ (m : ℕ). AreFramesOfLink lines links place m (frame_at_place lines link.name place ∷ outer)) (sym is) (link, at, omega (arith, before), refl, are)
 
-pub frames_with_link : (lines : LinesRecord) (links : List LinkRecord) (row : Option Row) (number n : ℕ) (frames : List FrameRecord) → number ≡ suc n → AreFramesOfLink lines links (location_of_row row) number frames
+pub frames_with_link : (lines : LinesRecord) (links : List LinkRecord) (row : Option Row) (number n : ℕ)
+    (frames : List FrameRecord) → number ≡ suc n → AreFramesOfLink lines links (location_of_row row) number frames
     → AreFramesOfRowAndLink lines links row number frames
 frames_with_link lines links None number n frames is are = rw is (rw is at are)
 frames_with_link lines links (Some row) number n frames is are = rw is (rw is at are)
 
-pub frames_of_row_alone : (lines : LinesRecord) (links : List LinkRecord) (row : Option Row) (number : ℕ) → number ≡ 0 → AreFramesOfRowAndLink lines links row number (row_frames lines row)
+pub frames_of_row_alone : (lines : LinesRecord) (links : List LinkRecord) (row : Option Row) (number : ℕ) → number ≡ 0
+    → AreFramesOfRowAndLink lines links row number (row_frames lines row)
 frames_of_row_alone lines links None number none = subst (λ (m : ℕ). AreFramesOfRowAndLink lines links None m []) (sym none) refl
-frames_of_row_alone lines links (Some row) number none = subst (λ (m : ℕ). AreFramesOfRowAndLink lines links (Some row) m (row_frames lines (Some row))) (sym none) refl
+frames_of_row_alone lines links (Some row) number none =
+    subst (λ (m : ℕ). AreFramesOfRowAndLink lines links (Some row) m (row_frames lines (Some row))) (sym none) refl
 
 -- one after another
 module _ (P : ℕ → Option (List ℕ) → Type 0) (F : Option ℕ → List FrameRecord → Type 0) (lines : LinesRecord) (links : List LinkRecord) where
-  pub linked_more : (all : List Linked) (next : Linked) → AreLinked P F lines links (length all) all → IsLinkedAt P F lines links (length all) next → AreLinked P F lines links (length (all ++ next ∷ [])) (all ++ next ∷ [])
+  pub linked_more : (all : List Linked) (next : Linked) → AreLinked P F lines links (length all) all
+      → IsLinkedAt P F lines links (length all) next → AreLinked P F lines links (length (all ++ next ∷ []))
+      (all ++ next ∷ [])
   linked_more all next are is =
       record {
         count_is = refl;
         each = λ i linked at.
             let within : i < length all + 1 = let w = slice_get_within (all ++ next ∷ []) i linked at in omega (arith, w, length_push all next) in
             elim (cases_lt i (length all)) [
-              | inl before ↦ are.each i linked (slice_get-get_or all i linked before ∙ ap Some (sym (get_or_append_left all (next ∷ []) linked i before) ∙ value i linked at))
+              | inl before ↦ are.each i linked (slice_get-get_or all i linked before
+                  ∙ ap Some (sym (get_or_append_left all (next ∷ []) linked i before) ∙ value i linked at))
               | inr not ↦
                   let e : i ≡ length all = omega (arith, within, not) in
                   let first : i - length all ≡ 0 = omega (arith, e) in
-                  let same : next ≡ linked = sym (ap (λ n. get_or (next ∷ []) n linked) first) ∙ (sym (get_or-append_right all (next ∷ []) (length all) i linked refl not) ∙ value i linked at) in
+                  let same : next ≡ linked = sym (ap (λ n. get_or (next ∷ []) n linked) first)
+                  ∙ (sym (get_or-append_right all (next ∷ []) (length all) i linked refl not) ∙ value i linked at)
+                  in
                   subst (λ (n : ℕ). IsLinkedAt P F lines links n linked) (sym e) (subst (λ (x : Linked). IsLinkedAt P F lines links (length all) x) same is)
             ];
       }

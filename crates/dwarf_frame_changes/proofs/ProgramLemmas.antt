@@ -39,7 +39,8 @@ pub record AreListed (before now : tree_map.BTreeMap ℕ AddressList) (all : Lis
   pub gone : (place : ℕ) → Contains (places all) place → at now place ≡ None
   pub once : AreDistinct (places all)
 
-module _ (before now next : tree_map.BTreeMap ℕ AddressList) (all : List UnitBoundaries) (unit : UnitBoundaries) (list : AddressList) (far : AreListed before now all)
+module _ (before now next : tree_map.BTreeMap ℕ AddressList) (all : List UnitBoundaries) (unit : UnitBoundaries)
+    (list : AddressList) (far : AreListed before now all)
     (here : at now unit.place ≡ Some list) (gone : at next unit.place ≡ None) (others : (other : ℕ) → other ≢ unit.place → at next other ≡ at now other)
     (rising : AreRising unit.boundaries.items) (same : (a : ℕ) → Contains unit.boundaries.items a ↔ Contains list.addresses.items a) where
   split : places (all ++ unit ∷ []) ≡ places all ++ unit.place ∷ []
@@ -102,7 +103,8 @@ module _ (before now next : tree_map.BTreeMap ℕ AddressList) (all : List UnitB
   }
 
 -- no unit is left
-all_listed : (before now : tree_map.BTreeMap ℕ AddressList) (all : List UnitBoundaries) → ((place : ℕ) → at now place ≡ None) → AreListed before now all → AreBoundariesBy before all
+all_listed : (before now : tree_map.BTreeMap ℕ AddressList) (all : List UnitBoundaries)
+    → ((place : ℕ) → at now place ≡ None) → AreListed before now all → AreBoundariesBy before all
 all_listed before now all none far = record {
   each = far.each;
   every = λ place a h. elim (far.every place a h) [
@@ -122,7 +124,9 @@ once_moved xs ys moved once =
     flips : (x y : ℕ) → eqb x y ≡ eqb y x
     flips x y = same_from_decides (eqb x y) (eqb y x) (Decides-eqb x y) (λ t. sym (eqb-true y x t), λ e. eq-eqb y x (sym e))
 
-pub in_order : (before now : tree_map.BTreeMap ℕ AddressList) (all sorted : List UnitBoundaries) → IsPermutation all sorted → ((place : ℕ) → at now place ≡ None) → AreListed before now all → AreBoundariesBy before sorted
+pub in_order : (before now : tree_map.BTreeMap ℕ AddressList) (all sorted : List UnitBoundaries)
+    → IsPermutation all sorted → ((place : ℕ) → at now place ≡ None) → AreListed before now all
+    → AreBoundariesBy before sorted
 in_order before now all sorted moved none far =
     let are = all_listed before now all none far in
     let moved_places : IsPermutation (places all) (places sorted) = IsPermutation-map (λ (u : UnitBoundaries). u.place) all sorted moved in
@@ -133,8 +137,10 @@ in_order before now all sorted moved none far =
     }
 
 -- the unit of an index
-pub listed_at : (by_unit : tree_map.BTreeMap ℕ AddressList) (all : List UnitBoundaries) (i : ℕ) (unit : UnitBoundaries) → AreBoundariesBy by_unit all → i < length all → unit ≡ get_or all i unit → IsListed by_unit unit
-listed_at by_unit all i unit are within here = subst (λ (u : UnitBoundaries). IsListed by_unit u) (sym here) (All-get_or (IsListed by_unit) all i unit within are.each)
+pub listed_at : (by_unit : tree_map.BTreeMap ℕ AddressList) (all : List UnitBoundaries) (i : ℕ) (unit : UnitBoundaries)
+    → AreBoundariesBy by_unit all → i < length all → unit ≡ get_or all i unit → IsListed by_unit unit
+listed_at by_unit all i unit are within here = subst (λ (u : UnitBoundaries). IsListed by_unit u) (sym here)
+    (All-get_or (IsListed by_unit) all i unit within are.each)
 
 pub place_at : (all : List UnitBoundaries) (i : ℕ) (unit : UnitBoundaries) → i < length all → unit ≡ get_or all i unit → unit.place ≡ get_or (places all) i 0
 place_at all i unit within here = ap (λ (u : UnitBoundaries). u.place) here ∙ sym (get_or-map (λ (u : UnitBoundaries). u.place) all i unit 0 within)
@@ -146,6 +152,7 @@ pub no_rows_at : (s : DebugSectionsRecord) → rows_at s None ≡ []
 unfolding rows_at
 no_rows_at s = refl
 
-pub rows_of_unit : (s : DebugSectionsRecord) (unit : UnitRecord) (lines : LinesRecord) (offset : Option ℕ) → lines ≡ lines_of s unit → offset ≡ program_offset unit unit.first.attributes.stmt_list → rows_of lines ≡ rows_at s offset
+pub rows_of_unit : (s : DebugSectionsRecord) (unit : UnitRecord) (lines : LinesRecord) (offset : Option ℕ) → lines
+    ≡ lines_of s unit → offset ≡ program_offset unit unit.first.attributes.stmt_list → rows_of lines ≡ rows_at s offset
 unfolding rows_at rows_of line_unit
 rows_of_unit s unit lines offset is at = ap rows_of is ∙ ap (rows_at s) (sym at)

@@ -35,15 +35,24 @@ step_count before (start ∷ starts) (value ∷ values) address (suc n) same is 
   | inl less ↦ let u = is.upto 0 (omega arith) in absurd (omega (arith, u, ltb-true address start less))
   | inr not ↦
       let w = is.within in
-      let rest : IsCountTo starts address n = record { within = omega (arith, w); upto = λ i h. is.upto (suc i) (omega (arith, h)); above = λ i h l. is.above (suc i) (omega (arith, h)) (omega (arith, l)) } in
+      let rest : IsCountTo starts address n = record {
+        within = omega (arith, w);
+        upto =
+            λ i h. is.upto (suc i) (omega (arith, h));
+        above =
+            λ i h l. is.above (suc i) (omega (arith, h)) (omega (arith, l));
+      } in
       rw not (step_count value starts values address n (omega (arith, same)) rest ∙ value_more before value values n (omega (arith, w, same)))
 ]
 
-pub step_none : {A : Type 0} (before : A) (starts : List ℕ) (values : List A) (address count : ℕ) → length values ≡ length starts → count ≡ 0 → IsCountTo starts address count
+pub step_none : {A : Type 0} (before : A) (starts : List ℕ) (values : List A) (address count : ℕ) → length values
+    ≡ length starts → count ≡ 0 → IsCountTo starts address count
     → before ≡ at_step before starts values address
 step_none before starts values address count same none is = sym (step_count before starts values address count same is ∙ ap (value_of before values) none)
 
-pub step_some : {A : Type 0} (before found : A) (starts : List ℕ) (values : List A) (address count n : ℕ) → length values ≡ length starts → count ≡ n + 1 → n < length values → found ≡ get_or values n found → IsCountTo starts address count
+pub step_some : {A : Type 0} (before found : A) (starts : List ℕ) (values : List A) (address count n : ℕ)
+    → length values ≡ length starts → count ≡ n + 1 → n < length values → found ≡ get_or values n found
+    → IsCountTo starts address count
     → found ≡ at_step before starts values address
 step_some before found starts values address count n same some within here is =
     here ∙ get_or_default values n found before within ∙ sym (step_count before starts values address count same is ∙ ap (value_of before values) more)
@@ -68,7 +77,8 @@ count_at_start starts i rising within =
 -- ---- the next start
 
 -- a start above an address is not before the first of them
-later_start : (starts : List ℕ) (address count a : ℕ) → IsCountTo starts address count → Contains starts a → address < a → (i : ℕ) × (count ≤ i) × (i < length starts) × (get_or starts i 0 ≡ a)
+later_start : (starts : List ℕ) (address count a : ℕ) → IsCountTo starts address count → Contains starts a → address < a
+    → (i : ℕ) × (count ≤ i) × (i < length starts) × (get_or starts i 0 ≡ a)
 later_start starts address count a is (i, within, here) above =
     let at : get_or starts i 0 ≡ a = get_or_default starts i 0 a within ∙ here in
     elim (cases_lt i count) [
@@ -92,7 +102,8 @@ within_of starts count next some = elim (cases_lt count (length starts)) [
 ]
 
 -- a number from an address on, up to the next start, has the same count
-count_upto : (starts : List ℕ) (address count next : ℕ) → AreRising starts → IsCountTo starts address count → address < next → ((first : ℕ) → Some first ≡ slice_get starts count → next ≤ first)
+count_upto : (starts : List ℕ) (address count next : ℕ) → AreRising starts → IsCountTo starts address count
+    → address < next → ((first : ℕ) → Some first ≡ slice_get starts count → next ≤ first)
     → IsCountBelow starts next count
 count_upto starts address count next rising is above upto =
     record {
@@ -108,12 +119,14 @@ count_upto starts address count next rising is above upto =
     }
 
 -- and so it is not below a number of the same count
-not_before : (starts : List ℕ) (address count next a : ℕ) → IsCountTo starts address count → IsCountBelow starts next count → Contains starts a → address < a → next ≤ a
+not_before : (starts : List ℕ) (address count next a : ℕ) → IsCountTo starts address count
+    → IsCountBelow starts next count → Contains starts a → address < a → next ≤ a
 not_before starts address count next a to is h above =
     let at = later_start starts address count a to h above in
     let l = is.above at.0 at.1 at.2 in let e = at.3 in omega (arith, l, e)
 
-module _ (rows links : List ℕ) (row link address : ℕ) (rows_rise : AreRising rows) (links_rise : AreRising links) (rows_to : IsCountTo rows address row) (links_to : IsCountTo links address link) where
+module _ (rows links : List ℕ) (row link address : ℕ) (rows_rise : AreRising rows) (links_rise : AreRising links)
+    (rows_to : IsCountTo rows address row) (links_to : IsCountTo links address link) where
   next_by : (next : ℕ) → address < next → IsStart rows links next
       → ((first : ℕ) → Some first ≡ slice_get rows row → next ≤ first) → ((first : ℕ) → Some first ≡ slice_get links link → next ≤ first)
       → IsNextStart rows links address row link (Some next)
@@ -173,7 +186,8 @@ parted starts a rising i j d below within holds = elim (cases_Bool (nat_lt i j))
       subst (λ (k : ℕ). nat_le (get_or starts k d) a ≡ true) (sym same) holds
 ]
 
-pub count_of_point : (starts : List ℕ) (a n : ℕ) → n ≤ length starts → IsPartitionPoint (λ t. nat_le t a ≡ true) (λ t. nat_le t a ≡ false) starts n → IsCountTo starts a n
+pub count_of_point : (starts : List ℕ) (a n : ℕ) → n ≤ length starts
+    → IsPartitionPoint (λ t. nat_le t a ≡ true) (λ t. nat_le t a ≡ false) starts n → IsCountTo starts a n
 count_of_point starts a n within point =
     record {
       within = within;
@@ -181,7 +195,8 @@ count_of_point starts a n within point =
       above = λ i from inside. let l = leb-false (get_or starts i 0) a (point.1 i 0 from inside) in omega (arith, l);
     }
 
-pub next_above : (starts : List ℕ) (address count : ℕ) (found : Option ℕ) → AreRising starts → IsCountTo starts address count → found ≡ slice_get starts count → IsNextAbove starts address found
+pub next_above : (starts : List ℕ) (address count : ℕ) (found : Option ℕ) → AreRising starts
+    → IsCountTo starts address count → found ≡ slice_get starts count → IsNextAbove starts address found
 next_above starts address count None rising is e = λ a h. none_after starts address count a is e h
 next_above starts address count (Some next) rising is e =
     let at = within_of starts count next e in

@@ -50,7 +50,8 @@ of_element f (y ∷ ys) zero x t e h =
     Contains-append_left (f y) (flat_map f ys) t (subst (λ z. Contains (f z) t) same h)
 of_element f (y ∷ ys) (suc i) x t e h = Contains-append_right (f y) (flat_map f ys) t (of_element f ys i x t e h)
 
-pub free_element : {X : Type 0} (Such : ℕ → Type 0) (f : X → List ℕ) (xs : List X) (i : ℕ) (x : X) → Avoids Such (flat_map f xs) → slice_get xs i ≡ Some x → Avoids Such (f x)
+pub free_element : {X : Type 0} (Such : ℕ → Type 0) (f : X → List ℕ) (xs : List X) (i : ℕ) (x : X)
+    → Avoids Such (flat_map f xs) → slice_get xs i ≡ Some x → Avoids Such (f x)
 free_element Such f xs i x free e = record { none = λ t h. free.none t (of_element f xs i x t e h) }
 
 -- an element of a list that is mapped
@@ -117,7 +118,8 @@ none_in_ranges a (r ∷ rs) free =
     ]
 
 -- the first element that passes either of two tests that agree
-pub same_find : {X : Type 0} (p q : X → Bool) (Such : ℕ → Type 0) (f : X → List ℕ) (xs : List X) → ((x : X) → Avoids Such (f x) → p x ≡ q x) → Avoids Such (flat_map f xs) → find p xs ≡ find q xs
+pub same_find : {X : Type 0} (p q : X → Bool) (Such : ℕ → Type 0) (f : X → List ℕ) (xs : List X)
+    → ((x : X) → Avoids Such (f x) → p x ≡ q x) → Avoids Such (flat_map f xs) → find p xs ≡ find q xs
 same_find p q Such f [] agree free = refl
 same_find p q Such f (x ∷ xs) agree free =
     let here = agree x (free_left Such (f x) (flat_map f xs) free) in
@@ -154,7 +156,8 @@ tuple_back a b t less free has = elim (side a b t.address (λ x y. free.none t.a
   | inr above ↦ absurd (omega arith)
 ]
 
-pub first_tuple_stays : (a b : ℕ) (ts : List Arange) (found : Option Arange) → a < b → b < 2 ^ 64 → IsFree a b (flat_map ends_of_tuple ts) → IsFirstTuple ts a found → IsFirstTuple ts b found
+pub first_tuple_stays : (a b : ℕ) (ts : List Arange) (found : Option Arange) → a < b → b < 2 ^ 64
+    → IsFree a b (flat_map ends_of_tuple ts) → IsFirstTuple ts a found → IsFirstTuple ts b found
 first_tuple_stays a b ts None less fits free is = λ i t e has.
     is i t e (tuple_back a b t less (free_element (IsBetween a b) ends_of_tuple ts i t free e) has)
 first_tuple_stays a b ts (Some t) less fits free is = (
@@ -167,13 +170,16 @@ first_tuple_stays a b ts (Some t) less fits free is = (
 abbrev own : DebugSectionsRecord → ℕ × List ℕ → List CodeRange
 own s u = own_ranges s u.0 u.1
 
-pub place_by_ranges_stays : (s : DebugSectionsRecord) (a b : ℕ) → a < b → IsFree a b (flat_map (λ u. ends_of (own s u)) (placed unit_at s.debug_info)) → place_by_ranges s a ≡ place_by_ranges s b
+pub place_by_ranges_stays : (s : DebugSectionsRecord) (a b : ℕ) → a < b
+    → IsFree a b (flat_map (λ u. ends_of (own s u)) (placed unit_at s.debug_info)) → place_by_ranges s a
+    ≡ place_by_ranges s b
 place_by_ranges_stays s a b less free =
     ap (option_map (λ (u : ℕ × List ℕ). u.0))
     (same_find (λ u. in_ranges a (own s u)) (λ u. in_ranges b (own s u)) (IsBetween a b) (λ u. ends_of (own s u)) (placed unit_at s.debug_info)
     (λ u h. same_in_ranges a b (own s u) less h) free)
 
-pub unit_stays : (s : DebugSectionsRecord) (a b : ℕ) (place : Option ℕ) → a < b → b < 2 ^ 64 → IsFree a b (boundaries s) → IsUnitOf s a place → IsUnitOf s b place
+pub unit_stays : (s : DebugSectionsRecord) (a b : ℕ) (place : Option ℕ) → a < b → b < 2 ^ 64 → IsFree a b (boundaries s)
+    → IsUnitOf s a place → IsUnitOf s b place
 unfolding boundaries
 unit_stays s a b place less fits free is =
     let tuples = flat_map ends_of_tuple (aranges_of s.debug_aranges) in
@@ -188,22 +194,26 @@ unit_stays s a b place less fits free is =
 abbrev scope_ends : ScopeRecord → List ℕ
 scope_ends scope = ends_of scope.ranges
 
-contains_by : (a b i : ℕ) (scopes : List ScopeRecord) (found : Option ScopeRecord) → a < b → IsFree a b (flat_map scope_ends scopes) → slice_get scopes i ≡ found
+contains_by : (a b i : ℕ) (scopes : List ScopeRecord) (found : Option ScopeRecord) → a < b
+    → IsFree a b (flat_map scope_ends scopes) → slice_get scopes i ≡ found
     → option_map_or (λ s. in_ranges a s.ranges) found false ≡ option_map_or (λ s. in_ranges b s.ranges) found false
 contains_by a b i scopes None less free e = refl
 contains_by a b i scopes (Some scope) less free e = same_in_ranges a b scope.ranges less (free_element (IsBetween a b) scope_ends scopes i scope free e)
 
-pub contains_stays : (a b : ℕ) (scopes : List ScopeRecord) (i : ℕ) → a < b → IsFree a b (flat_map scope_ends scopes) → contains_at a scopes i ≡ contains_at b scopes i
+pub contains_stays : (a b : ℕ) (scopes : List ScopeRecord) (i : ℕ) → a < b → IsFree a b (flat_map scope_ends scopes)
+    → contains_at a scopes i ≡ contains_at b scopes i
 contains_stays a b scopes i less free = contains_by a b i scopes (slice_get scopes i) less free refl
 
-first_stays : (a b : ℕ) (scopes : List ScopeRecord) (outer : Option ℕ) (i : ℕ) → ((j : ℕ) → contains_at a scopes j ≡ contains_at b scopes j) → IsFirst a scopes outer i → IsFirst b scopes outer i
+first_stays : (a b : ℕ) (scopes : List ScopeRecord) (outer : Option ℕ) (i : ℕ)
+    → ((j : ℕ) → contains_at a scopes j ≡ contains_at b scopes j) → IsFirst a scopes outer i → IsFirst b scopes outer i
 first_stays a b scopes outer i same is = record {
   within = is.within;
   contains = sym (same i) ∙ is.contains;
   first = λ before l within contains. is.first before l within (same before ∙ contains);
 }
 
-chain_stays : (room a b : ℕ) (scopes : List ScopeRecord) (outer : Option ℕ) (chain : List EntryRecord) → ((j : ℕ) → contains_at a scopes j ≡ contains_at b scopes j)
+chain_stays : (room a b : ℕ) (scopes : List ScopeRecord) (outer : Option ℕ) (chain : List EntryRecord)
+    → ((j : ℕ) → contains_at a scopes j ≡ contains_at b scopes j)
     → IsChainWithin room a scopes outer chain → IsChainWithin room b scopes outer chain
 chain_stays zero a b scopes outer chain same is = is
 chain_stays (suc room) a b scopes outer [] same is = λ i within contains. is i within (same i ∙ contains)
@@ -230,14 +240,16 @@ covers_back a b rows i row less free is = elim (free_row a b rows i row free is.
   | inr above ↦ absurd (omega (arith, is.above))
 ]
 
-pub covering_stays : (a b : ℕ) (rows : List Row) (found : Option Row) → a < b → IsFree a b (map address rows) → IsCovering rows a found → IsCovering rows b found
+pub covering_stays : (a b : ℕ) (rows : List Row) (found : Option Row) → a < b → IsFree a b (map address rows)
+    → IsCovering rows a found → IsCovering rows b found
 covering_stays a b rows None less free is = λ i row covers. is i row (covers_back a b rows i row less free covers)
 covering_stays a b rows (Some row) less free is =
     (is.0, covers_there a b rows is.0 row less free is.1, λ before other l covers. is.2 before other l (covers_back a b rows before other less free covers))
 
 -- ---- the frames
 
-pub frames_in_unit_stay : (s : DebugSectionsRecord) (unit : UnitRecord) (a b : ℕ) (frames : List FrameRecord) → a < b → IsFree a b (unit_turns s unit) → AreFramesInUnit s unit a frames → AreFramesInUnit s unit b frames
+pub frames_in_unit_stay : (s : DebugSectionsRecord) (unit : UnitRecord) (a b : ℕ) (frames : List FrameRecord) → a < b
+    → IsFree a b (unit_turns s unit) → AreFramesInUnit s unit a frames → AreFramesInUnit s unit b frames
 unfolding unit_turns
 frames_in_unit_stay s unit a b frames less free are =
     let scopes = flat_map scope_ends (scopes_of s unit) in
@@ -265,7 +277,8 @@ module _ (s : DebugSectionsRecord) (a b : ℕ) (fits : b < 2 ^ 64) (none : (turn
         none turn l.0 l.1 (omega (arith, l.1), inr (unit, record { place = place; is_unit = unit_between turn (Some place) l.0 l.1 is; read = read }, h));
   }
 
-  stay_in : (place : Option ℕ) (unit : Option UnitRecord) (frames : List FrameRecord) → a < b → IsUnitOf s a place → unit ≡ option_and_then (read_unit s) place → AreFramesIn s unit a frames → AreFramesIn s unit b frames
+  stay_in : (place : Option ℕ) (unit : Option UnitRecord) (frames : List FrameRecord) → a < b → IsUnitOf s a place
+      → unit ≡ option_and_then (read_unit s) place → AreFramesIn s unit a frames → AreFramesIn s unit b frames
   stay_in place None frames less is e are = are
   stay_in None (Some unit) frames less is e are = absurd (none-some unit (sym e))
   stay_in (Some place) (Some unit) frames less is e are = frames_in_unit_stay s unit a b frames less (unit_free unit place is e) are
@@ -293,7 +306,8 @@ unit_none_before s a free =
     ∙ find_none (placed unit_at s.debug_info) in
     (None, no_tuple a (aranges_of s.debug_aranges) (free_left Such tuples units free), sym (ap (option_map (λ (u : ℕ × List ℕ). u.0)) found))
 
-pub no_frames_before : (s : DebugSectionsRecord) (a : ℕ) (frames : List FrameRecord) → a < 2 ^ 64 → ((turn : ℕ) → turn ≤ a → IsTurnBy s turn → ⊥) → AreFramesBy s a frames → frames ≡ []
+pub no_frames_before : (s : DebugSectionsRecord) (a : ℕ) (frames : List FrameRecord) → a < 2 ^ 64
+    → ((turn : ℕ) → turn ≤ a → IsTurnBy s turn → ⊥) → AreFramesBy s a frames → frames ≡ []
 no_frames_before s a frames fits none are =
     let free : Avoids (λ t. t ≤ a) (boundaries s) = record { none = λ turn h l. none turn l (omega (arith, l), inl h) } in
     let place = one_place s a are.place None are.is_unit (unit_none_before s a free) in

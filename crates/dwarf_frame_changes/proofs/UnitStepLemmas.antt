@@ -73,7 +73,9 @@ module _ (s : DebugSectionsRecord) (starts : List ℕ) (places : List (Option �
   ]
 
 -- among the first so many numbers, one is the last not above an address, or all are above it
-last_below : (starts : List ℕ) (a n : ℕ) → n ≤ length starts → ((k : ℕ) → n ≤ k → k < length starts → a < get_or starts k 0) → ((m : ℕ) × IsLast starts a m) ⊎ ((k : ℕ) → k < length starts → a < get_or starts k 0)
+last_below : (starts : List ℕ) (a n : ℕ) → n ≤ length starts
+    → ((k : ℕ) → n ≤ k → k < length starts → a < get_or starts k 0) → ((m : ℕ) × IsLast starts a m)
+    ⊎ ((k : ℕ) → k < length starts → a < get_or starts k 0)
 last_below starts a zero within above = inr (λ k inside. above k (omega arith) inside)
 last_below starts a (suc n) within above = elim (cases_lt a (get_or starts n 0)) [
   | inl past ↦ last_below starts a n (omega arith) (λ k from inside. elim (cases_lt n k) [
@@ -101,9 +103,20 @@ module _ (s : DebugSectionsRecord) (starts : List ℕ) (places : List (Option �
   ]
 
 -- the last boundary not above an address that has a unit is one of this unit
-pub last_step : (s : DebugSectionsRecord) (starts : List ℕ) (places : List (Option ℕ)) (a place : ℕ) → AreUnitSteps s starts places → a < 2 ^ 64 → IsUnitOf s a (Some place)
+pub last_step : (s : DebugSectionsRecord) (starts : List ℕ) (places : List (Option ℕ)) (a place : ℕ)
+    → AreUnitSteps s starts places → a < 2 ^ 64 → IsUnitOf s a (Some place)
     → (n : ℕ) × IsLast starts a n × IsPlaced starts places (get_or starts n 0) (Some place)
 last_step s starts places a place steps fits is = elim (last_below starts a (length starts) (omega arith) (λ k from inside. absurd (omega arith))) [
-  | inl last ↦ (last.0, last.1, (last.0, last.1.within, refl, one_place s a (get_or places last.0 None) (Some place) (unit_at_last s starts places a steps last.0 fits last.1) is))
+  | inl last ↦ (
+    last.0,
+    last.1,
+    (
+      last.0,
+      last.1.within,
+      refl,
+      one_place s a (get_or places last.0 None) (Some place) (unit_at_last s starts places a steps last.0 fits last.1)
+          is,
+    ),
+  )
   | inr above ↦ absurd (none-some place (one_place s a None (Some place) (nowhere s starts places a steps above) is))
 ]

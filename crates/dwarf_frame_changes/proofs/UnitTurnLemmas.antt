@@ -26,11 +26,13 @@ use Rattle.dwarf_frame_changes.proofs.StayLemmas.{IsFree, unit_stays}
 use Rattle.dwarf_frame_changes.proofs.UnitStepLemmas.{own_is, step_boundary, step_unit, last_step, none_after_last}
 use Rattle.dwarf_frame_changes.proofs.StartLemmas.{count_at_start, step_some}
 
-module _ (s : DebugSectionsRecord) (unit : UnitRecord) (parts : PartsRecord) (lines_are : parts.lines ≡ lines_of s unit) (row_steps : AreRowSteps (rows_of parts.lines) parts.row_starts parts.rows)
+module _ (s : DebugSectionsRecord) (unit : UnitRecord) (parts : PartsRecord) (lines_are : parts.lines ≡ lines_of s unit)
+    (row_steps : AreRowSteps (rows_of parts.lines) parts.row_starts parts.rows)
     (link_steps : AreLinkSteps s unit parts.links parts.link_starts parts.numbers) where
   frames_in : (a : ℕ) (frames : List FrameRecord) → AreFramesAt parts a frames → AreFramesInUnit s unit a frames
   frames_in a frames are =
-      frames_in_unit s unit parts.lines parts.links a (at_step 0 parts.link_starts parts.numbers a) (at_step None parts.row_starts parts.rows a) frames lines_are (link_steps.each a) (row_steps.each a) are
+      frames_in_unit s unit parts.lines parts.links a (at_step 0 parts.link_starts parts.numbers a)
+      (at_step None parts.row_starts parts.rows a) frames lines_are (link_steps.each a) (row_steps.each a) are
 
   abbrev scope_turns : List ℕ
   scope_turns = flat_map (λ scope. ends_of scope.ranges) (scopes_of s unit)
@@ -65,14 +67,22 @@ module _ (s : DebugSectionsRecord) (unit : UnitRecord) (parts : PartsRecord) (li
       let l : i < length parts.link_starts = let c = link_steps.count in omega (arith, c, h) in
       let to : IsCountTo parts.link_starts start (i + 1) = count_at_start parts.link_starts i link_steps.rising l in
       let here : get_or parts.numbers i 0 ≡ at_step 0 parts.link_starts parts.numbers start =
-      step_some 0 (get_or parts.numbers i 0) parts.link_starts parts.numbers start (i + 1) i link_steps.count refl h (get_or_default parts.numbers i 0 (get_or parts.numbers i 0) h) to in
+      step_some 0 (get_or parts.numbers i 0) parts.link_starts parts.numbers start (i + 1) i link_steps.count refl h
+      (get_or_default parts.numbers i 0 (get_or parts.numbers i 0) h) to in
       let link : IsLinkOf s unit parts.links start (at_step 0 parts.link_starts parts.numbers start) = link_steps.each start in
       let w = number_within s unit parts.links (at_step 0 parts.link_starts parts.numbers start) (reverse link.chain) link.are_entries in omega (arith, here, w)
 
   pub are_steps : AreSteps parts
-  are_steps = record { rows_rise = row_steps.rising; links_rise = link_steps.rising; row_count = row_steps.count; number_count = link_steps.count; within = step_within }
+  are_steps = record {
+    rows_rise = row_steps.rising;
+    links_rise = link_steps.rising;
+    row_count = row_steps.count;
+    number_count = link_steps.count;
+    within = step_within;
+  }
 
-  module _ (place : ℕ) (read : Some unit ≡ read_unit s place) (starts : List ℕ) (places : List (Option ℕ)) (steps : AreUnitSteps s starts places) (froms : List ℕ)
+  module _ (place : ℕ) (read : Some unit ≡ read_unit s place) (starts : List ℕ) (places : List (Option ℕ))
+      (steps : AreUnitSteps s starts places) (froms : List ℕ)
       (given : (a : ℕ) → Contains froms a ↔ IsPlaced starts places a (Some place)) where
     free_from : (from a : ℕ) → ((t : ℕ) → Contains starts t → from < t → a < t) → IsFree from a (boundaries s)
     free_from from a none = record { none = λ t h l. let u = none t ((steps.all t).1 h) l.0 in let v = l.1 in omega (arith, u, v) }

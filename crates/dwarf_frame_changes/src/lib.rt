@@ -7,9 +7,9 @@
 //! each unit those of these addresses whose unit it is.
 //!
 //! The modules in reading order: `unit_boundaries`, where the units change; `unit_steps`, the unit of each address;
-//! `taker`, [`FrameTaker`], what takes turns with their frames, told by number; `names` and `numbers`, those of the names, paths and links of a unit; `next_start` and `merging`, the turns
-//! of a unit from one boundary to the next; `unit_by_unit`, [`give_turns`], all turns of an image; `laws`, that the
-//! frames stay the same between two turns.
+//! `taker`, [`FrameTaker`], what takes turns with their frames, told by number; `names` and `numbers`, those of the
+//! names, paths and links of a unit; `next_start` and `merging`, the turns of a unit from one boundary to the next;
+//! `unit_by_unit`, [`give_turns`], all turns of an image; `laws`, that the frames stay the same between two turns.
 #![tactic(auto)]
 
 pub mod laws;

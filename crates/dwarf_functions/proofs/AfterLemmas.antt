@@ -13,7 +13,8 @@ pub from_with : (before : ℕ) (scope : ScopeRecord) (rest : List ScopeRecord) �
 unfolding functions_from
 from_with before scope rest has = rw has refl
 
-pub from_bare : (before : ℕ) (scope : ScopeRecord) (rest : List ScopeRecord) → nat_le 1 (length scope.ranges) ≡ false → functions_from before (scope ∷ rest) ≡ functions_from before rest
+pub from_bare : (before : ℕ) (scope : ScopeRecord) (rest : List ScopeRecord) → nat_le 1 (length scope.ranges) ≡ false
+    → functions_from before (scope ∷ rest) ≡ functions_from before rest
 unfolding functions_from
 from_bare before scope rest bare = rw bare refl
 
@@ -26,16 +27,19 @@ pub after_none : (room a : ℕ) (end : Option ℕ) (index : ℕ) → functions_a
 unfolding functions_after
 after_none room a end index = refl
 
-pub after_past : (room a : ℕ) (end : Option ℕ) (index : ℕ) (f : FunctionRecord) (fs : List FunctionRecord) → is_past end index ≡ true → functions_after (suc room) a end index (f ∷ fs) ≡ []
+pub after_past : (room a : ℕ) (end : Option ℕ) (index : ℕ) (f : FunctionRecord) (fs : List FunctionRecord)
+    → is_past end index ≡ true → functions_after (suc room) a end index (f ∷ fs) ≡ []
 unfolding functions_after
 after_past room a end index f fs past = rw past refl
 
-pub after_here : (room a : ℕ) (end : Option ℕ) (index : ℕ) (f : FunctionRecord) (fs : List FunctionRecord) → is_past end index ≡ false → in_ranges a f.ranges ≡ true
+pub after_here : (room a : ℕ) (end : Option ℕ) (index : ℕ) (f : FunctionRecord) (fs : List FunctionRecord)
+    → is_past end index ≡ false → in_ranges a f.ranges ≡ true
     → functions_after (suc room) a end index (f ∷ fs) ≡ f ∷ functions_after room a (Some f.end) (index + 1) fs
 unfolding functions_after
 after_here room a end index f fs past has = rw (past, has) refl
 
-pub after_skip : (room a : ℕ) (end : Option ℕ) (index : ℕ) (f : FunctionRecord) (fs : List FunctionRecord) → is_past end index ≡ false → in_ranges a f.ranges ≡ false
+pub after_skip : (room a : ℕ) (end : Option ℕ) (index : ℕ) (f : FunctionRecord) (fs : List FunctionRecord)
+    → is_past end index ≡ false → in_ranges a f.ranges ≡ false
     → functions_after (suc room) a end index (f ∷ fs) ≡ functions_after (suc room) a end (index + 1) fs
 unfolding functions_after
 after_skip room a end index f fs past not = rw (past, not) refl

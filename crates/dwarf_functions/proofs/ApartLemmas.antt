@@ -1,5 +1,6 @@
 -- Ranges of a function in the order of their lows, each taken from where those before it end.
-use Rattle.std.proofs.Common.{◌≡◌, ℕ, ◌+◌, ◌<◌, ◌≤◌, ◌⊎◌, ◌&&◌, ◌||◌, Bool, true, nat_le, nat_lt, max, List, [], ◌∷◌, ◌++◌, length, get_or, take, sym, ap, subst, ◌∙◌, inl, inr, arith}
+use Rattle.std.proofs.Common.{◌≡◌, ℕ, ◌+◌, ◌<◌, ◌≤◌, ◌⊎◌, ◌&&◌, ◌||◌, Bool, true, nat_le, nat_lt, max, List, [], ◌∷◌}
+use Rattle.std.proofs.Common.{◌++◌, length, get_or, take, sym, ap, subst, ◌∙◌, inl, inr, arith}
 use Rattle.std.specs.List.Sorted.{IsNonDecreasingBy}
 use Rattle.std.proofs.lemmas.Bool.{cases_Bool, cases_lt, false_from_ne_true, or_cases, or_left, or_right}
 use Rattle.std.proofs.lemmas.List.{get_or-take, get_or_append_left, get_or_default, length-take-le, length_push, take_more}
@@ -23,7 +24,8 @@ same_test x y to from = elim (cases_Bool x) [
 in_push : (a : ℕ) (ranges : List CodeRange) (r : CodeRange) → in_ranges a (ranges ++ r ∷ []) ≡ (in_ranges a ranges || in_ranges a (r ∷ []))
 in_push a ranges r = list_any-append (λ (r : CodeRange). nat_le r.low a && nat_lt a r.high) ranges (r ∷ [])
 
-pub push_cases : (a : ℕ) (ranges : List CodeRange) (r : CodeRange) → in_ranges a (ranges ++ r ∷ []) ≡ true → (in_ranges a ranges ≡ true) ⊎ (in_ranges a (r ∷ []) ≡ true)
+pub push_cases : (a : ℕ) (ranges : List CodeRange) (r : CodeRange) → in_ranges a (ranges ++ r ∷ []) ≡ true
+    → (in_ranges a ranges ≡ true) ⊎ (in_ranges a (r ∷ []) ≡ true)
 push_cases a ranges r is = or_cases (in_ranges a ranges) (in_ranges a (r ∷ [])) (sym (in_push a ranges r) ∙ is)
 
 pub push_before : (a : ℕ) (ranges : List CodeRange) (r : CodeRange) → in_ranges a ranges ≡ true → in_ranges a (ranges ++ r ∷ []) ≡ true
@@ -51,7 +53,8 @@ taken_none = record {
   are_apart = λ i j d less within. absurd (omega (arith, within));
 }
 
-module _ (taken apart : List CodeRange) (reached : ℕ) (r : CodeRange) (so_far : AreTaken taken apart reached) (lowest : (k : ℕ) (d : CodeRange) → k < length taken → (get_or taken k d).low ≤ r.low) where
+module _ (taken apart : List CodeRange) (reached : ℕ) (r : CodeRange) (so_far : AreTaken taken apart reached)
+    (lowest : (k : ℕ) (d : CodeRange) → k < length taken → (get_or taken k d).low ≤ r.low) where
   abbrev part : CodeRange
   part = record { low = max r.low reached; high = r.high }
 
@@ -71,7 +74,9 @@ module _ (taken apart : List CodeRange) (reached : ℕ) (r : CodeRange) (so_far 
     | inr from ↦ push_last a apart part (in_part a low from high)
   ]
 
-  low_before : (a : ℕ) → ((k : ℕ) (d : CodeRange) → k < length (taken ++ r ∷ []) → (get_or (taken ++ r ∷ []) k d).low ≤ a) → (k : ℕ) (d : CodeRange) → k < length taken → (get_or taken k d).low ≤ a
+  low_before : (a : ℕ) → ((k : ℕ) (d : CodeRange) → k < length (taken ++ r ∷ [])
+      → (get_or (taken ++ r ∷ []) k d).low ≤ a) → (k : ℕ) (d : CodeRange) → k < length taken
+      → (get_or taken k d).low ≤ a
   low_before a low k d h =
       let n = length_push taken r in
       let is = low k d (omega (arith, n, h)) in
@@ -110,12 +115,16 @@ module _ (taken apart : List CodeRange) (reached : ℕ) (r : CodeRange) (so_far 
       | inr from ↦ in_range a (low_last a low) (omega (arith, less, from))
     ];
     below = below_more;
-    are_apart = all_pairs_push (λ (x y : CodeRange). x.high ≤ y.low) apart part so_far.are_apart (λ k d h. let b = so_far.below k d h in let first : (get_or apart k d).high ≤ max r.low reached = omega (arith, b) in first);
+    are_apart = all_pairs_push (λ (x y : CodeRange). x.high ≤ y.low) apart part so_far.are_apart
+        (λ k d h. let b = so_far.below k d h in let first : (get_or apart k d).high ≤ max r.low reached =
+        omega (arith, b) in first);
   }
 
 -- the step of a loop over ranges in the order of their lows
-pub taken_next : (sorted apart now : List CodeRange) (i reached low next : ℕ) (d : CodeRange) → IsNonDecreasingBy (λ (r : CodeRange). r.low) sorted → i < length sorted → AreTaken (take i sorted) apart reached
-    → low ≡ max (get_or sorted i d).low reached → next ≡ max (get_or sorted i d).high reached → now ≡ apart ++ record { low = low; high = (get_or sorted i d).high } ∷ [] → AreTaken (take (i + 1) sorted) now next
+pub taken_next : (sorted apart now : List CodeRange) (i reached low next : ℕ) (d : CodeRange)
+    → IsNonDecreasingBy (λ (r : CodeRange). r.low) sorted → i < length sorted → AreTaken (take i sorted) apart reached
+    → low ≡ max (get_or sorted i d).low reached → next ≡ max (get_or sorted i d).high reached → now ≡ apart
+    ++ record { low = low; high = (get_or sorted i d).high } ∷ [] → AreTaken (take (i + 1) sorted) now next
 taken_next sorted apart now i reached low next d rising within so_far low_is next_is now_is =
     let r : CodeRange = get_or sorted i d in
     let count : length (take i sorted) ≡ i = length-take-le i sorted (omega (arith, within)) in
@@ -123,7 +132,8 @@ taken_next sorted apart now i reached low next d rising within so_far low_is nex
     λ k e h.
     let less : k < i = omega (arith, h, count) in
     let inside : k < length sorted = omega (arith, less, within) in
-    subst (λ (x : CodeRange). x.low ≤ r.low) (sym (get_or-take i sorted k e less ∙ get_or_default sorted k e d inside)) (rising k i d (omega (arith, less)) within) in
+    subst (λ (x : CodeRange). x.low ≤ r.low) (sym (get_or-take i sorted k e less ∙ get_or_default sorted k e d inside))
+    (rising k i d (omega (arith, less)) within) in
     let more = taken_more (take i sorted) apart reached r so_far lowest in
     let is : now ≡ apart ++ record { low = max r.low reached; high = r.high } ∷ [] =
     now_is ∙ ap (λ n. apart ++ record { low = n; high = r.high } ∷ []) low_is in

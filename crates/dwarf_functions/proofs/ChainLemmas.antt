@@ -1,5 +1,6 @@
 -- The functions of the chain of an address are those of its entries.
-use Rattle.std.proofs.Common.{◌≡◌, ℕ, zero, suc, ◌+◌, ◌-◌, ◌<◌, ◌≤◌, ◌⊎◌, true, false, nat_le, List, [], ◌∷◌, length, map, slice_get, Option, Some, None, refl, sym, ap, subst, ◌∙◌, inl, inr, arith}
+use Rattle.std.proofs.Common.{◌≡◌, ℕ, zero, suc, ◌+◌, ◌-◌, ◌<◌, ◌≤◌, ◌⊎◌, true, false, nat_le, List, [], ◌∷◌, length}
+use Rattle.std.proofs.Common.{map, slice_get, Option, Some, None, refl, sym, ap, subst, ◌∙◌, inl, inr, arith}
 use Rattle.std.specs.Option.{option_map_or}
 use Rattle.std.proofs.lemmas.Bool.{both_ways, cases_Bool, cases_lt, le-leb, leb-false, leb-true, lt-leb}
 use Rattle.dwarf_ranges.specs.Lists.{in_ranges}
@@ -71,7 +72,8 @@ module _ (a : ℕ) (all : List ScopeRecord) where
       ap (λ (s : Option ScopeRecord). option_map_or (λ s. in_ranges a s.ranges) s false) is
 
   -- in a closed function there is nothing more
-  none_closed : (outer end p before : ℕ) → IsClosed all outer end p before → NoneBefore a all (Some outer) p → (i : ℕ) → IsIn all outer i → contains_at a all i ≡ true → ⊥
+  none_closed : (outer end p before : ℕ) → IsClosed all outer end p before → NoneBefore a all (Some outer) p → (i : ℕ)
+      → IsIn all outer i → contains_at a all i ≡ true → ⊥
   none_closed outer end p before closed none i within contains = elim (cases_lt i p) [
     | inl below ↦ none i below within contains
     | inr from ↦
@@ -80,7 +82,8 @@ module _ (a : ℕ) (all : List ScopeRecord) where
   ]
 
   -- a deeper scope
-  open_more : (outer end p before after : ℕ) (scope : ScopeRecord) (rest : List ScopeRecord) → slice_get all p ≡ Some scope → IsOpen all outer end p before (scope ∷ rest)
+  open_more : (outer end p before after : ℕ) (scope : ScopeRecord) (rest : List ScopeRecord) → slice_get all p
+      ≡ Some scope → IsOpen all outer end p before (scope ∷ rest)
       → nat_le scope.depth (depth_at all outer) ≡ false → end ≡ after + count_within (depth_at all outer) rest → IsOpen all outer end (p + 1) after rest
   open_more outer end p before after scope rest is opened deep ends = record {
     under = let u = opened.under in omega (arith, u);
@@ -95,13 +98,21 @@ module _ (a : ℕ) (all : List ScopeRecord) where
   }
 
   -- a scope without ranges
-  stands_skip : (outer end : Option ℕ) (p before : ℕ) (scope : ScopeRecord) (rest : List ScopeRecord) → slice_get all p ≡ Some scope → nat_le 1 (length scope.ranges) ≡ false
+  stands_skip : (outer end : Option ℕ) (p before : ℕ) (scope : ScopeRecord) (rest : List ScopeRecord) → slice_get all p
+      ≡ Some scope → nat_le 1 (length scope.ranges) ≡ false
       → Stands all outer end p before (scope ∷ rest) → Stands all outer end (p + 1) before rest
   stands_skip None None p before scope rest is bare stands = tt
   stands_skip None (Some end) p before scope rest is bare stands = stands
   stands_skip (Some outer) None p before scope rest is bare stands = stands
   stands_skip (Some outer) (Some end) p before scope rest is bare (inr closed) =
-      inr (record { ends = closed.ends; at = closed.at; after = closed.after; reached = let r = closed.reached in omega (arith, r); no_deeper = closed.no_deeper })
+      inr (record {
+        ends = closed.ends;
+        at = closed.at;
+        after = closed.after;
+        reached = let r = closed.reached
+            in omega (arith, r);
+        no_deeper = closed.no_deeper;
+      })
   stands_skip (Some outer) (Some end) p before scope rest is bare (inl opened) = elim (cases_Bool (nat_le scope.depth (depth_at all outer))) [
     | inl flat ↦ inr (record {
       ends = let e = (rw flat at opened.ends) in omega (arith, e);
@@ -114,10 +125,12 @@ module _ (a : ℕ) (all : List ScopeRecord) where
   ]
 
   -- a function that does not stand in the one before it
-  is_past_flat : (outer end p before : ℕ) (scope : ScopeRecord) (rest : List ScopeRecord) → IsOpen all outer end p before (scope ∷ rest) → nat_le scope.depth (depth_at all outer) ≡ true → end ≤ before
+  is_past_flat : (outer end p before : ℕ) (scope : ScopeRecord) (rest : List ScopeRecord)
+      → IsOpen all outer end p before (scope ∷ rest) → nat_le scope.depth (depth_at all outer) ≡ true → end ≤ before
   is_past_flat outer end p before scope rest opened flat = let e = (rw flat at opened.ends) in omega (arith, e)
 
-  none_flat : (outer end p before : ℕ) (scope : ScopeRecord) (rest : List ScopeRecord) → slice_get all p ≡ Some scope → IsOpen all outer end p before (scope ∷ rest)
+  none_flat : (outer end p before : ℕ) (scope : ScopeRecord) (rest : List ScopeRecord) → slice_get all p ≡ Some scope
+      → IsOpen all outer end p before (scope ∷ rest)
       → nat_le scope.depth (depth_at all outer) ≡ true → NoneBefore a all (Some outer) p → (i : ℕ) → IsIn all outer i → contains_at a all i ≡ true → ⊥
   none_flat outer end p before scope rest is opened flat none i within contains = elim (cases_lt i p) [
     | inl below ↦ none i below within contains
@@ -126,7 +139,8 @@ module _ (a : ℕ) (all : List ScopeRecord) where
         let n = leb-true scope.depth (depth_at all outer) flat in omega (arith, d, n)
   ]
 
-  in_deep : (outer end p before : ℕ) (scope : ScopeRecord) (rest : List ScopeRecord) → slice_get all p ≡ Some scope → IsOpen all outer end p before (scope ∷ rest)
+  in_deep : (outer end p before : ℕ) (scope : ScopeRecord) (rest : List ScopeRecord) → slice_get all p ≡ Some scope
+      → IsOpen all outer end p before (scope ∷ rest)
       → nat_le scope.depth (depth_at all outer) ≡ false → IsIn all outer p
   in_deep outer end p before scope rest is opened deep = record {
     later = opened.under;
@@ -139,11 +153,13 @@ module _ (a : ℕ) (all : List ScopeRecord) where
     ];
   }
 
-  not_past_deep : (outer end p before : ℕ) (scope : ScopeRecord) (rest : List ScopeRecord) → IsOpen all outer end p before (scope ∷ rest) → nat_le scope.depth (depth_at all outer) ≡ false
+  not_past_deep : (outer end p before : ℕ) (scope : ScopeRecord) (rest : List ScopeRecord)
+      → IsOpen all outer end p before (scope ∷ rest) → nat_le scope.depth (depth_at all outer) ≡ false
       → nat_le 1 (length scope.ranges) ≡ true → end ≡ before + 1 + count_within (depth_at all outer) rest
   not_past_deep outer end p before scope rest opened deep has = let e = (rw (deep, has) at opened.ends) in omega (arith, e)
 
-  open_first : (p before : ℕ) (scope : ScopeRecord) (rest : List ScopeRecord) → slice_get all p ≡ Some scope → IsOpen all p (before + 1 + count_within scope.depth rest) (p + 1) (before + 1) rest
+  open_first : (p before : ℕ) (scope : ScopeRecord) (rest : List ScopeRecord) → slice_get all p ≡ Some scope
+      → IsOpen all p (before + 1 + count_within scope.depth rest) (p + 1) (before + 1) rest
   open_first p before scope rest is = record {
     under = omega arith;
     deeper = λ between above below. absurd (omega (arith, above, below));
@@ -156,48 +172,63 @@ module _ (a : ℕ) (all : List ScopeRecord) where
       → IsChainWithin room a all outer (entries_of (functions_after room a end before (functions_from before rest)))
 
   -- a function that stands in the one before it, if there is one
-  chain_step : (room : ℕ) (outer end : Option ℕ) (p before : ℕ) (scope : ScopeRecord) (rest : List ScopeRecord) → AreFrom all p (scope ∷ rest) → is_past end before ≡ false → IsWithin all outer p
+  chain_step : (room : ℕ) (outer end : Option ℕ) (p before : ℕ) (scope : ScopeRecord) (rest : List ScopeRecord)
+      → AreFrom all p (scope ∷ rest) → is_past end before ≡ false → IsWithin all outer p
       → Stands all outer end (p + 1) (before + 1) rest → NoneBefore a all outer p → ChainOf rest
-      → IsChainWithin (suc room) a all outer (entries_of (functions_after (suc room) a end before (function_at before scope rest ∷ functions_from (before + 1) rest)))
+      → IsChainWithin (suc room) a all outer (entries_of
+      (functions_after (suc room) a end before (function_at before scope rest ∷ functions_from (before + 1) rest)))
   chain_step room outer end p before scope rest from past within stands none more =
       let is = here p scope rest from in
       let f = function_at before scope rest in
       let fs = functions_from (before + 1) rest in
       elim (cases_Bool (in_ranges a scope.ranges)) [
-        | inl has ↦ subst (λ (gs : List FunctionRecord). IsChainWithin (suc room) a all outer (entries_of gs)) (sym (after_here room a end before f fs past has)) (
-          p,
-          scope,
-          is,
-          refl,
-          record { within = within; contains = contains_here p scope is ∙ has; first = none },
-          more room (Some p) (Some f.end) (p + 1) (before + 1) (next p scope rest from) (inl (open_first p before scope rest is)) (λ i less in_it contains. let l = in_it.later in omega (arith, less, l)),
-        )
-        | inr not ↦ subst (λ (gs : List FunctionRecord). IsChainWithin (suc room) a all outer (entries_of gs)) (sym (after_skip room a end before f fs past not))
+        | inl has ↦ subst (λ (gs : List FunctionRecord). IsChainWithin (suc room) a all outer (entries_of gs))
+            (sym (after_here room a end before f fs past has)) (
+              p,
+              scope,
+              is,
+              refl,
+              record { within = within; contains = contains_here p scope is ∙ has; first = none },
+              more room (Some p) (Some f.end) (p + 1) (before + 1) (next p scope rest from)
+                  (inl (open_first p before scope rest is))
+                  (λ i less in_it contains. let l = in_it.later in omega (arith, less, l)),
+            )
+        | inr not ↦ subst (λ (gs : List FunctionRecord). IsChainWithin (suc room) a all outer (entries_of gs))
+            (sym (after_skip room a end before f fs past not))
             (more (suc room) outer end (p + 1) (before + 1) (next p scope rest from) stands (none_more outer p (contains_here p scope is ∙ not) none))
       ]
 
-  chain_none : (room : ℕ) (outer end : Option ℕ) (before : ℕ) (f : FunctionRecord) (fs : List FunctionRecord) → is_past end before ≡ true → ((i : ℕ) → IsWithin all outer i → contains_at a all i ≡ true → ⊥)
+  chain_none : (room : ℕ) (outer end : Option ℕ) (before : ℕ) (f : FunctionRecord) (fs : List FunctionRecord)
+      → is_past end before ≡ true → ((i : ℕ) → IsWithin all outer i → contains_at a all i ≡ true → ⊥)
       → IsChainWithin (suc room) a all outer (entries_of (functions_after (suc room) a end before (f ∷ fs)))
-  chain_none room outer end before f fs past none = subst (λ (gs : List FunctionRecord). IsChainWithin (suc room) a all outer (entries_of gs)) (sym (after_past room a end before f fs past)) none
+  chain_none room outer end before f fs past none = subst
+      (λ (gs : List FunctionRecord). IsChainWithin (suc room) a all outer (entries_of gs))
+      (sym (after_past room a end before f fs past)) none
 
   -- a scope with ranges
-  chain_function : (room : ℕ) (outer end : Option ℕ) (p before : ℕ) (scope : ScopeRecord) (rest : List ScopeRecord) → AreFrom all p (scope ∷ rest) → nat_le 1 (length scope.ranges) ≡ true
+  chain_function : (room : ℕ) (outer end : Option ℕ) (p before : ℕ) (scope : ScopeRecord) (rest : List ScopeRecord)
+      → AreFrom all p (scope ∷ rest) → nat_le 1 (length scope.ranges) ≡ true
       → Stands all outer end p before (scope ∷ rest) → NoneBefore a all outer p → ChainOf rest
       → IsChainWithin room a all outer (entries_of (functions_after room a end before (function_at before scope rest ∷ functions_from (before + 1) rest)))
-  chain_function zero outer end p before scope rest from has stands none more = ap entries_of (after_zero a end before (function_at before scope rest ∷ functions_from (before + 1) rest))
+  chain_function zero outer end p before scope rest from has stands none more =
+      ap entries_of (after_zero a end before (function_at before scope rest ∷ functions_from (before + 1) rest))
   chain_function (suc room) None None p before scope rest from has stands none more = chain_step room None None p before scope rest from refl tt tt none more
   chain_function (suc room) None (Some end) p before scope rest from has stands none more = absurd stands
   chain_function (suc room) (Some outer) None p before scope rest from has stands none more = absurd stands
   chain_function (suc room) (Some outer) (Some end) p before scope rest from has (inr closed) none more =
-      chain_none room (Some outer) (Some end) before (function_at before scope rest) (functions_from (before + 1) rest) (le-leb end before closed.ends) (none_closed outer end p before closed none)
+      chain_none room (Some outer) (Some end) before (function_at before scope rest) (functions_from (before + 1) rest)
+      (le-leb end before closed.ends) (none_closed outer end p before closed none)
   chain_function (suc room) (Some outer) (Some end) p before scope rest from has (inl opened) none more =
       let is = here p scope rest from in
       elim (cases_Bool (nat_le scope.depth (depth_at all outer))) [
-        | inl flat ↦ chain_none room (Some outer) (Some end) before (function_at before scope rest) (functions_from (before + 1) rest) (le-leb end before (is_past_flat outer end p before scope rest opened flat))
+        | inl flat ↦ chain_none room (Some outer) (Some end) before (function_at before scope rest)
+            (functions_from (before + 1) rest) (le-leb end before
+            (is_past_flat outer end p before scope rest opened flat))
             (none_flat outer end p before scope rest is opened flat none)
         | inr deep ↦
             let ends = not_past_deep outer end p before scope rest opened deep has in
-            chain_step room (Some outer) (Some end) p before scope rest from (lt-leb end before (omega (arith, ends))) (in_deep outer end p before scope rest is opened deep)
+            chain_step room (Some outer) (Some end) p before scope rest from (lt-leb end before (omega (arith, ends)))
+            (in_deep outer end p before scope rest is opened deep)
             (inl (open_more outer end p before (before + 1) scope rest is opened deep ends)) none more
       ]
 
@@ -212,9 +243,11 @@ module _ (a : ℕ) (all : List ScopeRecord) where
   unfolding functions_after functions_from
   chain_of [] = λ room outer end p before from stands none. chain_end room outer p from none
   chain_of (scope ∷ rest) = λ room outer end p before from stands none. elim (cases_Bool (nat_le 1 (length scope.ranges))) [
-    | inl has ↦ subst (λ (fs : List FunctionRecord). IsChainWithin room a all outer (entries_of (functions_after room a end before fs))) (sym (from_with before scope rest has))
+    | inl has ↦ subst (λ (fs : List FunctionRecord). IsChainWithin room a all outer
+        (entries_of (functions_after room a end before fs))) (sym (from_with before scope rest has))
         (chain_function room outer end p before scope rest from has stands none (chain_of rest))
-    | inr bare ↦ subst (λ (fs : List FunctionRecord). IsChainWithin room a all outer (entries_of (functions_after room a end before fs))) (sym (from_bare before scope rest bare))
+    | inr bare ↦ subst (λ (fs : List FunctionRecord). IsChainWithin room a all outer
+        (entries_of (functions_after room a end before fs))) (sym (from_bare before scope rest bare))
         (let is = here p scope rest from in
         chain_of rest room outer end (p + 1) before (next p scope rest from) (stands_skip outer end p before scope rest is bare stands)
         (none_more outer p (contains_here p scope is ∙ none_in_none a scope.ranges bare) none))
@@ -222,4 +255,6 @@ module _ (a : ℕ) (all : List ScopeRecord) where
 
 -- the functions of a chain are those of scopes
 pub is_chain : (a : ℕ) (scopes : List ScopeRecord) → IsChain a scopes (entries_of (functions_after 256 a None 0 (functions_from 0 scopes)))
-is_chain a scopes = chain_of a scopes scopes 256 None None 0 0 (λ j. let same : 0 + j ≡ j = omega arith in ap (λ n. slice_get scopes n) same) tt (λ i less. absurd (omega (arith, less)))
+is_chain a scopes = chain_of a scopes scopes 256 None None 0 0
+    (λ j. let same : 0 + j ≡ j = omega arith in ap (λ n. slice_get scopes n) same) tt
+    (λ i less. absurd (omega (arith, less)))

@@ -61,7 +61,8 @@ module _ (first end at further : ℕ) (row : Row) (old next ended last : List �
           | inl early ↦ other i (λ e. omega (arith, e, early)) ∙ is.covered i from early h w
           | inr late ↦ elim (cases_eq i at) [
             | inl e ↦ subst (λ n. get_or (set rows at (Some row)) n None ≡ Some row) (sym e) (get_or-set_same rows at (Some row) None at_row)
-            | inr not ↦ absurd (found.first i (omega (arith, late, not)) below (without.still i (in_next i (end_old i h)) not (is.still_ahead i (end_old i h) late w)))
+            | inr not ↦ absurd (found.first i (omega (arith, late, not)) below
+                (without.still i (in_next i (end_old i h)) not (is.still_ahead i (end_old i h) late w)))
           ]
         ];
         no_longer = λ i from below h w. elim (cases_lt i at) [

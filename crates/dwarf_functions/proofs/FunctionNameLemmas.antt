@@ -1,5 +1,6 @@
 -- Names of functions by number, and of the places that are kept.
-use Rattle.std.proofs.Common.{false, ◌≡◌, ◌∙◌, ℕ, suc, ◌<◌, ◌⊎◌, List, [], ◌∷◌, ◌++◌, length, get_or, slice_get, Option, Some, None, refl, sym, ap, subst, inl, inr, arith}
+use Rattle.std.proofs.Common.{false, ◌≡◌, ◌∙◌, ℕ, suc, ◌<◌, ◌⊎◌, List, [], ◌∷◌, ◌++◌, length, get_or, slice_get, Option}
+use Rattle.std.proofs.Common.{Some, None, refl, sym, ap, subst, inl, inr, arith}
 use Rattle.std.specs.Option.{IfSome, is_some, option_map}
 use Rattle.std.proofs.lemmas.Option.{get_or_from_slice_get, none-some, same_Some, slice_get_within}
 use Rattle.dwarf_source_frames.specs.DebugSections.{DebugSectionsRecord}
@@ -17,7 +18,8 @@ use Rattle.dwarf_functions.proofs.OpenLemmas.{at_left, at_push, old_or_new}
 
 -- ---- an entry that has the name of another one
 
-no_linkage : (s : DebugSectionsRecord) (e : UnitEntryRecord) → e.entry.attributes.linkage_name ≡ None → e.entry.attributes.mips_linkage_name ≡ None → linkage_name s e ≡ None
+no_linkage : (s : DebugSectionsRecord) (e : UnitEntryRecord) → e.entry.attributes.linkage_name ≡ None
+    → e.entry.attributes.mips_linkage_name ≡ None → linkage_name s e ≡ None
 unfolding linkage_name text_in
 no_linkage s e none no_mips = rw (none, no_mips) refl
 
@@ -25,16 +27,19 @@ no_text : (s : DebugSectionsRecord) (e : UnitEntryRecord) → e.entry.attributes
 unfolding text_in
 no_text s e none = rw none refl
 
-name_there : (count : ℕ) (s : DebugSectionsRecord) (e : UnitEntryRecord) (place : ℕ) (name : Option (List ℕ)) → linkage_name s e ≡ None → text_in s e e.entry.attributes.name ≡ None → origin_place e ≡ Some place
+name_there : (count : ℕ) (s : DebugSectionsRecord) (e : UnitEntryRecord) (place : ℕ) (name : Option (List ℕ))
+    → linkage_name s e ≡ None → text_in s e e.entry.attributes.name ≡ None → origin_place e ≡ Some place
     → IsNameWithin (suc count) s e None name → IsNameAtWithin count s place name
 name_there count s e place name none text leads h =
     let inside = rw (none, text, leads) at h in (inside.0, inside.1, inside.2)
 
-name_here : (count : ℕ) (s : DebugSectionsRecord) (e : UnitEntryRecord) (place : ℕ) (name : Option (List ℕ)) → linkage_name s e ≡ None → text_in s e e.entry.attributes.name ≡ None → origin_place e ≡ Some place
+name_here : (count : ℕ) (s : DebugSectionsRecord) (e : UnitEntryRecord) (place : ℕ) (name : Option (List ℕ))
+    → linkage_name s e ≡ None → text_in s e e.entry.attributes.name ≡ None → origin_place e ≡ Some place
     → IsNameAtWithin count s place name → IsNameWithin (suc count) s e None name
 name_here count s e place name none text leads h = rw (none, text, leads) (h.0, h.1, h.2)
 
-module _ (e : UnitEntryRecord) (no_linkage_name : e.entry.attributes.linkage_name ≡ None) (no_mips : e.entry.attributes.mips_linkage_name ≡ None) (no_name : e.entry.attributes.name ≡ None) where
+module _ (e : UnitEntryRecord) (no_linkage_name : e.entry.attributes.linkage_name ≡ None)
+    (no_mips : e.entry.attributes.mips_linkage_name ≡ None) (no_name : e.entry.attributes.name ≡ None) where
   is_named_at : (place : ℕ) → origin_place e ≡ Some place → IsNamedAt e place
   unfolding IsNameAt
   is_named_at place leads = record {
@@ -52,25 +57,29 @@ none_mapped f (Some x) none = absurd (cc none)
 
 -- ---- functions that have names
 
-found_name : (functions : List Function) (index : ℕ) (name : Option (List ℕ)) (o : Option Function) → slice_get functions index ≡ o → option_map name_of o ≡ Some name
+found_name : (functions : List Function) (index : ℕ) (name : Option (List ℕ)) (o : Option Function)
+    → slice_get functions index ≡ o → option_map name_of o ≡ Some name
     → (f : Function) × (slice_get functions index ≡ Some f) × (name_of f ≡ name)
 found_name functions index name None is has = absurd (none-some name has)
 found_name functions index name (Some f) is has = (f, is, same_Some (name_of f) name has)
 
-pub has_at : (functions : List Function) (index : ℕ) (name : Option (List ℕ)) → HasName functions index name → (f : Function) × (slice_get functions index ≡ Some f) × (name_of f ≡ name)
+pub has_at : (functions : List Function) (index : ℕ) (name : Option (List ℕ)) → HasName functions index name
+    → (f : Function) × (slice_get functions index ≡ Some f) × (name_of f ≡ name)
 has_at functions index name has = found_name functions index name (slice_get functions index) refl has
 
 pub has_within : (functions : List Function) (index : ℕ) (name : Option (List ℕ)) → HasName functions index name → index < length functions
 has_within functions index name has = let f = has_at functions index name has in slice_get_within functions index f.0 f.1
 
 -- one that is read has it
-pub has_read : (functions : List Function) (index : ℕ) (name : Option (List ℕ)) (f : Function) → HasName functions index name → f ≡ get_or functions index f → name_of f ≡ name
+pub has_read : (functions : List Function) (index : ℕ) (name : Option (List ℕ)) (f : Function)
+    → HasName functions index name → f ≡ get_or functions index f → name_of f ≡ name
 has_read functions index name f has is =
     let of = has_at functions index name has in
     let same : f ≡ of.0 = is ∙ get_or_from_slice_get functions index of.0 f of.1 in
     ap name_of same ∙ of.2
 
-has_more : (functions : List Function) (f : Function) (index : ℕ) (name : Option (List ℕ)) → HasName functions index name → HasName (functions ++ f ∷ []) index name
+has_more : (functions : List Function) (f : Function) (index : ℕ) (name : Option (List ℕ))
+    → HasName functions index name → HasName (functions ++ f ∷ []) index name
 has_more functions f index name has = ap (option_map name_of) (at_left functions (f ∷ []) index (has_within functions index name has)) ∙ has
 
 has_last : (functions : List Function) (f : Function) → HasName (functions ++ f ∷ []) (length functions) (name_of f)
@@ -102,17 +111,20 @@ module _ (depth : ℕ) (opened left : List Open) (before after : List Function) 
 
 -- ---- a function more
 
-own_number : (functions : List Function) (f : Function) → (f.name_number ≡ length functions) ⊎ HasName functions f.name_number (name_of f) → HasName (functions ++ f ∷ []) f.name_number (name_of f)
+own_number : (functions : List Function) (f : Function) → (f.name_number ≡ length functions)
+    ⊎ HasName functions f.name_number (name_of f) → HasName (functions ++ f ∷ []) f.name_number (name_of f)
 own_number functions f (inl new) = subst (λ n. HasName (functions ++ f ∷ []) n (name_of f)) (sym new) (has_last functions f)
 own_number functions f (inr old) = has_more functions f f.name_number (name_of f) old
 
-numbered_more : (functions : List Function) (f : Function) → HasName (functions ++ f ∷ []) f.name_number (name_of f) → AreNumbered functions → AreNumbered (functions ++ f ∷ [])
+numbered_more : (functions : List Function) (f : Function) → HasName (functions ++ f ∷ []) f.name_number (name_of f)
+    → AreNumbered functions → AreNumbered (functions ++ f ∷ [])
 numbered_more functions f own so i g at = elim (old_or_new functions f i g at) [
   | inl old ↦ has_more functions f g.name_number (name_of g) (so i g old.at)
   | inr new ↦ subst (λ (h : Function). HasName (functions ++ f ∷ []) h.name_number (name_of h)) (sym new.is) own
 ]
 
-kept_more : (s : DebugSectionsRecord) (functions : List Function) (f : Function) (place : Option ℕ) (o : Origin) → HasName (functions ++ f ∷ []) f.name_number (name_of f) → ((p : ℕ) → place ≡ Some p → IsNameAt s p (name_of f))
+kept_more : (s : DebugSectionsRecord) (functions : List Function) (f : Function) (place : Option ℕ) (o : Origin)
+    → HasName (functions ++ f ∷ []) f.name_number (name_of f) → ((p : ℕ) → place ≡ Some p → IsNameAt s p (name_of f))
     → HasNameAt s functions o ⊎ ((place ≡ Some o.place) × (o.function ≡ f.name_number)) → HasNameAt s (functions ++ f ∷ []) o
 kept_more s functions f place o own at (inl old) = record { name = old.name; at = old.at; has = has_more functions f o.function old.name old.has }
 kept_more s functions f place o own at (inr new) = record {
@@ -121,8 +133,11 @@ kept_more s functions f place o own at (inr new) = record {
   has = subst (λ n. HasName (functions ++ f ∷ []) n (name_of f)) (sym new.1) own;
 }
 
-pub named_more : (s : DebugSectionsRecord) (functions after : List Function) (f : Function) (origins next : Origins) (place : Option ℕ) → after ≡ functions ++ f ∷ [] → (f.name_number ≡ length functions) ⊎ HasName functions f.name_number (name_of f)
-    → ((o : Origin) → IsKept next o → IsKept origins o ⊎ ((place ≡ Some o.place) × (o.function ≡ f.name_number))) → ((p : ℕ) → place ≡ Some p → IsNameAt s p (name_of f)) → AreNamed s functions origins → AreNamed s after next
+pub named_more : (s : DebugSectionsRecord) (functions after : List Function) (f : Function) (origins next : Origins)
+    (place : Option ℕ) → after ≡ functions ++ f ∷ [] → (f.name_number ≡ length functions)
+    ⊎ HasName functions f.name_number (name_of f)
+    → ((o : Origin) → IsKept next o → IsKept origins o ⊎ ((place ≡ Some o.place) × (o.function ≡ f.name_number)))
+    → ((p : ℕ) → place ≡ Some p → IsNameAt s p (name_of f)) → AreNamed s functions origins → AreNamed s after next
 named_more s functions after f origins next place pushed number keeps at so =
     let own = own_number functions f number in
     rw pushed (record {
@@ -135,7 +150,8 @@ named_more s functions after f origins next place pushed number keeps at so =
 
 -- ---- none
 
-pub named_none : (s : DebugSectionsRecord) (functions : List Function) (origins : Origins) → functions ≡ [] → ((o : Origin) → IsKept origins o → ⊥) → AreNamed s functions origins
+pub named_none : (s : DebugSectionsRecord) (functions : List Function) (origins : Origins) → functions ≡ []
+    → ((o : Origin) → IsKept origins o → ⊥) → AreNamed s functions origins
 named_none s functions origins none empty = rw none (record {
   numbered = λ i f at. absurd (cc at);
   each = λ o kept. absurd (empty o kept);
@@ -143,11 +159,15 @@ named_none s functions origins none empty = rw none (record {
 
 -- ---- the name of an entry, by the place that it leads to
 
-pub named_here : (s : DebugSectionsRecord) (e : UnitEntryRecord) (origin : Option ℕ) (place : ℕ) (name : Option (List ℕ)) → IfSome origin (IsNamedAt e) → origin ≡ Some place → IsNameAt s place name → IsName s e name
+pub named_here : (s : DebugSectionsRecord) (e : UnitEntryRecord) (origin : Option ℕ) (place : ℕ)
+    (name : Option (List ℕ)) → IfSome origin (IsNamedAt e) → origin ≡ Some place → IsNameAt s place name
+    → IsName s e name
 named_here s e origin place name by is there =
     let named : IsNamedAt e place = rw is at by in named.here s name there
 
-pub named_there : (s : DebugSectionsRecord) (e : UnitEntryRecord) (origin : Option ℕ) (place : ℕ) (name : Option (List ℕ)) → IfSome origin (IsNamedAt e) → origin ≡ Some place → IsName s e name → IsNameAt s place name
+pub named_there : (s : DebugSectionsRecord) (e : UnitEntryRecord) (origin : Option ℕ) (place : ℕ)
+    (name : Option (List ℕ)) → IfSome origin (IsNamedAt e) → origin ≡ Some place → IsName s e name
+    → IsNameAt s place name
 named_there s e origin place name by is here =
     let named : IsNamedAt e place = rw is at by in named.there s name here
 
@@ -155,13 +175,16 @@ named_there s e origin place name by is here =
 abbrev pub IsKnown : Origins → Option ℕ → ℕ → Type 0
 IsKnown origins origin number = (o : Origin) × IsKept origins o × (origin ≡ Some o.place) × (o.function ≡ number)
 
-pub known_within : (s : DebugSectionsRecord) (functions : List Function) (origins : Origins) (origin : Option ℕ) (number : ℕ) → AreNamed s functions origins → IsKnown origins origin number → number < length functions
+pub known_within : (s : DebugSectionsRecord) (functions : List Function) (origins : Origins) (origin : Option ℕ)
+    (number : ℕ) → AreNamed s functions origins → IsKnown origins origin number → number < length functions
 known_within s functions origins origin number so known =
     let h = so.each known.0 known.1 in
     let w = has_within functions known.0.function h.name h.has in
     let n = known.3 in omega (arith, w, n)
 
-pub named_known : (s : DebugSectionsRecord) (e : UnitEntryRecord) (functions : List Function) (origins : Origins) (origin : Option ℕ) (number : ℕ) (f : Function) → AreNamed s functions origins → IfSome origin (IsNamedAt e) → IsKnown origins origin number → f ≡ get_or functions number f
+pub named_known : (s : DebugSectionsRecord) (e : UnitEntryRecord) (functions : List Function) (origins : Origins)
+    (origin : Option ℕ) (number : ℕ) (f : Function) → AreNamed s functions origins → IfSome origin (IsNamedAt e)
+    → IsKnown origins origin number → f ≡ get_or functions number f
     → IsName s e (name_of f) × HasName functions number (name_of f)
 named_known s e functions origins origin number f so by known is =
     let h = so.each known.0 known.1 in

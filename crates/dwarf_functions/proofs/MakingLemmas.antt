@@ -1,5 +1,6 @@
 -- Links that are added one after another.
-use Rattle.std.proofs.Common.{◌≡◌, ◌≢◌, ℕ, zero, suc, ◌+◌, ◌-◌, ◌<◌, ◌≤◌, ◌⊎◌, List, [], ◌∷◌, ◌++◌, length, set, get_or, slice_get, Option, Some, refl, sym, ap, subst, ◌∙◌, inl, inr, arith}
+use Rattle.std.proofs.Common.{◌≡◌, ◌≢◌, ℕ, zero, suc, ◌+◌, ◌-◌, ◌<◌, ◌≤◌, ◌⊎◌, List, [], ◌∷◌, ◌++◌, length, set, get_or}
+use Rattle.std.proofs.Common.{slice_get, Option, Some, refl, sym, ap, subst, ◌∙◌, inl, inr, arith}
 use Rattle.std.specs.Option.{option_map_or}
 use Rattle.std.proofs.lemmas.Bool.{cases_eq}
 use Rattle.std.proofs.lemmas.List.{length-set, length_push}
@@ -77,7 +78,8 @@ pub within_made : (links : List Link) (number : ℕ) (link : Link) → made_at l
 within_made links zero link is = omega arith
 within_made links (suc i) link is = let w = slice_get_within links i link is in omega (arith, w)
 
-pub made_kept : (old new : List Link) (number : ℕ) (link : Link) → AreKept old new → made_at old number ≡ Some link → (child : ℕ) × (made_at new number ≡ Some (record link { child = child }))
+pub made_kept : (old new : List Link) (number : ℕ) (link : Link) → AreKept old new → made_at old number ≡ Some link
+    → (child : ℕ) × (made_at new number ≡ Some (record link { child = child }))
 made_kept old new zero link kept is = absurd (none-some link is)
 made_kept old new (suc i) link kept is = kept.each i link is
 
@@ -97,10 +99,12 @@ child_kept old new outer (suc i) kept is = let now = kept.each i is.0 is.1 in (r
 
 pub link_kept : (old new : List Link) (outer index number : ℕ) → AreKept old new → IsLinkIn old outer index number → IsLinkIn new outer index number
 link_kept old new outer index number kept is =
-    let now = made_kept old new number is.link kept is.there in record { link = record is.link { child = now.0 }; there = now.1; caller = is.caller; function = is.function }
+    let now = made_kept old new number is.link kept is.there
+    in record { link = record is.link { child = now.0 }; there = now.1; caller = is.caller; function = is.function }
 
 -- a link that is made stays so, with any last one that stands in it
-is_made_kept : (functions : List Function) (old new : List Link) (i child : ℕ) (link : Link) → AreKept old new → i ≤ length old → IsMade functions old i link → IsChild new (suc i) child
+is_made_kept : (functions : List Function) (old new : List Link) (i child : ℕ) (link : Link) → AreKept old new
+    → i ≤ length old → IsMade functions old i link → IsChild new (suc i) child
     → IsMade functions new i (record link { child = child })
 is_made_kept functions old new i child link kept within made last = record {
   caller = made.caller;
@@ -149,7 +153,9 @@ module _ (functions : List Function) (old new : List Link) (last outer index num
 
   old_made : (i : ℕ) (l : Link) → slice_get old i ≡ Some l → IsMade functions new i l
   old_made i l is =
-      let m = p.made.each i l is in is_made_kept functions old new i l.child l pushed_kept (let w = slice_get_within old i l is in omega (arith, w)) m (child_kept old new (suc i) l.child pushed_kept m.child)
+      let m = p.made.each i l is in is_made_kept functions old new i l.child l pushed_kept
+      (let w = slice_get_within old i l is in omega (arith, w)) m
+      (child_kept old new (suc i) l.child pushed_kept m.child)
 
   new_made : IsMade functions new (length old) p.link
   new_made = record {
@@ -172,7 +178,8 @@ module _ (functions : List Function) (old new : List Link) (last outer index num
     outermost = child_kept old new 0 last pushed_kept p.made.outermost;
   }
 
-pub with_child : (functions : List Function) (links : List Link) (last i child : ℕ) (link : Link) → AreMade functions links last → slice_get links i ≡ Some link → IsChild links (suc i) child
+pub with_child : (functions : List Function) (links : List Link) (last i child : ℕ) (link : Link)
+    → AreMade functions links last → slice_get links i ≡ Some link → IsChild links (suc i) child
     → AreMade functions (set links i (record link { child = child })) last
 with_child functions links last i child link made is of =
     let kept = kept_child links i child link is in
@@ -180,26 +187,35 @@ with_child functions links last i child link made is of =
     record {
       each = λ j l there. elim (cases_eq j i) [
         | inl same ↦
-            let l_is : l ≡ record link { child = child } = same_Some l (record link { child = child }) (sym there ∙ (ap (λ n. slice_get new n) same ∙ get_set links i link (record link { child = child }) is)) in
+            let l_is : l ≡ record link { child = child } =
+            same_Some l (record link { child = child })
+            (sym there ∙ (ap (λ n. slice_get new n) same ∙ get_set links i link (record link { child = child }) is))
+            in
             subst (λ n. IsMade functions new n l) (sym same) (subst (λ (m : Link). IsMade functions new i m) (sym l_is)
-            (is_made_kept functions links new i child link kept (let w = slice_get_within links i link is in omega (arith, w)) (made.each i link is) (child_kept links new (suc i) child kept of)))
+            (is_made_kept functions links new i child link kept
+            (let w = slice_get_within links i link is in omega (arith, w)) (made.each i link is)
+            (child_kept links new (suc i) child kept of)))
         | inr not ↦
             let before : slice_get links j ≡ Some l = sym (get_other links i j (record link { child = child }) not) ∙ there in
             let m = made.each j l before in
-            is_made_kept functions links new j l.child l kept (let w = slice_get_within links j l before in omega (arith, w)) m (child_kept links new (suc j) l.child kept m.child)
+            is_made_kept functions links new j l.child l kept
+            (let w = slice_get_within links j l before in omega (arith, w)) m
+            (child_kept links new (suc j) l.child kept m.child)
       ];
       outermost = child_kept links new 0 last kept made.outermost;
     }
 
 -- ---- a link that is there
 
-pub outermost_or_child : (functions : List Function) (links : List Link) (last outer : ℕ) → AreMade functions links last → outer ≤ length links → IsChild links outer (child_at links last outer)
+pub outermost_or_child : (functions : List Function) (links : List Link) (last outer : ℕ) → AreMade functions links last
+    → outer ≤ length links → IsChild links outer (child_at links last outer)
 outermost_or_child functions links last zero made within = made.outermost
 outermost_or_child functions links last (suc i) made within =
     let there = get_there links i (omega (arith, within)) in
     subst (λ n. IsChild links (suc i) n) (sym (ap (λ (l : Option Link). option_map_or (λ l. l.child) l 0) there.1)) ((made.each i there.0 there.1).child)
 
-pub child_link : (links : List Link) (outer index number : ℕ) (link : Link) → IsChild links outer number → made_at links number ≡ Some link → link.function ≡ index → IsLinkIn links outer index number
+pub child_link : (links : List Link) (outer index number : ℕ) (link : Link) → IsChild links outer number
+    → made_at links number ≡ Some link → link.function ≡ index → IsLinkIn links outer index number
 child_link links outer index zero link child is function = absurd (none-some link is)
 child_link links outer index (suc i) link child is function =
     let same : child.0 ≡ link = same_Some child.0 link (sym child.1 ∙ is) in
@@ -213,9 +229,19 @@ pub made_before : (links : List Link) (number : ℕ) (link : Link) → number �
 made_before links zero link not is = absurd (not refl)
 made_before links (suc i) link not is = let same : suc i - 1 ≡ i = omega arith in subst (λ n. slice_get links n ≡ Some link) same is
 
-pub is_pushed : (functions : List Function) (old new : List Link) (last outer index number count : ℕ) (of : Function) → AreMade functions old last → outer ≤ length old → index < length functions
+pub is_pushed : (functions : List Function) (old new : List Link) (last outer index number count : ℕ) (of : Function)
+    → AreMade functions old last → outer ≤ length old → index < length functions
     → of ≡ get_or functions index of → count ≡ count_at old outer
-    → new ≡ old ++ record { name = of.name; name_number = of.name_number; call = of.call; caller = outer; function = index; child = 0; count = count + 1 } ∷ [] → number ≡ length new
+    → new ≡ old ++ record {
+      name = of.name;
+      name_number = of.name_number;
+      call = of.call;
+      caller = outer;
+      function =
+          index;
+      child = 0;
+      count = count + 1;
+    } ∷ [] → number ≡ length new
     → IsPushed functions old new last outer index number
 is_pushed functions old new last outer index number count of made within inside is_of is_count is is_number = record {
   made = made;
@@ -234,14 +260,16 @@ is_pushed functions old new last outer index number count of made within inside 
   is_number = is_number;
 }
 
-pub outermost_pushed : (functions : List Function) (old new : List Link) (last outer index number : ℕ) → IsPushed functions old new last outer index number → outer ≡ 0 → AreMade functions new number
+pub outermost_pushed : (functions : List Function) (old new : List Link) (last outer index number : ℕ)
+    → IsPushed functions old new last outer index number → outer ≡ 0 → AreMade functions new number
 outermost_pushed functions old new last outer index number p none = record {
   each = (pushed_made functions old new last outer index number p).each;
   outermost = subst (λ n. IsChild new n number) none (pushed_child functions old new last outer index number p);
 }
 
 -- the link that it stands in knows it
-module _ (functions : List Function) (old new : List Link) (last outer index number : ℕ) (link : Link) (p : IsPushed functions old new last outer index number) (not : outer ≢ 0)
+module _ (functions : List Function) (old new : List Link) (last outer index number : ℕ) (link : Link)
+    (p : IsPushed functions old new last outer index number) (not : outer ≢ 0)
     (is : link ≡ get_or new (outer - 1) link) where
   outer_there : slice_get new (outer - 1) ≡ Some link
   outer_there =
@@ -260,30 +288,38 @@ module _ (functions : List Function) (old new : List Link) (last outer index num
       (subst (λ n. IsChild new n number) (sym outer_is) (pushed_child functions old new last outer index number p))
 
   pub inner_link : IsLinkIn (set new (outer - 1) (record link { child = number })) outer index number
-  inner_link = link_kept new (set new (outer - 1) (record link { child = number })) outer index number inner_kept (pushed_link functions old new last outer index number p)
+  inner_link = link_kept new (set new (outer - 1) (record link { child = number })) outer index number inner_kept
+      (pushed_link functions old new last outer index number p)
 
   pub inner_kept_all : AreKept old (set new (outer - 1) (record link { child = number }))
-  inner_kept_all = kept_trans old new (set new (outer - 1) (record link { child = number })) (pushed_kept functions old new last outer index number p) inner_kept
+  inner_kept_all = kept_trans old new (set new (outer - 1) (record link { child = number }))
+      (pushed_kept functions old new last outer index number p) inner_kept
 
 some_before : (n : ℕ) → n ≢ 0 → 0 < n
 some_before zero not = absurd (not refl)
 some_before (suc n) not = omega arith
 
-pub found_within : (functions : List Function) (links : List Link) (last outer child : ℕ) → AreMade functions links last → outer ≤ length links → child ≡ child_at links last outer → child ≢ 0 → child - 1 < length links
+pub found_within : (functions : List Function) (links : List Link) (last outer child : ℕ) → AreMade functions links last
+    → outer ≤ length links → child ≡ child_at links last outer → child ≢ 0 → child - 1 < length links
 found_within functions links last outer child made within is not =
     let w = child_within links outer child (subst (λ n. IsChild links outer n) (sym is) (outermost_or_child functions links last outer made within)) in
     let s = some_before child not in omega (arith, w, s)
 
-pub found_link : (functions : List Function) (links : List Link) (last outer index child : ℕ) (link : Link) → AreMade functions links last → outer ≤ length links → child ≡ child_at links last outer → child ≢ 0
+pub found_link : (functions : List Function) (links : List Link) (last outer index child : ℕ) (link : Link)
+    → AreMade functions links last → outer ≤ length links → child ≡ child_at links last outer → child ≢ 0
     → link ≡ get_or links (child - 1) link → link.function ≡ index → IsLinkIn links outer index child
 found_link functions links last outer index child link made within is not at function =
     child_link links outer index child link (subst (λ n. IsChild links outer n) (sym is) (outermost_or_child functions links last outer made within))
-    (made_before links child link not (slice_get-get_or links (child - 1) link (found_within functions links last outer child made within is not) ∙ ap Some (sym at))) function
+    (made_before links child link not (slice_get-get_or links (child - 1) link
+    (found_within functions links last outer child made within is not) ∙ ap Some (sym at))) function
 
-pub made_read : (links : List Link) (number : ℕ) (link : Link) → number ≢ 0 → number ≤ length links → link ≡ get_or links (number - 1) link → made_at links number ≡ Some link
+pub made_read : (links : List Link) (number : ℕ) (link : Link) → number ≢ 0 → number ≤ length links → link
+    ≡ get_or links (number - 1) link → made_at links number ≡ Some link
 made_read links number link not within is =
     made_before links number link not (slice_get-get_or links (number - 1) link (let s = some_before number not in omega (arith, within, s)) ∙ ap Some (sym is))
 
-pub function_of : (functions : List Function) (links : List Link) (last number : ℕ) (link : Link) → AreMade functions links last → made_at links number ≡ Some link → (f : Function) × (slice_get functions link.function ≡ Some f)
+pub function_of : (functions : List Function) (links : List Link) (last number : ℕ) (link : Link)
+    → AreMade functions links last → made_at links number ≡ Some link → (f : Function)
+    × (slice_get functions link.function ≡ Some f)
 function_of functions links last zero link made is = absurd (none-some link is)
 function_of functions links last (suc i) link made is = let m = made.each i link is in (m.of, m.there)

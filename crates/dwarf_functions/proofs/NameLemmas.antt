@@ -10,7 +10,8 @@ use Rattle.dwarf_functions.specs.NameNumbers.{AreNamesNumbered}
 use Rattle.dwarf_functions.specs.declared.links.Link.{Link}
 
 -- the numbers of functions are those of their links
-pub names_numbered : (functions : List Function) (links : List Link) (last count : ℕ) → AreNumbered functions → AreMade functions links last → count ≡ length functions → AreNamesNumbered count links
+pub names_numbered : (functions : List Function) (links : List Link) (last count : ℕ) → AreNumbered functions
+    → AreMade functions links last → count ≡ length functions → AreNamesNumbered count links
 names_numbered functions links last count numbered made is_count = record {
   names = map name_of functions;
   count_is = length-map functions name_of ∙ sym is_count;

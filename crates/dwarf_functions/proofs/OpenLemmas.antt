@@ -1,5 +1,7 @@
 -- The open functions know their ends, once the rest of the entries is known.
-use Rattle.std.proofs.Common.{◌≡◌, ℕ, zero, suc, ◌+◌, ◌-◌, ◌<◌, ◌≤◌, ◌||◌, ◌==◌, nat_le, Bool, true, false, List, [], ◌∷◌, ◌++◌, length, get_or, Some, slice_get, refl, sym, ap, subst, ◌∙◌, inl, inr, ◌⊎◌, arith, eq-eqb, length-append}
+use Rattle.std.proofs.Common.{◌≡◌, ℕ, zero, suc, ◌+◌, ◌-◌, ◌<◌, ◌≤◌, ◌||◌, ◌==◌, nat_le, Bool, true, false, List, []}
+use Rattle.std.proofs.Common.{◌∷◌, ◌++◌, length, get_or, Some, slice_get, refl, sym, ap, subst, ◌∙◌, inl, inr, ◌⊎◌}
+use Rattle.std.proofs.Common.{arith, eq-eqb, length-append}
 use Rattle.std.specs.List.{list_any, All}
 use Rattle.std.specs.Option.{IfSome}
 use Rattle.std.proofs.lemmas.Bool.{cases_eq, cases_Bool, cases_lt, eqb-true, lt-leb, le-leb, or_cases, or_left, or_right}
@@ -28,7 +30,8 @@ AreDeeper opened = (j k : ℕ) (d : Open) → j < k → k < length opened → (g
 
 -- of the functions so far, each that is not open has its end
 abbrev pub HaveEnds : List FunctionRecord → List Function → List Open → Type 0
-HaveEnds done functions opened = (i : ℕ) (of : FunctionRecord) (f : Function) → slice_get done i ≡ Some of → slice_get functions i ≡ Some f → (f.end ≡ of.end) ⊎ (has_index opened i ≡ true)
+HaveEnds done functions opened = (i : ℕ) (of : FunctionRecord) (f : Function) → slice_get done i ≡ Some of
+    → slice_get functions i ≡ Some f → (f.end ≡ of.end) ⊎ (has_index opened i ≡ true)
 
 -- the functions so far, of which some are open: these end among the rest of the entries
 pub record AreOpenTo (done : List FunctionRecord) (functions : List Function) (opened : List Open) (rest : List ScopeRecord) : Type 0 where
@@ -99,14 +102,18 @@ all_shallow depth left deeper last k d h =
           omega arith
     ]
 
-module _ (depth : ℕ) (opened left : List Open) (before after : List Function) (done : List FunctionRecord) (rest : List ScopeRecord) (c : Closes depth opened left before after) (out : AreOut depth rest) (all : AreOpenTo done before opened rest) where
+module _ (depth : ℕ) (opened left : List Open) (before after : List Function) (done : List FunctionRecord)
+    (rest : List ScopeRecord) (c : Closes depth opened left before after) (out : AreOut depth rest)
+    (all : AreOpenTo done before opened rest) where
   -- of the functions that are left, and of those that are closed
   ends_in : All (λ o. EndsWith (length before) done rest o) (left ++ c.closed)
   ends_in = subst (λ (os : List Open). All (λ o. EndsWith (length before) done rest o) os) c.open_are all.ends
 
   left_if_not_closed : (i : ℕ) → has_index c.closed i ≡ false → has_index opened i ≡ true → has_index left i ≡ true
   left_if_not_closed i none h =
-      let parts : has_index opened i ≡ (has_index left i || has_index c.closed i) = ap (λ (os : List Open). has_index os i) c.open_are ∙ list_any-append (λ (o : Open). o.index == i) left c.closed in
+      let parts : has_index opened i ≡ (has_index left i || has_index c.closed i) =
+      ap (λ (os : List Open). has_index os i) c.open_are
+      ∙ list_any-append (λ (o : Open). o.index == i) left c.closed in
       elim (or_cases (has_index left i) (has_index c.closed i) (sym parts ∙ h)) [
         | inl t ↦ t
         | inr t ↦ absurd (cc (none, t))
@@ -114,7 +121,9 @@ module _ (depth : ℕ) (opened left : List Open) (before after : List Function) 
 
   closed_has : (i : ℕ) (of : FunctionRecord) (g : Function) → slice_get done i ≡ Some of → has_index c.closed i ≡ true → g.end ≡ length before → g.end ≡ of.end
   closed_has i of g at t end =
-      let found = one_at (λ o. (depth ≤ o.depth) × EndsWith (length before) done rest o) c.closed i t (λ k d h. (c.deep k d h, all_right (λ o. EndsWith (length before) done rest o) left c.closed ends_in k d h)) in
+      let found = one_at (λ o. (depth ≤ o.depth) × EndsWith (length before) done rest o) c.closed i t
+      (λ k d h. (c.deep k d h, all_right (λ o. EndsWith (length before) done rest o) left c.closed ends_in k d h))
+      in
       let ends : of.end ≡ length before + count_within found.o.depth rest = found.has.1 of (rw found.is at) in
       let none : count_within found.o.depth rest ≡ 0 = out found.o.depth found.has.0 in
       omega arith
@@ -134,7 +143,8 @@ module _ (depth : ℕ) (opened left : List Open) (before after : List Function) 
 
   pub closed_open : AreOpenTo done after left rest
   closed_open = record {
-    among = rw c.count (all_left (λ o. o.index < length before) left c.closed (subst (λ (os : List Open). All (λ o. o.index < length before) os) c.open_are all.among));
+    among = rw c.count (all_left (λ o. o.index < length before) left c.closed
+        (subst (λ (os : List Open). All (λ o. o.index < length before) os) c.open_are all.among));
     deeper = deeper_left left c.closed (subst (λ (os : List Open). AreDeeper os) c.open_are all.deeper);
     ends = rw c.count (all_left (λ o. EndsWith (length before) done rest o) left c.closed ends_in);
     have = still_have;
@@ -144,16 +154,19 @@ module _ (depth : ℕ) (opened left : List Open) (before after : List Function) 
   closed_shallow = all_shallow depth left closed_open.deeper c.shallow
 
 -- how many functions stand in one, with an entry more
-within_without : (depth : ℕ) (scope : ScopeRecord) (rest : List ScopeRecord) → depth < scope.depth → scope.ranges ≡ [] → count_within depth (scope ∷ rest) ≡ count_within depth rest
+within_without : (depth : ℕ) (scope : ScopeRecord) (rest : List ScopeRecord) → depth < scope.depth → scope.ranges ≡ []
+    → count_within depth (scope ∷ rest) ≡ count_within depth rest
 within_without depth scope rest less none = rw (lt-leb scope.depth depth less, none) refl
 
-within_with : (depth : ℕ) (scope : ScopeRecord) (rest : List ScopeRecord) → depth < scope.depth → 0 < length scope.ranges → count_within depth (scope ∷ rest) ≡ suc (count_within depth rest)
+within_with : (depth : ℕ) (scope : ScopeRecord) (rest : List ScopeRecord) → depth < scope.depth
+    → 0 < length scope.ranges → count_within depth (scope ∷ rest) ≡ suc (count_within depth rest)
 within_with depth scope rest less some =
     let has : nat_le 1 (length scope.ranges) ≡ true = le-leb 1 (length scope.ranges) (omega arith) in
     rw (lt-leb scope.depth depth less, has) refl
 
 -- an entry without ranges
-pub open_without : (done : List FunctionRecord) (functions : List Function) (opened : List Open) (scope : ScopeRecord) (rest : List ScopeRecord) → AreShallow scope.depth opened → scope.ranges ≡ []
+pub open_without : (done : List FunctionRecord) (functions : List Function) (opened : List Open) (scope : ScopeRecord)
+    (rest : List ScopeRecord) → AreShallow scope.depth opened → scope.ranges ≡ []
     → AreOpenTo done functions opened (scope ∷ rest) → AreOpenTo done functions opened rest
 open_without done functions opened scope rest shallow none all = record {
   among = all.among;
@@ -196,7 +209,9 @@ old_or_new xs x i y at =
           inr (record { last = last; is = cc (at, here) })
     ]
 
-module _ (done : List FunctionRecord) (functions : List Function) (opened : List Open) (scope : ScopeRecord) (rest : List ScopeRecord) (f : Function) (some : 0 < length scope.ranges) (count : length functions ≡ length done) (shallow : AreShallow scope.depth opened)
+module _ (done : List FunctionRecord) (functions : List Function) (opened : List Open) (scope : ScopeRecord)
+    (rest : List ScopeRecord) (f : Function) (some : 0 < length scope.ranges) (count : length functions ≡ length done)
+    (shallow : AreShallow scope.depth opened)
     (all : AreOpenTo done functions opened (scope ∷ rest)) where
   abbrev this : Open
   this = record { depth = scope.depth; index = length functions }
@@ -207,7 +222,8 @@ module _ (done : List FunctionRecord) (functions : List Function) (opened : List
   one_more : length (functions ++ f ∷ []) ≡ length functions + 1
   one_more = length_push functions f
 
-  ends_old : (o : Open) → o.index < length functions → o.depth < scope.depth → EndsWith (length functions) done (scope ∷ rest) o → EndsWith (length (functions ++ f ∷ [])) now_done rest o
+  ends_old : (o : Open) → o.index < length functions → o.depth < scope.depth
+      → EndsWith (length functions) done (scope ∷ rest) o → EndsWith (length (functions ++ f ∷ [])) now_done rest o
   ends_old o within less ends of at =
       let was : slice_get done o.index ≡ Some of = sym (at_left done (of_scope (length functions) scope rest ∷ []) o.index (omega arith)) ∙ at in
       let end : of.end ≡ length functions + count_within o.depth (scope ∷ rest) = ends of was in
@@ -216,7 +232,8 @@ module _ (done : List FunctionRecord) (functions : List Function) (opened : List
 
   ends_new : EndsWith (length (functions ++ f ∷ [])) now_done rest this
   ends_new of at =
-      let here : slice_get now_done (length functions) ≡ Some (of_scope (length functions) scope rest) = ap (slice_get now_done) count ∙ at_push done (of_scope (length functions) scope rest) in
+      let here : slice_get now_done (length functions) ≡ Some (of_scope (length functions) scope rest) =
+      ap (slice_get now_done) count ∙ at_push done (of_scope (length functions) scope rest) in
       let is : of ≡ of_scope (length functions) scope rest = cc (at, here) in
       let end : of.end ≡ length functions + 1 + count_within scope.depth rest = ap (λ (x : FunctionRecord). x.end) is in
       omega (arith, one_more)
@@ -257,6 +274,7 @@ module _ (done : List FunctionRecord) (functions : List Function) (opened : List
   open_with = record {
     among = All-push (λ o. o.index < length (functions ++ f ∷ [])) opened this (λ k d h. omega (arith, all.among k d h, one_more)) (omega (arith, one_more));
     deeper = deeper_new;
-    ends = All-push (λ o. EndsWith (length (functions ++ f ∷ [])) now_done rest o) opened this (λ k d h. ends_old (get_or opened k d) (all.among k d h) (shallow k d h) (all.ends k d h)) ends_new;
+    ends = All-push (λ o. EndsWith (length (functions ++ f ∷ [])) now_done rest o) opened this
+        (λ k d h. ends_old (get_or opened k d) (all.among k d h) (shallow k d h) (all.ends k d h)) ends_new;
     have = have_new;
   }

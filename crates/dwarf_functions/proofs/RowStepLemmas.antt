@@ -1,5 +1,7 @@
 -- The rows that cover starts, and the addresses after them.
-use Rattle.std.proofs.Common.{◌≡◌, ℕ, zero, suc, ◌+◌, ◌<◌, ◌≤◌, ◌⊎◌, true, false, nat_lt, List, [], ◌∷◌, length, map, get_or, replicate, slice_get, Option, Some, None, refl, sym, ap, subst, ◌∙◌, inl, inr, arith}
+use Rattle.std.proofs.Common.{◌≡◌, ℕ, zero, suc, ◌+◌, ◌<◌, ◌≤◌, ◌⊎◌, true, false, nat_lt, List, [], ◌∷◌, length, map}
+use Rattle.std.proofs.Common.{get_or, replicate, slice_get, Option, Some, None, refl, sym, ap, subst, ◌∙◌, inl, inr}
+use Rattle.std.proofs.Common.{arith}
 use Rattle.std.specs.Prelude.{◌↔◌}
 use Rattle.std.specs.List.{Contains}
 use Rattle.std.proofs.lemmas.Bool.{cases_Bool, cases_eq, cases_lt, ltb-true, ltb-false}
@@ -30,7 +32,8 @@ covered_some a last row is = elim (cases_Bool (covers a last row)) [
 
 -- a row after which nothing is covered
 pub known_same : (starts next : List ℕ) (rows : List (Option Row)) (before : Option Row) (row : Row) (left all : List Row)
-    → ((i : ℕ) → i < length starts → covered (get_or starts i 0) before row ≡ None) → AreKnown starts next rows before (row ∷ left) all → AreKnown starts next rows (Some row) left all
+    → ((i : ℕ) → i < length starts → covered (get_or starts i 0) before row ≡ None)
+    → AreKnown starts next rows before (row ∷ left) all → AreKnown starts next rows (Some row) left all
 known_same starts next rows before row left all none known =
     record {
       count = known.count;
@@ -40,10 +43,12 @@ known_same starts next rows before row left all none known =
       found = known.found;
     }
 
-pub none_ended : (starts : List ℕ) (last row : Row) → last.end_sequence ≡ true → (i : ℕ) → i < length starts → covered (get_or starts i 0) (Some last) row ≡ None
+pub none_ended : (starts : List ℕ) (last row : Row) → last.end_sequence ≡ true → (i : ℕ) → i < length starts
+    → covered (get_or starts i 0) (Some last) row ≡ None
 none_ended starts last row ends i h = covered_none (get_or starts i 0) last row (λ is. cc (sym ends ∙ is.inside))
 
-module _ (starts : List ℕ) (last row : Row) (first end : ℕ) (low : IsCountBelow starts last.registers.address first) (high : IsCountBelow starts row.registers.address end) where
+module _ (starts : List ℕ) (last row : Row) (first end : ℕ) (low : IsCountBelow starts last.registers.address first)
+    (high : IsCountBelow starts row.registers.address end) where
   from_first : (i : ℕ) → i < length starts → IsCovered (get_or starts i 0) last row → first ≤ i
   from_first i h is = elim (cases_lt i first) [
     | inl less ↦ let b = low.below i less in let a = is.above in absurd (omega (arith, b, a))
@@ -89,14 +94,17 @@ module _ (starts : List ℕ) (last row : Row) (first end : ℕ) (low : IsCountBe
             | inl below ↦ is.before_first i below ∙ known.blank i h (is.only i (old_length i h) w)
             | inr behind ↦ is.behind i behind ∙ known.blank i h (is.only i (old_length i h) w)
           ];
-          waits = λ i h w. sym (step_none (get_or starts i 0) (Some last) row left (waits_out i h (side_of i h w))) ∙ known.waits i h (is.only i (old_length i h) w);
+          waits = λ i h w. sym (step_none (get_or starts i 0) (Some last) row left (waits_out i h (side_of i h w)))
+              ∙ known.waits i h (is.only i (old_length i h) w);
           found = λ i h not. elim (cases_eq (get_or old i 0) i) [
             | inl was ↦ elim (cases_lt i first) [
               | inl below ↦ absurd (not (is.still_before i (old_length i h) below was))
               | inr from ↦ elim (cases_lt i end) [
                 | inl within ↦
                     let here : IsCovered (get_or starts i 0) last row = record { inside = inside; above = low.above i from h; below = high.below i within } in
-                    is.covered i from within was ∙ (sym (step_some (get_or starts i 0) (Some last) row last left (covered_some (get_or starts i 0) last row here)) ∙ known.waits i h was)
+                    is.covered i from within was ∙ (sym
+                    (step_some (get_or starts i 0) (Some last) row last left
+                    (covered_some (get_or starts i 0) last row here)) ∙ known.waits i h was)
                 | inr behind ↦ absurd (not (is.still_behind i (old_length i h) behind was))
               ]
             ]
@@ -104,9 +112,11 @@ module _ (starts : List ℕ) (last row : Row) (first end : ℕ) (low : IsCountBe
           ];
         }
 
-same_state : (starts old new : List ℕ) (rows after : List (Option Row)) (before : Option Row) (left all : List Row) → after ≡ rows → new ≡ old → AreKnown starts old rows before left all → AreKnown starts new after before left all
+same_state : (starts old new : List ℕ) (rows after : List (Option Row)) (before : Option Row) (left all : List Row)
+    → after ≡ rows → new ≡ old → AreKnown starts old rows before left all → AreKnown starts new after before left all
 same_state starts old new rows after before left all e f known =
-    subst (λ (r : List (Option Row)). AreKnown starts new r before left all) (sym e) (subst (λ (n : List ℕ). AreKnown starts n rows before left all) (sym f) known)
+    subst (λ (r : List (Option Row)). AreKnown starts new r before left all) (sym e)
+    (subst (λ (n : List ℕ). AreKnown starts n rows before left all) (sym f) known)
 
 -- one row more
 pub known_step : (starts now old new : List ℕ) (rows after : List (Option Row)) (last row : Row) (left all : List Row) (first end : ℕ) → now ≡ starts
@@ -116,20 +126,25 @@ pub known_step : (starts now old new : List ℕ) (rows after : List (Option Row)
     → AreKnown starts old rows (Some last) (row ∷ left) all → AreKnown now new after (Some row) left all
 known_step starts now old new rows after last row left all first end e low high covers back still none waits known =
     subst (λ (s : List ℕ). AreKnown s new after (Some row) left all) (sym e) (elim (cases_Bool last.end_sequence) [
-      | inl t ↦ same_state starts old new rows after (Some row) left all (none t) (waits t) (known_same starts old rows (Some last) row left all (none_ended starts last row t) known)
+      | inl t ↦ same_state starts old new rows after (Some row) left all (none t) (waits t)
+          (known_same starts old rows (Some last) row left all (none_ended starts last row t) known)
       | inr f ↦ elim (cases_lt end first) [
-        | inl b ↦ same_state starts old new rows after (Some row) left all (back b) (still b) (known_same starts old rows (Some last) row left all (none_backwards starts last row first end low high b) known)
+        | inl b ↦ same_state starts old new rows after (Some row) left all (back b) (still b)
+            (known_same starts old rows (Some last) row left all (none_backwards starts last row first end low high b)
+            known)
         | inr not ↦ known_next starts last row first end low high old new rows after left all f known (covers f not)
       ]
     ])
 
 -- ---- all addresses
 
-pub above_first : (a start : ℕ) (starts : List ℕ) → AreRising (start ∷ starts) → a < start → (i : ℕ) → i < length (start ∷ starts) → a < get_or (start ∷ starts) i 0
+pub above_first : (a start : ℕ) (starts : List ℕ) → AreRising (start ∷ starts) → a < start → (i : ℕ)
+    → i < length (start ∷ starts) → a < get_or (start ∷ starts) i 0
 above_first a start starts rising less zero h = less
 above_first a start starts rising less (suc i) h = let r : start < get_or starts i 0 = rising 0 (suc i) 0 (omega arith) h in omega (arith, r, less)
 
-later_above : (a start : ℕ) (starts : List ℕ) (n : ℕ) → ((j : ℕ) → n ≤ j → j < length starts → a < get_or starts j 0) → (j : ℕ) → n < j → j < length (start ∷ starts) → a < get_or (start ∷ starts) j 0
+later_above : (a start : ℕ) (starts : List ℕ) (n : ℕ) → ((j : ℕ) → n ≤ j → j < length starts → a < get_or starts j 0)
+    → (j : ℕ) → n < j → j < length (start ∷ starts) → a < get_or (start ∷ starts) j 0
 later_above a start starts n all zero less within = absurd (omega (arith, less))
 later_above a start starts n all (suc j) less within = all j (omega (arith, less)) (omega (arith, within))
 
@@ -146,7 +161,8 @@ found_more f value found start starts a above here (inr y) =
 
 pub at_step_is : {A : Type 0} (f : ℕ → A) (before : A) (starts : List ℕ) (values : List A) (a : ℕ) → length values ≡ length starts
     → ((i : ℕ) → i < length starts → slice_get values i ≡ Some (f (get_or starts i 0))) → AreRising starts
-    → (((i : ℕ) → i < length starts → a < get_or starts i 0) × (at_step before starts values a ≡ before)) ⊎ FoundAtStep f starts a (at_step before starts values a)
+    → (((i : ℕ) → i < length starts → a < get_or starts i 0) × (at_step before starts values a ≡ before))
+    ⊎ FoundAtStep f starts a (at_step before starts values a)
 unfolding at_step
 at_step_is f before [] values a len each rising = inl (λ i h. absurd (omega (arith, h)), refl)
 at_step_is f before (start ∷ starts) [] a len each rising = absurd (omega (arith, len))
@@ -174,14 +190,28 @@ NoneBetween s a rows = (i : ℕ) (row : Row) → slice_get rows i ≡ Some row �
 
 covers_there : (s a : ℕ) (rows : List Row) (i : ℕ) (row : Row) → s ≤ a → NoneBetween s a rows → CoversAt rows s i row → CoversAt rows a i row
 covers_there s a rows i row upto none is = elim (cases_lt a (address is.next)) [
-  | inl above ↦ record { stands = is.stands; inside = is.inside; above = let b = is.above in omega (arith, b, upto); next = is.next; followed = is.followed; below = above }
+  | inl above ↦ record {
+    stands = is.stands;
+    inside = is.inside;
+    above = let b = is.above in omega (arith, b, upto);
+    next = is.next;
+    followed = is.followed;
+    below = above;
+  }
   | inr not ↦ absurd (none (i + 1) is.next is.followed is.below not)
 ]
 
 covers_back : (s a : ℕ) (rows : List Row) (i : ℕ) (row : Row) → s ≤ a → NoneBetween s a rows → CoversAt rows a i row → CoversAt rows s i row
 covers_back s a rows i row upto none is = elim (cases_lt s (address row)) [
   | inl above ↦ absurd (none i row is.stands above is.above)
-  | inr not ↦ record { stands = is.stands; inside = is.inside; above = not; next = is.next; followed = is.followed; below = let b = is.below in omega (arith, b, upto) }
+  | inr not ↦ record {
+    stands = is.stands;
+    inside = is.inside;
+    above = not;
+    next = is.next;
+    followed = is.followed;
+    below = let b = is.below in omega (arith, b, upto);
+  }
 ]
 
 covering_stays : (s a : ℕ) (rows : List Row) (found : Option Row) → s ≤ a → NoneBetween s a rows → IsCovering rows s found → IsCovering rows a found
@@ -190,7 +220,8 @@ covering_stays s a rows (Some row) upto none is =
     (is.0, covers_there s a rows is.0 row upto none is.1, λ before other l covers. is.2 before other l (covers_back s a rows before other upto none covers))
 
 -- after the last row each start has the first one that covers it
-pub known_all : (all : List Row) (starts next : List ℕ) (rows : List (Option Row)) (before : Option Row) → AreKnown starts next rows before [] all → AreCovered all starts rows
+pub known_all : (all : List Row) (starts next : List ℕ) (rows : List (Option Row)) (before : Option Row)
+    → AreKnown starts next rows before [] all → AreCovered all starts rows
 known_all all starts next rows before known = record {
   count = known.count;
   each = λ i h. elim (cases_eq (get_or next i 0) i) [
@@ -244,7 +275,8 @@ module _ (all : List Row) (starts : List ℕ) (rows : List (Option Row)) (rising
   each_covers a = elim (at_step_is (λ s. covering_with s None all) None starts rows a known.count row_value rising) [
     | inl x ↦ subst (λ (found : Option Row). IsCovering all a found) (sym x.1) (λ i row is. none_above a x.0 i row is)
     | inr y ↦ subst (λ (found : Option Row). IsCovering all a found) (sym y.4)
-        (covering_stays (get_or starts y.0 0) a all (covering_with (get_or starts y.0 0) None all) y.2 (none_between a y.0 y.1 y.3) (covering_with-is (get_or starts y.0 0) all))
+        (covering_stays (get_or starts y.0 0) a all (covering_with (get_or starts y.0 0) None all) y.2
+        (none_between a y.0 y.1 y.3) (covering_with-is (get_or starts y.0 0) all))
   ]
 
   pub are_row_steps : AreRowSteps all starts rows

@@ -3,7 +3,8 @@ use Rattle.std.proofs.Common.{◌≡◌, ◌∙◌, ℕ, zero, suc, List, [], �
 use Rattle.dwarf_entries.specs.Entries.{EntryRecord}
 use Rattle.dwarf_source_frames.specs.Scopes.{IsChain, IsChainWithin, IsFirst, IsWithin, ScopeRecord, contains_at, depth_at}
 
-module _ (a b : ℕ) (some others : List ScopeRecord) (depths : (i : ℕ) → depth_at some i ≡ depth_at others i) (contain : (i : ℕ) → contains_at a some i ≡ contains_at b others i)
+module _ (a b : ℕ) (some others : List ScopeRecord) (depths : (i : ℕ) → depth_at some i ≡ depth_at others i)
+    (contain : (i : ℕ) → contains_at a some i ≡ contains_at b others i)
     (entries : (i : ℕ) (s : ScopeRecord) → slice_get some i ≡ Some s → (t : ScopeRecord) × (slice_get others i ≡ Some t) × (s.entry ≡ t.entry)) where
   within_some : (outer : Option ℕ) (i : ℕ) → IsWithin others outer i → IsWithin some outer i
   within_some None i is = tt

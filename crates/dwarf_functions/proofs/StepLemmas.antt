@@ -1,5 +1,7 @@
 -- Links of starts are those of all addresses.
-use Rattle.std.proofs.Common.{◌≡◌, ℕ, zero, suc, ◌+◌, ◌-◌, ◌<◌, ◌≤◌, ◌⊎◌, false, nat_le, nat_lt, List, [], ◌∷◌, ◌++◌, length, get_or, reverse, slice_get, slice_index, Option, Some, None, refl, sym, ap, subst, ◌∙◌, inl, inr, arith}
+use Rattle.std.proofs.Common.{◌≡◌, ℕ, zero, suc, ◌+◌, ◌-◌, ◌<◌, ◌≤◌, ◌⊎◌, false, nat_le, nat_lt, List, [], ◌∷◌, ◌++◌}
+use Rattle.std.proofs.Common.{length, get_or, reverse, slice_get, slice_index, Option, Some, None, refl, sym, ap, subst}
+use Rattle.std.proofs.Common.{◌∙◌, inl, inr, arith}
 use Rattle.std.specs.Prelude.{◌↔◌}
 use Rattle.std.specs.List.{Contains, flat_map}
 use Rattle.std.specs.Borrow.{Bor}
@@ -45,16 +47,19 @@ bare_ends [] e = refl
 bare_ends (r ∷ rs) e = let f = leb-false 1 (length (r ∷ rs)) e in absurd (omega (arith, f))
 
 -- those of the ranges of scopes are those of functions
-ends_from : (before : ℕ) (scopes : List ScopeRecord) → ends_of_ranges (all_ranges (functions_from before scopes)) ≡ flat_map (λ scope. ends_of_ranges scope.ranges) scopes
+ends_from : (before : ℕ) (scopes : List ScopeRecord) → ends_of_ranges (all_ranges (functions_from before scopes))
+    ≡ flat_map (λ scope. ends_of_ranges scope.ranges) scopes
 unfolding functions_from
 ends_from before [] = refl
 ends_from before (scope ∷ scopes) = elim (cases_Bool (nat_le 1 (length scope.ranges))) [
   | inl has ↦
       ap (λ (fs : List FunctionRecord). ends_of_ranges (all_ranges fs)) (from_with before scope scopes has)
-      ∙ (ends-append scope.ranges (all_ranges (functions_from (before + 1) scopes)) ∙ ap (λ (xs : List ℕ). ends_of_ranges scope.ranges ++ xs) (ends_from (before + 1) scopes))
+      ∙ (ends-append scope.ranges (all_ranges (functions_from (before + 1) scopes))
+      ∙ ap (λ (xs : List ℕ). ends_of_ranges scope.ranges ++ xs) (ends_from (before + 1) scopes))
   | inr bare ↦
       ap (λ (fs : List FunctionRecord). ends_of_ranges (all_ranges fs)) (from_bare before scope scopes bare)
-      ∙ (ends_from before scopes ∙ ap (λ (xs : List ℕ). xs ++ flat_map (λ (s : ScopeRecord). ends_of_ranges s.ranges) scopes) (sym (bare_ends scope.ranges bare)))
+      ∙ (ends_from before scopes ∙ ap (λ (xs : List ℕ). xs
+      ++ flat_map (λ (s : ScopeRecord). ends_of_ranges s.ranges) scopes) (sym (bare_ends scope.ranges bare)))
 ]
 
 -- ---- addresses between which no range begins or ends
@@ -71,17 +76,22 @@ alike_in a s (r ∷ rs) alike =
     let rest = alike_in a s rs (λ x h. alike x (Contains-append_right (r.low ∷ r.high ∷ []) (ends_of_ranges rs) x h)) in cc
 
 -- the ends of the ranges of an entry are among those of all
-ends_at : (scopes : List ScopeRecord) (i : ℕ) (scope : ScopeRecord) → slice_get scopes i ≡ Some scope → (x : ℕ) → Contains (ends_of_ranges scope.ranges) x → Contains (flat_map (λ s. ends_of_ranges s.ranges) scopes) x
+ends_at : (scopes : List ScopeRecord) (i : ℕ) (scope : ScopeRecord) → slice_get scopes i ≡ Some scope → (x : ℕ)
+    → Contains (ends_of_ranges scope.ranges) x → Contains (flat_map (λ s. ends_of_ranges s.ranges) scopes) x
 ends_at [] i scope is x h = absurd (none-some scope is)
 ends_at (s ∷ ss) zero scope is x h =
     let same : scope ≡ s = same_Some scope s (sym is) in
-    Contains-append_left (ends_of_ranges s.ranges) (flat_map (λ t. ends_of_ranges t.ranges) ss) x (subst (λ (t : ScopeRecord). Contains (ends_of_ranges t.ranges) x) same h)
-ends_at (s ∷ ss) (suc i) scope is x h = Contains-append_right (ends_of_ranges s.ranges) (flat_map (λ t. ends_of_ranges t.ranges) ss) x (ends_at ss i scope is x h)
+    Contains-append_left (ends_of_ranges s.ranges) (flat_map (λ t. ends_of_ranges t.ranges) ss) x
+    (subst (λ (t : ScopeRecord). Contains (ends_of_ranges t.ranges) x) same h)
+ends_at (s ∷ ss) (suc i) scope is x h = Contains-append_right (ends_of_ranges s.ranges)
+    (flat_map (λ t. ends_of_ranges t.ranges) ss) x (ends_at ss i scope is x h)
 
-alike_at : (a s : ℕ) (scopes : List ScopeRecord) → AreAlike a s (flat_map (λ t. ends_of_ranges t.ranges) scopes) → (i : ℕ) → contains_at a scopes i ≡ contains_at s scopes i
+alike_at : (a s : ℕ) (scopes : List ScopeRecord) → AreAlike a s (flat_map (λ t. ends_of_ranges t.ranges) scopes)
+    → (i : ℕ) → contains_at a scopes i ≡ contains_at s scopes i
 alike_at a s scopes alike i = of (slice_get scopes i) refl
   where
-    of : (o : Option ScopeRecord) → slice_get scopes i ≡ o → option_map_or (λ t. in_ranges a t.ranges) o false ≡ option_map_or (λ t. in_ranges s t.ranges) o false
+    of : (o : Option ScopeRecord) → slice_get scopes i ≡ o → option_map_or (λ t. in_ranges a t.ranges) o false
+        ≡ option_map_or (λ t. in_ranges s t.ranges) o false
     of None is = refl
     of (Some scope) is = alike_in a s scope.ranges (λ x h. alike x (ends_at scopes i scope is x h))
 
@@ -92,7 +102,8 @@ none_in a (r ∷ rs) above =
     let low : nat_le r.low a ≡ false = lt-leb r.low a (above r.low (0, omega arith, refl)) in
     let rest = none_in a rs (λ x h. above x (Contains-append_right (r.low ∷ r.high ∷ []) (ends_of_ranges rs) x h)) in rw (low, rest) refl
 
-none_at : (a : ℕ) (scopes : List ScopeRecord) → ((x : ℕ) → Contains (flat_map (λ t. ends_of_ranges t.ranges) scopes) x → a < x) → (i : ℕ) → contains_at a scopes i ≡ false
+none_at : (a : ℕ) (scopes : List ScopeRecord) → ((x : ℕ) → Contains (flat_map (λ t. ends_of_ranges t.ranges) scopes) x
+    → a < x) → (i : ℕ) → contains_at a scopes i ≡ false
 none_at a scopes above i = of (slice_get scopes i) refl
   where
     of : (o : Option ScopeRecord) → slice_get scopes i ≡ o → option_map_or (λ t. in_ranges a t.ranges) o false ≡ false
@@ -107,7 +118,8 @@ record IsLastStart (starts : List ℕ) (a i : ℕ) : Type 0 where
   upto : get_or starts i 0 ≤ a
   above : (j : ℕ) → i < j → j < length starts → a < get_or starts j 0
 
-above_later : (start : ℕ) (starts : List ℕ) (a i : ℕ) → IsLastStart starts a i → (j : ℕ) → suc i < j → j < length (start ∷ starts) → a < get_or (start ∷ starts) j 0
+above_later : (start : ℕ) (starts : List ℕ) (a i : ℕ) → IsLastStart starts a i → (j : ℕ) → suc i < j
+    → j < length (start ∷ starts) → a < get_or (start ∷ starts) j 0
 above_later start starts a i is zero less h = absurd (omega (arith, less))
 above_later start starts a i is (suc j) less h = is.above j (omega (arith, less)) (omega (arith, h))
 
@@ -118,7 +130,8 @@ last_later start starts a i is = record {
   above = λ j less h. above_later start starts a i is j less h;
 }
 
-above_all : (start : ℕ) (starts : List ℕ) (a : ℕ) → ((i : ℕ) → i < length starts → a < get_or starts i 0) → (j : ℕ) → 0 < j → j < length (start ∷ starts) → a < get_or (start ∷ starts) j 0
+above_all : (start : ℕ) (starts : List ℕ) (a : ℕ) → ((i : ℕ) → i < length starts → a < get_or starts i 0) → (j : ℕ)
+    → 0 < j → j < length (start ∷ starts) → a < get_or (start ∷ starts) j 0
 above_all start starts a above zero less h = absurd (omega (arith, less))
 above_all start starts a above (suc j) less h = above j (omega (arith, h))
 
@@ -130,7 +143,8 @@ first_last start starts a upto above = record {
 }
 
 step_of : (before : ℕ) (starts numbers : List ℕ) (a : ℕ) → length numbers ≡ length starts → AreRising starts
-    → (((i : ℕ) → i < length starts → a < get_or starts i 0) × (at_step before starts numbers a ≡ before)) ⊎ ((i : ℕ) × IsLastStart starts a i × (at_step before starts numbers a ≡ get_or numbers i 0))
+    → (((i : ℕ) → i < length starts → a < get_or starts i 0) × (at_step before starts numbers a ≡ before))
+    ⊎ ((i : ℕ) × IsLastStart starts a i × (at_step before starts numbers a ≡ get_or numbers i 0))
 unfolding at_step
 step_of before [] numbers a len rising = inl (λ i h. absurd (omega (arith, h)), refl)
 step_of before (start ∷ starts) [] a len rising = absurd (omega (arith, len))
@@ -143,7 +157,8 @@ step_of before (start ∷ starts) (n ∷ numbers) a len rising = elim (cases_Boo
 ]
 
 -- the addresses from a start on, up to the next one
-alike_start : (starts : List ℕ) (a k : ℕ) (ends : List ℕ) → AreRising starts → IsLastStart starts a k → ((x : ℕ) → Contains ends x → Contains starts x) → AreAlike a (get_or starts k 0) ends
+alike_start : (starts : List ℕ) (a k : ℕ) (ends : List ℕ) → AreRising starts → IsLastStart starts a k
+    → ((x : ℕ) → Contains ends x → Contains starts x) → AreAlike a (get_or starts k 0) ends
 alike_start starts a k ends rising is from = λ x h.
     let there = from x h in
     let at : get_or starts there.0 0 ≡ x = sym (get_or_default_zero starts there.0 x there.1) ∙ there.2 in
@@ -157,7 +172,8 @@ alike_start starts a k ends rising is from = λ x h.
       | inr not ↦
           let low : x ≤ get_or starts k 0 = elim (cases_lt there.0 k) [
             | inl less ↦ let r = rising there.0 k 0 less is.within in omega (arith, r, at)
-            | inr even ↦ let same : there.0 ≡ k = omega (arith, not, even) in let e : get_or starts k 0 ≡ x = subst (λ n. get_or starts n 0 ≡ x) same at in omega (arith, e)
+            | inr even ↦ let same : there.0 ≡ k = omega (arith, not, even) in let e : get_or starts k 0
+                ≡ x = subst (λ n. get_or starts n 0 ≡ x) same at in omega (arith, e)
           ] in (
             le-leb x a (omega (arith, low, up)) ∙ sym (le-leb x (get_or starts k 0) low),
             le-ltb a x (omega (arith, low, up)) ∙ sym (le-ltb (get_or starts k 0) x low),
@@ -170,12 +186,15 @@ view_at : (links : List Link) (number : ℕ) (link : Link) → made_at links num
 view_at links zero link is = absurd (none-some link is)
 view_at links (suc i) link is = slice_get-map link_view links i ∙ ap (λ (l : Option Link). option_map link_view l) is
 
-made_function : (functions : List Function) (links : List Link) (last number : ℕ) (link : Link) → AreMade functions links last → made_at links number ≡ Some link
+made_function : (functions : List Function) (links : List Link) (last number : ℕ) (link : Link)
+    → AreMade functions links last → made_at links number ≡ Some link
     → (f : Function) × (slice_get functions link.function ≡ Some f) × (link.name ≡ f.name) × (link.call ≡ f.call)
 made_function functions links last zero link made is = absurd (none-some link is)
 made_function functions links last (suc i) link made is = let m = made.each i link is in (m.of, m.there, m.name, m.call)
 
-entries_of_link : (sections : DebugSectionsRecord) (unit : UnitRecord) (scopes : List ScopeRecord) (functions : List Function) (ranges : List CodeRange) (links : List Link) (last number : ℕ) (chain : List FunctionRecord)
+entries_of_link : (sections : DebugSectionsRecord) (unit : UnitRecord) (scopes : List ScopeRecord)
+    (functions : List Function) (ranges : List CodeRange) (links : List Link) (last number : ℕ)
+    (chain : List FunctionRecord)
     → AreFunctions sections unit scopes functions ranges → AreMade functions links last → AreFunctionsOfLink (functions_from 0 scopes) links number chain
     → AreEntriesOfLink sections unit (links_view links) number (entries_of chain)
 entries_of_link sections unit scopes functions ranges links last number [] are made of = of
@@ -186,14 +205,17 @@ entries_of_link sections unit scopes functions ranges links last number (f ∷ f
       link_view link,
       view_at links number link of.1,
       of.2,
-      subst (λ (n : Option (List ℕ)). IsName sections (record { unit = unit; entry = f.entry }) n) (ap (λ (l : Option (Bor (List ℕ))). option_map (λ n. n.now) l) (sym g.2)) is.name,
+      subst (λ (n : Option (List ℕ)). IsName sections (record { unit = unit; entry = f.entry }) n)
+          (ap (λ (l : Option (Bor (List ℕ))). option_map (λ n. n.now) l) (sym g.2)) is.name,
       g.3 ∙ is.call,
       entries_of_link sections unit scopes functions ranges links last link.caller fs are made of.4,
     )
 
 -- ---- all together
 
-pub are_of : (sections : DebugSectionsRecord) (unit : UnitRecord) (scopes : List ScopeRecord) (functions : List Function) (ranges : List CodeRange) → AreFunctions sections unit scopes functions ranges → AreOf (functions_from 0 scopes) functions ranges
+pub are_of : (sections : DebugSectionsRecord) (unit : UnitRecord) (scopes : List ScopeRecord)
+    (functions : List Function) (ranges : List CodeRange) → AreFunctions sections unit scopes functions ranges
+    → AreOf (functions_from 0 scopes) functions ranges
 are_of sections unit scopes functions ranges are = record {
   count = are.count;
   end = λ i r f of is. (are.each i r f of is).end;
@@ -201,12 +223,15 @@ are_of sections unit scopes functions ranges are = record {
   ends = are.ends;
 }
 
-whole_chain : (of : List FunctionRecord) (links : List Link) (next : List ℕ) (i a number : ℕ) (is : IsUpTo of links (Waits next i) a number (length of)) → reverse is.chain ≡ chain_in of a
+whole_chain : (of : List FunctionRecord) (links : List Link) (next : List ℕ) (i a number : ℕ)
+    (is : IsUpTo of links (Waits next i) a number (length of)) → reverse is.chain ≡ chain_in of a
 whole_chain of links next i a number is = elim (cases_eq (slice_index next i) i) [
   | inl w ↦
       sym (append-nil (reverse is.chain))
       ∙ (ap (λ (fs : List FunctionRecord). reverse is.chain ++ fs)
-      (sym (ap (λ (fs : List FunctionRecord). functions_after (256 - length is.chain) a (end_of is.chain) (length of) fs) (drop_all (length of) of (omega arith)) ∙ after_none (256 - length is.chain) a (end_of is.chain) (length of))) ∙ is.more w)
+      (sym (ap (λ (fs : List FunctionRecord). functions_after (256 - length is.chain) a (end_of is.chain) (length of)
+      fs) (drop_all (length of) of (omega arith)) ∙ after_none (256 - length is.chain) a (end_of is.chain)
+      (length of))) ∙ is.more w)
   | inr not ↦ is.all not
 ]
 
@@ -225,13 +250,17 @@ callers_before : (functions : List Function) (links : List Link) (last : ℕ) �
 callers_before functions links last made i link is =
     let n = length-map links link_view in let w = slice_get_within (links_view links) i link is in
     let l = get_there links i (omega (arith, n, w)) in
-    let e : link_view l.0 ≡ link = same_Some (link_view l.0) link (sym (slice_get-map link_view links i ∙ ap (λ (o : Option Link). option_map link_view o) l.1) ∙ is) in
+    let e : link_view l.0 ≡ link = same_Some (link_view l.0) link
+    (sym (slice_get-map link_view links i ∙ ap (λ (o : Option Link). option_map link_view o) l.1) ∙ is) in
     let c = (made.each i l.0 l.1).caller in subst (λ (r : LinkRecord). r.caller ≤ i) e c
 
 -- the links of starts
-module _ (sections : DebugSectionsRecord) (unit : UnitRecord) (scopes : List ScopeRecord) (functions : List Function) (ranges : List CodeRange) (links : List Link) (last : ℕ) (starts numbers next : List ℕ) (are : AreFunctions sections unit scopes functions ranges)
+module _ (sections : DebugSectionsRecord) (unit : UnitRecord) (scopes : List ScopeRecord) (functions : List Function)
+    (ranges : List CodeRange) (links : List Link) (last : ℕ) (starts numbers next : List ℕ)
+    (are : AreFunctions sections unit scopes functions ranges)
     (made : AreMade functions links last) (count : length numbers ≡ length starts)
-    (each : (i : ℕ) → i < length starts → IsUpTo (functions_from 0 scopes) links (Waits next i) (slice_index starts i) (slice_index numbers i) (length (functions_from 0 scopes))) where
+    (each : (i : ℕ) → i < length starts → IsUpTo (functions_from 0 scopes) links (Waits next i) (slice_index starts i)
+    (slice_index numbers i) (length (functions_from 0 scopes))) where
   pub links_among : AreLinksAmong sections unit scopes (links_view links) starts numbers
   links_among = record {
     count = count;
@@ -239,17 +268,23 @@ module _ (sections : DebugSectionsRecord) (unit : UnitRecord) (scopes : List Sco
         let is = each i h in
         record {
           chain = entries_of (reverse is.chain);
-          contain = subst (λ (fs : List FunctionRecord). IsChain (slice_index starts i) scopes (entries_of fs)) (sym (whole_chain (functions_from 0 scopes) links next i (slice_index starts i) (slice_index numbers i) is))
+          contain = subst (λ (fs : List FunctionRecord). IsChain (slice_index starts i) scopes (entries_of fs))
+              (sym (whole_chain (functions_from 0 scopes) links next i (slice_index starts i) (slice_index numbers i)
+              is))
               (is_chain (slice_index starts i) scopes);
-          are_entries = subst (λ (es : List EntryRecord). AreEntriesOfLink sections unit (links_view links) (slice_index numbers i) es) (sym (reverse_entries is.chain))
+          are_entries = subst (λ (es : List EntryRecord). AreEntriesOfLink sections unit (links_view links)
+              (slice_index numbers i) es) (sym (reverse_entries is.chain))
               (entries_of_link sections unit scopes functions ranges links last (slice_index numbers i) is.chain are made is.are);
         };
     callers = callers_before functions links last made;
   }
 
 -- those of starts at which all ranges begin and end are those of all addresses
-module _ (sections : DebugSectionsRecord) (unit : UnitRecord) (functions : List Function) (ranges : List CodeRange) (links : List LinkRecord) (starts numbers : List ℕ) (are : AreFunctions sections unit (scopes_of sections unit) functions ranges)
-    (rising : AreRising starts) (same : (a : ℕ) → Contains starts a ↔ Contains (ends_of_ranges ranges) a) (among : AreLinksAmong sections unit (scopes_of sections unit) links starts numbers) where
+module _ (sections : DebugSectionsRecord) (unit : UnitRecord) (functions : List Function) (ranges : List CodeRange)
+    (links : List LinkRecord) (starts numbers : List ℕ)
+    (are : AreFunctions sections unit (scopes_of sections unit) functions ranges)
+    (rising : AreRising starts) (same : (a : ℕ) → Contains starts a ↔ Contains (ends_of_ranges ranges) a)
+    (among : AreLinksAmong sections unit (scopes_of sections unit) links starts numbers) where
   same_ends : (a : ℕ) → Contains starts a ↔ Contains (flat_map (λ scope. ends_of_ranges scope.ranges) (scopes_of sections unit)) a
   same_ends a = subst (λ (xs : List ℕ). Contains starts a ↔ Contains xs a) (ap ends_of_ranges are.ranges_are ∙ ends_from 0 (scopes_of sections unit)) (same a)
 

@@ -1,5 +1,7 @@
 -- A start gets the functions of its chain, one after another.
-use Rattle.std.proofs.Common.{◌≡◌, ℕ, zero, suc, ◌+◌, ◌-◌, ◌<◌, ◌≤◌, true, false, List, [], ◌∷◌, ◌++◌, length, drop, get_or, reverse, set, slice_get, Option, Some, None, refl, sym, ap, subst, ◌∙◌, inl, inr, append_assoc, arith}
+use Rattle.std.proofs.Common.{◌≡◌, ℕ, zero, suc, ◌+◌, ◌-◌, ◌<◌, ◌≤◌, true, false, List, [], ◌∷◌, ◌++◌, length, drop}
+use Rattle.std.proofs.Common.{get_or, reverse, set, slice_get, Option, Some, None, refl, sym, ap, subst, ◌∙◌, inl, inr}
+use Rattle.std.proofs.Common.{append_assoc, arith}
 use Rattle.std.proofs.lemmas.Bool.{cases_Bool, cases_eq, le-leb, leb-true, lt-leb}
 use Rattle.std.proofs.lemmas.List.{append-nil, drop_more, get_or-set_other, get_or-set_same, reverse-append}
 use Rattle.std.proofs.lemmas.Option.{get_or_from_slice_get, none-some, same_Some, slice_get_within}
@@ -24,7 +26,9 @@ past_all room a end index [] past = refl
 past_all zero a end index (f ∷ fs) past = after_zero a end index (f ∷ fs)
 past_all (suc room) a end index (f ∷ fs) past = after_past room a end index f fs past
 
-pub after_not : (room a : ℕ) (end : Option ℕ) (index : ℕ) (f : FunctionRecord) (fs : List FunctionRecord) → in_ranges a f.ranges ≡ false → functions_after room a end index (f ∷ fs) ≡ functions_after room a end (index + 1) fs
+pub after_not : (room a : ℕ) (end : Option ℕ) (index : ℕ) (f : FunctionRecord) (fs : List FunctionRecord)
+    → in_ranges a f.ranges ≡ false → functions_after room a end index (f ∷ fs)
+    ≡ functions_after room a end (index + 1) fs
 after_not zero a end index f fs not = after_zero a end index (f ∷ fs) ∙ sym (after_zero a end (index + 1) fs)
 after_not (suc room) a end index f fs not = elim (cases_Bool (is_past end index)) [
   | inl past ↦ past_all (suc room) a end index (f ∷ fs) past ∙ sym (past_all (suc room) a end (index + 1) fs (past_later end index past))
@@ -32,35 +36,43 @@ after_not (suc room) a end index f fs not = elim (cases_Bool (is_past end index)
 ]
 
 pub drop_function : (of : List FunctionRecord) (index : ℕ) (f : FunctionRecord) → slice_get of index ≡ Some f → drop index of ≡ f ∷ drop (index + 1) of
-drop_function of index f is = drop_more of index f (slice_get_within of index f is) ∙ ap (λ (g : FunctionRecord). g ∷ drop (index + 1) of) (get_or_from_slice_get of index f f is)
+drop_function of index f is = drop_more of index f (slice_get_within of index f is)
+    ∙ ap (λ (g : FunctionRecord). g ∷ drop (index + 1) of) (get_or_from_slice_get of index f f is)
 
 reverse-cons : (f : FunctionRecord) (fs : List FunctionRecord) → reverse (f ∷ fs) ≡ reverse fs ++ f ∷ []
 reverse-cons f fs = reverse-append (f ∷ []) fs
 
 -- ---- the functions of a link
 
-functions_kept : (of : List FunctionRecord) (old new : List Link) (number : ℕ) (chain : List FunctionRecord) → AreKept old new → AreFunctionsOfLink of old number chain → AreFunctionsOfLink of new number chain
+functions_kept : (of : List FunctionRecord) (old new : List Link) (number : ℕ) (chain : List FunctionRecord)
+    → AreKept old new → AreFunctionsOfLink of old number chain → AreFunctionsOfLink of new number chain
 functions_kept of old new number [] kept are = are
 functions_kept of old new number (f ∷ fs) kept are =
     let now = made_kept old new number are.0 kept are.1 in
     (record are.0 { child = now.0 }, now.1, are.2, are.3, functions_kept of old new are.0.caller fs kept are.4)
 
-made_is : (functions : List Function) (links : List Link) (last number : ℕ) (link : Link) → AreMade functions links last → made_at links number ≡ Some link → (link.caller < number) × (link.count ≡ suc (count_at links link.caller))
+made_is : (functions : List Function) (links : List Link) (last number : ℕ) (link : Link) → AreMade functions links last
+    → made_at links number ≡ Some link → (link.caller < number) × (link.count ≡ suc (count_at links link.caller))
 made_is functions links last zero link made is = absurd (none-some link is)
 made_is functions links last (suc i) link made is = let m = made.each i link is in (let c = m.caller in omega (arith, c), m.count)
 
-pub count_in : (functions : List Function) (links : List Link) (last outer index number : ℕ) → AreMade functions links last → IsLinkIn links outer index number → count_at links number ≡ suc (count_at links outer)
+pub count_in : (functions : List Function) (links : List Link) (last outer index number : ℕ)
+    → AreMade functions links last → IsLinkIn links outer index number → count_at links number
+    ≡ suc (count_at links outer)
 count_in functions links last outer index number made is =
     count_of_made links number is.link is.there ∙ ((made_is functions links last number is.link made is.there).1 ∙ ap (λ n. suc (count_at links n)) is.caller)
 
-count_of_chain : (of : List FunctionRecord) (functions : List Function) (links : List Link) (last number : ℕ) (chain : List FunctionRecord) → AreMade functions links last → AreFunctionsOfLink of links number chain
+count_of_chain : (of : List FunctionRecord) (functions : List Function) (links : List Link) (last number : ℕ)
+    (chain : List FunctionRecord) → AreMade functions links last → AreFunctionsOfLink of links number chain
     → count_at links number ≡ length chain
 count_of_chain of functions links last number [] made are = ap (λ n. count_at links n) are
 count_of_chain of functions links last number (f ∷ fs) made are =
-    count_of_made links number are.0 are.1 ∙ ((made_is functions links last number are.0 made are.1).1 ∙ ap suc (count_of_chain of functions links last are.0.caller fs made are.4))
+    count_of_made links number are.0 are.1 ∙ ((made_is functions links last number are.0 made are.1).1
+    ∙ ap suc (count_of_chain of functions links last are.0.caller fs made are.4))
 
 -- the innermost function is that of the link
-innermost : (of : List FunctionRecord) (links : List Link) (number : ℕ) (chain : List FunctionRecord) (link : Link) (r : FunctionRecord) → AreFunctionsOfLink of links number chain → made_at links number ≡ Some link
+innermost : (of : List FunctionRecord) (links : List Link) (number : ℕ) (chain : List FunctionRecord) (link : Link)
+    (r : FunctionRecord) → AreFunctionsOfLink of links number chain → made_at links number ≡ Some link
     → slice_get of link.function ≡ Some r → end_of chain ≡ Some r.end
 innermost of links number [] link r are there is = absurd (none-some link (subst (λ n. made_at links n ≡ Some link) are there))
 innermost of links number (f ∷ fs) link r are there is =
@@ -68,14 +80,18 @@ innermost of links number (f ∷ fs) link r are there is =
     let f_is : f ≡ r = same_Some f r (sym are.3 ∙ (ap (λ (l : Link). slice_get of l.function) same ∙ is)) in
     ap (λ (g : FunctionRecord). Some g.end) f_is
 
-no_innermost : (of : List FunctionRecord) (links : List Link) (number : ℕ) (chain : List FunctionRecord) → AreFunctionsOfLink of links number chain → number ≡ 0 → end_of chain ≡ None
+no_innermost : (of : List FunctionRecord) (links : List Link) (number : ℕ) (chain : List FunctionRecord)
+    → AreFunctionsOfLink of links number chain → number ≡ 0 → end_of chain ≡ None
 no_innermost of links number [] are none = refl
 no_innermost of links number (f ∷ fs) are none = absurd (none-some are.0 (subst (λ n. made_at links n ≡ Some are.0) none are.1))
 
 -- ---- a start that stays as it is
 
-module _ (of : List FunctionRecord) (old new : List Link) (was waits : Type 0) (a number index : ℕ) (kept : AreKept old new) (to : was → waits) (back : waits → was) where
-  before_still : (chain : List FunctionRecord) → AreFunctionsOfLink of old number chain → ((link : Link) → made_at old number ≡ Some link → link.function < index) → (link : Link) → made_at new number ≡ Some link → link.function < index
+module _ (of : List FunctionRecord) (old new : List Link) (was waits : Type 0) (a number index : ℕ)
+    (kept : AreKept old new) (to : was → waits) (back : waits → was) where
+  before_still : (chain : List FunctionRecord) → AreFunctionsOfLink of old number chain
+      → ((link : Link) → made_at old number ≡ Some link → link.function < index) → (link : Link) → made_at new number
+      ≡ Some link → link.function < index
   before_still [] are before link there = absurd (none-some link (subst (λ n. made_at new n ≡ Some link) are there))
   before_still (f ∷ fs) are before link there =
       let now = made_kept old new number are.0 kept are.1 in
@@ -91,7 +107,9 @@ module _ (of : List FunctionRecord) (old new : List Link) (was waits : Type 0) (
     all = λ not. is.all (λ w. not (to w));
   }
 
-pub taken_still : (of : List FunctionRecord) (old new : List Link) (was waits : Type 0) (a number index : ℕ) → AreKept old new → (was → waits) → (waits → was) → HasTaken of old was a number index → HasTaken of new waits a number index
+pub taken_still : (of : List FunctionRecord) (old new : List Link) (was waits : Type 0) (a number index : ℕ)
+    → AreKept old new → (was → waits) → (waits → was) → HasTaken of old was a number index
+    → HasTaken of new waits a number index
 taken_still of old new was waits a number index kept to back is = record {
   up_to = up_to_still of old new was waits a number (index + 1) kept to back is.up_to;
   last = λ w.
@@ -102,7 +120,8 @@ taken_still of old new was waits a number index kept to back is = record {
 -- ---- a start that gets a function, or does not
 
 -- the function does not contain it
-pub skipped : (of : List FunctionRecord) (links : List Link) (waits : Type 0) (a number index : ℕ) (f : FunctionRecord) → slice_get of index ≡ Some f → in_ranges a f.ranges ≡ false
+pub skipped : (of : List FunctionRecord) (links : List Link) (waits : Type 0) (a number index : ℕ) (f : FunctionRecord)
+    → slice_get of index ≡ Some f → in_ranges a f.ranges ≡ false
     → IsUpTo of links waits a number index → IsUpTo of links waits a number (index + 1)
 skipped of links waits a number index f there not is = record {
   chain = is.chain;
@@ -110,12 +129,14 @@ skipped of links waits a number index f there not is = record {
   before = λ link at. let b = is.before link at in omega (arith, b);
   more = λ w. ap (λ (fs : List FunctionRecord). reverse is.chain ++ fs)
       (sym (after_not (256 - length is.chain) a (end_of is.chain) index f (drop (index + 1) of) not)
-      ∙ ap (λ (fs : List FunctionRecord). functions_after (256 - length is.chain) a (end_of is.chain) index fs) (sym (drop_function of index f there))) ∙ is.more w;
+      ∙ ap (λ (fs : List FunctionRecord). functions_after (256 - length is.chain) a (end_of is.chain) index fs)
+      (sym (drop_function of index f there))) ∙ is.more w;
   all = is.all;
 }
 
 -- it waits no longer, and has its whole chain
-up_to_done : (of : List FunctionRecord) (links : List Link) (was waits : Type 0) (a number index : ℕ) (is : IsUpTo of links was a number index) → (waits → ⊥) → reverse is.chain ≡ chain_in of a
+up_to_done : (of : List FunctionRecord) (links : List Link) (was waits : Type 0) (a number index : ℕ)
+    (is : IsUpTo of links was a number index) → (waits → ⊥) → reverse is.chain ≡ chain_in of a
     → HasTaken of links waits a number index
 up_to_done of links was waits a number index is not whole = record {
   up_to = record {
@@ -129,26 +150,35 @@ up_to_done of links was waits a number index is not whole = record {
 }
 
 -- it did not wait
-pub waits_not : (of : List FunctionRecord) (links : List Link) (waits : Type 0) (a number index : ℕ) → IsUpTo of links waits a number index → (waits → ⊥) → HasTaken of links waits a number index
+pub waits_not : (of : List FunctionRecord) (links : List Link) (waits : Type 0) (a number index : ℕ)
+    → IsUpTo of links waits a number index → (waits → ⊥) → HasTaken of links waits a number index
 waits_not of links waits a number index is not = up_to_done of links waits waits a number index is not (is.all not)
 
 -- the function does not stand in its link
-pub past_taken : (of : List FunctionRecord) (links : List Link) (was waits : Type 0) (a number index : ℕ) (link : Link) (r : FunctionRecord) → IsUpTo of links was a number index → was
+pub past_taken : (of : List FunctionRecord) (links : List Link) (was waits : Type 0) (a number index : ℕ) (link : Link)
+    (r : FunctionRecord) → IsUpTo of links was a number index → was
     → made_at links number ≡ Some link → slice_get of link.function ≡ Some r → r.end ≤ index → (waits → ⊥) → HasTaken of links waits a number index
 past_taken of links was waits a number index link r is w there of_is past not =
-    let past_it : is_past (end_of is.chain) index ≡ true = ap (λ (e : Option ℕ). is_past e index) (innermost of links number is.chain link r is.are there of_is) ∙ le-leb r.end index past in
+    let past_it : is_past (end_of is.chain) index ≡ true =
+    ap (λ (e : Option ℕ). is_past e index) (innermost of links number is.chain link r is.are there of_is)
+    ∙ le-leb r.end index past in
     up_to_done of links was waits a number index is not
-    (sym (append-nil (reverse is.chain)) ∙ (ap (λ (fs : List FunctionRecord). reverse is.chain ++ fs) (sym (past_all (256 - length is.chain) a (end_of is.chain) index (drop index of) past_it)) ∙ is.more w))
+    (sym (append-nil (reverse is.chain)) ∙ (ap (λ (fs : List FunctionRecord). reverse is.chain ++ fs)
+    (sym (past_all (256 - length is.chain) a (end_of is.chain) index (drop index of) past_it)) ∙ is.more w))
 
 -- it gets the link of the function in its own
-module _ (of : List FunctionRecord) (functions now : List Function) (old new : List Link) (before last : ℕ) (was waits : Type 0) (a outer number index : ℕ) (f : FunctionRecord)
-    (there : slice_get of index ≡ Some f) (has : in_ranges a f.ranges ≡ true) (is : IsUpTo of old was a outer index) (w : was) (was_made : AreMade functions old before) (made : AreMade now new last)
-    (kept : AreKept old new) (within : outer ≤ length old) (link : IsLinkIn new outer index number) (inside : is_past (end_of is.chain) index ≡ false) (few : count_at old outer < 256)
+module _ (of : List FunctionRecord) (functions now : List Function) (old new : List Link) (before last : ℕ)
+    (was waits : Type 0) (a outer number index : ℕ) (f : FunctionRecord)
+    (there : slice_get of index ≡ Some f) (has : in_ranges a f.ranges ≡ true) (is : IsUpTo of old was a outer index)
+    (w : was) (was_made : AreMade functions old before) (made : AreMade now new last)
+    (kept : AreKept old new) (within : outer ≤ length old) (link : IsLinkIn new outer index number)
+    (inside : is_past (end_of is.chain) index ≡ false) (few : count_at old outer < 256)
     (full : (waits → ⊥) → count_at new number ≡ 256) where
   few_before : length is.chain < 256
   few_before = let n = count_of_chain of functions old before outer is.chain was_made is.are in omega (arith, n, few)
 
-  left_here : functions_after (256 - length is.chain) a (end_of is.chain) index (drop index of) ≡ f ∷ functions_after (256 - suc (length is.chain)) a (Some f.end) (index + 1) (drop (index + 1) of)
+  left_here : functions_after (256 - length is.chain) a (end_of is.chain) index (drop index of) ≡ f
+      ∷ functions_after (256 - suc (length is.chain)) a (Some f.end) (index + 1) (drop (index + 1) of)
   left_here =
       let room : 256 - length is.chain ≡ suc (256 - suc (length is.chain)) = let n = few_before in omega (arith, n) in
       ap (λ (fs : List FunctionRecord). functions_after (256 - length is.chain) a (end_of is.chain) index fs) (drop_function of index f there)
@@ -187,16 +217,19 @@ module _ (of : List FunctionRecord) (functions now : List Function) (old new : L
           let none : 256 - suc (length is.chain) ≡ 0 = omega (arith, c, n) in
           sym (append-nil (reverse (f ∷ is.chain)))
           ∙ (ap (λ (fs : List FunctionRecord). reverse (f ∷ is.chain) ++ fs)
-          (sym (ap (λ n. functions_after n a (Some f.end) (index + 1) (drop (index + 1) of)) none ∙ after_zero a (Some f.end) (index + 1) (drop (index + 1) of))) ∙ whole);
+          (sym (ap (λ n. functions_after n a (Some f.end) (index + 1) (drop (index + 1) of)) none
+          ∙ after_zero a (Some f.end) (index + 1) (drop (index + 1) of))) ∙ whole);
     };
     last = λ now. (link.link, link.there, link.function);
   }
 
 -- the outermost one
-pub inside_none : (of : List FunctionRecord) (links : List Link) (waits : Type 0) (a number index : ℕ) (is : IsUpTo of links waits a number index) → number ≡ 0 → is_past (end_of is.chain) index ≡ false
+pub inside_none : (of : List FunctionRecord) (links : List Link) (waits : Type 0) (a number index : ℕ)
+    (is : IsUpTo of links waits a number index) → number ≡ 0 → is_past (end_of is.chain) index ≡ false
 inside_none of links waits a number index is none = ap (λ (e : Option ℕ). is_past e index) (no_innermost of links number is.chain is.are none)
 
-pub inside_link : (of : List FunctionRecord) (links : List Link) (waits : Type 0) (a number index : ℕ) (link : Link) (r : FunctionRecord) (is : IsUpTo of links waits a number index) → made_at links number ≡ Some link
+pub inside_link : (of : List FunctionRecord) (links : List Link) (waits : Type 0) (a number index : ℕ) (link : Link)
+    (r : FunctionRecord) (is : IsUpTo of links waits a number index) → made_at links number ≡ Some link
     → slice_get of link.function ≡ Some r → index < r.end → is_past (end_of is.chain) index ≡ false
 inside_link of links waits a number index link r is there of_is inside =
     ap (λ (e : Option ℕ). is_past e index) (innermost of links number is.chain link r is.are there of_is) ∙ lt-leb r.end index inside
@@ -213,14 +246,16 @@ up_to_first of links waits a number none w = record {
 
 -- ---- safety
 
-pub few_still : (old new : List Link) (numbers : List ℕ) (at number i : ℕ) → AreKept old new → (i ≡ at → ⊥) → get_or numbers i 0 ≤ length old → count_at old (get_or numbers i 0) < 256
+pub few_still : (old new : List Link) (numbers : List ℕ) (at number i : ℕ) → AreKept old new → (i ≡ at → ⊥)
+    → get_or numbers i 0 ≤ length old → count_at old (get_or numbers i 0) < 256
     → count_at new (get_or (set numbers at number) i 0) < 256
 few_still old new numbers at number i kept not within few =
     let same = get_or-set_other numbers at i number 0 not in
     let count = count_kept old new (get_or numbers i 0) kept within in
     subst (λ n. count_at new n < 256) (sym same) (omega (arith, count, few))
 
-pub within_still : (old new : List Link) (numbers : List ℕ) (at outer index number i : ℕ) → AreKept old new → IsLinkIn new outer index number → at < length numbers → get_or numbers i 0 ≤ length old
+pub within_still : (old new : List Link) (numbers : List ℕ) (at outer index number i : ℕ) → AreKept old new
+    → IsLinkIn new outer index number → at < length numbers → get_or numbers i 0 ≤ length old
     → get_or (set numbers at number) i 0 ≤ length new
 within_still old new numbers at outer index number i kept link inside within = elim (cases_eq i at) [
   | inl same ↦

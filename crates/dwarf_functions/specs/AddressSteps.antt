@@ -1,4 +1,4 @@
--- What is at each address, told at the addresses from which on it may be another.
+-- The frames at each address, stored at the addresses from which on they may be others.
 use Rattle.std.specs.Prelude.{ℕ, List, [], ◌∷◌, nat_lt, if◌then◌else◌}
 
 -- what is at an address by steps: that of the last start that is not above it, and this before the first

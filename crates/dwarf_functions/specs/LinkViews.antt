@@ -1,4 +1,4 @@
--- What links are in the definitions.
+-- Links, as the definitions have them.
 use Rattle.std.specs.Prelude.{List, map}
 use Rattle.std.specs.Option.{option_map}
 use Rattle.dwarf_functions.specs.Links.{LinkRecord}

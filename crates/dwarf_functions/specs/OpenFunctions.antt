@@ -1,4 +1,4 @@
--- Functions in which further ones may stand: the words of inner functions. No contract of a public one has them.
+-- Functions in which further ones may be nested: the words of inner functions. No contract of a public one has them.
 use Rattle.std.specs.Prelude.{ℕ, List, [], ◌∷◌, ◌++◌, ◌≡◌, ◌==◌, ◌+◌, ◌-◌, ◌<◌, ◌≤◌, length, slice_get}
 use Rattle.std.specs.Prelude.{IfSome, if◌then◌else◌}
 use Rattle.std.specs.List.{All, list_any}

@@ -1,6 +1,7 @@
 -- Starts that get the links of the functions that contain them, one function after another: the words of inner
 -- functions. No contract of a public one has them.
-use Rattle.std.specs.Prelude.{ℕ, List, [], ◌∷◌, ◌++◌, ◌≡◌, ◌≢◌, ◌≤◌, ◌<◌, ◌+◌, ◌-◌, ◌⊎◌, length, drop, flat_map, reverse}
+use Rattle.std.specs.Prelude.{ℕ, List, [], ◌∷◌, ◌++◌, ◌≡◌, ◌≢◌, ◌≤◌, ◌<◌, ◌+◌, ◌-◌, ◌⊎◌, length, drop, flat_map}
+use Rattle.std.specs.Prelude.{reverse}
 use Rattle.std.specs.Prelude.{slice_get, slice_index, take, Option, Some, None}
 use Rattle.dwarf_ranges.specs.declared.range.CodeRange.{CodeRange}
 use Rattle.dwarf_functions.specs.Making.{AreKept, AreMade, IsLinkIn, count_at, made_at}

@@ -1,5 +1,6 @@
 -- The search for a row finds the first that tells of an address.
-use Rattle.std.proofs.Common.{◌≡◌, ℕ, zero, suc, ◌<◌, ◌≤◌, true, false, List, [], ◌∷◌, Option, Some, None, slice_get, refl, sym, ap, ◌∙◌, inl, inr, arith, add-one}
+use Rattle.std.proofs.Common.{◌≡◌, ℕ, zero, suc, ◌<◌, ◌≤◌, true, false, List, [], ◌∷◌, Option, Some, None, slice_get}
+use Rattle.std.proofs.Common.{refl, sym, ap, ◌∙◌, inl, inr, arith, add-one}
 use Rattle.std.proofs.lemmas.Bool.{cases_Bool}
 use Rattle.std.proofs.lemmas.Bool.Decides.{nat_tests}
 use Rattle.std.proofs.lemmas.Option.{none-some, same_Some}
@@ -28,12 +29,30 @@ at_first address row next rows h =
 -- a row after the first
 at_more : (address index : ℕ) (row found : Row) (rows : List Row) → CoversAt rows address index found → CoversAt (row ∷ rows) address (suc index) found
 at_more address index row found rows p =
-    record { stands = p.stands; inside = p.inside; above = p.above; next = p.next; followed = ap (slice_get (row ∷ rows)) (add-one (suc index)) ∙ ap (slice_get rows) (sym (add-one index)) ∙ p.followed; below = p.below }
+    record {
+      stands = p.stands;
+      inside = p.inside;
+      above = p.above;
+      next = p.next;
+      followed =
+          ap (slice_get (row ∷ rows)) (add-one (suc index)) ∙ ap (slice_get rows) (sym (add-one index))
+          ∙ p.followed;
+      below = p.below;
+    }
 
 -- and the other way
 at_less : (address index : ℕ) (row found : Row) (rows : List Row) → CoversAt (row ∷ rows) address (suc index) found → CoversAt rows address index found
 at_less address index row found rows p =
-    record { stands = p.stands; inside = p.inside; above = p.above; next = p.next; followed = ap (slice_get rows) (add-one index) ∙ ap (slice_get (row ∷ rows)) (sym (add-one (suc index))) ∙ p.followed; below = p.below }
+    record {
+      stands = p.stands;
+      inside = p.inside;
+      above = p.above;
+      next = p.next;
+      followed =
+          ap (slice_get rows) (add-one index) ∙ ap (slice_get (row ∷ rows)) (sym (add-one (suc index)))
+          ∙ p.followed;
+      below = p.below;
+    }
 
 at_zero : (address : ℕ) (row next found : Row) (rows : List Row) → CoversAt (row ∷ next ∷ rows) address 0 found → IsCovered address row next
 at_zero address row next found rows p =
@@ -58,7 +77,8 @@ at_any address row next rows h bound none zero other less p = test_false address
 at_any address row next rows h bound none (suc index) other less p = none index other (omega arith) (at_less address index row other (next ∷ rows) p)
 
 -- what is found after a row that tells of nothing
-more : (address : ℕ) (row next : Row) (rows : List Row) (found : Option Row) → covers address row next ≡ false → IsCovering (next ∷ rows) address found → IsCovering (row ∷ next ∷ rows) address found
+more : (address : ℕ) (row next : Row) (rows : List Row) (found : Option Row) → covers address row next ≡ false
+    → IsCovering (next ∷ rows) address found → IsCovering (row ∷ next ∷ rows) address found
 more address row next rows None h is = λ index other p.
     at_any address row next rows h (suc index) (λ i o l q. is i o q) index other (omega arith) p
 more address row next rows (Some found) h is =
@@ -78,7 +98,8 @@ covering_with-is address [] = λ index other p. none-some other p.stands
 covering_with-is address (row ∷ rows) = covering_after-is address row rows
 
 -- a step of the search
-pub step_some : (address : ℕ) (before : Option Row) (row found : Row) (rows : List Row) → covered address before row ≡ Some found → covering_with address before (row ∷ rows) ≡ Some found
+pub step_some : (address : ℕ) (before : Option Row) (row found : Row) (rows : List Row) → covered address before row
+    ≡ Some found → covering_with address before (row ∷ rows) ≡ Some found
 unfolding covering_after
 step_some address None row found rows h = absurd (none-some found h)
 step_some address (Some kept) row found rows h = elim (cases_Bool (covers address kept row)) [
@@ -86,7 +107,8 @@ step_some address (Some kept) row found rows h = elim (cases_Bool (covers addres
   | inr f ↦ absurd (none-some found (rw f at h))
 ]
 
-pub step_none : (address : ℕ) (before : Option Row) (row : Row) (rows : List Row) → covered address before row ≡ None → covering_with address before (row ∷ rows) ≡ covering_with address (Some row) rows
+pub step_none : (address : ℕ) (before : Option Row) (row : Row) (rows : List Row) → covered address before row ≡ None
+    → covering_with address before (row ∷ rows) ≡ covering_with address (Some row) rows
 unfolding covering_after
 step_none address None row rows h = refl
 step_none address (Some kept) row rows h = elim (cases_Bool (covers address kept row)) [

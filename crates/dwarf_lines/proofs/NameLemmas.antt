@@ -1,5 +1,6 @@
 -- Steps over the names of a header.
-use Rattle.std.proofs.Common.{◌≡◌, ℕ, ◌+◌, ◌<◌, ◌≤◌, Bool, true, false, List, ◌∷◌, length, drop, get_or, ◌==◌, Option, Some, None, ap, sym, ◌∙◌, inl, inr, arith}
+use Rattle.std.proofs.Common.{◌≡◌, ℕ, ◌+◌, ◌<◌, ◌≤◌, Bool, true, false, List, ◌∷◌, length, drop, get_or, ◌==◌, Option}
+use Rattle.std.proofs.Common.{Some, None, ap, sym, ◌∙◌, inl, inr, arith}
 use Rattle.std.specs.Option.{option_map, option_and_then}
 use Rattle.std.proofs.lemmas.Bool.{cases_Bool}
 use Rattle.std.proofs.lemmas.Option.{option_and_then_some}
@@ -21,7 +22,13 @@ index_shorter bytes x e =
     option_and_then_some _ (unsigned_leb128_at y.1) x after
     (λ z second third.
     let w = mapped_some (λ (v : ℕ × List ℕ). (y.0, v.1)) (unsigned_leb128_at z.1) x third in
-    omega (arith, leb128_shorter last_unsigned bytes y found, leb128_shorter last_unsigned y.1 z second, leb128_shorter last_unsigned z.1 w.0 w.1, ap (λ (v : ℕ × List ℕ). length v.1) w.2)))
+    omega (
+      arith,
+      leb128_shorter last_unsigned bytes y found,
+      leb128_shorter last_unsigned y.1 z second,
+      leb128_shorter last_unsigned z.1 w.0 w.1,
+      ap (λ (v : ℕ × List ℕ). length v.1) w.2,
+    )))
 
 index_no_longer : (is_file : Bool) (bytes : List ℕ) (x : ℕ × List ℕ) → directory_or_none_at is_file bytes ≡ Some x → length x.1 ≤ length bytes
 index_no_longer true bytes x e = omega (arith, index_shorter bytes x e)
@@ -39,20 +46,25 @@ listed_name_shortens is_file = record {
             let same : (None, y.1) ≡ x = cc here in
             omega (arith, text_shorter bytes y found, ap (λ (z : Option NameRecord × List ℕ). length z.1) same)
         | inr f ↦
-            let here : option_map {U = Option NameRecord × List ℕ} (λ (z : ℕ × List ℕ). (Some (record { name = InlineString y.0; directory = z.0 }), z.1)) (directory_or_none_at is_file y.1) ≡ Some x = rw f at after in
+            let here : option_map {U = Option NameRecord × List ℕ}
+            (λ (z : ℕ × List ℕ). (Some (record { name = InlineString y.0; directory = z.0 }), z.1))
+            (directory_or_none_at is_file y.1) ≡ Some x = rw f at after in
             let z = mapped_some _ (directory_or_none_at is_file y.1) x here in
             omega (arith, text_shorter bytes y found, index_no_longer is_file y.1 z.0 z.1, ap (λ (w : Option NameRecord × List ℕ). length w.1) z.2)
       ]);
 }
 
 -- a value more of an entry
-pub fields_step : (fields next : FieldsRecord) (format : List (ℕ × ℕ)) (index : ℕ) (bytes rest : List ℕ) (value : ValueRecord) (whole : Option (FieldsRecord × List ℕ)) → index < length format
-    → ◌≡◌ {A = Option (ValueRecord × List ℕ)} (Some (value, rest)) (name_value_at (get_or format index (0, 0)).1 bytes) → next ≡ with_value fields (get_or format index (0, 0)).0 value
+pub fields_step : (fields next : FieldsRecord) (format : List (ℕ × ℕ)) (index : ℕ) (bytes rest : List ℕ)
+    (value : ValueRecord) (whole : Option (FieldsRecord × List ℕ)) → index < length format
+    → ◌≡◌ {A = Option (ValueRecord × List ℕ)} (Some (value, rest)) (name_value_at (get_or format index (0, 0)).1 bytes)
+    → next ≡ with_value fields (get_or format index (0, 0)).0 value
     → fields_from fields (drop index format) bytes ≡ whole → fields_from next (drop (index + 1) format) rest ≡ whole
 unfolding fields_from
 fields_step fields next format index bytes rest value whole less read made before =
     let first : drop index format ≡ get_or format index (0, 0) ∷ drop (index + 1) format = drop_more format index (0, 0) less in
-    let here : fields_from fields (get_or format index (0, 0) ∷ drop (index + 1) format) bytes ≡ whole = ap (λ f. fields_from fields f bytes) (sym first) ∙ before in
+    let here : fields_from fields (get_or format index (0, 0) ∷ drop (index + 1) format) bytes
+    ≡ whole = ap (λ f. fields_from fields f bytes) (sym first) ∙ before in
     ap (λ f. fields_from f (drop (index + 1) format) rest) made
     ∙ ap (option_and_then (λ (x : ValueRecord × List ℕ). fields_from (with_value fields (get_or format index (0, 0)).0 x.0) (drop (index + 1) format) x.1)) read
     ∙ here
@@ -63,7 +75,8 @@ pub fields_fails : (fields : FieldsRecord) (format : List (ℕ × ℕ)) (index :
 unfolding fields_from
 fields_fails fields format index bytes whole less read before =
     let first : drop index format ≡ get_or format index (0, 0) ∷ drop (index + 1) format = drop_more format index (0, 0) less in
-    ap (option_and_then (λ (x : ValueRecord × List ℕ). fields_from (with_value fields (get_or format index (0, 0)).0 x.0) (drop (index + 1) format) x.1)) (sym read)
+    ap (option_and_then (λ (x : ValueRecord × List ℕ). fields_from
+    (with_value fields (get_or format index (0, 0)).0 x.0) (drop (index + 1) format) x.1)) (sym read)
     ∙ ap (λ f. fields_from fields f bytes) (sym first) ∙ before
 
 -- all are read

@@ -22,7 +22,8 @@ within_none zero header r bytes e = refl
 within_none (suc count) header r bytes e = rw e refl
 
 -- as covering_rows instructions as there are bytes are enough
-same_within : (m n : ℕ) (header : HeaderRecord) (r : Registers) (bytes : List ℕ) → length bytes ≤ m → length bytes ≤ n → rows_within m header r bytes ≡ rows_within n header r bytes
+same_within : (m n : ℕ) (header : HeaderRecord) (r : Registers) (bytes : List ℕ) → length bytes ≤ m → length bytes ≤ n
+    → rows_within m header r bytes ≡ rows_within n header r bytes
 same_within zero n header r [] h k = within_none 0 header r [] (nothing_read header) ∙ sym (within_none n header r [] (nothing_read header))
 same_within zero n header r (b ∷ bytes) h k = absurd (omega arith)
 same_within (suc m) zero header r [] h k = within_none (suc m) header r [] (nothing_read header) ∙ sym (within_none 0 header r [] (nothing_read header))
@@ -52,8 +53,10 @@ unfolding rows_from
 rows_none header r bytes e = within_none (length bytes) header r bytes e
 
 -- what one instruction tells, and those after it
-pub step : (header : HeaderRecord) (r : Registers) (bytes : List ℕ) (i : Instruction) (rest : List ℕ) (done next : Registers) (row : Option Row) (start : List Row)
-    → ◌≡◌ {A = Option (Instruction × List ℕ)} (Some (i, rest)) (instruction_at header bytes) → done ≡ applied header r i → next ≡ registers_with done i → option_to_list row ≡ row_with done i
+pub step : (header : HeaderRecord) (r : Registers) (bytes : List ℕ) (i : Instruction) (rest : List ℕ)
+    (done next : Registers) (row : Option Row) (start : List Row)
+    → ◌≡◌ {A = Option (Instruction × List ℕ)} (Some (i, rest)) (instruction_at header bytes) → done ≡ applied header r i
+    → next ≡ registers_with done i → option_to_list row ≡ row_with done i
     → rows_from header r bytes ≡ start → option_to_list row ++ rows_from header next rest ≡ start
 step header r bytes i rest done next row start read made moved assigned before =
     cc (rows_some header r bytes (i, rest) (sym read))

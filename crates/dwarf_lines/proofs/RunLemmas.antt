@@ -1,5 +1,6 @@
 -- The rows of a program are those of its one series of instructions, and an address belongs to one row.
-use Rattle.std.proofs.Common.{◌≡◌, ℕ, zero, suc, ◌<◌, ◌≤◌, ◌⊎◌, List, [], ◌∷◌, ◌++◌, length, slice_get, Option, Some, None, refl, sym, ap, ◌∙◌, inl, inr, arith, nat_lt}
+use Rattle.std.proofs.Common.{◌≡◌, ℕ, zero, suc, ◌<◌, ◌≤◌, ◌⊎◌, List, [], ◌∷◌, ◌++◌, length, slice_get, Option, Some}
+use Rattle.std.proofs.Common.{None, refl, sym, ap, ◌∙◌, inl, inr, arith, nat_lt}
 use Rattle.std.proofs.lemmas.Bool.{cases_Bool, ltb-true, ltb-false}
 use Rattle.dwarf_lines.specs.Header.{HeaderRecord}
 use Rattle.dwarf_lines.specs.Instructions.{instruction_at}
@@ -14,7 +15,8 @@ use Rattle.dwarf_lines.proofs.RowLemmas.{rows_some, rows_none}
 use Rattle.dwarf_encoding.proofs.SequenceLemmas.{none_or_some}
 
 -- the rows of the instructions
-rows_are : (header : HeaderRecord) (r : Registers) (bytes : List ℕ) (is : List Instruction) → AreInstructions header bytes is → rows_from header r bytes ≡ rows_of header r is
+rows_are : (header : HeaderRecord) (r : Registers) (bytes : List ℕ) (is : List Instruction)
+    → AreInstructions header bytes is → rows_from header r bytes ≡ rows_of header r is
 rows_are header r bytes [] none = rows_none header r bytes none
 rows_are header r bytes (i ∷ is) some =
     rows_some header r bytes (i, some.0) some.1
@@ -31,7 +33,9 @@ series (suc count) header bytes h = elim (none_or_some (instruction_at header by
       (some.0.0 ∷ more.0, (some.0.1, some.1, more.1))
 ]
 
-pub one_run : (header : HeaderRecord) (r : Registers) (bytes : List ℕ) (rows : List Row) → (Appends header r bytes rows → rows ≡ rows_from header r bytes) × (rows ≡ rows_from header r bytes → Appends header r bytes rows)
+pub one_run : (header : HeaderRecord) (r : Registers) (bytes : List ℕ) (rows : List Row)
+    → (Appends header r bytes rows → rows ≡ rows_from header r bytes)
+    × (rows ≡ rows_from header r bytes → Appends header r bytes rows)
 one_run header r bytes rows = (
   λ run. run.2 ∙ sym (rows_are header r bytes run.0 run.1),
   λ same. let run = series (length bytes) header bytes (omega arith) in (run.0, run.1, same ∙ rows_are header r bytes run.0 run.1),

@@ -1,5 +1,6 @@
 -- Fewer bytes are left after an instruction.
-use Rattle.std.proofs.Common.{◌≡◌, ℕ, zero, suc, ◌-◌, ◌<◌, ◌≤◌, Bool, true, false, List, [], ◌∷◌, length, take, drop, cond, Some, None, refl, ap, sym, arith, length-drop, nat_lt}
+use Rattle.std.proofs.Common.{◌≡◌, ℕ, zero, suc, ◌-◌, ◌<◌, ◌≤◌, Bool, true, false, List, [], ◌∷◌, length, take, drop}
+use Rattle.std.proofs.Common.{cond, Some, None, refl, ap, sym, arith, length-drop, nat_lt}
 use Rattle.std.specs.Option.{option_map, option_and_then}
 use Rattle.std.proofs.lemmas.Option.{option_and_then_some}
 use Rattle.dwarf_encoding.specs.Leb128.{leb128_at, last_unsigned, unsigned_leb128_at}
@@ -71,7 +72,8 @@ instruction_shorter header [] x e = cc (nothing_read header, e)
 instruction_shorter header (opcode ∷ bytes) x e = omega (arith, (leaves_instruction header opcode bytes).most x e)
 
 -- one number less to go
-pub operands_more : (count : ℕ) (bytes : List ℕ) → 0 < count → after_operands count bytes ≡ option_and_then (λ x. after_operands (count - 1) x.1) (unsigned_leb128_at bytes)
+pub operands_more : (count : ℕ) (bytes : List ℕ) → 0 < count → after_operands count bytes
+    ≡ option_and_then (λ x. after_operands (count - 1) x.1) (unsigned_leb128_at bytes)
 unfolding after_operands
 operands_more zero bytes some = absurd (omega arith)
 operands_more (suc count) bytes some =

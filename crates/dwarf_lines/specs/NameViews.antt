@@ -1,4 +1,4 @@
--- What names of the code are in the definitions.
+-- Names of the code, as the definitions have them.
 use Rattle.std.specs.Prelude.{map}
 use Rattle.std.specs.Option.{option_map}
 use Rattle.dwarf_encoding.specs.Views.{value_view}

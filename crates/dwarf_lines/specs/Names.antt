@@ -1,5 +1,5 @@
--- The names of directories and files in the header of a line number program (DWARF 5, section 6.2.4). What cannot be
--- read leaves the header without names.
+-- The names of directories and files in the header of a line number program (DWARF 5, section 6.2.4). A header with an
+-- unreadable entry has no names.
 use Rattle.std.specs.Prelude.{ℕ, Bool, true, false, List, [], ◌∷◌, ◌==◌, length, Option, Some, None, if◌then◌else◌}
 use Rattle.std.specs.Option.{option_map, option_and_then, option_or, unwrap_or}
 use Rattle.dwarf_encoding.specs.Leb128.{unsigned_leb128_at}

@@ -1,4 +1,4 @@
--- What the parts of a path of the code are in the definitions.
+-- The parts of a path of the code, as the definitions have them.
 use Rattle.dwarf_lines.specs.Paths.{PathRecord}
 use Rattle.dwarf_lines.specs.declared.path.PathParts.{PathParts}
 

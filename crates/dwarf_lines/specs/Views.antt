@@ -1,4 +1,4 @@
--- What headers and programs of the code are in the definitions.
+-- Headers and programs of the code, as the definitions have them.
 use Rattle.dwarf_lines.specs.Header.{HeaderRecord, ProgramRecord}
 use Rattle.dwarf_lines.specs.declared.header.Header.{Header}
 use Rattle.dwarf_lines.specs.declared.header.Program.{Program}

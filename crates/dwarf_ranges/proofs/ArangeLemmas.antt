@@ -1,5 +1,6 @@
 -- Steps over the tuples of __debug_aranges.
-use Rattle.std.proofs.Common.{◌≡◌, ℕ, ◌<◌, List, [], ◌∷◌, ◌++◌, length, drop, take, map, Option, Some, None, refl, ap, ◌∙◌, sym, inl, inr, arith, length-drop, nat_lt, ◌==◌, ◌&&◌, ◌||◌, Bool, true, false}
+use Rattle.std.proofs.Common.{◌≡◌, ℕ, ◌<◌, List, [], ◌∷◌, ◌++◌, length, drop, take, map, Option, Some, None, refl, ap}
+use Rattle.std.proofs.Common.{◌∙◌, sym, inl, inr, arith, length-drop, nat_lt, ◌==◌, ◌&&◌, ◌||◌, Bool, true, false}
 use Rattle.std.specs.List.{flat_map, list_any}
 use Rattle.std.specs.Option.{option_map_or}
 use Rattle.std.proofs.lemmas.Bool.{cases_Bool, ltb-false}
@@ -89,12 +90,16 @@ pub no_first_tuples : (unit : ℕ) (bytes sets : List ℕ) → tuple_at bytes �
 no_first_tuples unit bytes sets e = ap (λ t. t ++ aranges_of sets) (tuples_end unit bytes e)
 
 -- a tuple is given
-pub one_tuple : (unit : ℕ) (bytes sets : List ℕ) (address size : ℕ) (rest : List ℕ) (all : List Arange) → ◌≡◌ {A = Option ((ℕ × ℕ) × List ℕ)} (Some ((address, size), rest)) (tuple_at bytes)
-    → tuples_from unit bytes ++ aranges_of sets ≡ all → all ≡ record { debug_info_offset = unit; address = address; length = size } ∷ (tuples_from unit rest ++ aranges_of sets)
+pub one_tuple : (unit : ℕ) (bytes sets : List ℕ) (address size : ℕ) (rest : List ℕ) (all : List Arange)
+    → ◌≡◌ {A = Option ((ℕ × ℕ) × List ℕ)} (Some ((address, size), rest)) (tuple_at bytes)
+    → tuples_from unit bytes ++ aranges_of sets ≡ all → all
+    ≡ record { debug_info_offset = unit; address = address; length = size }
+    ∷ (tuples_from unit rest ++ aranges_of sets)
 one_tuple unit bytes sets address size rest all read before = sym before ∙ ap (λ t. t ++ aranges_of sets) (tuples_more unit bytes address size rest (sym read))
 
 -- a set is begun
-pub one_set : (unit : ℕ) (bytes sets set rest : List ℕ) (tuples all : List Arange) → tuple_at bytes ≡ None → ◌≡◌ {A = Option (List ℕ × List ℕ)} (Some (set, rest)) (set_at sets)
+pub one_set : (unit : ℕ) (bytes sets set rest : List ℕ) (tuples all : List Arange) → tuple_at bytes ≡ None
+    → ◌≡◌ {A = Option (List ℕ × List ℕ)} (Some (set, rest)) (set_at sets)
     → tuples ≡ tuples_of set → tuples_from unit bytes ++ aranges_of sets ≡ all → tuples ++ aranges_of rest ≡ all
 one_set unit bytes sets set rest tuples all none read are before =
     ap (λ t. t ++ aranges_of rest) are ∙ sym (sets_more sets set rest (sym read)) ∙ sym (no_first_tuples unit bytes sets none) ∙ before

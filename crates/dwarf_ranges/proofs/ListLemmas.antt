@@ -13,7 +13,8 @@ unfolding ranges_within
 none_within format base bytes = refl
 
 -- nor where none can be read
-pub ranges_missing : (left : ℕ) (format : ListFormat) (base : ℕ) (bytes : List ℕ) → entry_at format bytes ≡ None → ranges_within (entry_at format) left base bytes ≡ []
+pub ranges_missing : (left : ℕ) (format : ListFormat) (base : ℕ) (bytes : List ℕ) → entry_at format bytes ≡ None
+    → ranges_within (entry_at format) left base bytes ≡ []
 unfolding ranges_within
 ranges_missing zero format base bytes e = refl
 ranges_missing (suc left) format base bytes e = rw e refl
@@ -29,17 +30,21 @@ ranges_some left less format base bytes x more e = rw (more, e) refl
 
 -- the list ends
 pub ranges_end : (left : ℕ) (format : ListFormat) (base : ℕ) (bytes : List ℕ) (entry : RangeEntry) (rest : List ℕ) → 0 < left
-    → ◌≡◌ {A = Option (RangeEntry × List ℕ)} (Some (entry, rest)) (entry_at format bytes) → is_end entry ≡ true → ranges_within (entry_at format) left base bytes ≡ []
+    → ◌≡◌ {A = Option (RangeEntry × List ℕ)} (Some (entry, rest)) (entry_at format bytes) → is_end entry ≡ true
+    → ranges_within (entry_at format) left base bytes ≡ []
 ranges_end left format base bytes entry rest some read end =
     ranges_some left (left - 1) format base bytes (entry, rest) (omega arith) (sym read)
     ∙ ap (λ b. cond b [] (range_of base entry ++ ranges_within (entry_at format) (left - 1) (base_after base entry) rest)) end
 
 -- what one entry says, and those after it
-pub step : (left : ℕ) (format : ListFormat) (base : ℕ) (bytes : List ℕ) (entry : RangeEntry) (rest : List ℕ) (next : ℕ) (range : Option CodeRange) (start : List CodeRange)
-    → 0 < left → ◌≡◌ {A = Option (RangeEntry × List ℕ)} (Some (entry, rest)) (entry_at format bytes) → is_end entry ≡ false → next ≡ base_after base entry → option_to_list range ≡ range_of base entry
+pub step : (left : ℕ) (format : ListFormat) (base : ℕ) (bytes : List ℕ) (entry : RangeEntry) (rest : List ℕ) (next : ℕ)
+    (range : Option CodeRange) (start : List CodeRange)
+    → 0 < left → ◌≡◌ {A = Option (RangeEntry × List ℕ)} (Some (entry, rest)) (entry_at format bytes) → is_end entry
+    ≡ false → next ≡ base_after base entry → option_to_list range ≡ range_of base entry
     → ranges_within (entry_at format) left base bytes ≡ start → option_to_list range ++ ranges_within (entry_at format) (left - 1) next rest ≡ start
 step left format base bytes entry rest next range start some read goes moved says before =
-    let whole : ranges_within (entry_at format) left base bytes ≡ range_of base entry ++ ranges_within (entry_at format) (left - 1) (base_after base entry) rest =
+    let whole : ranges_within (entry_at format) left base bytes ≡ range_of base entry
+    ++ ranges_within (entry_at format) (left - 1) (base_after base entry) rest =
     ranges_some left (left - 1) format base bytes (entry, rest) (omega arith) (sym read)
     ∙ ap (λ b. cond b [] (range_of base entry ++ ranges_within (entry_at format) (left - 1) (base_after base entry) rest)) goes in
     (λ i. says i ++ ranges_within (entry_at format) (left - 1) (moved i) rest) ∙ sym whole ∙ before
@@ -73,7 +78,8 @@ left_end left format bytes entry rest some read end =
 
 -- an entry is read
 pub left_step : (left : ℕ) (format : ListFormat) (bytes : List ℕ) (entry : RangeEntry) (rest : List ℕ) (start : ℕ) → 0 < left
-    → ◌≡◌ {A = Option (RangeEntry × List ℕ)} (Some (entry, rest)) (entry_at format bytes) → is_end entry ≡ false → left_after (entry_at format) left bytes ≡ start
+    → ◌≡◌ {A = Option (RangeEntry × List ℕ)} (Some (entry, rest)) (entry_at format bytes) → is_end entry ≡ false
+    → left_after (entry_at format) left bytes ≡ start
     → left_after (entry_at format) (left - 1) rest ≡ start
 left_step left format bytes entry rest start some read goes before =
     sym (

@@ -1,5 +1,6 @@
 -- The first tuple that has an address.
-use Rattle.std.proofs.Common.{◌≡◌, ℕ, zero, suc, ◌+◌, ◌<◌, Bool, true, false, List, [], ◌∷◌, slice_get, Option, Some, None, refl, sym, ap, ◌∙◌, inl, inr, arith, nat_lt, nat_le, ◌&&◌, subst}
+use Rattle.std.proofs.Common.{◌≡◌, ℕ, zero, suc, ◌+◌, ◌<◌, Bool, true, false, List, [], ◌∷◌, slice_get, Option, Some}
+use Rattle.std.proofs.Common.{None, refl, sym, ap, ◌∙◌, inl, inr, arith, nat_lt, nat_le, ◌&&◌, subst}
 use Rattle.std.proofs.lemmas.Bool.{cases_Bool}
 use Rattle.std.proofs.lemmas.Bool.Decides.{nat_tests}
 use Rattle.std.proofs.lemmas.Option.{none-some}
@@ -66,7 +67,8 @@ first_tuple-only a (t ∷ ts) None is =
     first_tuple-only a ts None (λ i u e h. is (suc i) u e h) ∙ sym (step_miss a t ts (λ h. is 0 t refl h))
 first_tuple-only a (t ∷ ts) (Some u) is = place (first_tuple-only a ts (Some u)) is.0 is.1 is.2 is.3
   where
-    place : (IsFirstTuple ts a (Some u) → Some u ≡ first_tuple a ts) → (i : ℕ) → slice_get (t ∷ ts) i ≡ Some u → HasAddress a u → ((j : ℕ) (v : Arange) → j < i → slice_get (t ∷ ts) j ≡ Some v → HasAddress a v → ⊥)
+    place : (IsFirstTuple ts a (Some u) → Some u ≡ first_tuple a ts) → (i : ℕ) → slice_get (t ∷ ts) i ≡ Some u
+        → HasAddress a u → ((j : ℕ) (v : Arange) → j < i → slice_get (t ∷ ts) j ≡ Some v → HasAddress a v → ⊥)
         → Some u ≡ first_tuple a (t ∷ ts)
     place after zero e h before =
         let same : u ≡ t = cc e in

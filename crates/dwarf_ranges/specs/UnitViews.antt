@@ -1,4 +1,4 @@
--- What the places of ranges are in the definitions.
+-- The places of ranges, as the definitions have them.
 use Rattle.std.specs.Option.{option_map}
 use Rattle.dwarf_encoding.specs.Views.{value_view}
 use Rattle.dwarf_ranges.specs.EntryRanges.{RangeAttributesRecord, UnitRangesRecord}

@@ -1,4 +1,4 @@
--- What tables of addresses of the code are in the definitions.
+-- Tables of addresses of the code, as the definitions have them.
 use Rattle.dwarf_ranges.specs.Addresses.{AddressesRecord}
 use Rattle.std.specs.Prelude.{ℕ, List, Option}
 use Rattle.dwarf_ranges.specs.ListEntries.{debug_ranges_entry_at, rnglists_entry_at}

@@ -59,19 +59,23 @@ module _ (starts : List ℕ) (places : List (Option ℕ)) (i : ℕ) (a : ℕ) (p
       ])
 
 module _ (starts : List ℕ) (places : List (Option ℕ)) (i : ℕ) (own : Option ℕ) (here : own ≡ get_or places i None) where
-  pub under_more : (place a : ℕ) (xs next : List ℕ) → Contains xs a ↔ IsPlacedWithin i starts places a (Some place) → next ≡ xs ++ placed_under own place (get_or starts i 0)
+  pub under_more : (place a : ℕ) (xs next : List ℕ) → Contains xs a ↔ IsPlacedWithin i starts places a (Some place)
+      → next ≡ xs ++ placed_under own place (get_or starts i 0)
       → Contains next a ↔ IsPlacedWithin (i + 1) starts places a (Some place)
   under_more place a xs next before e =
       step_more starts places i a (Some place) xs (placed_under own place (get_or starts i 0)) next before e
-      (subst (λ (o : Option ℕ). Contains (placed_under own place (get_or starts i 0)) a ↔ ((get_or starts i 0 ≡ a) × (o ≡ Some place))) here (under_added own place (get_or starts i 0) a))
+      (subst (λ (o : Option ℕ). Contains (placed_under own place (get_or starts i 0)) a
+      ↔ ((get_or starts i 0 ≡ a) × (o ≡ Some place))) here (under_added own place (get_or starts i 0) a))
 
   pub without_more : (a : ℕ) (xs next : List ℕ) → Contains xs a ↔ IsPlacedWithin i starts places a None → next ≡ xs ++ placed_without own (get_or starts i 0)
       → Contains next a ↔ IsPlacedWithin (i + 1) starts places a None
   without_more a xs next before e =
       step_more starts places i a None xs (placed_without own (get_or starts i 0)) next before e
-      (subst (λ (o : Option ℕ). Contains (placed_without own (get_or starts i 0)) a ↔ ((get_or starts i 0 ≡ a) × (o ≡ None))) here (without_added own (get_or starts i 0) a))
+      (subst (λ (o : Option ℕ). Contains (placed_without own (get_or starts i 0)) a
+      ↔ ((get_or starts i 0 ≡ a) × (o ≡ None))) here (without_added own (get_or starts i 0) a))
 
 -- after the last step
-pub all_steps : (starts : List ℕ) (places : List (Option ℕ)) (count : ℕ) (xs : List ℕ) (a : ℕ) (p : Option ℕ) → count ≡ length starts → Contains xs a ↔ IsPlacedWithin count starts places a p
+pub all_steps : (starts : List ℕ) (places : List (Option ℕ)) (count : ℕ) (xs : List ℕ) (a : ℕ) (p : Option ℕ) → count
+    ≡ length starts → Contains xs a ↔ IsPlacedWithin count starts places a p
     → Contains xs a ↔ IsPlacedWithin (length starts) starts places a p
 all_steps starts places count xs a p e h = subst (λ (n : ℕ). Contains xs a ↔ IsPlacedWithin n starts places a p) e h

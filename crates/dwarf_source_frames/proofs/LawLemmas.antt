@@ -1,5 +1,6 @@
 -- An address has one list of frames.
-use Rattle.std.proofs.Common.{◌≡◌, ℕ, zero, suc, ◌<◌, nat_lt, List, [], ◌∷◌, Option, Some, None, slice_get, refl, sym, ap, subst, ◌∙◌, inl, inr, arith, ◌⊎◌, reverse}
+use Rattle.std.proofs.Common.{◌≡◌, ℕ, zero, suc, ◌<◌, nat_lt, List, [], ◌∷◌, Option, Some, None, slice_get, refl, sym}
+use Rattle.std.proofs.Common.{ap, subst, ◌∙◌, inl, inr, arith, ◌⊎◌, reverse}
 use Rattle.std.specs.Prelude.{MatchOption}
 use Rattle.std.specs.Option.{option_and_then, option_or}
 use Rattle.std.proofs.lemmas.Bool.{cases_Bool, ltb-true, ltb-false}
@@ -41,7 +42,8 @@ one_first a scopes outer i j p q = elim (order i j) [
   ]
 ]
 
-one_chain : (room a : ℕ) (scopes : List ScopeRecord) (outer : Option ℕ) (one other : List EntryRecord) → IsChainWithin room a scopes outer one → IsChainWithin room a scopes outer other → one ≡ other
+one_chain : (room a : ℕ) (scopes : List ScopeRecord) (outer : Option ℕ) (one other : List EntryRecord)
+    → IsChainWithin room a scopes outer one → IsChainWithin room a scopes outer other → one ≡ other
 one_chain zero a scopes outer one other p q = p ∙ sym q
 one_chain (suc room) a scopes outer [] [] p q = refl
 one_chain (suc room) a scopes outer [] (e ∷ es) p q = absurd (p q.0 q.4.within q.4.contains)
@@ -54,7 +56,8 @@ one_chain (suc room) a scopes outer (e ∷ es) (f ∷ fs) p q =
     ap (λ (x : EntryRecord). x ∷ es) entry ∙ ap (λ (xs : List EntryRecord). f ∷ xs) rest
 
 -- one unit
-one_unit_with : (section : List ℕ) (offset : ℕ) (one other : Option (ℕ × List ℕ)) → IsUnitWith section offset one → IsUnitWith section offset other → one ≡ other
+one_unit_with : (section : List ℕ) (offset : ℕ) (one other : Option (ℕ × List ℕ)) → IsUnitWith section offset one
+    → IsUnitWith section offset other → one ≡ other
 one_unit_with section offset None None p q = refl
 one_unit_with section offset None (Some x) p q = absurd (p x.0 x.1 q.0 q.1)
 one_unit_with section offset (Some x) None p q = absurd (q x.0 x.1 p.0 p.1)
@@ -75,7 +78,9 @@ one_entry_at : (s : DebugSectionsRecord) (place : ℕ) (one other : Option UnitE
 one_entry_at s place one other p q =
     p.2 ∙ ap (entry_with s.debug_abbrev place) (one_unit_with s.debug_info place p.0 q.0 p.1 q.1) ∙ sym q.2
 
-one_origin_by : (s : DebugSectionsRecord) (o : Option ℕ) (one other : Option UnitEntryRecord) → MatchOption o (one ≡ None) (λ place. IsEntryAt s place one) → MatchOption o (other ≡ None) (λ place. IsEntryAt s place other) → one ≡ other
+one_origin_by : (s : DebugSectionsRecord) (o : Option ℕ) (one other : Option UnitEntryRecord)
+    → MatchOption o (one ≡ None) (λ place. IsEntryAt s place one)
+    → MatchOption o (other ≡ None) (λ place. IsEntryAt s place other) → one ≡ other
 one_origin_by s None one other p q = p ∙ sym q
 one_origin_by s (Some place) one other p q = one_entry_at s place one other p q
 
@@ -105,14 +110,16 @@ one_name_of count s e name None one other same p q =
     one_name_after count s name p.0 one other same p.2
     (subst (λ (o : Option UnitEntryRecord). IsNameAfter count s name o other) (sym (one_origin s e p.0 q.0 p.1 q.1)) q.2)
 
-one_name : (count : ℕ) (s : DebugSectionsRecord) (e : UnitEntryRecord) (before one other : Option (List ℕ)) → IsNameWithin count s e before one → IsNameWithin count s e before other → one ≡ other
+one_name : (count : ℕ) (s : DebugSectionsRecord) (e : UnitEntryRecord) (before one other : Option (List ℕ))
+    → IsNameWithin count s e before one → IsNameWithin count s e before other → one ≡ other
 one_name zero s e before one other p q = p ∙ sym q
 one_name (suc count) s e before one other p q =
     let name = option_or before (text_in s e e.entry.attributes.name) in
     one_name_of count s e name (linkage_name s e) one other (λ o h k. one_name count s o name one other h k) p q
 
 -- one frame
-one_frame : (s : DebugSectionsRecord) (lines : LinesRecord) (e : UnitEntryRecord) (place : SourceLocation) (one other : FrameRecord) → IsFrame s lines e place one → IsFrame s lines e place other → one ≡ other
+one_frame : (s : DebugSectionsRecord) (lines : LinesRecord) (e : UnitEntryRecord) (place : SourceLocation)
+    (one other : FrameRecord) → IsFrame s lines e place one → IsFrame s lines e place other → one ≡ other
 one_frame s lines e place one other p q =
     let name : one.name ≡ other.name = one_name 16 s e None one.name other.name p.name q.name in
     let path : one.path ≡ other.path = p.path ∙ sym q.path in
@@ -124,7 +131,8 @@ one_frame s lines e place one other p q =
     let with_column : ℕ → FrameRecord = λ x. record { name = other.name; path = other.path; line = other.line; column = x } in
     ap with_name name ∙ ap with_path path ∙ ap with_line line ∙ ap with_column column
 
-one_frames_from : (s : DebugSectionsRecord) (lines : LinesRecord) (unit : UnitRecord) (place : SourceLocation) (chain : List EntryRecord) (one other : List FrameRecord)
+one_frames_from : (s : DebugSectionsRecord) (lines : LinesRecord) (unit : UnitRecord) (place : SourceLocation)
+    (chain : List EntryRecord) (one other : List FrameRecord)
     → AreFramesFrom s lines unit place chain one → AreFramesFrom s lines unit place chain other → one ≡ other
 one_frames_from s lines unit place [] one other p q = p ∙ sym q
 one_frames_from s lines unit place (e ∷ es) [] other p q = absurd p
@@ -134,14 +142,16 @@ one_frames_from s lines unit place (e ∷ es) (f ∷ fs) (g ∷ gs) p q =
     let rest : fs ≡ gs = one_frames_from s lines unit (location_of_call e) es fs gs p.1 q.1 in
     ap (λ (x : FrameRecord). x ∷ fs) here ∙ ap (λ (xs : List FrameRecord). g ∷ xs) rest
 
-one_frames_of_chain : (s : DebugSectionsRecord) (lines : LinesRecord) (unit : UnitRecord) (chain : List EntryRecord) (row : Option Row) (one other : List FrameRecord)
+one_frames_of_chain : (s : DebugSectionsRecord) (lines : LinesRecord) (unit : UnitRecord) (chain : List EntryRecord)
+    (row : Option Row) (one other : List FrameRecord)
     → AreFramesOfChain s lines unit chain row one → AreFramesOfChain s lines unit chain row other → one ≡ other
 one_frames_of_chain s lines unit [] None one other p q = p ∙ sym q
 one_frames_of_chain s lines unit [] (Some row) one other p q = p ∙ sym q
 one_frames_of_chain s lines unit (e ∷ es) row one other p q = one_frames_from s lines unit (location_of_row row) (e ∷ es) one other p q
 
 -- one list of frames
-one_in_unit : (s : DebugSectionsRecord) (unit : UnitRecord) (a : ℕ) (one other : List FrameRecord) → AreFramesInUnit s unit a one → AreFramesInUnit s unit a other → one ≡ other
+one_in_unit : (s : DebugSectionsRecord) (unit : UnitRecord) (a : ℕ) (one other : List FrameRecord)
+    → AreFramesInUnit s unit a one → AreFramesInUnit s unit a other → one ≡ other
 one_in_unit s unit a one other p q =
     let chain : q.chain ≡ p.chain = one_chain 256 a (scopes_of s unit) None q.chain p.chain q.contain p.contain in
     let row : q.row ≡ p.row = one_covering (rows_of (lines_of s unit)) a q.row p.row q.covers p.covers in
@@ -149,7 +159,8 @@ one_in_unit s unit a one other p q =
     let by_row = subst (λ (r : Option Row). AreFramesOfChain s (lines_of s unit) unit (reverse p.chain) r other) row by_chain in
     one_frames_of_chain s (lines_of s unit) unit (reverse p.chain) p.row one other p.are_frames by_row
 
-one_in : (s : DebugSectionsRecord) (unit : Option UnitRecord) (a : ℕ) (one other : List FrameRecord) → AreFramesIn s unit a one → AreFramesIn s unit a other → one ≡ other
+one_in : (s : DebugSectionsRecord) (unit : Option UnitRecord) (a : ℕ) (one other : List FrameRecord)
+    → AreFramesIn s unit a one → AreFramesIn s unit a other → one ≡ other
 one_in s None a one other p q = p ∙ sym q
 one_in s (Some unit) a one other p q = one_in_unit s unit a one other p q
 

@@ -11,7 +11,8 @@ mapped_or f None b = refl
 mapped_or f (Some x) b = refl
 
 -- one that leads on
-pub name_next : (count : ℕ) (s : DebugSectionsRecord) (e o : UnitEntryRecord) (before next name : Option (List ℕ)) → 0 < count → linkage_name s e ≡ None → IsOrigin s e (Some o)
+pub name_next : (count : ℕ) (s : DebugSectionsRecord) (e o : UnitEntryRecord) (before next name : Option (List ℕ))
+    → 0 < count → linkage_name s e ≡ None → IsOrigin s e (Some o)
     → next ≡ option_or before (text_in s e e.entry.attributes.name) → IsNameWithin (count - 1) s o next name → IsNameWithin count s e before name
 name_next zero s e o before next name some none origin same rest = absurd (omega arith)
 name_next (suc count) s e o before next name some none origin same rest =

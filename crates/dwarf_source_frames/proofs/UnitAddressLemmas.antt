@@ -18,31 +18,39 @@ place_from sections a size bytes =
     option_map (λ u. u.0) (find (λ u. in_ranges a (own_ranges sections u.0 u.1)) (placed_from unit_at size bytes))
 
 one_unit : (sections : DebugSectionsRecord) (a size : ℕ) (bytes unit rest : List ℕ) → ◌≡◌ {A = Option (List ℕ × List ℕ)} (Some (unit, rest)) (unit_at bytes)
-    → place_from sections a size bytes ≡ option_map (λ u. u.0) (cond (in_ranges a (own_ranges sections (size - length bytes) unit)) (Some (size - length bytes, unit)) (find (λ u. in_ranges a (own_ranges sections u.0 u.1)) (placed_from unit_at size rest)))
+    → place_from sections a size bytes ≡ option_map (λ u. u.0)
+    (cond (in_ranges a (own_ranges sections (size - length bytes) unit)) (Some (size - length bytes, unit))
+    (find (λ u. in_ranges a (own_ranges sections u.0 u.1)) (placed_from unit_at size rest)))
 one_unit sections a size bytes unit rest read =
-    ap (λ units. option_map (λ u. u.0) (find (λ u. in_ranges a (own_ranges sections u.0 u.1)) units)) (placed_some unit_at unit_shortens size bytes (unit, rest) (sym read))
+    ap (λ units. option_map (λ u. u.0) (find (λ u. in_ranges a (own_ranges sections u.0 u.1)) units))
+    (placed_some unit_at unit_shortens size bytes (unit, rest) (sym read))
 
 -- a unit has the address
 pub unit_hit : (sections : DebugSectionsRecord) (a size : ℕ) (bytes unit rest : List ℕ) → ◌≡◌ {A = Option (List ℕ × List ℕ)} (Some (unit, rest)) (unit_at bytes)
     → in_ranges a (own_ranges sections (size - length bytes) unit) ≡ true → place_from sections a size bytes ≡ Some (size - length bytes)
 unit_hit sections a size bytes unit rest read has =
     one_unit sections a size bytes unit rest read
-    ∙ ap (λ b. option_map (λ (u : ℕ × List ℕ). u.0) (cond b (Some (size - length bytes, unit)) (find (λ u. in_ranges a (own_ranges sections u.0 u.1)) (placed_from unit_at size rest)))) has
+    ∙ ap (λ b. option_map (λ (u : ℕ × List ℕ). u.0) (cond b (Some (size - length bytes, unit))
+    (find (λ u. in_ranges a (own_ranges sections u.0 u.1)) (placed_from unit_at size rest)))) has
 
 -- a unit has it not
-pub unit_miss : (sections : DebugSectionsRecord) (a size : ℕ) (bytes unit rest : List ℕ) → ◌≡◌ {A = Option (List ℕ × List ℕ)} (Some (unit, rest)) (unit_at bytes)
+pub unit_miss : (sections : DebugSectionsRecord) (a size : ℕ) (bytes unit rest : List ℕ)
+    → ◌≡◌ {A = Option (List ℕ × List ℕ)} (Some (unit, rest)) (unit_at bytes)
     → in_ranges a (own_ranges sections (size - length bytes) unit) ≡ false → place_from sections a size bytes ≡ place_from sections a size rest
 unit_miss sections a size bytes unit rest read not =
     one_unit sections a size bytes unit rest read
-    ∙ ap (λ b. option_map (λ (u : ℕ × List ℕ). u.0) (cond b (Some (size - length bytes, unit)) (find (λ u. in_ranges a (own_ranges sections u.0 u.1)) (placed_from unit_at size rest)))) not
+    ∙ ap (λ b. option_map (λ (u : ℕ × List ℕ). u.0) (cond b (Some (size - length bytes, unit))
+    (find (λ u. in_ranges a (own_ranges sections u.0 u.1)) (placed_from unit_at size rest)))) not
 
 -- no unit is left
-pub no_unit : (sections : DebugSectionsRecord) (a size : ℕ) (bytes : List ℕ) → ◌≡◌ {A = Option (List ℕ × List ℕ)} None (unit_at bytes) → place_from sections a size bytes ≡ None
+pub no_unit : (sections : DebugSectionsRecord) (a size : ℕ) (bytes : List ℕ)
+    → ◌≡◌ {A = Option (List ℕ × List ℕ)} None (unit_at bytes) → place_from sections a size bytes ≡ None
 no_unit sections a size bytes read =
     ap (λ units. option_map (λ u. u.0) (find (λ u. in_ranges a (own_ranges sections u.0 u.1)) units)) (placed_missing unit_at size bytes (sym read))
 
 -- the place by the tuple, and else that by ranges: an address waits if its tuple names none
-pub joined : (by_tuple by_ranges before after : Option ℕ) (waiting : Bool) → before ≡ by_tuple → (by_tuple ≡ None → waiting ≡ true) → (waiting ≡ true → by_tuple ≡ None)
+pub joined : (by_tuple by_ranges before after : Option ℕ) (waiting : Bool) → before ≡ by_tuple
+    → (by_tuple ≡ None → waiting ≡ true) → (waiting ≡ true → by_tuple ≡ None)
     → (waiting ≡ true → after ≡ by_ranges) → (waiting ≡ false → after ≡ before) → after ≡ option_or by_tuple by_ranges
 joined by_tuple by_ranges before after true placed waits only found others = found refl ∙ ap (λ p. option_or p by_ranges) (sym (only refl))
 joined None by_ranges before after false placed waits only found others = absurd (cc (waits refl))

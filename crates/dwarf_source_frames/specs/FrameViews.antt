@@ -1,4 +1,4 @@
--- What frames and what they need of lines are in the definitions.
+-- Frames and the lines that they need, as the definitions have them.
 use Rattle.std.specs.Option.{option_map}
 use Rattle.dwarf_encoding.specs.TextViews.{text_sections_view}
 use Rattle.dwarf_lines.specs.NameViews.{names_view}

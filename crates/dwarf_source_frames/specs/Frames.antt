@@ -49,15 +49,16 @@ path_in lines file =
     option_and_then (λ n. option_and_then (λ names. parts_of lines.texts lines.comp_dir names n) lines.names) file
 
 -- the frame of an entry at a location
-pub record IsFrame (sections : DebugSectionsRecord) (lines : LinesRecord) (e : UnitEntryRecord) (location : SourceLocation)
+pub record IsFrame (sections : DebugSectionsRecord) (lines : LinesRecord) (e : UnitEntryRecord)
+    (location : SourceLocation)
     (frame : FrameRecord) : Type 0 where
   pub name : IsName sections e frame.name
   pub path : frame.path ≡ path_in lines location.file
   pub line : frame.line ≡ location.line
   pub column : frame.column ≡ location.column
 
--- the frames of entries, the innermost first, which is at a location; each further one is at the call that the one before
--- it is
+-- the frames of entries, the innermost first, which is at a location; each further one is at the call that the one
+-- before it is
 abbrev pub AreFramesFrom :
     DebugSectionsRecord → LinesRecord → UnitRecord → SourceLocation → List EntryRecord → List FrameRecord → Type 0
 AreFramesFrom sections lines unit location [] frames = frames ≡ []

@@ -1,4 +1,4 @@
--- What the DWARF sections of the code are in the definitions.
+-- The DWARF sections of the code, as the definitions have them.
 use Rattle.dwarf_source_frames.specs.DebugSections.{DebugSectionsRecord}
 use Rattle.dwarf_source_frames.specs.declared.debug_sections.DebugSections.{DebugSections}
 

@@ -1,4 +1,4 @@
--- Where the ranges of a unit's entries stand, and those of its first entry (DWARF 5, sections 2.17 and 3.1.1).
+-- The places of the ranges of a unit's entries, and of those of its first entry (DWARF 5, sections 2.17 and 3.1.1).
 use Rattle.std.specs.Prelude.{ℕ, List, length, ◌*◌}
 use Rattle.std.specs.Option.{option_and_then, unwrap_or}
 use Rattle.dwarf_entries.specs.Entries.{EntryRecord}

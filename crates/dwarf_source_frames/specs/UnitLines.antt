@@ -1,4 +1,4 @@
--- What the frames of a unit need of its line number program (DWARF 5, sections 3.1.1 and 6.2).
+-- The parts of a unit's line number program that its frames need (DWARF 5, sections 3.1.1 and 6.2).
 use Rattle.std.specs.Prelude.{ℕ, List, [], nat_lt, if◌then◌else◌, Option, Some, None}
 use Rattle.std.specs.Option.{option_and_then, unwrap_or}
 use Rattle.dwarf_encoding.specs.Units.{unit_of}

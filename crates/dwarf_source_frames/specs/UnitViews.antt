@@ -1,4 +1,4 @@
--- What units and their entries of the code are in the definitions.
+-- Units and their entries of the code, as the definitions have them.
 use Rattle.dwarf_entries.specs.EntryViews.{entry_view}
 use Rattle.dwarf_source_frames.specs.DebugUnits.{UnitRecord, UnitEntryRecord}
 use Rattle.dwarf_source_frames.specs.declared.debug_unit.DebugUnit.{DebugUnit}

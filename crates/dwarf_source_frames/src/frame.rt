@@ -6,7 +6,8 @@ ghost use Rattle.dwarf_entries.specs.EntryViews.{entry_view};
 ghost use Rattle.dwarf_encoding.specs.Views.{value_view};
 ghost use Rattle.dwarf_lines.specs.PathViews.{path_view};
 ghost use Rattle.dwarf_source_frames.specs.FrameViews.{frame_view, lines_view};
-ghost use Rattle.dwarf_source_frames.specs.Frames.{constant_of, constant_or_zero, frame_of_row, path_in, location_of_call};
+ghost use Rattle.dwarf_source_frames.specs.Frames.{constant_of, constant_or_zero, frame_of_row, path_in};
+ghost use Rattle.dwarf_source_frames.specs.Frames.{location_of_call};
 ghost use Rattle.dwarf_source_frames.specs.Frames.{location_of_row};
 
 use crate::unit_lines::UnitLines;

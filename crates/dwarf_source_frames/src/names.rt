@@ -3,7 +3,8 @@
 ghost use Rattle.std.specs.Prelude.{◌≡◌};
 ghost use Rattle.std.specs.Option.{option_map};
 ghost use Rattle.dwarf_encoding.specs.Views.{value_view};
-ghost use Rattle.dwarf_source_frames.specs.Names.{some_text, text_in, linkage_name, origin_place, IsOrigin, IsNameWithin};
+ghost use Rattle.dwarf_source_frames.specs.Names.{some_text, text_in, linkage_name, origin_place, IsOrigin};
+ghost use Rattle.dwarf_source_frames.specs.Names.{IsNameWithin};
 ghost use Rattle.dwarf_source_frames.specs.Names.{IsName};
 ghost use Rattle.dwarf_source_frames.specs.SectionsViews.{sections_view};
 ghost use Rattle.dwarf_source_frames.specs.UnitViews.{unit_entry_view};

@@ -17,8 +17,8 @@ pub fn is_function(entry: &UnreadEntry<'_, '_>) -> bool
     entry.tag() == DW_TAG_SUBPROGRAM || entry.tag() == DW_TAG_INLINED_SUBROUTINE
 }
 
-/// The ranges of an entry of a unit that is of a function. Of its list, `left` entries count at most, and `left` is then
-/// how many more may count.
+/// The ranges of an entry of a unit that is of a function. Of its list, `left` entries count at most, and `left` is
+/// then how many more may count.
 #[tactic(auto, unfolding(crate::specs::Scopes::scope_ranges, crate::specs::Scopes::left_after_scope))]
 pub fn scope_ranges<'a>(unit: &UnitRanges<'a>, entry: &Entry<'a>, left: &mut u128) -> Ranges<'a>
     requires { is_function (entry_view entry.now) ≡ true }

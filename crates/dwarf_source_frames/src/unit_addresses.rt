@@ -10,7 +10,8 @@ ghost use Rattle.dwarf_ranges.specs.Aranges.{is_named};
 ghost use Rattle.dwarf_ranges.specs.Assigned.{AssignsRanges};
 ghost use Rattle.dwarf_source_frames.specs.SectionsViews.{sections_view};
 ghost use Rattle.dwarf_source_frames.specs.Inner.{AreNamed, ArePlacesByTuples};
-ghost use Rattle.dwarf_source_frames.specs.UnitAddresses.{AreUnitsOf, own_ranges, place_by_ranges, place_by_tuple, read_unit};
+ghost use Rattle.dwarf_source_frames.specs.UnitAddresses.{AreUnitsOf, own_ranges, place_by_ranges, place_by_tuple};
+ghost use Rattle.dwarf_source_frames.specs.UnitAddresses.{read_unit};
 ghost use Rattle.dwarf_source_frames.specs.UnitViews.{unit_view};
 
 use crate::debug_info::DebugInfo;

@@ -41,7 +41,8 @@ pub too_many_arches : (file : List ℕ) (n : ℕ) → is_fat (kind_of file) ≡ 
 too_many_arches file n kind header e wrong =
     first_applies file (TooManyArches n) (e, omega arith) (grind arith) (λ other e low. absurd (omega arith))
 
-pub table_truncated : (file : List ℕ) → is_fat (kind_of file) ≡ true → 8 ≤ length file → nfat_arch file ≤ 32 → length file < table_end file → IsFatFault file TableTruncated
+pub table_truncated : (file : List ℕ) → is_fat (kind_of file) ≡ true → 8 ≤ length file → nfat_arch file ≤ 32
+    → length file < table_end file → IsFatFault file TableTruncated
 table_truncated file kind header few wrong = first_applies file TableTruncated wrong (grind arith) (λ other e low. absurd (omega arith))
 
 -- a table has none of the faults that are of no entry
@@ -51,11 +52,13 @@ clear_upto file k room inside small =
     record { kind = λ h. room.kind; header = λ h. room.header; few = λ h. room.few; table = λ h. room.table; inside = inside; small = small }
 
 -- a fault of the same number, of an entry before the first
-earlier_outside : (file : List ℕ) (i : ℕ) → IsFirst (IsOutside file) (nfat_arch file) i → (other : FatFault) → number other ≡ 5 → entry other < i → Applies file other → ⊥
+earlier_outside : (file : List ℕ) (i : ℕ) → IsFirst (IsOutside file) (nfat_arch file) i → (other : FatFault)
+    → number other ≡ 5 → entry other < i → Applies file other → ⊥
 earlier_outside file i first (SliceOutside j) e low wrong = first.first j low wrong.1
 earlier_outside file i first other e low wrong = absurd (omega arith)
 
-earlier_too_large : (file : List ℕ) (i : ℕ) → IsFirst (IsTooLarge file) (nfat_arch file) i → (other : FatFault) → number other ≡ 6 → entry other < i → Applies file other → ⊥
+earlier_too_large : (file : List ℕ) (i : ℕ) → IsFirst (IsTooLarge file) (nfat_arch file) i → (other : FatFault)
+    → number other ≡ 6 → entry other < i → Applies file other → ⊥
 earlier_too_large file i first (TooLarge j) e low wrong = first.first j low wrong.1
 earlier_too_large file i first other e low wrong = absurd (omega arith)
 
@@ -64,7 +67,8 @@ slice_outside file i room wrong =
     first_applies file (SliceOutside i) (wrong.below, wrong.holds)
     (clear_upto file 5 room (λ h. absurd (omega arith)) (λ h. absurd (omega arith))) (earlier_outside file i wrong)
 
-pub too_large : (file : List ℕ) (i : ℕ) → HasTable file → HasNone (IsOutside file) (nfat_arch file) → IsFirst (IsTooLarge file) (nfat_arch file) i → IsFatFault file (TooLarge i)
+pub too_large : (file : List ℕ) (i : ℕ) → HasTable file → HasNone (IsOutside file) (nfat_arch file)
+    → IsFirst (IsTooLarge file) (nfat_arch file) i → IsFatFault file (TooLarge i)
 too_large file i room inside wrong =
     first_applies file (TooLarge i) (wrong.below, wrong.holds)
     (clear_upto file 6 room (λ h. inside) (λ h. absurd (omega arith))) (earlier_too_large file i wrong)

@@ -1,4 +1,4 @@
--- What the first four bytes of a file say (mach-o/fat.h, mach-o/loader.h).
+-- The kind of a file by its first four bytes (mach-o/fat.h, mach-o/loader.h).
 use Rattle.std.specs.Prelude.{ℕ, Bool, true, false, List, [], ◌∷◌, nat_eq, if◌then◌else◌}
 use Rattle.std.specs.List.{starts_with}
 use Rattle.fat_slices.specs.declared.file_kind.FileKind.{FileKind}

@@ -1,5 +1,5 @@
-//! Universal files, as mach-o/fat.h describes them: a header, and a table that names the slices of the file, one for each
-//! architecture.
+//! Universal files, as mach-o/fat.h describes them: a header, and a table that names the slices of the file, one for
+//! each architecture.
 //!
 //! - `number`, `file_kind`: numbers, and the kind of a file by its first four bytes; `fat_fault`: why bytes are no
 //!   universal file;

@@ -91,7 +91,8 @@ pub record IsSound (end : ℕ) (e : List ℕ) : Type 0 where
   pub length_is : has_length e ≡ true
   pub claim : has_claim end e ≡ true
 
-module _ (offset at end : ℕ) (r t : List ℕ) (is : IsRecord r) (table : IsTableOf r t) (offset_fits : offset < 2 ^ 64) (fits : at + length (stored t) < 2 ^ 64) (within : at + length (stored t) ≤ end) where
+module _ (offset at end : ℕ) (r t : List ℕ) (is : IsRecord r) (table : IsTableOf r t) (offset_fits : offset < 2 ^ 64)
+    (fits : at + length (stored t) < 2 ^ 64) (within : at + length (stored t) ≤ end) where
   abbrev e : List ℕ
   e = placed_entry offset r ++ claim_bytes (claim_of at r t)
 
@@ -115,7 +116,8 @@ module _ (offset at end : ℕ) (r t : List ℕ) (is : IsRecord r) (table : IsTab
         ap (λ b. cond b (nat_le ((claim_in e).offset + stored_size (claim_in e)) end) (bytes_eq (drop 74 e) (zeros 48))) (admission_there ∙ h)
         ∙ ap (λ d. nat_le (d.offset + stored_size d) end) c ∙ le-leb (at + stored_size (claim_at at t)) end room
     | inr h ↦
-        let bytes : drop 74 e ≡ zeros 48 = drop_at (placed_entry offset r) (claim_bytes (claim_of at r t)) 74 front ∙ ap claim_bytes (claim_retired at r t h) ∙ zero_claim in
+        let bytes : drop 74 e ≡ zeros 48 = drop_at (placed_entry offset r) (claim_bytes (claim_of at r t)) 74 front
+        ∙ ap claim_bytes (claim_retired at r t h) ∙ zero_claim in
         ap (λ b. cond b (nat_le ((claim_in e).offset + stored_size (claim_in e)) end) (bytes_eq (drop 74 e) (zeros 48))) (admission_there ∙ h)
         ∙ (bytes_eq-Decides (drop 74 e) (zeros 48)).1 bytes
   ]
@@ -142,7 +144,9 @@ sound_passes end last e s above = rw (s.tag, s.kind, s.length_is, above, s.claim
 
 -- ---- all entries
 
-pub sound_entries : (low : List ℕ) (offset at end : ℕ) (rs ts : List (List ℕ)) → InOrder Archive low rs → AllZip IsTableOf rs ts → offset + length (concat rs) < 2 ^ 64 → at + length (tables_text ts) < 2 ^ 64 → at + length (tables_text ts) ≤ end
+pub sound_entries : (low : List ℕ) (offset at end : ℕ) (rs ts : List (List ℕ)) → InOrder Archive low rs
+    → AllZip IsTableOf rs ts → offset + length (concat rs) < 2 ^ 64 → at + length (tables_text ts) < 2 ^ 64
+    → at + length (tables_text ts) ≤ end
     → AllByRecursion (IsSound end) (table_entries offset at rs ts)
 sound_entries low offset at end [] ts a each of fits within = tt
 sound_entries low offset at end (r ∷ rs) [] a each of fits within = absurd each
@@ -150,10 +154,12 @@ sound_entries low offset at end (r ∷ rs) (t ∷ ts) a each of fits within =
     let longer = length-append r (concat rs) in
     let more = length-append (stored t) (tables_text ts) in (
       sound_entry offset at end r t a.0 each.0 (omega (arith, of, longer, nonempty r a.0)) (omega (arith, fits, more)) (omega (arith, within, more)),
-      sound_entries r (offset + length r) (at + length (stored t)) end rs ts a.2 each.1 (omega (arith, of, longer)) (omega (arith, fits, more)) (omega (arith, within, more)),
+      sound_entries r (offset + length r) (at + length (stored t)) end rs ts a.2 each.1 (omega (arith, of, longer))
+          (omega (arith, fits, more)) (omega (arith, within, more)),
     )
 
-pub follow_entries : (low : List ℕ) (offset at : ℕ) (rs ts : List (List ℕ)) → InOrder Archive low rs → AllZip IsTableOf rs ts → offset + length (concat rs) < 2 ^ 64 → at + length (tables_text ts) < 2 ^ 64
+pub follow_entries : (low : List ℕ) (offset at : ℕ) (rs ts : List (List ℕ)) → InOrder Archive low rs
+    → AllZip IsTableOf rs ts → offset + length (concat rs) < 2 ^ 64 → at + length (tables_text ts) < 2 ^ 64
     → FollowOn offset at (at + length (tables_text ts)) (table_entries offset at rs ts)
 unfolding table_entry
 follow_entries low offset at [] [] a each of fits = omega arith
@@ -170,8 +176,10 @@ follow_entries low offset at (r ∷ rs) (t ∷ ts) a each of fits =
     let admission = admission_there offset at (at + length (stored t)) r t a.0 each.0 near small (omega arith) in (
       entry_offset offset at r t a.0 near,
       λ h. ap (λ c. c.offset) (claim ∙ claim_admitted at r t (sym admission ∙ h)),
-      subst (λ (n : ℕ). FollowOn (offset + n) (at + stored_size (claim_in e)) (at + length (tables_text (t ∷ ts))) (table_entries (offset + length r) (at + length (stored t)) rs ts)) len
-          (subst (λ (n : ℕ). FollowOn (offset + length r) (at + n) (at + length (tables_text (t ∷ ts))) (table_entries (offset + length r) (at + length (stored t)) rs ts)) size
+      subst (λ (n : ℕ). FollowOn (offset + n) (at + stored_size (claim_in e)) (at + length (tables_text (t ∷ ts)))
+          (table_entries (offset + length r) (at + length (stored t)) rs ts)) len
+          (subst (λ (n : ℕ). FollowOn (offset + length r) (at + n) (at + length (tables_text (t ∷ ts)))
+          (table_entries (offset + length r) (at + length (stored t)) rs ts)) size
           (subst (λ (n : ℕ). FollowOn (offset + length r) (at + length (stored t)) n (table_entries (offset + length r) (at + length (stored t)) rs ts)) end
           (follow_entries r (offset + length r) (at + length (stored t)) rs ts a.2 each.1 (omega (arith, of, longer)) (omega (arith, fits, more))))),
     )
@@ -180,10 +188,15 @@ follow_entries low offset at rs ts a each of fits = absurd each
 -- ---- entries in byte order
 
 -- sound entries that are strictly sorted pass their tests
-pass_sorted : (end : ℕ) (low : List ℕ) (xs : List (List ℕ)) → AllByRecursion (IsSound end) xs → AllByRecursion (λ y. order low y ≡ Less) xs → IsStrictlySortedBy order xs → PassChecks end low xs
+pass_sorted : (end : ℕ) (low : List ℕ) (xs : List (List ℕ)) → AllByRecursion (IsSound end) xs
+    → AllByRecursion (λ y. order low y ≡ Less) xs → IsStrictlySortedBy order xs → PassChecks end low xs
 unfolding IsStrictlySortedBy
 pass_sorted end low [] sound above sorted = tt
-pass_sorted end low (x ∷ xs) sound above sorted = (sound.0.long, sound_passes end low x sound.0 (ap is_lt above.0), pass_sorted end x xs sound.1 sorted.0 sorted.1)
+pass_sorted end low (x ∷ xs) sound above sorted = (
+  sound.0.long,
+  sound_passes end low x sound.0 (ap is_lt above.0),
+  pass_sorted end x xs sound.1 sorted.0 sorted.1,
+)
 
 above_empty : (end : ℕ) (x : List ℕ) → IsSound end x → order [] x ≡ Less
 above_empty end [] s = absurd (omega (arith, s.long))
@@ -191,7 +204,8 @@ above_empty end (b ∷ bs) s = refl
 
 -- ---- the index of a content
 
-pub accepted : (o : Operations) (text : List ℕ) (index : IsIndexOf o text) → IsContent o → length (written o) < 2 ^ 64 → length text < 2 ^ 64 → IsIndexText text (entries_of (listing o) index.tables)
+pub accepted : (o : Operations) (text : List ℕ) (index : IsIndexOf o text) → IsContent o → length (written o) < 2 ^ 64
+    → length text < 2 ^ 64 → IsIndexText text (entries_of (listing o) index.tables)
 unfolding entries_of
 accepted o text index content short fits =
     let rs : List (List ℕ) = listing o in
@@ -202,16 +216,21 @@ accepted o text index content short fits =
     let entries : List (List ℕ) = listing (set.from_list {R = order} es) in
     let ordered : InOrder Archive [] rs = InOrder-listing o content in
     let long : length text ≡ 8 + (length tables + (length (concat entries) + length (end_of entries))) =
-    ap length index.text_is ∙ length-append index_magic (tables ++ (concat entries ++ end_of entries)) ∙ ap (λ (n : ℕ). 8 + n) (length-append tables (concat entries ++ end_of entries) ∙ ap (λ (n : ℕ). length tables + n) (length-append (concat entries) (end_of entries))) in
+    ap length index.text_is ∙ length-append index_magic (tables ++ (concat entries ++ end_of entries))
+    ∙ ap (λ (n : ℕ). 8 + n) (length-append tables (concat entries ++ end_of entries)
+    ∙ ap (λ (n : ℕ). length tables + n) (length-append (concat entries) (end_of entries))) in
     let room : 8 + length tables < 2 ^ 64 = omega (arith, long, fits) in
     let of : 8 + length (concat rs) < 2 ^ 64 = omega (arith, text_length o, short) in
     let sound : AllByRecursion (IsSound end) es = sound_entries [] 8 8 end rs ts ordered index.each of room (omega arith) in
     let follow : FollowOn 8 8 end es = follow_entries [] 8 8 rs ts ordered index.each of room in
     let distinct : AreDistinct es = apart [] 8 8 rs ts ordered (near_all 8 8 rs ts of room) in
     let each : AllByRecursion (IsSound end) entries = along (IsSound end) entries (λ q h.
-    All-contains (IsSound end) es q (All-from_recursion (IsSound end) es sound) (containing es q (sym (any_ascending_of q es) ∙ ap (λ (xs : List (List ℕ)). list_any (is_same q) xs) (sym (listing_of es)) ∙ h))) in
+    All-contains (IsSound end) es q (All-from_recursion (IsSound end) es sound)
+    (containing es q (sym (any_ascending_of q es) ∙ ap (λ (xs : List (List ℕ)). list_any (is_same q) xs)
+    (sym (listing_of es)) ∙ h))) in
     let sorted : IsStrictlySortedBy order entries = (listed nat_list_cmp_total bytes_same (set.from_list es)).ascending in
-    let pass : PassChecks end [] entries = pass_sorted end [] entries each (along_list (IsSound end) (λ y. order [] y ≡ Less) (above_empty end) entries each) sorted in
+    let pass : PassChecks end [] entries = pass_sorted end [] entries each
+    (along_list (IsSound end) (λ y. order [] y ≡ Less) (above_empty end) entries each) sorted in
     record {
       tables = tables;
       whole = index.text_is;
@@ -244,8 +263,10 @@ end_digest : (entries : List (List ℕ)) → drop 9 (end_of entries) ≡ sha256 
 unfolding end_of
 end_digest entries = drop_at (to_be_bytes w64 (length entries)) (sha256 (concat entries)) 8 refl
 
-pub of_the_content : (o : Operations) (index text : List ℕ) (entries : List (List ℕ)) (is : IsIndexOf o index) → IsContent o → length (written o) < 2 ^ 64 → length index < 2 ^ 64 → IsIndexText text entries → EndAlike text index
-    → (sha256 (concat entries) ≡ sha256 (concat (entries_of (listing o) is.tables)) → concat entries ≡ concat (entries_of (listing o) is.tables)) → entries ≡ entries_of (listing o) is.tables
+pub of_the_content : (o : Operations) (index text : List ℕ) (entries : List (List ℕ)) (is : IsIndexOf o index)
+    → IsContent o → length (written o) < 2 ^ 64 → length index < 2 ^ 64 → IsIndexText text entries → EndAlike text index
+    → (sha256 (concat entries) ≡ sha256 (concat (entries_of (listing o) is.tables)) → concat entries
+    ≡ concat (entries_of (listing o) is.tables)) → entries ≡ entries_of (listing o) is.tables
 of_the_content o index text entries is content short fits read alike tell =
     let others : List (List ℕ) = entries_of (listing o) is.tables in
     let made : IsIndexText index others = accepted o index is content short fits in
@@ -253,6 +274,9 @@ of_the_content o index text entries is content short fits read alike tell =
     let digests : sha256 (concat entries) ≡ sha256 (concat others) = sym (end_digest entries) ∙ ap (drop 9) ends ∙ end_digest others in
     same_list entries others (long_each (8 + length read.tables) [] entries read.pass) (long_each (8 + length made.tables) [] others made.pass) (tell digests)
 
-pub told_over : (index text r : List ℕ) (entries : List (List ℕ)) (address : ℕ) (found : Option NearestSymbol) (table : HasTable index entries r) → DigestsTell text (claim_in table.e) table.table → AreBytes (drop 33 r) → IsToldBy text table.e address found → IsSaid (drop 33 r) address found
+pub told_over : (index text r : List ℕ) (entries : List (List ℕ)) (address : ℕ) (found : Option NearestSymbol)
+    (table : HasTable index entries r) → DigestsTell text (claim_in table.e) table.table → AreBytes (drop 33 r)
+    → IsToldBy text table.e address found → IsSaid (drop 33 r) address found
 told_over index text r entries address found table tell bytes says =
-    says (drop 33 r) table.table bytes (table_of_symbols (drop 33 r) table.table table.is_table) (record { size = table.stored.size; root = table.stored.root; digests = tell.digests; pages = tell.pages })
+    says (drop 33 r) table.table bytes (table_of_symbols (drop 33 r) table.table table.is_table)
+    (record { size = table.stored.size; root = table.stored.root; digests = tell.digests; pages = tell.pages })

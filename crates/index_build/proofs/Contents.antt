@@ -47,16 +47,23 @@ use Rattle.index_format.specs.Text.{end_of, index_text}
 pub near_all : (offset at : ℕ) (rs ts : List (List ℕ)) → offset + length (concat rs) < 2 ^ 64 → at + length (tables_text ts) < 2 ^ 64 → AreNear offset at rs ts
 near_all offset at (r ∷ rs) (t ∷ ts) of fits =
     let longer = length-append r (concat rs) in
-    let more = length-append (stored t) (tables_text ts) in
-    (omega (arith, of, longer), omega (arith, fits, more), near_all (offset + length r) (at + length (stored t)) rs ts (omega (arith, of, longer)) (omega (arith, fits, more)))
+    let more = length-append (stored t) (tables_text ts) in (
+      omega (arith, of, longer),
+      omega (arith, fits, more),
+      near_all (offset + length r) (at + length (stored t)) rs ts (omega (arith, of, longer))
+          (omega (arith, fits, more)),
+    )
 near_all offset at rs ts of fits = tt
 
-pub near_push : (offset at : ℕ) (rs ts : List (List ℕ)) (r t : List ℕ) → AllZip IsTableOf rs ts → AreNear offset at rs ts → offset + length (concat rs) < 2 ^ 64 → at + length (tables_text ts) < 2 ^ 64 → AreNear offset at (rs ++ r ∷ []) (ts ++ t ∷ [])
+pub near_push : (offset at : ℕ) (rs ts : List (List ℕ)) (r t : List ℕ) → AllZip IsTableOf rs ts
+    → AreNear offset at rs ts → offset + length (concat rs) < 2 ^ 64 → at + length (tables_text ts) < 2 ^ 64
+    → AreNear offset at (rs ++ r ∷ []) (ts ++ t ∷ [])
 near_push offset at [] [] r t each near of fits = (omega (arith, of), omega (arith, fits), tt)
 near_push offset at (x ∷ rs) (u ∷ ts) r t each near of fits = (
   near.0,
   near.1,
-  near_push (offset + length x) (at + length (stored u)) rs ts r t each.1 near.2 (omega (arith, of, length-append x (concat rs))) (omega (arith, fits, length-append (stored u) (tables_text ts))),
+  near_push (offset + length x) (at + length (stored u)) rs ts r t each.1 near.2
+      (omega (arith, of, length-append x (concat rs))) (omega (arith, fits, length-append (stored u) (tables_text ts))),
 )
 near_push offset at rs ts r t each near of fits = absurd each
 
@@ -72,7 +79,8 @@ unfolding table_entry
 entry_length offset at r t is =
     ap (from_be_bytes w64) (number_kept (placed_entry offset r) (claim_of at r t) (entry_long offset r is) 66 (omega arith)) ∙ length_is offset r is
 
-others : (x : List ℕ) (k : ℕ) (low : List ℕ) (offset at : ℕ) (rs ts : List (List ℕ)) → offset_in x ≡ k → k < offset → InOrder Archive low rs → AreNear offset at rs ts → list_any (is_same x) (table_entries offset at rs ts) ≡ false
+others : (x : List ℕ) (k : ℕ) (low : List ℕ) (offset at : ℕ) (rs ts : List (List ℕ)) → offset_in x ≡ k → k < offset
+    → InOrder Archive low rs → AreNear offset at rs ts → list_any (is_same x) (table_entries offset at rs ts) ≡ false
 others x k low offset at (r ∷ rs) (t ∷ ts) of lt a near =
     let e : List ℕ = table_entry offset at r t in
     elim (is_same x e) as (λ b. is_same x e ≡ b → (b || list_any (is_same x) (table_entries (offset + length r) (at + length (stored t)) rs ts)) ≡ false) [
@@ -81,9 +89,11 @@ others x k low offset at (r ∷ rs) (t ∷ ts) of lt a near =
     ] refl
 others x k low offset at rs ts of lt a near = refl
 
-pub apart : (low : List ℕ) (offset at : ℕ) (rs ts : List (List ℕ)) → InOrder Archive low rs → AreNear offset at rs ts → AreDistinct (table_entries offset at rs ts)
+pub apart : (low : List ℕ) (offset at : ℕ) (rs ts : List (List ℕ)) → InOrder Archive low rs → AreNear offset at rs ts
+    → AreDistinct (table_entries offset at rs ts)
 apart low offset at (r ∷ rs) (t ∷ ts) a near = (
-  others (table_entry offset at r t) offset r (offset + length r) (at + length (stored t)) rs ts (entry_offset offset at r t a.0 near.0) (omega (arith, nonempty r a.0)) a.2 near.2,
+  others (table_entry offset at r t) offset r (offset + length r) (at + length (stored t)) rs ts
+      (entry_offset offset at r t a.0 near.0) (omega (arith, nonempty r a.0)) a.2 near.2,
   apart r (offset + length r) (at + length (stored t)) rs ts a.2 near.2,
 )
 apart low offset at rs ts a near = tt
@@ -93,18 +103,21 @@ apart low offset at rs ts a near = tt
 -- a key that is not there is put among the others
 put_moves : (k : List ℕ) (xs : List (List ℕ)) → list_any (is_same k) xs ≡ false → IsPermutation (k ∷ xs) (put order k xs)
 put_moves k [] none = IsPermutation-refl (k ∷ [])
-put_moves k (x ∷ xs) none = elim (order k x) as (λ r. order k x ≡ r → IsPermutation (k ∷ x ∷ xs) (match_ordering r (k ∷ x ∷ xs) (x ∷ xs) (x ∷ put order k xs))) [
-  | Less ↦ λ _. IsPermutation-refl (k ∷ x ∷ xs)
-  | Equal ↦ λ e. absurd (cc (none, ap (λ r. is_eq r || list_any (is_same k) xs) e))
-  | Greater ↦ λ e.
-      let rest : IsPermutation (k ∷ xs) (put order k xs) = put_moves k xs (sym (ap (λ r. is_eq r || list_any (is_same k) xs) e) ∙ none) in
-      IsPermutation-trans (k ∷ x ∷ xs) (x ∷ k ∷ xs) (x ∷ put order k xs) (IsPermutation-middle (k ∷ []) x xs) (IsPermutation-cons x (k ∷ xs) (put order k xs) rest)
-] refl
+put_moves k (x ∷ xs) none = elim (order k x) as (λ r. order k x ≡ r
+    → IsPermutation (k ∷ x ∷ xs) (match_ordering r (k ∷ x ∷ xs) (x ∷ xs) (x ∷ put order k xs))) [
+      | Less ↦ λ _. IsPermutation-refl (k ∷ x ∷ xs)
+      | Equal ↦ λ e. absurd (cc (none, ap (λ r. is_eq r || list_any (is_same k) xs) e))
+      | Greater ↦ λ e.
+          let rest : IsPermutation (k ∷ xs) (put order k xs) = put_moves k xs (sym (ap (λ r. is_eq r || list_any (is_same k) xs) e) ∙ none) in
+          IsPermutation-trans (k ∷ x ∷ xs) (x ∷ k ∷ xs) (x ∷ put order k xs) (IsPermutation-middle (k ∷ []) x xs)
+          (IsPermutation-cons x (k ∷ xs) (put order k xs) rest)
+    ] refl
 
 pub moved : (xs : List (List ℕ)) → AreDistinct xs → IsPermutation xs (ascending_of order xs)
 moved [] a = IsPermutation-refl []
 moved (x ∷ xs) a =
-    IsPermutation-trans (x ∷ xs) (x ∷ ascending_of order xs) (put order x (ascending_of order xs)) (IsPermutation-cons x xs (ascending_of order xs) (moved xs a.1))
+    IsPermutation-trans (x ∷ xs) (x ∷ ascending_of order xs) (put order x (ascending_of order xs))
+    (IsPermutation-cons x xs (ascending_of order xs) (moved xs a.1))
     (put_moves x (ascending_of order xs) (any_ascending_of x xs ∙ a.0))
 
 pub length-table_entries : (offset at : ℕ) (rs ts : List (List ℕ)) → AllZip IsTableOf rs ts → length (table_entries offset at rs ts) ≡ length rs
@@ -160,7 +173,8 @@ stored_long t = omega (arith, length-append (page_digests t) t, length-digests (
 
 -- the entry at a place
 pub entry_at : (offset at : ℕ) (rs ts : List (List ℕ)) (i : ℕ) → AllZip IsTableOf rs ts → i < length rs
-    → get_or (table_entries offset at rs ts) i [] ≡ table_entry (offset + length (concat (take i rs))) (at + length (tables_text (take i ts))) (get_or rs i []) (get_or ts i [])
+    → get_or (table_entries offset at rs ts) i [] ≡ table_entry (offset + length (concat (take i rs)))
+    (at + length (tables_text (take i ts))) (get_or rs i []) (get_or ts i [])
 entry_at offset at [] ts i each lt = absurd (omega (arith, lt))
 entry_at offset at (r ∷ rs) [] i each lt = absurd each
 entry_at offset at (r ∷ rs) (t ∷ ts) zero each lt =
@@ -168,18 +182,24 @@ entry_at offset at (r ∷ rs) (t ∷ ts) zero each lt =
     let there : at ≡ at + 0 = omega arith in
     λ i. table_entry (here i) (there i) r t
 entry_at offset at (r ∷ rs) (t ∷ ts) (suc k) each lt =
-    let here : offset + length r + length (concat (take k rs)) ≡ offset + length (concat (r ∷ take k rs)) = omega (arith, length-append r (concat (take k rs))) in
-    let there : at + length (stored t) + length (tables_text (take k ts)) ≡ at + length (tables_text (t ∷ take k ts)) = omega (arith, length-append (stored t) (tables_text (take k ts))) in
-    entry_at (offset + length r) (at + length (stored t)) rs ts k each.1 (omega (arith, lt)) ∙ (λ i. table_entry (here i) (there i) (get_or rs k []) (get_or ts k []))
+    let here : offset + length r + length (concat (take k rs)) ≡ offset + length (concat (r ∷ take k rs)) =
+    omega (arith, length-append r (concat (take k rs))) in
+    let there : at + length (stored t) + length (tables_text (take k ts)) ≡ at + length (tables_text (t ∷ take k ts)) =
+    omega (arith, length-append (stored t) (tables_text (take k ts))) in
+    entry_at (offset + length r) (at + length (stored t)) rs ts k each.1 (omega (arith, lt))
+    ∙ (λ i. table_entry (here i) (there i) (get_or rs k []) (get_or ts k []))
 
 -- a table is stored after those before it
-pub stored_among : (before after : List (List ℕ)) (table rest : List ℕ) → AreStored (index_magic ++ (tables_text (before ++ table ∷ after) ++ rest)) (claim_at (8 + length (tables_text before)) table) table
+pub stored_among : (before after : List (List ℕ)) (table rest : List ℕ)
+    → AreStored (index_magic ++ (tables_text (before ++ table ∷ after) ++ rest))
+    (claim_at (8 + length (tables_text before)) table) table
 stored_among before after table rest =
     let front : List ℕ = index_magic ++ tables_text before in
     let behind : List ℕ = tables_text after ++ rest in
     let whole : index_magic ++ (tables_text (before ++ table ∷ after) ++ rest) ≡ front ++ (stored table ++ behind) =
     ap (λ (t : List ℕ). index_magic ++ (t ++ rest)) (flat_map-append stored before (table ∷ after))
-    ∙ ap (λ (t : List ℕ). index_magic ++ t) (append_assoc (tables_text before) (stored table ++ tables_text after) rest ∙ ap (λ (t : List ℕ). tables_text before ++ t) (append_assoc (stored table) (tables_text after) rest))
+    ∙ ap (λ (t : List ℕ). index_magic ++ t) (append_assoc (tables_text before) (stored table ++ tables_text after) rest
+    ∙ ap (λ (t : List ℕ). tables_text before ++ t) (append_assoc (stored table) (tables_text after) rest))
     ∙ sym (append_assoc index_magic (tables_text before) (stored table ++ behind)) in
     let long : length front ≡ 8 + length (tables_text before) = length-append index_magic (tables_text before) in
     record {
@@ -188,10 +208,12 @@ stored_among before after table rest =
       within = omega (arith, ap length whole, long, length-append front (stored table ++ behind), length-append (stored table) behind);
       bytes =
           ap (λ (t : List ℕ). take (length (stored table)) (drop (8 + length (tables_text before)) t)) whole
-          ∙ ap (take (length (stored table))) (drop_at front (stored table ++ behind) (8 + length (tables_text before)) long) ∙ take_at (stored table) behind (length (stored table)) refl;
+          ∙ ap (take (length (stored table))) (drop_at front (stored table ++ behind) (8 + length (tables_text before))
+          long) ∙ take_at (stored table) behind (length (stored table)) refl;
     }
 
-pub entry_claim : (place at : ℕ) (r table : List ℕ) → IsRecord r → is_admission r ≡ true → at < 2 ^ 64 → length table < 2 ^ 64 → claim_in (table_entry place at r table) ≡ claim_at at table
+pub entry_claim : (place at : ℕ) (r table : List ℕ) → IsRecord r → is_admission r ≡ true → at < 2 ^ 64
+    → length table < 2 ^ 64 → claim_in (table_entry place at r table) ≡ claim_at at table
 unfolding table_entry
 entry_claim place at r table is admitted fits small =
     ap (λ c. claim_in (placed_entry place r ++ claim_bytes c)) (claim_admitted at r table admitted)
@@ -204,7 +226,8 @@ entry_begins place at r table is =
 
 -- ---- what an entry tells, where the table of a slice is stored
 
-pub told : (text e slice table : List ℕ) (address : ℕ) (found : Option NearestSymbol) → IsTableText slice table → AreStored text (claim_in e) table → AreBytes slice → IsToldBy text e address found → IsSaid slice address found
+pub told : (text e slice table : List ℕ) (address : ℕ) (found : Option NearestSymbol) → IsTableText slice table
+    → AreStored text (claim_in e) table → AreBytes slice → IsToldBy text e address found → IsSaid slice address found
 told text e slice table address found is there bytes says = says slice table bytes is (may_be text table (claim_in e) there)
 
 -- ---- the index of a content

@@ -19,7 +19,8 @@ untold : (fault : MakingFault) (n : ℕ) → TellsStop fault (Report n) → ⊥
 untold (Refused fault) n tells = absurd tells
 untold (Wrote fault) n tells = cc
 
-unreported : {R D : Type 0} (left : R → Option (List ℕ)) (failures : R → ℕ) (old new : R) (draft : Stream D) (n : ℕ) → StopsIndex (reader left failures old new) draft (Report n) → ⊥
+unreported : {R D : Type 0} (left : R → Option (List ℕ)) (failures : R → ℕ) (old new : R) (draft : Stream D) (n : ℕ)
+    → StopsIndex (reader left failures old new) draft (Report n) → ⊥
 unreported left failures old new draft n stops = untold stops.stopped n stops.tells
 
 module _ {R D : Type 0} (left : R → Option (List ℕ)) (failures : R → ℕ) (old new : R) (draft : Stream D) (out : Out) (report : Writer) where
@@ -30,8 +31,10 @@ module _ {R D : Type 0} (left : R → Option (List ℕ)) (failures : R → ℕ) 
   EndsSo result = EndsStreamed (index archive draft) out report result
 
   -- it was stopped
-  pub ends_stopped : (fault : CommandFault) → HasTaken out.draft fault × StopsIndex archive draft fault → PublishesNothing out → Takes report [] → EndsSo (Err fault)
-  ends_stopped fault s nothing none = ends fault (record { stops = s.1; bytes = s.0.0; took = s.0.1; count = s.0.2; nothing_published = nothing; unreported = none })
+  pub ends_stopped : (fault : CommandFault) → HasTaken out.draft fault × StopsIndex archive draft fault
+      → PublishesNothing out → Takes report [] → EndsSo (Err fault)
+  ends_stopped fault s nothing none = ends fault (record
+      { stops = s.1; bytes = s.0.0; took = s.0.1; count = s.0.2; nothing_published = nothing; unreported = none })
     where
       ends : (f : CommandFault) → IsStopped (index archive draft) out report f → EndsSo (Err f)
       ends (Input at why) stop = stop
@@ -44,7 +47,8 @@ module _ {R D : Type 0} (left : R → Option (List ℕ)) (failures : R → ℕ) 
     sizes_are : sizes ≡ record { records = set.len made.content; bytes = length made.text }
     sizes_are = λ i. record { records = made.written_is.records_are i; bytes = made.written_is.bytes_are i }
 
-    carries : (r : Result Status CommandFault) → Publishes out report made.text (index_line sizes) r → Unfailed archive × Carries (MakesIndex archive) out report r
+    carries : (r : Result Status CommandFault) → Publishes out report made.text (index_line sizes) r → Unfailed archive
+        × Carries (MakesIndex archive) out report r
     carries r p = (
       made.unfailed,
       record {

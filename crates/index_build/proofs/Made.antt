@@ -63,7 +63,8 @@ records_begin o records rest (Some left) content ordered apart taken =
     (before.more, before.records)
 
 -- their tables begin those of all
-tables_begin : HaveOneTable → (rs more ts us : List (List ℕ)) → AllZip IsTableOf (rs ++ more) ts → AllZip IsTableOf rs us → (vs : List (List ℕ)) × (ts ≡ us ++ vs)
+tables_begin : HaveOneTable → (rs more ts us : List (List ℕ)) → AllZip IsTableOf (rs ++ more) ts
+    → AllZip IsTableOf rs us → (vs : List (List ℕ)) × (ts ≡ us ++ vs)
 tables_begin once [] more ts [] a b = (ts, refl)
 tables_begin once (r ∷ rs) more [] us a b = absurd a
 tables_begin once (r ∷ rs) more (t ∷ ts) (u ∷ us) a b =
@@ -77,7 +78,9 @@ pub record IsFrontOf (front index : List ℕ) : Type 0 where
   pub whole : index ≡ front ++ more
   pub some : 0 < length more
 
-front_begins : HaveOneTable → (o : Operations) (index : List ℕ) (records tables more : List (List ℕ)) → IsIndexOf o index → listing o ≡ records ++ more → AllZip IsTableOf records tables → IsFrontOf (front_of tables) index
+front_begins : HaveOneTable → (o : Operations) (index : List ℕ) (records tables more : List (List ℕ))
+    → IsIndexOf o index → listing o ≡ records ++ more → AllZip IsTableOf records tables
+    → IsFrontOf (front_of tables) index
 front_begins once o index records tables more is begins each =
     let all = tables_begin once records more is.tables tables (subst (λ (rs : List (List ℕ)). AllZip IsTableOf rs is.tables) begins is.each) each in
     let entries : List (List ℕ) = entries_of (listing o) is.tables in
@@ -93,7 +96,8 @@ front_begins once o index records tables more is begins each =
     }
 
 -- what was begun
-pub first_of : HaveOneTable → (a b c d : Option (List ℕ)) (n : ℕ) (o : Operations) (index : List ℕ) → IsBegun a b c d n → IsContent o → a ≡ Some (written o) → IsIndexOf o index → WritesFirst c d index n
+pub first_of : HaveOneTable → (a b c d : Option (List ℕ)) (n : ℕ) (o : Operations) (index : List ℕ) → IsBegun a b c d n
+    → IsContent o → a ≡ Some (written o) → IsIndexOf o index → WritesFirst c d index n
 first_of once a b c d n o index (inl nothing) content known is =
     let front = front_begins once o index [] [] (listing o) is refl tt in
     record {
@@ -101,7 +105,8 @@ first_of once a b c d n o index (inl nothing) content known is =
       gained = subst (λ (k : ℕ). Appends c d (take k index)) (sym nothing.0) nothing.1;
     }
 first_of once a b c d n o index (inr begun) content known is =
-    let there = records_begin o begun.records begun.rest b content begun.ordered begun.apart (subst (λ x. Consumes x b (magic ++ (concat begun.records ++ begun.rest))) known begun.taken) in
+    let there = records_begin o begun.records begun.rest b content begun.ordered begun.apart
+    (subst (λ x. Consumes x b (magic ++ (concat begun.records ++ begun.rest))) known begun.taken) in
     let front = front_begins once o index begun.records begun.tables there.0 is there.1 begun.each in
     let same : take n index ≡ take n (front_of begun.tables) = ap (take n) front.whole ∙ take-append-le n (front_of begun.tables) front.more begun.within in
     record {
@@ -110,18 +115,33 @@ first_of once a b c d n o index (inr begun) content known is =
     }
 
 -- what was taken is no longer than the text
-n_before : (text : List ℕ) (b : Option (List ℕ)) (records : List (List ℕ)) (next : List ℕ) → Consumes (Some text) b (magic ++ (concat (records ++ next ∷ []) ++ [])) → 2 ^ 64 ≤ length (magic ++ concat records) → 2 ^ 64 ≤ length text
+n_before : (text : List ℕ) (b : Option (List ℕ)) (records : List (List ℕ)) (next : List ℕ)
+    → Consumes (Some text) b (magic ++ (concat (records ++ next ∷ []) ++ []))
+    → 2 ^ 64 ≤ length (magic ++ concat records) → 2 ^ 64 ≤ length text
 n_before text None records next taken n = absurd taken
 n_before text (Some left) records next taken n =
     let all : List ℕ = concat (records ++ next ∷ []) in
-    omega (arith, n, ap length taken, length-append (magic ++ (all ++ [])) left, length-append magic (all ++ []), length-append all [], ap length (concat-push records next), length-append (concat records) next, length-append magic (concat records))
+    omega (
+      arith,
+      n,
+      ap length taken,
+      length-append (magic ++ (all ++ [])) left,
+      length-append magic (all ++ []),
+      length-append all [],
+      ap length (concat-push records next),
+      length-append (concat records) next,
+      length-append magic (concat records),
+    )
 
 -- the records that were taken, and the front that was written, before what stands too far
-module _ (once : HaveOneTable) (a b c d : Option (List ℕ)) (far : IsTooFar a b c d) (o : Operations) (index : List ℕ) (content : IsContent o) (known : a ≡ Some (written o)) (is : IsIndexOf o index) where
+module _ (once : HaveOneTable) (a b c d : Option (List ℕ)) (far : IsTooFar a b c d) (o : Operations) (index : List ℕ)
+    (content : IsContent o) (known : a ≡ Some (written o)) (is : IsIndexOf o index) where
   taken_far : Consumes (Some (written o)) b (magic ++ (concat (far.records ++ far.next ∷ []) ++ []))
   taken_far =
-      let none : concat (far.records ++ far.next ∷ []) ≡ concat (far.records ++ far.next ∷ []) ++ [] = sym (append-nil (concat (far.records ++ far.next ∷ []))) in
-      subst (λ x. Consumes x b (magic ++ (concat (far.records ++ far.next ∷ []) ++ []))) known (subst (λ (t : List ℕ). Consumes a b (magic ++ t)) none far.taken)
+      let none : concat (far.records ++ far.next ∷ []) ≡ concat (far.records ++ far.next ∷ [])
+      ++ [] = sym (append-nil (concat (far.records ++ far.next ∷ []))) in
+      subst (λ x. Consumes x b (magic ++ (concat (far.records ++ far.next ∷ []) ++ []))) known
+      (subst (λ (t : List ℕ). Consumes a b (magic ++ t)) none far.taken)
 
   front_far : IsFrontOf (front_of far.tables) index
   front_far =
@@ -135,11 +155,14 @@ module _ (once : HaveOneTable) (a b c d : Option (List ℕ)) (far : IsTooFar a b
     | inr n ↦ inr (let front = front_far in omega (arith, n, ap length front.whole, length-append (front_of far.tables) front.more))
   ]
 
-pub not_far : HaveOneTable → (o : Operations) (index : List ℕ) (left held_old held_new : Option (List ℕ)) → IsContent o → IsIndexOf o index → length (written o) < 2 ^ 64 → length index < 2 ^ 64 → IsTooFar (Some (written o)) left held_old held_new → ⊥
-not_far once o index left held_old held_new content is short fits far = elim (long_far once (Some (written o)) left held_old held_new far o index content refl is) [
-  | inl n ↦ omega (arith, n, short)
-  | inr n ↦ omega (arith, n, fits)
-]
+pub not_far : HaveOneTable → (o : Operations) (index : List ℕ) (left held_old held_new : Option (List ℕ)) → IsContent o
+    → IsIndexOf o index → length (written o) < 2 ^ 64 → length index < 2 ^ 64
+    → IsTooFar (Some (written o)) left held_old held_new → ⊥
+not_far once o index left held_old held_new content is short fits far =
+    elim (long_far once (Some (written o)) left held_old held_new far o index content refl is) [
+      | inl n ↦ omega (arith, n, short)
+      | inr n ↦ omega (arith, n, fits)
+    ]
 
 -- ---- the index that was made
 
@@ -148,7 +171,8 @@ pub gained_bytes : (a b c d : Option (List ℕ)) (n : ℕ) → IsBegun a b c d n
 gained_bytes a b c d n (inl nothing) = ([], nothing.1, nothing.0)
 gained_bytes a b c d n (inr begun) = (take n (front_of begun.tables), begun.gained, sym (length-take-le n (front_of begun.tables) begun.within))
 
-module _ {R W : Type 0} (once : HaveOneTable) (left : R → Option (List ℕ)) (failures : R → ℕ) (held : W → Option (List ℕ)) (writes : W → ℕ) (old new : R) (start end : W) where
+module _ {R W : Type 0} (once : HaveOneTable) (left : R → Option (List ℕ)) (failures : R → ℕ)
+    (held : W → Option (List ℕ)) (writes : W → ℕ) (old new : R) (start end : W) where
   -- an archive is refused
   refused : (fault : IndexingFault) → RefusesToMake (stream left failures old new) (stream held writes start end) fault → TellsVersion (left old) fault
       → writes end ≡ writes start → ((n : ℕ) × IsBegun (left old) (left new) (held start) (held end) n)
@@ -163,7 +187,9 @@ module _ {R W : Type 0} (once : HaveOneTable) (left : R → Option (List ℕ)) (
   }
 
   -- no index was made
-  pub stopped : (fault : MakingFault) → HasStoppedMaking (left old) (left new) held writes start end fault → BlamesMaking left failures old new fault → TellsVersionMaking (left old) fault → Makes (stream left failures old new) (stream held writes start end) (Err fault)
+  pub stopped : (fault : MakingFault) → HasStoppedMaking (left old) (left new) held writes start end fault
+      → BlamesMaking left failures old new fault → TellsVersionMaking (left old) fault
+      → Makes (stream left failures old new) (stream held writes start end) (Err fault)
   stopped (Refused (Archive_fault fault)) s blames version =
       refused (Archive_fault fault) (indexing_refused left failures old new (Archive_fault fault) s.0 blames) version s.1 s.2
   stopped (Refused OldArchive) s blames version = refused OldArchive (s.0, blames) version s.1 s.2
@@ -181,7 +207,10 @@ module _ {R W : Type 0} (once : HaveOneTable) (left : R → Option (List ℕ)) (
       }
 
   -- all records were read and their tables written, and these are their entries
-  module _ (mid : W) (entries sorted : List IndexEntry) (position : Position) (done : ℕ) (all : HasPutAll (left old) (left new) held writes start mid entries position done) (at_end : IsAtEnd (left new)) (unfailed : failures new ≡ failures old) (is : map entry_bytes sorted ≡ listing (set.from_list {R = order} (map entry_bytes entries))) where
+  module _ (mid : W) (entries sorted : List IndexEntry) (position : Position) (done : ℕ)
+      (all : HasPutAll (left old) (left new) held writes start mid entries position done) (at_end : IsAtEnd (left new))
+      (unfailed : failures new ≡ failures old) (is : map entry_bytes sorted
+      ≡ listing (set.from_list {R = order} (map entry_bytes entries))) where
     abbrev content : Operations
     content = set_of all.records
 
@@ -203,11 +232,24 @@ module _ {R W : Type 0} (once : HaveOneTable) (left : R → Option (List ℕ)) (
 
     whole : IsReadWhole Archive content left failures old new
     whole =
-        let read : IsReadTo Archive (left old) (left new) content = record { format = Archive_format; kind_is = refl; records = all.records; few = all.read.few; taken = all.read.taken; ordered = all.read.ordered; apart = all.read.apart; makes = refl } in
+        let read : IsReadTo Archive (left old) (left new) content =
+        record {
+          format = Archive_format;
+          kind_is = refl;
+          records = all.records;
+          few = all.read.few;
+          taken =
+              all.read.taken;
+          ordered = all.read.ordered;
+          apart = all.read.apart;
+          makes = refl;
+        } in
         read_whole Archive content left failures old new read at_end unfailed
 
     text : IfSome (left old) (λ t. t ≡ written content)
-    text = text_along (left old) (text_of Archive_format all.records) (written content) (sym (written-records all.records all.read.ordered)) (taken_whole (left old) (left new) (text_of Archive_format all.records) all.read.taken at_end)
+    text = text_along (left old) (text_of Archive_format all.records) (written content)
+        (sym (written-records all.records all.read.ordered))
+        (taken_whole (left old) (left new) (text_of Archive_format all.records) all.read.taken at_end)
 
     abbrev is_index : IsIndexOf content index
     is_index = record {
@@ -224,9 +266,13 @@ module _ {R W : Type 0} (once : HaveOneTable) (left : R → Option (List ℕ)) (
         sym (length-map sorted entry_bytes) ∙ ap length items_are ∙ as_many all.records all.tables all.read.ordered all.tabled.near all.tabled.each
         ∙ sym (ap length listed) ∙ length_written content
 
-    pub made : (sizes : Sizes) → IsPut held writes mid end done (concat (map entry_bytes sorted) ++ end_of (map entry_bytes sorted)) sizes.bytes → sizes.records ≡ length sorted → IsMade (stream left failures old new) (stream held writes start end) sizes
+    pub made : (sizes : Sizes) → IsPut held writes mid end done
+        (concat (map entry_bytes sorted) ++ end_of (map entry_bytes sorted)) sizes.bytes → sizes.records ≡ length sorted
+        → IsMade (stream left failures old new) (stream held writes start end) sizes
     made sizes put count =
-        let puts = subst (λ (t : List ℕ). IsPut held writes start end 0 t sizes.bytes) index_is (puts_then held writes (λ (s : Sizes). s.bytes) start mid end 0 done (front_of all.tables) (concat (map entry_bytes sorted) ++ end_of (map entry_bytes sorted)) (Ok sizes) all.put put) in
+        let puts = subst (λ (t : List ℕ). IsPut held writes start end 0 t sizes.bytes) index_is
+        (puts_then held writes (λ (s : Sizes). s.bytes) start mid end 0 done (front_of all.tables)
+        (concat (map entry_bytes sorted) ++ end_of (map entry_bytes sorted)) (Ok sizes) all.put put) in
         record {
           content = content;
           whole = whole;
@@ -245,9 +291,13 @@ module _ {R W : Type 0} (once : HaveOneTable) (left : R → Option (List ℕ)) (
         one_of_content once content other index (subst (λ (p : Operations). IsIndexOf p other) (sym same) is_other) is_index
 
     -- the writer failed in the entries
-    pub stopped_behind : (fault : WriteFault) → StopsPut held writes mid end done (concat (map entry_bytes sorted) ++ end_of (map entry_bytes sorted)) fault.written → IsStopped (stream left failures old new) (stream held writes start end) fault
+    pub stopped_behind : (fault : WriteFault) → StopsPut held writes mid end done
+        (concat (map entry_bytes sorted) ++ end_of (map entry_bytes sorted)) fault.written
+        → IsStopped (stream left failures old new) (stream held writes start end) fault
     stopped_behind fault stops =
-        let puts = subst (λ (t : List ℕ). StopsPut held writes start end 0 t fault.written) index_is (puts_then held writes (λ (s : Sizes). s.bytes) start mid end 0 done (front_of all.tables) (concat (map entry_bytes sorted) ++ end_of (map entry_bytes sorted)) (Err fault) all.put stops) in
+        let puts = subst (λ (t : List ℕ). StopsPut held writes start end 0 t fault.written) index_is
+        (puts_then held writes (λ (s : Sizes). s.bytes) start mid end 0 done (front_of all.tables)
+        (concat (map entry_bytes sorted) ++ end_of (map entry_bytes sorted)) (Err fault) all.put stops) in
         let count : puts.some ≡ fault.written = omega (arith, puts.written_is) in
         let first : WritesFirst (held start) (held end) index fault.written = subst (WritesFirst (held start) (held end) index) count puts.first in
         record {
@@ -257,5 +307,7 @@ module _ {R W : Type 0} (once : HaveOneTable) (left : R → Option (List ℕ)) (
           took = first.gained;
           count = sym (length-take-le fault.written index (omega (arith, first.within)));
           begun = inr (record { content = content; whole = whole; index = index; is_index = is_index; first = first });
-          first = λ o other is_content known is_other. subst (λ (t : List ℕ). WritesFirst (held start) (held end) t fault.written) (sym (same_index o other is_content known is_other)) first;
+          first = λ o other is_content known is_other. subst
+              (λ (t : List ℕ). WritesFirst (held start) (held end) t fault.written)
+              (sym (same_index o other is_content known is_other)) first;
         }

@@ -22,12 +22,19 @@ uncounted fault told n k tells is = cc
 
 module _ {R D : Type 0} (left : R → Option (List ℕ)) (failures : R → ℕ) (source after : R) (held : D → Option (List ℕ)) (writes : D → ℕ) (start end : D) where
   -- what the draft took is counted where it failed
-  taken : (fault : MakingFault) (told : CommandFault) → Makes (stream left failures source after) (stream held writes start end) (Err fault) → TellsStop fault told → HasTaken (writer held writes start end) told
+  taken : (fault : MakingFault) (told : CommandFault) → Makes (stream left failures source after)
+      (stream held writes start end) (Err fault) → TellsStop fault told → HasTaken (writer held writes start end) told
   taken (Refused fault) told makes tells =
       let gained = gained_bytes (left source) (left after) (held start) (held end) makes.count makes.begun in
       (gained.0, gained.1, λ n is. uncounted fault told n (length gained.0) tells is)
-  taken (Wrote fault) told makes tells = (makes.bytes, makes.took, λ n is. let same : Output n ≡ Output fault.written = sym is ∙ tells in let count : n ≡ fault.written = cc in count ∙ makes.count)
+  taken (Wrote fault) told makes tells = (
+    makes.bytes,
+    makes.took,
+    λ n is. let same : Output n ≡ Output fault.written =
+        sym is ∙ tells in let count : n ≡ fault.written = cc in count ∙ makes.count,
+  )
 
-  pub stopped_so : (fault : MakingFault) (told : CommandFault) → Makes (stream left failures source after) (stream held writes start end) (Err fault) → TellsStop fault told
+  pub stopped_so : (fault : MakingFault) (told : CommandFault)
+      → Makes (stream left failures source after) (stream held writes start end) (Err fault) → TellsStop fault told
       → IndexesAmidst (reader left failures source after) (stream held writes start end) (Err told)
   stopped_so fault told makes tells = (taken fault told makes tells, record { stopped = fault; makes = makes; tells = tells })

@@ -1,4 +1,4 @@
--- What is told by the table of an entry.
+-- The answers of the table of an entry.
 use Rattle.std.specs.Prelude.{◌≡◌, ◌<◌, ◌*◌, ℕ, List, Option}
 use Rattle.sha2.specs.Sha256.{sha256}
 use Rattle.table_checked_pages.specs.Pages.{Claim, MayBeStored, digests_in, page_digests, page_in, page_of}

@@ -1,4 +1,4 @@
--- What `index` makes of an archive.
+-- The index that `index` makes from an archive.
 use Rattle.std.specs.Prelude.{◌≡◌, ◌++◌, ℕ, List, codes, length, Err}
 use Rattle.std.specs.Fmt.{decimal}
 use Rattle.std.specs.FinSet as set

@@ -1,4 +1,4 @@
--- What comes of making the index of an archive as it comes.
+-- The results of making the index of an archive as it is read.
 use Rattle.std.specs.Prelude.{◌≡◌, ◌+◌, ◌<◌, ◌≤◌, ◌^◌, ℕ, List, [], ◌∷◌, ◌++◌, ◌⊎◌, length}
 use Rattle.std.specs.Prelude.{take, Option, Some, IfSome, Result, Ok, Err}
 use Rattle.std.specs.List.{AllZip, concat}
@@ -85,8 +85,8 @@ pub record HasReadWhole {R W : Type 0} (input : Stream R) (out : Stream W) (n : 
   pub is_index : IsIndexOf content index
   pub first : WritesFirst (out.bytes out.old) (out.bytes out.new) index n
 
--- Why no index is made of an archive: it is refused as by any reader of archives, it is one of version 1, or a record or
--- a table would stand too far.
+-- Why no index is made of an archive: it is refused as by any reader of archives, it is one of version 1, or a record
+-- or a table would stand too far.
 abbrev pub RefusesToMake : {R W : Type 0} → Stream R → Stream W → IndexingFault → Type 0
 RefusesToMake input out TooLong =
     IsTooFar (input.bytes input.old) (input.bytes input.new) (out.bytes out.old) (out.bytes out.new)

@@ -46,7 +46,8 @@ fn put_hashed<W: Sink>(
     done: u128,
 ) -> Result<([u8; 32], u128), WriteFault>
     requires { done < 2 ^ 80 }
-    ensures puts { Puts W.held W.failures (λ put. put.1) w.old w.new done (concat (map entry_bytes entries.now)) result }
+    ensures puts { Puts W.held W.failures (λ put. put.1) w.old w.new done (concat (map entry_bytes entries.now))
+        result }
     ensures digest { IfOk result (λ put. put.0 ≡ sha256 (concat (map entry_bytes entries.now))) }
     ensures short { IfOk result (λ put. put.1 ≤ 2 ^ 98) }
 {

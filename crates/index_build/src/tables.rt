@@ -72,7 +72,8 @@ pub(crate) fn put_table<W: Sink>(
     ensures put { IfOk result (λ put. (table : List ℕ) × IsTableOf (borrowed_bytes item.now) table
         × (claim_view put.0 ≡ claim_of done (borrowed_bytes item.now) table)
         × IsPut W.held W.failures w.old w.new done (stored table) put.1) }
-    ensures stopped { IfErr result (StopsTable W.held W.failures w.old w.new done (IsTableOf (borrowed_bytes item.now))) }
+    ensures stopped { IfErr result (StopsTable W.held W.failures w.old w.new done
+        (IsTableOf (borrowed_bytes item.now))) }
 {
     match item {
         Record::Admit(slice) => put_slice_table(heap, slice, w, done),

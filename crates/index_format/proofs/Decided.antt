@@ -1,5 +1,7 @@
 -- Any bytes are the text of an index or have a fault.
-use Rattle.std.proofs.Common.{◌≡◌, ℕ, ◌+◌, ◌-◌, ◌*◌, ◌<◌, ◌≤◌, ◌^◌, zero, suc, Bool, true, false, List, [], ◌∷◌, ◌++◌, length, take, drop, get_or, refl, sym, ap, ◌∙◌, subst, inl, inr, arith, append_assoc, length-drop}
+use Rattle.std.proofs.Common.{◌≡◌, ℕ, ◌+◌, ◌-◌, ◌*◌, ◌<◌, ◌≤◌, ◌^◌, zero, suc, Bool, true, false, List, [], ◌∷◌, ◌++◌}
+use Rattle.std.proofs.Common.{length, take, drop, get_or, refl, sym, ap, ◌∙◌, subst, inl, inr, arith, append_assoc}
+use Rattle.std.proofs.Common.{length-drop}
 use Rattle.std.specs.Prelude.{◌⊎◌, Result, Ok, Err}
 use Rattle.std.specs.Int.{w64, from_be_bytes}
 use Rattle.std.specs.List.{concat, insert}
@@ -7,7 +9,9 @@ use Rattle.std.specs.List.Sorted.{IsNonDecreasingBy, IsPermutation}
 use Rattle.std.specs.Str.{bytes_eq}
 use Rattle.std.proofs.lemmas.Bool.{cases_Bool, cases_eq, cases_lt}
 use Rattle.std.proofs.lemmas.List.{length-take-le, take-append-drop}
-use Rattle.std.proofs.lemmas.List.Sorted.{IsNonDecreasingBy-drop, IsNonDecreasingBy-insert, IsNonDecreasingBy-short, IsPermutation-cons, IsPermutation-insert, IsPermutation-refl, IsPermutation-trans}
+use Rattle.std.proofs.lemmas.List.Sorted.{IsNonDecreasingBy-drop, IsNonDecreasingBy-insert, IsNonDecreasingBy-short}
+use Rattle.std.proofs.lemmas.List.Sorted.{IsPermutation-cons, IsPermutation-insert, IsPermutation-refl}
+use Rattle.std.proofs.lemmas.List.Sorted.{IsPermutation-trans}
 use Rattle.std.proofs.lemmas.Nat.{be_bytes_8}
 use Rattle.std.proofs.lemmas.Slice.Eq.{bytes_eq-Decides}
 use Rattle.sha2.specs.Sha256.{sha256}
@@ -29,7 +33,9 @@ use Rattle.index_format.proofs.IndexTexts.{front_passed, length_entries, tables_
 
 -- ---- the text of entries that were read
 
-pub index_of : (text : List ℕ) (ends : Ends) (entries : List (List ℕ)) → AreEndsOf text ends → ends.count < 2 ^ 64 → HasDigest text → concat entries ≡ entries_in text → PassChecks (start_in text) [] entries → AreLaid (start_in text) entries → IsIndexText text entries
+pub index_of : (text : List ℕ) (ends : Ends) (entries : List (List ℕ)) → AreEndsOf text ends → ends.count < 2 ^ 64
+    → HasDigest text → concat entries ≡ entries_in text → PassChecks (start_in text) [] entries
+    → AreLaid (start_in text) entries → IsIndexText text entries
 index_of text ends entries are few digest whole pass laid =
     let each : length (concat entries) ≡ 122 * length entries = long_entries (start_in text) [] entries pass in
     let long : length (concat entries) ≡ 122 * count_in text = ap length whole ∙ length_entries text ends are in
@@ -59,7 +65,9 @@ record Stopped (end : ℕ) (low bytes : List ℕ) : Type 0 where
   long : 122 ≤ length rest
   fails : check_entry end (last_of low before) (take 122 rest) ≡ Err kind
 
-parsed_more : (end : ℕ) (low bytes : List ℕ) → length (take 122 bytes) ≡ 122 → check_entry end low (take 122 bytes) ≡ Ok tt → Parsed end (take 122 bytes) (drop 122 bytes) ⊎ Stopped end (take 122 bytes) (drop 122 bytes) → Parsed end low bytes ⊎ Stopped end low bytes
+parsed_more : (end : ℕ) (low bytes : List ℕ) → length (take 122 bytes) ≡ 122 → check_entry end low (take 122 bytes)
+    ≡ Ok tt → Parsed end (take 122 bytes) (drop 122 bytes) ⊎ Stopped end (take 122 bytes) (drop 122 bytes)
+    → Parsed end low bytes ⊎ Stopped end low bytes
 parsed_more end low bytes long passes (inl p) = inl (record {
   entries = take 122 bytes ∷ p.entries;
   whole = sym (take-append-drop 122 bytes) ∙ ap (λ (t : List ℕ). take 122 bytes ++ t) p.whole;
@@ -75,7 +83,9 @@ parsed_more end low bytes long passes (inr s) = inr (record {
   fails = s.fails;
 })
 
-parse_next : (end : ℕ) (low bytes : List ℕ) (r : Result (Unit {0}) IndexFaultKind) → check_entry end low (take 122 bytes) ≡ r → 122 ≤ length bytes → Parsed end (take 122 bytes) (drop 122 bytes) ⊎ Stopped end (take 122 bytes) (drop 122 bytes) → Parsed end low bytes ⊎ Stopped end low bytes
+parse_next : (end : ℕ) (low bytes : List ℕ) (r : Result (Unit {0}) IndexFaultKind)
+    → check_entry end low (take 122 bytes) ≡ r → 122 ≤ length bytes → Parsed end (take 122 bytes) (drop 122 bytes)
+    ⊎ Stopped end (take 122 bytes) (drop 122 bytes) → Parsed end low bytes ⊎ Stopped end low bytes
 parse_next end low bytes (Err kind) is long rest = inr (record { before = []; rest = bytes; kind = kind; pass = tt; whole = refl; long = long; fails = is })
 parse_next end low bytes (Ok tt) is long rest = parsed_more end low bytes (length-take-le 122 bytes long) is rest
 
@@ -83,7 +93,8 @@ parse : (end n : ℕ) (low bytes : List ℕ) → length bytes ≡ 122 * n → Pa
 parse end zero low [] long = inl (record { entries = []; whole = refl; pass = tt })
 parse end zero low (b ∷ bs) long = absurd (omega (arith, long))
 parse end (suc n) low bytes long =
-    parse_next end low bytes (check_entry end low (take 122 bytes)) refl (omega (arith, long)) (parse end n (take 122 bytes) (drop 122 bytes) (omega (arith, long, length-drop 122 bytes)))
+    parse_next end low bytes (check_entry end low (take 122 bytes)) refl (omega (arith, long))
+    (parse end n (take 122 bytes) (drop 122 bytes) (omega (arith, long, length-drop 122 bytes)))
 
 -- ---- entries in the order of their offsets
 
@@ -94,11 +105,15 @@ record Belongs (y : List ℕ) (xs : List (List ℕ)) : Type 0 where
   below : (k : ℕ) (d : List ℕ) → k < at → offset_in (get_or xs k d) ≤ offset_in y
   above : (k : ℕ) (d : List ℕ) → at ≤ k → k < length xs → offset_in y ≤ offset_in (get_or xs k d)
 
-below_more : (x y : List ℕ) (xs : List (List ℕ)) (at : ℕ) → offset_in x < offset_in y → ((k : ℕ) (d : List ℕ) → k < at → offset_in (get_or xs k d) ≤ offset_in y) → (k : ℕ) (d : List ℕ) → k < suc at → offset_in (get_or (x ∷ xs) k d) ≤ offset_in y
+below_more : (x y : List ℕ) (xs : List (List ℕ)) (at : ℕ) → offset_in x < offset_in y
+    → ((k : ℕ) (d : List ℕ) → k < at → offset_in (get_or xs k d) ≤ offset_in y) → (k : ℕ) (d : List ℕ) → k < suc at
+    → offset_in (get_or (x ∷ xs) k d) ≤ offset_in y
 below_more x y xs at less below zero d lt = omega (arith, less)
 below_more x y xs at less below (suc k) d lt = below k d (omega (arith, lt))
 
-above_more : (x y : List ℕ) (xs : List (List ℕ)) (at : ℕ) → ((k : ℕ) (d : List ℕ) → at ≤ k → k < length xs → offset_in y ≤ offset_in (get_or xs k d)) → (k : ℕ) (d : List ℕ) → suc at ≤ k → k < length (x ∷ xs) → offset_in y ≤ offset_in (get_or (x ∷ xs) k d)
+above_more : (x y : List ℕ) (xs : List (List ℕ)) (at : ℕ)
+    → ((k : ℕ) (d : List ℕ) → at ≤ k → k < length xs → offset_in y ≤ offset_in (get_or xs k d)) → (k : ℕ) (d : List ℕ)
+    → suc at ≤ k → k < length (x ∷ xs) → offset_in y ≤ offset_in (get_or (x ∷ xs) k d)
 above_more x y xs at above zero d le lt = absurd (omega (arith, le))
 above_more x y xs at above (suc k) d le lt = above k d (omega (arith, le)) (omega (arith, lt))
 
@@ -108,7 +123,13 @@ belongs y (x ∷ xs) up = elim (cases_lt (offset_in x) (offset_in y)) [
   | inl less ↦
       let p = belongs y xs (IsNonDecreasingBy-drop offset_in 1 (x ∷ xs) up) in
       record { at = suc p.at; within = omega (arith, p.within); below = below_more x y xs p.at less p.below; above = above_more x y xs p.at p.above }
-  | inr least ↦ record { at = 0; within = omega arith; below = λ k d lt. absurd (omega (arith, lt)); above = λ k d le lt. omega (arith, least, up 0 k d (omega arith) lt) }
+  | inr least ↦ record {
+    at = 0;
+    within = omega arith;
+    below = λ k d lt. absurd (omega (arith, lt));
+    above =
+        λ k d le lt. omega (arith, least, up 0 k d (omega arith) lt);
+  }
 ]
 
 record Sorted (xs : List (List ℕ)) : Type 0 where
@@ -123,7 +144,8 @@ sorted (x ∷ xs) =
     let p = belongs x s.order s.up in
     record {
       order = insert s.order p.at x;
-      moved = IsPermutation-trans (x ∷ xs) (x ∷ s.order) (insert s.order p.at x) (IsPermutation-cons x xs s.order s.moved) (IsPermutation-insert s.order p.at x);
+      moved = IsPermutation-trans (x ∷ xs) (x ∷ s.order) (insert s.order p.at x)
+          (IsPermutation-cons x xs s.order s.moved) (IsPermutation-insert s.order p.at x);
       up = IsNonDecreasingBy-insert offset_in s.order p.at x s.up p.within p.below p.above;
     }
 
@@ -158,8 +180,12 @@ by_front : (text : List ℕ) (r : Result (Unit {0}) IndexFaultKind) → check_be
 by_front text (Err kind) is rest = inr (record { kind = kind; offset = beginning_offset text kind }, inl (record { fails = is; offset_is = refl }))
 by_front text (Ok tt) is rest = rest is
 
-by_end : (text : List ℕ) (r : Result (Unit {0}) IndexFaultKind) → check_beginning text ≡ Ok tt → check_end text ≡ r → (HasEnds text → IsDecided text) → IsDecided text
-by_end text (Err kind) beginning is rest = inr (record { kind = kind; offset = length text - 41 }, inr (inl (record { beginning = beginning; fails = is; offset_is = refl })))
+by_end : (text : List ℕ) (r : Result (Unit {0}) IndexFaultKind) → check_beginning text ≡ Ok tt → check_end text ≡ r
+    → (HasEnds text → IsDecided text) → IsDecided text
+by_end text (Err kind) beginning is rest = inr (
+  record { kind = kind; offset = length text - 41 },
+  inr (inl (record { beginning = beginning; fails = is; offset_is = refl })),
+)
 by_end text (Ok tt) beginning is rest = rest (record { beginning = beginning; end = is })
 
 by_digest : (text : List ℕ) → HasEnds text → (HasDigest text → IsDecided text) → IsDecided text
@@ -196,7 +222,14 @@ module _ (text : List ℕ) (bytes : IsBytes text) (digest : HasDigest text) wher
   ends = record { start = start_in text; count = count_in text; digest = digest_in text }
 
   are : AreEndsOf text ends
-  are = record { has = digest.ends; start_is = refl; count_is = refl; count_bytes = be_bytes_8 number (count_in text) number_long number_bytes refl; digest_is = refl }
+  are = record {
+    has = digest.ends;
+    start_is = refl;
+    count_is = refl;
+    count_bytes =
+        be_bytes_8 number (count_in text) number_long number_bytes refl;
+    digest_is = refl;
+  }
 
   by_places : Parsed (start_in text) [] (entries_in text) → IsDecided text
   by_places p =
@@ -236,4 +269,5 @@ module _ (text : List ℕ) (bytes : IsBytes text) (digest : HasDigest text) wher
 
 pub decided : (text : List ℕ) → IsBytes text → IsDecided text
 decided text bytes =
-    by_front text (check_beginning text) refl (λ beginning. by_end text (check_end text) beginning refl (λ ends. by_digest text ends (λ digest. by_entries text bytes digest)))
+    by_front text (check_beginning text) refl (λ beginning. by_end text (check_end text) beginning refl
+    (λ ends. by_digest text ends (λ digest. by_entries text bytes digest)))

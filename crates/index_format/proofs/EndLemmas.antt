@@ -1,5 +1,6 @@
 -- The ends of a text as they are read.
-use Rattle.std.proofs.Common.{◌≡◌, ◌≢◌, ℕ, ◌+◌, ◌-◌, ◌*◌, ◌<◌, ◌≤◌, true, false, eqb, List, length, min, take, drop, get_or, refl, sym, ap, ◌∙◌, subst, inl, inr, arith}
+use Rattle.std.proofs.Common.{◌≡◌, ◌≢◌, ℕ, ◌+◌, ◌-◌, ◌*◌, ◌<◌, ◌≤◌, true, false, eqb, List, length, min, take, drop}
+use Rattle.std.proofs.Common.{get_or, refl, sym, ap, ◌∙◌, subst, inl, inr, arith}
 use Rattle.std.specs.Prelude.{Option, Some, IfSome, Ok, Err}
 use Rattle.std.specs.Int.{w64, to_be_bytes, from_be_bytes}
 use Rattle.std.specs.Str.{bytes_eq}
@@ -19,7 +20,9 @@ pub some_is : (known : Option (List ℕ)) (text : List ℕ) (P : List ℕ → Ty
 some_is known text P is h = subst (λ o. IfSome o P) is h
 
 -- a part that is there was not read: it is the machine's fault
-pub part_unread : (B : List ℕ → IndexFault → Type 0) (offset count : ℕ) (text : List ℕ) (f : IndexFault) → IsPartOffset text offset → offset + count ≤ length text → IsRefused (IsUnread offset count) text f → IsRefused B text f
+pub part_unread : (B : List ℕ → IndexFault → Type 0) (offset count : ℕ) (text : List ℕ) (f : IndexFault)
+    → IsPartOffset text offset → offset + count ≤ length text → IsRefused (IsUnread offset count) text f
+    → IsRefused B text f
 part_unread B offset count text f part within (inl machine) = inl machine
 part_unread B offset count text f part within (inr (at, inl machine)) = inl (machine, subst (IsPartOffset text) (sym at) part)
 part_unread B offset count text f part within (inr (at, inr few)) = absurd (omega (arith, few, within))
@@ -37,15 +40,19 @@ first_eight text = elim (cases_lt (length text) 8) [
 ]
 
 -- the question of the magic, of the bytes that were read
-pub asked : (text beginning : List ℕ) (size : ℕ) → size ≡ length text → beginning ≡ take 8 text → length beginning ≡ min size 8 → bytes_eq beginning (take (length beginning) index_magic) ≡ bytes_eq (take 8 text) (take (min (length text) 8) index_magic)
+pub asked : (text beginning : List ℕ) (size : ℕ) → size ≡ length text → beginning ≡ take 8 text → length beginning
+    ≡ min size 8 → bytes_eq beginning (take (length beginning) index_magic)
+    ≡ bytes_eq (take 8 text) (take (min (length text) 8) index_magic)
 asked text beginning size same is long =
-    ap (λ (n : ℕ). bytes_eq beginning (take n index_magic)) (long ∙ ap (λ (n : ℕ). min n 8) same) ∙ ap (λ (t : List ℕ). bytes_eq t (take (min (length text) 8) index_magic)) is
+    ap (λ (n : ℕ). bytes_eq beginning (take n index_magic)) (long ∙ ap (λ (n : ℕ). min n 8) same)
+    ∙ ap (λ (t : List ℕ). bytes_eq t (take (min (length text) 8) index_magic)) is
 
 pub magic_fails : (text : List ℕ) → bytes_eq (take 8 text) (take (min (length text) 8) index_magic) ≡ false → check_beginning text ≡ Err BadMagic
 unfolding check_beginning
 magic_fails text h = rw h refl
 
-pub room_fails : (text : List ℕ) → bytes_eq (take 8 text) (take (min (length text) 8) index_magic) ≡ true → length text < 49 → check_beginning text ≡ Err Truncated
+pub room_fails : (text : List ℕ) → bytes_eq (take 8 text) (take (min (length text) 8) index_magic) ≡ true
+    → length text < 49 → check_beginning text ≡ Err Truncated
 unfolding check_beginning
 room_fails text h short = rw (h, lt-ltb (length text) 49 short) refl
 
@@ -94,7 +101,9 @@ module _ (text end : List ℕ) (room : 49 ≤ length text) (is : end ≡ drop (l
         let less : 49 + 122 * count_in text ≤ length text = omega (arith, few, count_is) in
         rw (tagged, le-ltb (length text) (49 + 122 * count_in text) less) refl
 
-    pub are_ends : (ends : Ends) → check_beginning text ≡ Ok tt → 49 + 122 * count ≤ length text → ends.count ≡ count → ends.start ≡ length text - 41 - 122 * count → ends.digest ≡ drop 9 end → to_be_bytes w64 count ≡ take 8 (drop 1 end) → AreEndsOf text ends
+    pub are_ends : (ends : Ends) → check_beginning text ≡ Ok tt → 49 + 122 * count ≤ length text → ends.count ≡ count
+        → ends.start ≡ length text - 41 - 122 * count → ends.digest ≡ drop 9 end → to_be_bytes w64 count
+        ≡ take 8 (drop 1 end) → AreEndsOf text ends
     are_ends ends beginning few same start digest bytes = record {
       has = record { beginning = beginning; end = end_passes few };
       start_is = omega (arith, start, count_is);

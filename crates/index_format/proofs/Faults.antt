@@ -4,7 +4,9 @@ use Rattle.std.specs.Prelude.{◌⊎◌, Ok}
 use Rattle.std.specs.List.{concat}
 use Rattle.std.proofs.lemmas.List.{append-nil}
 use Rattle.archive_records.specs.Text.{last_of}
-use Rattle.index_format.specs.Fault.{FailsAfter, FailsAtEnd, FailsDigest, FailsInEntries, FailsInBeginning, FailsInPlaces, HasDigest, IsIndexFault, beginning_offset, check_end, check_beginning}
+use Rattle.index_format.specs.Fault.{FailsAfter, FailsAtEnd, FailsDigest, FailsInEntries, FailsInBeginning}
+use Rattle.index_format.specs.Fault.{FailsInPlaces, HasDigest, IsIndexFault, beginning_offset, check_end}
+use Rattle.index_format.specs.Fault.{check_beginning}
 use Rattle.index_format.specs.Text.{AreLaid, IsIndexText, PassChecks, entries_in, start_in, check_entry}
 use Rattle.index_format.specs.declared.index_fault.IndexFault.{IndexFault}
 use Rattle.index_format.proofs.Checks.{IsStop, long_entries, one_front}
@@ -27,18 +29,22 @@ stops_there end bytes xs f a long h = cc (a.fails, h)
 one_after : (end : ℕ) (bytes : List ℕ) (xs ys : List (List ℕ)) (f g : IndexFault) → FailsAfter end bytes xs f → FailsAfter end bytes ys g → f ≡ g
 one_after end bytes xs ys f g a b =
     let same = one_front end [] xs ys bytes a.rest b.rest a.pass b.pass a.whole b.whole (stops_there end bytes xs f a) (stops_there end bytes ys g b) in
-    let checked : check_entry end (last_of [] xs) (take 122 a.rest) ≡ check_entry end (last_of [] ys) (take 122 b.rest) = λ i. check_entry end (last_of [] (same.0 i)) (take 122 (same.1 i)) in
+    let checked : check_entry end (last_of [] xs) (take 122 a.rest)
+    ≡ check_entry end (last_of [] ys) (take 122 b.rest) =
+    λ i. check_entry end (last_of [] (same.0 i)) (take 122 (same.1 i)) in
     let kinds : f.kind ≡ g.kind = cc (a.fails, checked, b.fails) in
     same_fault f g kinds (a.offset_is ∙ (λ i. end + length (concat (same.0 i))) ∙ sym b.offset_is)
 
 not_both : (end : ℕ) (bytes : List ℕ) (xs ys : List (List ℕ)) (f : IndexFault) → FailsAfter end bytes xs f → PassChecks end [] ys → bytes ≡ concat ys → ⊥
 not_both end bytes xs ys f a pass whole =
-    let same = one_front end [] xs ys bytes a.rest [] a.pass pass a.whole (whole_rest bytes ys whole) (stops_there end bytes xs f a) (none_left end (last_of [] ys)) in
+    let same = one_front end [] xs ys bytes a.rest [] a.pass pass a.whole (whole_rest bytes ys whole)
+    (stops_there end bytes xs f a) (none_left end (last_of [] ys)) in
     omega (arith, a.long, ap length same.1)
 
 pub same_entries : (end : ℕ) (xs ys : List (List ℕ)) → PassChecks end [] xs → PassChecks end [] ys → concat xs ≡ concat ys → xs ≡ ys
 same_entries end xs ys a b e =
-    (one_front end [] xs ys (concat xs) [] [] a b (whole_rest (concat xs) xs refl) (whole_rest (concat xs) ys e) (none_left end (last_of [] xs)) (none_left end (last_of [] ys))).0
+    (one_front end [] xs ys (concat xs) [] [] a b (whole_rest (concat xs) xs refl) (whole_rest (concat xs) ys e)
+    (none_left end (last_of [] xs)) (none_left end (last_of [] ys))).0
 
 -- ---- the text of an index
 
@@ -71,14 +77,16 @@ pub no_fault : (text : List ℕ) (xs : List (List ℕ)) (f : IndexFault) → IsI
 no_fault text xs f is (inl a) = no_front text f a (digest_there text xs is).ends.beginning
 no_fault text xs f is (inr (inl a)) = no_end text f a (digest_there text xs is).ends.end
 no_fault text xs f is (inr (inr (inl a))) = a.other (digest_there text xs is).same
-no_fault text xs f is (inr (inr (inr (inl a)))) = not_both (start_in text) (entries_in text) a.before xs f a.after (pass_there text xs is) (entries_there text xs is)
+no_fault text xs f is (inr (inr (inr (inl a)))) = not_both (start_in text) (entries_in text) a.before xs f a.after
+    (pass_there text xs is) (entries_there text xs is)
 no_fault text xs f is (inr (inr (inr (inr a)))) =
     let same = same_entries (start_in text) xs a.entries (pass_there text xs is) a.pass (sym (entries_there text xs is) ∙ a.whole) in
     a.unlaid (subst (AreLaid (start_in text)) same (laid_there text xs is))
 
 -- a text is the index with one list of entries
 pub one_list : (text : List ℕ) (xs ys : List (List ℕ)) → IsIndexText text xs → IsIndexText text ys → xs ≡ ys
-one_list text xs ys a b = same_entries (start_in text) xs ys (pass_there text xs a) (pass_there text ys b) (sym (entries_there text xs a) ∙ entries_there text ys b)
+one_list text xs ys a b = same_entries (start_in text) xs ys (pass_there text xs a) (pass_there text ys b)
+    (sym (entries_there text xs a) ∙ entries_there text ys b)
 
 -- ---- one fault
 

@@ -1,5 +1,6 @@
 -- Entries as values and as bytes.
-use Rattle.std.proofs.Common.{◌≡◌, ℕ, ◌+◌, ◌-◌, ◌<◌, ◌^◌, true, cond, ◌||◌, ◌&&◌, eqb, nat_le, List, ◌++◌, length, take, drop, get_or, sym, ap, ◌∙◌, arith, length-append, length-drop}
+use Rattle.std.proofs.Common.{◌≡◌, ℕ, ◌+◌, ◌-◌, ◌<◌, ◌^◌, true, cond, ◌||◌, ◌&&◌, eqb, nat_le, List, ◌++◌, length, take}
+use Rattle.std.proofs.Common.{drop, get_or, sym, ap, ◌∙◌, arith, length-append, length-drop}
 use Rattle.std.specs.Int.{w64, to_be_bytes, from_be_bytes}
 use Rattle.std.proofs.Math.ListN.{get_or-append}
 use Rattle.std.proofs.Math.Seq.{take-append_seam, drop-append_seam}
@@ -55,14 +56,17 @@ placed_front e long tag kind length_is = record {
   length_is = length_front e length_is;
 }
 
-pub claim_parts : (e : List ℕ) (c : Claim) → to_be_bytes w64 c.offset ≡ take 8 (drop 74 e) → to_be_bytes w64 c.size ≡ take 8 (drop 82 e) → c.root ≡ drop 90 e → claim_bytes c ≡ drop 74 e
+pub claim_parts : (e : List ℕ) (c : Claim) → to_be_bytes w64 c.offset ≡ take 8 (drop 74 e) → to_be_bytes w64 c.size
+    ≡ take 8 (drop 82 e) → c.root ≡ drop 90 e → claim_bytes c ≡ drop 74 e
 unfolding claim_bytes
 claim_parts e c offset size root =
     (λ i. offset i ++ (size i ++ root i))
-    ∙ ap (λ (t : List ℕ). take 8 (drop 74 e) ++ t) (ap (λ (t : List ℕ). take 8 (drop 82 e) ++ t) (sym (drop-drop 8 82 e)) ∙ take-append-drop 8 (drop 82 e) ∙ sym (drop-drop 8 74 e))
+    ∙ ap (λ (t : List ℕ). take 8 (drop 74 e) ++ t) (ap (λ (t : List ℕ). take 8 (drop 82 e) ++ t)
+    (sym (drop-drop 8 82 e)) ∙ take-append-drop 8 (drop 82 e) ∙ sym (drop-drop 8 74 e))
     ∙ take-append-drop 8 (drop 74 e)
 
-pub entry_of_parts : (bytes : List ℕ) (e : IndexEntry) → placed_bytes e ≡ take 74 bytes → claim_bytes (claim_view e.claim) ≡ drop 74 bytes → entry_bytes e ≡ bytes
+pub entry_of_parts : (bytes : List ℕ) (e : IndexEntry) → placed_bytes e ≡ take 74 bytes
+    → claim_bytes (claim_view e.claim) ≡ drop 74 bytes → entry_bytes e ≡ bytes
 unfolding entry_bytes
 entry_of_parts bytes e placed claim = (λ i. placed i ++ claim i) ∙ take-append-drop 74 bytes
 
@@ -75,12 +79,15 @@ module _ (beginning : List ℕ) (c : Claim) (long : length beginning ≡ 74) whe
 
   size_behind : drop 82 (beginning ++ claim_bytes c) ≡ to_be_bytes w64 c.size ++ c.root
   unfolding claim_bytes
-  size_behind = sym (drop-drop 8 74 (beginning ++ claim_bytes c)) ∙ ap (drop 8) claim_behind ∙ drop-append_seam (to_be_bytes w64 c.offset) (to_be_bytes w64 c.size ++ c.root)
+  size_behind = sym (drop-drop 8 74 (beginning ++ claim_bytes c)) ∙ ap (drop 8) claim_behind
+      ∙ drop-append_seam (to_be_bytes w64 c.offset) (to_be_bytes w64 c.size ++ c.root)
 
   pub offset_read : c.offset < 2 ^ 64 → (claim_in (beginning ++ claim_bytes c)).offset ≡ c.offset
   unfolding claim_bytes
   offset_read fits =
-      ap (from_be_bytes w64) (ap (take 8) claim_behind ∙ take-append_seam (to_be_bytes w64 c.offset) (to_be_bytes w64 c.size ++ c.root)) ∙ from_be_bytes-to_be_bytes_8 c.offset fits
+      ap (from_be_bytes w64) (ap (take 8) claim_behind
+      ∙ take-append_seam (to_be_bytes w64 c.offset) (to_be_bytes w64 c.size ++ c.root))
+      ∙ from_be_bytes-to_be_bytes_8 c.offset fits
 
   pub size_read : c.size < 2 ^ 64 → (claim_in (beginning ++ claim_bytes c)).size ≡ c.size
   size_read fits =
@@ -100,7 +107,8 @@ length-claim c = omega (arith, length-append (to_be_bytes w64 c.offset) (to_be_b
 module _ (beginning : List ℕ) (c : Claim) (long : length beginning ≡ 74) where
   pub number_kept : (at : ℕ) → at + 8 < 75 → take 8 (drop at (beginning ++ claim_bytes c)) ≡ take 8 (drop at beginning)
   number_kept at within =
-      ap (take 8) (drop-append-le at beginning (claim_bytes c) (omega (arith, long, within))) ∙ take-append-le 8 (drop at beginning) (claim_bytes c) (omega (arith, long, within, length-drop at beginning))
+      ap (take 8) (drop-append-le at beginning (claim_bytes c) (omega (arith, long, within)))
+      ∙ take-append-le 8 (drop at beginning) (claim_bytes c) (omega (arith, long, within, length-drop at beginning))
 
   pub byte_kept : (i : ℕ) → i < 74 → get_or (beginning ++ claim_bytes c) i 0 ≡ get_or beginning i 0
   byte_kept i lt = get_or-append beginning (claim_bytes c) 0 i (omega (arith, long, lt))
@@ -108,7 +116,9 @@ module _ (beginning : List ℕ) (c : Claim) (long : length beginning ≡ 74) whe
 pub long_with : (beginning : List ℕ) (c : Claim) → length beginning ≡ 74 → length c.root ≡ 32 → length (beginning ++ claim_bytes c) ≡ 122
 long_with beginning c long root = omega (arith, long, root, length-append beginning (claim_bytes c), length-claim c)
 
-pub fields_of : (bytes : List ℕ) (e : IndexEntry) → length bytes ≡ 122 → entry_bytes e ≡ bytes → offset_in (take 74 bytes) ≡ e.offset → length_in (take 74 bytes) ≡ e.length → claim_view e.claim ≡ claim_in bytes → IsPlacedEntry (placed_bytes e) → HasItsFields e
+pub fields_of : (bytes : List ℕ) (e : IndexEntry) → length bytes ≡ 122 → entry_bytes e ≡ bytes
+    → offset_in (take 74 bytes) ≡ e.offset → length_in (take 74 bytes) ≡ e.length → claim_view e.claim ≡ claim_in bytes
+    → IsPlacedEntry (placed_bytes e) → HasItsFields e
 fields_of bytes e long same offset len claim placed = record {
   long = ap length same ∙ long;
   offset_is = ap offset_in same ∙ ap (from_be_bytes w64) (sym (front_number 58 bytes (omega arith))) ∙ offset;

@@ -18,7 +18,8 @@ use Rattle.join_core.proofs.Listing.{listing_ascending}
 use Rattle.archive_core.proofs.Compare.{slice_cmp-append}
 use Rattle.archive_core.proofs.Made.{bytes_same}
 use Rattle.archive_core.proofs.Members.{in_rest, in_front}
-use Rattle.index_format.specs.Entry.{AreOrderedEntries, HasItsFields, IsPlacedEntry, claim_bytes, claim_in, entry_bytes, length_in, offset_in, placed_bytes, stored_size}
+use Rattle.index_format.specs.Entry.{AreOrderedEntries, HasItsFields, IsPlacedEntry, claim_bytes, claim_in, entry_bytes}
+use Rattle.index_format.specs.Entry.{length_in, offset_in, placed_bytes, stored_size}
 use Rattle.index_format.specs.Index.{AreIndexed, lengths_of}
 use Rattle.index_format.specs.declared.entry.IndexEntry.{IndexEntry}
 use Rattle.index_format.specs.Text.{AreLaid, FollowOn, PassChecks, placed_of}
@@ -75,9 +76,15 @@ none_before : (n offset at end : ℕ) (xs : List (List ℕ)) → FollowOn offset
 none_before n offset at end [] follow lt = refl
 none_before n offset at end (x ∷ xs) follow lt =
     let other : at_offset n x ≡ 0 = not_at n x (λ e. omega (arith, lt, e, follow.0)) in
-    omega (arith, sum_by-cons (at_offset n) x xs, other, none_before n (offset + length_in x) (at + stored_size (claim_in x)) end xs follow.2 (omega (arith, lt)))
+    omega (
+      arith,
+      sum_by-cons (at_offset n) x xs,
+      other,
+      none_before n (offset + length_in x) (at + stored_size (claim_in x)) end xs follow.2 (omega (arith, lt)),
+    )
 
-one_at_most : (n offset at end : ℕ) (xs : List (List ℕ)) → FollowOn offset at end xs → ((z : List ℕ) → Contains xs z → 0 < length_in z) → sum_by (at_offset n) xs ≤ 1
+one_at_most : (n offset at end : ℕ) (xs : List (List ℕ)) → FollowOn offset at end xs
+    → ((z : List ℕ) → Contains xs z → 0 < length_in z) → sum_by (at_offset n) xs ≤ 1
 one_at_most n offset at end [] follow some = omega arith
 one_at_most n offset at end (x ∷ xs) follow some =
     let next : ℕ = offset + length_in x in
@@ -97,13 +104,17 @@ AreApart xs = (n : ℕ) → sum_by (at_offset n) xs ≤ 1
 
 laid_apart : (end : ℕ) (entries : List (List ℕ)) → PassChecks end [] entries → AreLaid end entries → AreApart entries
 laid_apart end entries pass laid n =
-    let some : (z : List ℕ) → Contains laid.order z → 0 < length_in z = λ z c. each_some end [] entries z pass (Contains-permutation laid.order entries z (IsPermutation-sym entries laid.order laid.permuted) c) in
+    let some : (z : List ℕ) → Contains laid.order z → 0 < length_in z =
+    λ z c. each_some end [] entries z pass (Contains-permutation laid.order entries z
+    (IsPermutation-sym entries laid.order laid.permuted) c) in
     omega (arith, one_at_most n 8 8 end laid.order laid.follow some, sum_by-IsPermutation (at_offset n) entries laid.order laid.permuted)
 
 -- ---- so the fronts ascend
 
 -- entries of other offsets differ in their fronts
-front_less : (x y : List ℕ) (r : Ordering) → order (take 74 x) (take 74 y) ≡ r → ordering_then r (order (drop 74 x) (drop 74 y)) ≡ Less → (offset_in x ≡ offset_in y → ⊥) → order (take 74 x) (take 74 y) ≡ Less
+front_less : (x y : List ℕ) (r : Ordering) → order (take 74 x) (take 74 y) ≡ r
+    → ordering_then r (order (drop 74 x) (drop 74 y)) ≡ Less → (offset_in x ≡ offset_in y → ⊥)
+    → order (take 74 x) (take 74 y) ≡ Less
 front_less x y Less e h other = e
 front_less x y Equal e h other = absurd (other (sym (beginning_offset x) ∙ ap offset_in (bytes_same (take 74 x) (take 74 y) e) ∙ beginning_offset y))
 front_less x y Greater e h other = cc
@@ -111,19 +122,26 @@ front_less x y Greater e h other = cc
 fronts_compared : (x y : List ℕ) → length x ≡ 122 → length y ≡ 122 → order x y ≡ Less → (offset_in x ≡ offset_in y → ⊥) → order (take 74 x) (take 74 y) ≡ Less
 fronts_compared x y long too lt other =
     let same : length (take 74 x) ≡ length (take 74 y) = length-take-le 74 x (omega (arith, long)) ∙ sym (length-take-le 74 y (omega (arith, too))) in
-    front_less x y _ refl (sym (slice_cmp-append (take 74 x) (take 74 y) (drop 74 x) (drop 74 y) same) ∙ (λ i. order (take-append-drop 74 x i) (take-append-drop 74 y i)) ∙ lt) other
+    front_less x y _ refl (sym (slice_cmp-append (take 74 x) (take 74 y) (drop 74 x) (drop 74 y) same)
+    ∙ (λ i. order (take-append-drop 74 x i) (take-append-drop 74 y i)) ∙ lt) other
 
-above_front : (end : ℕ) (x low : List ℕ) (xs : List (List ℕ)) → length x ≡ 122 → PassChecks end low xs → AllByRecursion (λ y. order x y ≡ Less) xs → sum_by (at_offset (offset_in x)) xs ≡ 0 → AllByRecursion (λ y. order (take 74 x) y ≡ Less) (map (take 74) xs)
+above_front : (end : ℕ) (x low : List ℕ) (xs : List (List ℕ)) → length x ≡ 122 → PassChecks end low xs
+    → AllByRecursion (λ y. order x y ≡ Less) xs → sum_by (at_offset (offset_in x)) xs ≡ 0
+    → AllByRecursion (λ y. order (take 74 x) y ≡ Less) (map (take 74) xs)
 above_front end x low [] long pass above none = tt
 above_front end x low (y ∷ ys) long pass above none =
-    let more = sum_by-cons (at_offset (offset_in x)) y ys in
-    (fronts_compared x y long pass.0 above.0 (λ e. omega (arith, more, none, is_at (offset_in x) y (sym e))), above_front end x y ys long pass.2 above.1 (omega (arith, more, none)))
+    let more = sum_by-cons (at_offset (offset_in x)) y ys in (
+      fronts_compared x y long pass.0 above.0 (λ e. omega (arith, more, none, is_at (offset_in x) y (sym e))),
+      above_front end x y ys long pass.2 above.1 (omega (arith, more, none)),
+    )
 
-fronts_ascending : (end : ℕ) (low : List ℕ) (xs : List (List ℕ)) → PassChecks end low xs → IsStrictlySortedBy order xs → AreApart xs → IsStrictlySortedBy order (map (take 74) xs)
+fronts_ascending : (end : ℕ) (low : List ℕ) (xs : List (List ℕ)) → PassChecks end low xs → IsStrictlySortedBy order xs
+    → AreApart xs → IsStrictlySortedBy order (map (take 74) xs)
 unfolding IsStrictlySortedBy
 fronts_ascending end low [] pass up apart = tt
 fronts_ascending end low (x ∷ xs) pass up apart =
-    let none : sum_by (at_offset (offset_in x)) xs ≡ 0 = omega (arith, apart (offset_in x), sum_by-cons (at_offset (offset_in x)) x xs, is_at (offset_in x) x refl) in
+    let none : sum_by (at_offset (offset_in x)) xs ≡ 0 =
+    omega (arith, apart (offset_in x), sum_by-cons (at_offset (offset_in x)) x xs, is_at (offset_in x) x refl) in
     (above_front end x x xs pass.0 pass.2 up.0 none, fronts_ascending end x xs pass.2 up.1 (λ n. omega (arith, apart n, sum_by-cons (at_offset n) x xs)))
 
 -- entries that pass their checks, and whose records follow one another
@@ -138,7 +156,8 @@ sum_of_fronts [] = refl
 sum_of_fronts (x ∷ xs) =
     omega (arith, sum_by-cons length_in (take 74 x) (map (take 74) xs), sum_by-cons length_in x xs, front_length x, sum_of_fronts xs)
 
-pub lengths_together : (entries : List IndexEntry) → AreOrderedEntries entries → lengths_of (placed_of (map entry_bytes entries)) ≡ sum_by length_in (map entry_bytes entries)
+pub lengths_together : (entries : List IndexEntry) → AreOrderedEntries entries
+    → lengths_of (placed_of (map entry_bytes entries)) ≡ sum_by length_in (map entry_bytes entries)
 unfolding lengths_of
 lengths_together entries are =
     let bytes = map entry_bytes entries in

@@ -1,5 +1,6 @@
 -- Records that are gathered one after another, by the entries that name them.
-use Rattle.std.proofs.Common.{◌≡◌, ℕ, ◌+◌, ◌<◌, ◌≤◌, zero, suc, Bool, true, false, cond, List, [], ◌∷◌, ◌++◌, length, map, take, get_or, Option, Some, None, sym, ap, ◌∙◌, subst, append_assoc, arith}
+use Rattle.std.proofs.Common.{◌≡◌, ℕ, ◌+◌, ◌<◌, ◌≤◌, zero, suc, Bool, true, false, cond, List, [], ◌∷◌, ◌++◌, length}
+use Rattle.std.proofs.Common.{map, take, get_or, Option, Some, None, sym, ap, ◌∙◌, subst, append_assoc, arith}
 use Rattle.std.specs.Prelude.{filter, IfSome, Result, Ok, Err}
 use Rattle.std.specs.List.{AllWithin, AllZip}
 use Rattle.std.proofs.lemmas.List.{append-nil, take_all}
@@ -27,7 +28,9 @@ use Rattle.index_format.proofs.RunLemmas.{past}
 use Rattle.index_format.proofs.Ordered.{not_second, one_of_two, two_runs}
 
 module _ (R : List ℕ → List ℕ → Type 0) where
-  picked : (p : List ℕ → Bool) (xs : List (List ℕ)) (i : ℕ) (x : List ℕ) (ys : List (List ℕ)) (y : List ℕ) → i < length xs → x ≡ get_or xs i [] → p x ≡ true → AllZip R (filter p (take i xs)) ys → R x y → AllZip R (filter p (take (i + 1) xs)) (ys ++ y ∷ [])
+  picked : (p : List ℕ → Bool) (xs : List (List ℕ)) (i : ℕ) (x : List ℕ) (ys : List (List ℕ)) (y : List ℕ)
+      → i < length xs → x ≡ get_or xs i [] → p x ≡ true → AllZip R (filter p (take i xs)) ys → R x y
+      → AllZip R (filter p (take (i + 1) xs)) (ys ++ y ∷ [])
   picked p xs i x ys y lt is passes zip r =
       rw (filter_more p xs i [] lt, ← is, passes) (AllZip-push R (filter p (take i xs)) ys x y zip r)
 
@@ -35,7 +38,8 @@ module _ (R : List ℕ → List ℕ → Type 0) where
 pub known : (P : List ℕ → Type 0) (whole : Option (List ℕ)) → ((text : List ℕ) → P text) → IfSome whole P
 known P whole f = grind arith
 
-pub along_both : (P Q R : List ℕ → Type 0) (whole : Option (List ℕ)) → ((text : List ℕ) → P text → Q text → R text) → IfSome whole P → IfSome whole Q → IfSome whole R
+pub along_both : (P Q R : List ℕ → Type 0) (whole : Option (List ℕ)) → ((text : List ℕ) → P text → Q text → R text)
+    → IfSome whole P → IfSome whole Q → IfSome whole R
 along_both P Q R whole f a b = grind arith
 
 module _ (whole : Option (List ℕ)) (p : List ℕ → Bool) (entries : List (List ℕ)) where
@@ -51,7 +55,9 @@ module _ (whole : Option (List ℕ)) (p : List ℕ → Bool) (entries : List (Li
   }
 
   -- one that passes more
-  pub gathered_more : (i : ℕ) (x : List ℕ) (old mid new : List (List ℕ)) → i < length entries → x ≡ get_or entries i [] → p x ≡ true → AreGathered whole p entries i old mid → IsGathered whole x mid new → AreGathered whole p entries (i + 1) old new
+  pub gathered_more : (i : ℕ) (x : List ℕ) (old mid new : List (List ℕ)) → i < length entries → x ≡ get_or entries i []
+      → p x ≡ true → AreGathered whole p entries i old mid → IsGathered whole x mid new
+      → AreGathered whole p entries (i + 1) old new
   gathered_more i x old mid new lt is passes before one =
       let r = one.record_bytes in
       record {
@@ -62,15 +68,19 @@ module _ (whole : Option (List ℕ)) (p : List ℕ → Bool) (entries : List (Li
       }
 
   -- and after the last that passes none
-  pub gathered_rest : (n m : ℕ) (old new : List (List ℕ)) → n ≤ m → AllWithin (λ x. p x ≡ false) entries n m → AreGathered whole p entries n old new → AreGathered whole p entries m old new
+  pub gathered_rest : (n m : ℕ) (old new : List (List ℕ)) → n ≤ m → AllWithin (λ x. p x ≡ false) entries n m
+      → AreGathered whole p entries n old new → AreGathered whole p entries m old new
   gathered_rest n m old new le none before = record {
     records = before.records;
-    named = IfSome_then whole before.named (λ text zip. subst (λ (xs : List (List ℕ)). AllZip (IsNamedBy text) xs before.records) (sym (past p entries n m le none)) zip);
+    named = IfSome_then whole before.named (λ text zip. subst
+        (λ (xs : List (List ℕ)). AllZip (IsNamedBy text) xs before.records) (sym (past p entries n m le none)) zip);
     behind = before.behind;
   }
 
 -- each entry before a place that passes has a partner among those up to it
-partner : (R : List ℕ → List ℕ → Type 0) (p : List ℕ → Bool) (xs ys : List (List ℕ)) (n j : ℕ) → AllZip R (filter p (take n xs)) ys → j < n → j < length xs → p (get_or xs j []) ≡ true → (y : List ℕ) × R (get_or xs j []) y
+partner : (R : List ℕ → List ℕ → Type 0) (p : List ℕ → Bool) (xs ys : List (List ℕ)) (n j : ℕ)
+    → AllZip R (filter p (take n xs)) ys → j < n → j < length xs → p (get_or xs j []) ≡ true → (y : List ℕ)
+    × R (get_or xs j []) y
 partner R p xs ys zero j zip below lt passes = absurd (omega arith)
 partner R p [] ys (suc n) j zip below lt passes = absurd (omega arith)
 partner R p (x ∷ xs) ys (suc n) zero zip below lt passes = first ys (rw passes at zip)
@@ -80,11 +90,14 @@ partner R p (x ∷ xs) ys (suc n) zero zip below lt passes = first ys (rw passes
 partner R p (x ∷ xs) ys (suc n) (suc j) zip below lt passes =
     by (λ zs z. partner R p xs zs n j z (omega arith) (omega arith) passes) (p x) ys zip
   where
-    by : ((zs : List (List ℕ)) → AllZip R (filter p (take n xs)) zs → (y : List ℕ) × R (get_or xs j []) y) → (b : Bool) (zs : List (List ℕ)) → AllZip R (cond b (x ∷ filter p (take n xs)) (filter p (take n xs))) zs → (y : List ℕ) × R (get_or xs j []) y
+    by : ((zs : List (List ℕ)) → AllZip R (filter p (take n xs)) zs → (y : List ℕ) × R (get_or xs j []) y)
+        → (b : Bool) (zs : List (List ℕ)) → AllZip R (cond b (x ∷ filter p (take n xs)) (filter p (take n xs))) zs
+        → (y : List ℕ) × R (get_or xs j []) y
     by rest b zs z = grind arith
 
 -- the record of an entry that passes is read
-pub read_at : (p : List ℕ → Bool) (entries : List (List ℕ)) (k : ℕ) (x : List ℕ) (n : ℕ) → k < length entries → x ≡ get_or entries k [] → p x ≡ true → IsReadOf x n → IsReadAmong p entries n
+pub read_at : (p : List ℕ → Bool) (entries : List (List ℕ)) (k : ℕ) (x : List ℕ) (n : ℕ) → k < length entries → x
+    ≡ get_or entries k [] → p x ≡ true → IsReadOf x n → IsReadAmong p entries n
 read_at p entries k x n lt is passes h = record {
   number = k;
   within = lt;
@@ -94,7 +107,8 @@ read_at p entries k x n lt is passes h = record {
 }
 
 -- one that has a tag besides is under the prefix
-pub read_tagged : (tag : ℕ) (prefix : List ℕ) (entries : List (List ℕ)) (n : ℕ) → IsReadAmong (is_tagged tag prefix) entries n → IsReadAmong (is_under prefix) entries n
+pub read_tagged : (tag : ℕ) (prefix : List ℕ) (entries : List (List ℕ)) (n : ℕ)
+    → IsReadAmong (is_tagged tag prefix) entries n → IsReadAmong (is_under prefix) entries n
 read_tagged tag prefix entries n h = record {
   number = h.number;
   within = h.within;
@@ -104,7 +118,9 @@ read_tagged tag prefix entries n h = record {
 }
 
 -- where no record is that an entry names, and each before it that passes names one
-pub stale_at : (whole now : Option (List ℕ)) (p : List ℕ → Bool) (entries : List (List ℕ)) (i : ℕ) (x : List ℕ) (old new : List (List ℕ)) (fault : PlaceFault) → i < length entries → x ≡ get_or entries i [] → p x ≡ true → now ≡ whole
+pub stale_at : (whole now : Option (List ℕ)) (p : List ℕ → Bool) (entries : List (List ℕ)) (i : ℕ) (x : List ℕ)
+    (old new : List (List ℕ)) (fault : PlaceFault) → i < length entries → x ≡ get_or entries i [] → p x ≡ true → now
+    ≡ whole
     → AreGathered whole p entries i old new → IfSome now (λ text. IsUnnamed i x text fault) → IfSome whole (λ text. IsStaleAmong p entries text fault)
 stale_at whole now p entries i x old new fault lt is passes keeps before none =
     along_both (Named whole p entries i before.records) (λ text. IsUnnamed i x text fault) (λ text. IsStaleAmong p entries text fault) whole (by fault)
@@ -128,16 +144,23 @@ join R (x ∷ xs) ys us vs a b = grind (arith, join R xs ys)
 
 module _ (whole : Option (List ℕ)) (prefix : List ℕ) (entries : List (List ℕ)) (are : AreIndexed entries) (n : ℕ) (all : length entries ≤ n) where
   -- together those under it
-  pub gathered_both : (now : Option (List ℕ)) (old mid new : List (List ℕ)) → now ≡ whole → AreGathered whole (is_tagged 1 prefix) entries n old mid → AreGathered now (is_tagged 2 prefix) entries n mid new → AreGathered whole (is_under prefix) entries n old new
+  pub gathered_both : (now : Option (List ℕ)) (old mid new : List (List ℕ)) → now ≡ whole
+      → AreGathered whole (is_tagged 1 prefix) entries n old mid
+      → AreGathered now (is_tagged 2 prefix) entries n mid new → AreGathered whole (is_under prefix) entries n old new
   gathered_both now old mid new keeps first behind =
       let second = subst (λ (w : Option (List ℕ)). AreGathered w (is_tagged 2 prefix) entries n mid new) keeps behind in
       let both : filter (is_tagged 1 prefix) (take n entries) ++ filter (is_tagged 2 prefix) (take n entries) ≡ filter (is_under prefix) (take n entries) =
-      subst (λ (xs : List (List ℕ)). filter (is_tagged 1 prefix) xs ++ filter (is_tagged 2 prefix) xs ≡ filter (is_under prefix) xs) (sym (take_all n entries all)) (two_runs prefix entries are.ascending are.are) in
+      subst (λ (xs : List (List ℕ)). filter (is_tagged 1 prefix) xs ++ filter (is_tagged 2 prefix) xs
+      ≡ filter (is_under prefix) xs) (sym (take_all n entries all)) (two_runs prefix entries are.ascending are.are)
+      in
       record {
         records = first.records ++ second.records;
-        named = along_both (Named whole (is_tagged 1 prefix) entries n first.records) (Named whole (is_tagged 2 prefix) entries n second.records) (Named whole (is_under prefix) entries n (first.records ++ second.records)) whole
+        named = along_both (Named whole (is_tagged 1 prefix) entries n first.records)
+            (Named whole (is_tagged 2 prefix) entries n second.records)
+            (Named whole (is_under prefix) entries n (first.records ++ second.records)) whole
             (λ text a b. subst (λ (xs : List (List ℕ)). AllZip (IsNamedBy text) xs (first.records ++ second.records)) both
-            (join (IsNamedBy text) (filter (is_tagged 1 prefix) (take n entries)) (filter (is_tagged 2 prefix) (take n entries)) first.records second.records a b))
+            (join (IsNamedBy text) (filter (is_tagged 1 prefix) (take n entries))
+            (filter (is_tagged 2 prefix) (take n entries)) first.records second.records a b))
             first.named second.named;
         behind = second.behind ∙ ap (λ (l : List (List ℕ)). l ++ second.records) first.behind ∙ append_assoc old first.records second.records;
       }
@@ -146,7 +169,8 @@ module _ (whole : Option (List ℕ)) (prefix : List ℕ) (entries : List (List �
   entry_at k lt = All-from_recursion IsPlacedEntry entries are.are k [] lt
 
   -- the first that names no record, among the retirements
-  pub stale_first : (fault : PlaceFault) → IfSome whole (λ text. IsStaleAmong (is_tagged 1 prefix) entries text fault) → IfSome whole (λ text. IsStaleAmong (is_under prefix) entries text fault)
+  pub stale_first : (fault : PlaceFault) → IfSome whole (λ text. IsStaleAmong (is_tagged 1 prefix) entries text fault)
+      → IfSome whole (λ text. IsStaleAmong (is_under prefix) entries text fault)
   stale_first fault h = IfSome_then whole h (by fault)
     where
       by : (f : PlaceFault) (text : List ℕ) → IsStaleAmong (is_tagged 1 prefix) entries text f → IsStaleAmong (is_under prefix) entries text f
@@ -155,26 +179,32 @@ module _ (whole : Option (List ℕ)) (prefix : List ℕ) (entries : List (List �
         t.0,
         and_right _ _ t.1,
         t.2,
-        λ j below under. one_of_two prefix _ (get_or entries j []) (entry_at j (omega (arith, t.0, below))) under (t.3 j below) (λ two. absurd (not_second prefix entries j k are below t.0 two t.1)),
+        λ j below under. one_of_two prefix _ (get_or entries j []) (entry_at j (omega (arith, t.0, below))) under
+            (t.3 j below) (λ two. absurd (not_second prefix entries j k are below t.0 two t.1)),
       )
       by (Device offset) text t = tt
       by OutOfMemory text t = tt
 
   -- and among the admissions, where each retirement names one
-  pub stale_second : (now : Option (List ℕ)) (old mid : List (List ℕ)) (fault : PlaceFault) → now ≡ whole → AreGathered whole (is_tagged 1 prefix) entries n old mid
+  pub stale_second : (now : Option (List ℕ)) (old mid : List (List ℕ)) (fault : PlaceFault) → now ≡ whole
+      → AreGathered whole (is_tagged 1 prefix) entries n old mid
       → IfSome now (λ text. IsStaleAmong (is_tagged 2 prefix) entries text fault) → IfSome whole (λ text. IsStaleAmong (is_under prefix) entries text fault)
   stale_second now old mid fault keeps first h =
-      along_both (Named whole (is_tagged 1 prefix) entries n first.records) (λ text. IsStaleAmong (is_tagged 2 prefix) entries text fault) (λ text. IsStaleAmong (is_under prefix) entries text fault) whole (by fault)
+      along_both (Named whole (is_tagged 1 prefix) entries n first.records)
+      (λ text. IsStaleAmong (is_tagged 2 prefix) entries text fault)
+      (λ text. IsStaleAmong (is_under prefix) entries text fault) whole (by fault)
       first.named (subst (λ (w : Option (List ℕ)). IfSome w (λ text. IsStaleAmong (is_tagged 2 prefix) entries text fault)) keeps h)
     where
-      by : (f : PlaceFault) (text : List ℕ) → Named whole (is_tagged 1 prefix) entries n first.records text → IsStaleAmong (is_tagged 2 prefix) entries text f → IsStaleAmong (is_under prefix) entries text f
+      by : (f : PlaceFault) (text : List ℕ) → Named whole (is_tagged 1 prefix) entries n first.records text
+          → IsStaleAmong (is_tagged 2 prefix) entries text f → IsStaleAmong (is_under prefix) entries text f
       by (Stale None) text zip t = t
       by (Stale (Some k)) text zip t = (
         t.0,
         and_right _ _ t.1,
         t.2,
         λ j below under. one_of_two prefix _ (get_or entries j []) (entry_at j (omega (arith, t.0, below))) under
-            (λ one. partner (IsNamedBy text) (is_tagged 1 prefix) entries first.records n j zip (omega (arith, t.0, below, all)) (omega (arith, t.0, below)) one)
+            (λ one. partner (IsNamedBy text) (is_tagged 1 prefix) entries first.records n j zip
+            (omega (arith, t.0, below, all)) (omega (arith, t.0, below)) one)
             (t.3 j below),
       )
       by (Device offset) text zip t = tt
@@ -182,14 +212,19 @@ module _ (whole : Option (List ℕ)) (prefix : List ℕ) (entries : List (List �
 
   -- ---- under a prefix of an index
 
-  pub under_front : (s : Entries) (old new : List (List ℕ)) → entries ≡ listing s → AreGathered whole (is_under prefix) entries n old new → AreGatheredUnder whole prefix s old new
+  pub under_front : (s : Entries) (old new : List (List ℕ)) → entries ≡ listing s
+      → AreGathered whole (is_under prefix) entries n old new → AreGatheredUnder whole prefix s old new
   under_front s old new is h = record {
     records = h.records;
-    named = IfSome_then whole h.named (λ text zip. subst (λ (xs : List (List ℕ)). AllZip (IsNamedBy text) (filter (is_under prefix) xs) h.records) (take_all n entries all ∙ is) zip);
+    named = IfSome_then whole h.named (λ text zip. subst
+        (λ (xs : List (List ℕ)). AllZip (IsNamedBy text) (filter (is_under prefix) xs) h.records)
+        (take_all n entries all ∙ is) zip);
     behind = h.behind;
   }
 
-  pub fault_under : (s : Entries) (fault : PlaceFault) → entries ≡ listing s → IfSome whole (λ text. IsStaleAmong (is_under prefix) entries text fault) → IfSome whole (λ text. IsEntryFault prefix s text fault)
+  pub fault_under : (s : Entries) (fault : PlaceFault) → entries ≡ listing s
+      → IfSome whole (λ text. IsStaleAmong (is_under prefix) entries text fault)
+      → IfSome whole (λ text. IsEntryFault prefix s text fault)
   fault_under s fault is h =
       IfSome_then whole (subst (λ (xs : List (List ℕ)). IfSome whole (λ text. IsStaleAmong (is_under prefix) xs text fault)) is h) (by fault)
     where
@@ -201,19 +236,25 @@ module _ (whole : Option (List ℕ)) (prefix : List ℕ) (entries : List (List �
 
 -- ---- after what was read before
 
-module _ {P : Type 0} (whole : P → Option (List ℕ)) (failures : P → ℕ) (old mid new : P) (keeps : whole mid ≡ whole old) (same : failures mid ≡ failures old) where
+module _ {P : Type 0} (whole : P → Option (List ℕ)) (failures : P → ℕ) (old mid new : P) (keeps : whole mid ≡ whole old)
+    (same : failures mid ≡ failures old) where
   -- what a fault says of the device
-  pub blamed_behind : (M N : ℕ → Type 0) (fault : PlaceFault) → ((n : ℕ) → M n → N n) → BlamesPlaced M failures mid new fault → BlamesPlaced N failures old new fault
+  pub blamed_behind : (M N : ℕ → Type 0) (fault : PlaceFault) → ((n : ℕ) → M n → N n)
+      → BlamesPlaced M failures mid new fault → BlamesPlaced N failures old new fault
   blamed_behind M N (Stale entry) read h = h ∙ same
   blamed_behind M N (Device offset) read h = (subst (λ (n : ℕ). FailedIn n (failures new)) same h.0, read offset h.1)
   blamed_behind M N OutOfMemory read h = h ∙ same
 
   -- a fault
-  pub refused_behind : {A B : Type 0} (M N : ℕ → Type 0) (fault : PlaceFault) → (A → B) → ((n : ℕ) → M n → N n) → A × (whole new ≡ whole mid) × BlamesPlaced M failures mid new fault → B × (whole new ≡ whole old) × BlamesPlaced N failures old new fault
+  pub refused_behind : {A B : Type 0} (M N : ℕ → Type 0) (fault : PlaceFault) → (A → B) → ((n : ℕ) → M n → N n) → A
+      × (whole new ≡ whole mid) × BlamesPlaced M failures mid new fault → B × (whole new ≡ whole old)
+      × BlamesPlaced N failures old new fault
   refused_behind M N fault told read h = (told h.0, h.1 ∙ keeps, blamed_behind M N fault read h.2)
 
   -- a value or a fault
-  pub reads_behind : {T : Type 0} {A B : T → Type 0} (R S : List ℕ → PlaceFault → Type 0) (M N : ℕ → Type 0) (r : Result T PlaceFault) → ((v : T) → A v → B v) → ((f : PlaceFault) → IfSome (whole mid) (λ text. R text f) → IfSome (whole old) (λ text. S text f))
+  pub reads_behind : {T : Type 0} {A B : T → Type 0} (R S : List ℕ → PlaceFault → Type 0) (M N : ℕ → Type 0)
+      (r : Result T PlaceFault) → ((v : T) → A v → B v)
+      → ((f : PlaceFault) → IfSome (whole mid) (λ text. R text f) → IfSome (whole old) (λ text. S text f))
       → ((n : ℕ) → M n → N n) → ReadsPlaces whole failures mid new r A R M → ReadsPlaces whole failures old new r B S N
   reads_behind R S M N (Ok v) made told read h = (made v h.0, h.1 ∙ keeps, h.2 ∙ same)
   reads_behind R S M N (Err fault) made told read h = refused_behind M N fault (told fault) read h
@@ -221,6 +262,7 @@ module _ {P : Type 0} (whole : P → Option (List ℕ)) (failures : P → ℕ) (
 -- ---- what was taken together
 
 -- all were taken
-pub all_taken : (old now : Operations) (all left : List Operation) → IsUnderWay old now all left → length left ≡ 0 → now ≡ with_records old (map record_bytes all)
+pub all_taken : (old now : Operations) (all left : List Operation) → IsUnderWay old now all left → length left ≡ 0 → now
+    ≡ with_records old (map record_bytes all)
 all_taken old now all [] way none = way.content
 all_taken old now all (x ∷ left) way none = absurd (omega (arith, none))

@@ -1,5 +1,7 @@
 -- The ends and the entries of the text of an index.
-use Rattle.std.proofs.Common.{◌≡◌, ℕ, ◌+◌, ◌-◌, ◌*◌, ◌<◌, ◌≤◌, ◌^◌, suc, Bool, true, false, not, cond, eqb, ltb, List, ◌∷◌, ◌++◌, length, min, take, drop, get_or, refl, sym, ap, ◌∙◌, arith, length-append, length-take, length-drop, append_assoc}
+use Rattle.std.proofs.Common.{◌≡◌, ℕ, ◌+◌, ◌-◌, ◌*◌, ◌<◌, ◌≤◌, ◌^◌, suc, Bool, true, false, not, cond, eqb, ltb, List}
+use Rattle.std.proofs.Common.{◌∷◌, ◌++◌, length, min, take, drop, get_or, refl, sym, ap, ◌∙◌, arith, length-append}
+use Rattle.std.proofs.Common.{length-take, length-drop, append_assoc}
 use Rattle.std.specs.Prelude.{Ok}
 use Rattle.std.specs.Int.{w64, to_be_bytes, from_be_bytes}
 use Rattle.std.specs.List.{concat}
@@ -34,7 +36,8 @@ module _ (tables : List ℕ) (entries : List (List ℕ)) (few : length entries <
   text = index_text tables entries
 
   parts : text ≡ beginning ++ end_of entries
-  parts = ap (λ (t : List ℕ). index_magic ++ t) (sym (append_assoc tables (concat entries) (end_of entries))) ∙ sym (append_assoc index_magic (tables ++ concat entries) (end_of entries))
+  parts = ap (λ (t : List ℕ). index_magic ++ t) (sym (append_assoc tables (concat entries) (end_of entries)))
+      ∙ sym (append_assoc index_magic (tables ++ concat entries) (end_of entries))
 
   front_long : length beginning ≡ 8 + length tables + length (concat entries)
   front_long = omega (arith, length-append index_magic (tables ++ concat entries), length-append tables (concat entries))
@@ -64,10 +67,12 @@ module _ (tables : List ℕ) (entries : List (List ℕ)) (few : length entries <
 
   pub entries_are : entries_in text ≡ concat entries
   entries_are =
-      let whole : text ≡ (index_magic ++ tables) ++ (concat entries ++ end_of entries) = sym (append_assoc index_magic tables (concat entries ++ end_of entries)) in
+      let whole : text ≡ (index_magic ++ tables) ++ (concat entries ++ end_of entries) =
+      sym (append_assoc index_magic tables (concat entries ++ end_of entries)) in
       let many : 122 * count_in text ≡ 122 * length entries = ap (λ (n : ℕ). 122 * n) count_is in
       (λ i. take (many i) (drop (start_is i) (whole i)))
-      ∙ ap (take (122 * length entries)) (drop_at (index_magic ++ tables) (concat entries ++ end_of entries) (8 + length tables) (length-append index_magic tables))
+      ∙ ap (take (122 * length entries)) (drop_at (index_magic ++ tables) (concat entries ++ end_of entries)
+      (8 + length tables) (length-append index_magic tables))
       ∙ take_at (concat entries) (end_of entries) (122 * length entries) each
 
   tag_is : get_or text (length text - 41) 0 ≡ 3
@@ -80,10 +85,15 @@ module _ (tables : List ℕ) (entries : List (List ℕ)) (few : length entries <
   unfolding check_beginning check_end
   has_ends =
       let least : min (length text) 8 ≡ 8 = omega (arith, text_long) in
-      let begins : take 8 text ≡ take (min (length text) 8) index_magic = take-append_seam index_magic (tables ++ (concat entries ++ end_of entries)) ∙ ap (λ (n : ℕ). take n index_magic) (sym least) in
+      let begins : take 8 text ≡ take (min (length text) 8) index_magic =
+      take-append_seam index_magic (tables ++ (concat entries ++ end_of entries))
+      ∙ ap (λ (n : ℕ). take n index_magic) (sym least) in
       let room : 49 + 122 * count_in text ≤ length text = omega (arith, text_long, count_is) in
       record {
-        beginning = rw ((bytes_eq-Decides (take 8 text) (take (min (length text) 8) index_magic)).1 begins, le-ltb (length text) 49 (omega (arith, text_long))) refl;
+        beginning = rw (
+          (bytes_eq-Decides (take 8 text) (take (min (length text) 8) index_magic)).1 begins,
+          le-ltb (length text) 49 (omega (arith, text_long)),
+        ) refl;
         end = rw (tag_is, le-ltb (length text) (49 + 122 * count_in text) room) refl;
       }
 
@@ -128,7 +138,8 @@ module _ (text : List ℕ) (ends : Ends) (are : AreEndsOf text ends) where
       ∙ (λ i. number i ++ drop-drop 8 (length text - 40) text i)
       ∙ (λ i. to_be_bytes w64 n ++ drop (last i) text) ∙ ap (λ (t : List ℕ). to_be_bytes w64 n ++ t) (sym same))
 
-  pub whole_text : (entries : List (List ℕ)) → concat entries ≡ entries_in text → length entries ≡ count_in text → sha256 (entries_in text) ≡ digest_in text → text ≡ index_text (take (start_in text - 8) (drop 8 text)) entries
+  pub whole_text : (entries : List (List ℕ)) → concat entries ≡ entries_in text → length entries ≡ count_in text
+      → sha256 (entries_in text) ≡ digest_in text → text ≡ index_text (take (start_in text - 8) (drop 8 text)) entries
   unfolding end_of
   whole_text entries whole count same =
       let start : ℕ = start_in text in
@@ -158,6 +169,7 @@ pub last_is : (text : List ℕ) (entries : List (List ℕ)) → IsIndexText text
 last_is text entries is =
     let beginning : List ℕ = index_magic ++ (is.tables ++ concat entries) in
     let whole : text ≡ beginning ++ end_of entries =
-    is.whole ∙ ap (λ (t : List ℕ). index_magic ++ t) (sym (append_assoc is.tables (concat entries) (end_of entries))) ∙ sym (append_assoc index_magic (is.tables ++ concat entries) (end_of entries)) in
+    is.whole ∙ ap (λ (t : List ℕ). index_magic ++ t) (sym (append_assoc is.tables (concat entries) (end_of entries)))
+    ∙ sym (append_assoc index_magic (is.tables ++ concat entries) (end_of entries)) in
     let at : length text - 41 ≡ length beginning = omega (arith, ap length whole, length-append beginning (end_of entries), end_long entries) in
     (λ i. drop (at i) (whole i)) ∙ drop-append_seam beginning (end_of entries)

@@ -40,5 +40,9 @@ module _ {E : Type 0} (bytes_of : E → List ℕ) where
         let bytes = map bytes_of moved in
         ap (λ (xs : List E). set.from_list (map bytes_of xs)) once
         ∙ ap set.from_list (map_dedup bytes_of (eq_by_cmp order) moved)
-        ∙ from_list_same nat_list_cmp_total bytes_same (dedup (eq_by_cmp order) bytes) bytes (λ q. (Contains-from_dedup (eq_by_cmp order) bytes q, Contains-dedup (eq_by_cmp_equiv nat_list_cmp_total) tied_is bytes q))
+        ∙ from_list_same nat_list_cmp_total bytes_same (dedup (eq_by_cmp order) bytes) bytes
+        (λ q. (
+          Contains-from_dedup (eq_by_cmp order) bytes q,
+          Contains-dedup (eq_by_cmp_equiv nat_list_cmp_total) tied_is bytes q,
+        ))
         ∙ from_list_permuted nat_list_cmp_total bytes_same (map bytes_of gathered) bytes (IsPermutation-map bytes_of gathered moved permuted)

@@ -27,14 +27,16 @@ use Rattle.index_format.specs.Making.{RefusesToIndex}
 pub magic_is : (m : List ℕ) (came : ℕ) → length m ≡ 8 → came ≤ 8 → take came m ≡ magic → m ≡ magic
 magic_is m came long within is = sym (take_all came m (omega (arith, long, ap length is, length-take came m))) ∙ is
 
-format_is : (file : Format) (m : List ℕ) (b : Option (List ℕ)) → kind_of file ≡ Archive_text → m ≡ magic → Consumes (Some m) b (magic_of file ++ concat []) → file ≡ Archive
+format_is : (file : Format) (m : List ℕ) (b : Option (List ℕ)) → kind_of file ≡ Archive_text → m ≡ magic
+    → Consumes (Some m) b (magic_of file ++ concat []) → file ≡ Archive
 format_is file m None is same taken = absurd taken
 format_is file m (Some ys) is same taken =
     let whole : m ≡ magic_of file ++ ys = taken ∙ ap (λ (t : List ℕ). t ++ ys) (append-nil (magic_of file)) in
     sym (format_magic file is m ys whole) ∙ ap archive_format same ∙ format_magic Archive refl magic [] refl
 
 -- a reader that read the magic from memory stands after the magic of the archive that it was taken from
-pub begun : (file : Format) (s a b c : Option (List ℕ)) (m : List ℕ) (reader : Position) → kind_of file ≡ Archive_text → s ≡ Some m → m ≡ magic → HasRead file s b [] reader → Consumes a c magic → HasRead Archive a c [] reader
+pub begun : (file : Format) (s a b c : Option (List ℕ)) (m : List ℕ) (reader : Position) → kind_of file ≡ Archive_text
+    → s ≡ Some m → m ≡ magic → HasRead file s b [] reader → Consumes a c magic → HasRead Archive a c [] reader
 begun file s a b c m reader is left same read taken =
     let known : HasRead file (Some m) b [] reader = subst (λ (x : Option (List ℕ)). HasRead file x b [] reader) left read in
     let there : HasRead Archive (Some m) b [] reader = subst (λ (f : Format). HasRead f (Some m) b [] reader) (format_is file m b is same known.taken) known in
@@ -81,7 +83,8 @@ text_along (Some t) x y e h = h ∙ e
 
 module _ {R : Type 0} (left : R → Option (List ℕ)) (failures : R → ℕ) (old new : R) where
   -- why there is no index
-  pub refused : (fault : IndexingFault) → HasStoppedIndexing (left old) (left new) fault → BlamesIndexing left failures old new fault → RefusesToIndex left failures old new fault
+  pub refused : (fault : IndexingFault) → HasStoppedIndexing (left old) (left new) fault
+      → BlamesIndexing left failures old new fault → RefusesToIndex left failures old new fault
   refused (Archive_fault fault) stopped blames = record_refused Archive_text left failures old new fault stopped blames
   refused OldArchive stopped blames = (stopped, blames)
   refused TooLong stopped blames = (stopped, blames)

@@ -1,5 +1,7 @@
 -- Records that the entries of a content's index name.
-use Rattle.std.proofs.Common.{◌≡◌, ℕ, zero, suc, ◌+◌, ◌<◌, ◌≤◌, ◌^◌, true, ◌&&◌, List, [], ◌∷◌, ◌++◌, length, take, drop, get_or, refl, sym, ap, ◌∙◌, subst, inl, inr, arith, length-append, length-drop, append_assoc}
+use Rattle.std.proofs.Common.{◌≡◌, ℕ, zero, suc, ◌+◌, ◌<◌, ◌≤◌, ◌^◌, true, ◌&&◌, List, [], ◌∷◌, ◌++◌, length, take}
+use Rattle.std.proofs.Common.{drop, get_or, refl, sym, ap, ◌∙◌, subst, inl, inr, arith, length-append, length-drop}
+use Rattle.std.proofs.Common.{append_assoc}
 use Rattle.std.specs.List.{AllZip, Contains, concat}
 use Rattle.std.specs.Str.{bytes_eq}
 use Rattle.std.specs.Cmp.{both_ways}
@@ -50,7 +52,9 @@ module _ (text rest : List ℕ) where
 
   -- where a record stands, and its entry
   placed_at : (k : ℕ) (front : List ℕ) (rs : List (List ℕ)) (j : ℕ) → k ≡ length front → text ≡ front ++ (concat rs ++ rest) → j < length rs
-      → (offset : ℕ) × (get_or (placed_entries k rs) j [] ≡ placed_entry offset (get_or rs j [])) × (take (length (get_or rs j [])) (drop offset text) ≡ get_or rs j []) × (offset + length (get_or rs j []) ≤ length text)
+      → (offset : ℕ) × (get_or (placed_entries k rs) j [] ≡ placed_entry offset (get_or rs j []))
+      × (take (length (get_or rs j [])) (drop offset text) ≡ get_or rs j [])
+      × (offset + length (get_or rs j []) ≤ length text)
   placed_at k front [] j at whole lt = absurd (omega arith)
   placed_at k front (r ∷ rs) zero at whole lt = (
     k,
@@ -58,7 +62,8 @@ module _ (text rest : List ℕ) where
     ap (λ (n : ℕ). take (length r) (drop n text)) at ∙ stands_there front r (concat rs ++ rest) text (step_text front r rs whole),
     omega (arith, at, ap length (step_text front r rs whole), length-append front (r ++ (concat rs ++ rest)), length-append r (concat rs ++ rest)),
   )
-  placed_at k front (r ∷ rs) (suc j) at whole lt = placed_at (k + length r) (front ++ r) rs j (omega (arith, at, length-append front r)) (next_text front r rs whole) (omega arith)
+  placed_at k front (r ∷ rs) (suc j) at whole lt = placed_at (k + length r) (front ++ r) rs j
+      (omega (arith, at, length-append front r)) (next_text front r rs whole) (omega arith)
 
 length_placed : (k : ℕ) (rs : List (List ℕ)) → length (placed_entries k rs) ≡ length rs
 length_placed k [] = refl
@@ -94,21 +99,40 @@ entry_in o e h =
 
 -- the entry of a record of the content
 pub entry_for : (o : Operations) (r : List ℕ) → set.contains o r ≡ true
-    → (e : List ℕ) × (set.contains (index o) e ≡ true) × (offset : ℕ) × (e ≡ placed_entry offset r) × (take (length r) (drop offset (written o)) ≡ r) × (offset + length r ≤ length (written o))
+    → (e : List ℕ) × (set.contains (index o) e ≡ true) × (offset : ℕ) × (e ≡ placed_entry offset r)
+    × (take (length r) (drop offset (written o)) ≡ r) × (offset + length r ≤ length (written o))
 unfolding index
 entry_for o r h =
     let there = (in_listing nat_list_cmp_total bytes_same o r).1 h in
     let es = placed_entries 8 (listing o) in
     let p = placed_at (written o) (end_record (set.len o)) 8 magic (listing o) there.0 refl (written_is o) there.1 in
     let is : get_or (listing o) there.0 [] ≡ r = get_or_default (listing o) there.0 [] r there.1 ∙ there.2 in
-    let within : there.0 < length es = omega (arith, there.1, length_placed 8 (listing o)) in
-    (get_or es there.0 [], (in_made es (get_or es there.0 [])).0 (Contains-get_or es there.0 [] within), p.0, p.1 ∙ ap (placed_entry p.0) is, rw is at p.2, rw is at p.3)
+    let within : there.0 < length es = omega (arith, there.1, length_placed 8 (listing o)) in (
+      get_or es there.0 [],
+      (in_made es (get_or es there.0 [])).0 (Contains-get_or es there.0 [] within),
+      p.0,
+      p.1
+          ∙ ap (placed_entry p.0) is,
+      rw is at p.2,
+      rw is at p.3,
+    )
 
 -- each names a record that is there
-pub named_there : (o : Operations) (e : List ℕ) → IsContent o → length (written o) < 2 ^ 64 → set.contains (index o) e ≡ true → (r : List ℕ) × IsNamedBy (written o) e r
+pub named_there : (o : Operations) (e : List ℕ) → IsContent o → length (written o) < 2 ^ 64 → set.contains (index o) e
+    ≡ true → (r : List ℕ) × IsNamedBy (written o) e r
 named_there o e content fits h =
-    let p = entry_in o e h in
-    (p.r, record { is = content.records p.r p.member; offset = p.offset; fits = omega (arith, p.within, nonempty p.r (content.records p.r p.member)); entry_is = p.entry_is; stands = λ _. p.stands })
+    let p = entry_in o e h in (
+      p.r,
+      record {
+        is = content.records p.r p.member;
+        offset = p.offset;
+        fits =
+            omega (arith, p.within, nonempty p.r (content.records p.r p.member));
+        entry_is = p.entry_is;
+        stands =
+            λ _. p.stands;
+      },
+    )
 
 -- ---- the record that an entry names is its own
 
@@ -118,7 +142,8 @@ right_record o e r content fits p n = elim n.is [
   | inl a ↦
       let isp = content.records p.r p.member in
       let same : placed_entry n.offset r ≡ placed_entry p.offset p.r = sym n.entry_is ∙ p.entry_is in
-      let offsets : n.offset ≡ p.offset = sym (offset_is n.offset r n.is n.fits) ∙ ap offset_in same ∙ offset_is p.offset p.r isp (omega (arith, p.within, nonempty p.r isp)) in
+      let offsets : n.offset ≡ p.offset = sym (offset_is n.offset r n.is n.fits) ∙ ap offset_in same
+      ∙ offset_is p.offset p.r isp (omega (arith, p.within, nonempty p.r isp)) in
       let lengths : length r ≡ length p.r = sym (length_is n.offset r n.is) ∙ ap length_in same ∙ length_is p.offset p.r isp in
       sym (n.stands (ap is_admission a.is)) ∙ (λ i. take (lengths i) (drop (offsets i) (written o))) ∙ p.stands
   | inr b ↦
@@ -138,7 +163,11 @@ own_record o text e r content p n tells =
 -- ---- what is named together
 
 zip_left : (P : List ℕ → List ℕ → Type 0) (xs ys : List (List ℕ)) (e : List ℕ) → AllZip P xs ys → Contains xs e → (y : List ℕ) × Contains ys y × P e y
-zip_left P xs ys e z (k, lt, is) = (get_or ys k [], Contains-get_or ys k [] (omega (arith, length_all_zip P xs ys z)), subst (λ (x : List ℕ). P x (get_or ys k [])) is (AllZip-get_or P xs ys k e [] z lt))
+zip_left P xs ys e z (k, lt, is) = (
+  get_or ys k [],
+  Contains-get_or ys k [] (omega (arith, length_all_zip P xs ys z)),
+  subst (λ (x : List ℕ). P x (get_or ys k [])) is (AllZip-get_or P xs ys k e [] z lt),
+)
 
 zip_right : (P : List ℕ → List ℕ → Type 0) (xs ys : List (List ℕ)) (q : List ℕ) → AllZip P xs ys → Contains ys q → (x : List ℕ) × Contains xs x × P x q
 zip_right P xs ys q z (k, lt, is) =
@@ -153,7 +182,8 @@ in_under front s e h =
 
 key_prefix : (n : ℕ) (slice : List ℕ) → n ≤ 24 → IsValid slice → take n (drop 1 (admission_record slice)) ≡ take n (key_bytes (key_of slice))
 unfolding admission
-key_prefix n slice short valid = take-append-le n (key_bytes (key_of slice)) (to_be_bytes w64 (length slice) ++ slice) (omega (arith, length-key_of slice valid))
+key_prefix n slice short valid = take-append-le n (key_bytes (key_of slice)) (to_be_bytes w64 (length slice) ++ slice)
+    (omega (arith, length-key_of slice valid))
 
 entry_key : (n : ℕ) (r : List ℕ) → n ≤ 24 → IsRecord r → take n (drop 1 (entry r)) ≡ take n (drop 1 r)
 entry_key n r short (inl a) =
@@ -187,7 +217,9 @@ module _ (front : List ℕ) (o : Operations) (text : List ℕ) (records : List (
       let there = in_under front (index o) e found.1 in
       let p = entry_in o e there.0 in
       let is : q ≡ p.r = own e q h p found.2 in
-      let under : is_under front q ≡ true = ap (is_under front) is ∙ sym (under_same front p.offset p.r short (content.records p.r p.member)) ∙ ap (is_under front) (sym p.entry_is) ∙ there.1 in
+      let under : is_under front q ≡ true = ap (is_under front) is
+      ∙ sym (under_same front p.offset p.r short (content.records p.r p.member))
+      ∙ ap (is_under front) (sym p.entry_is) ∙ there.1 in
       contains_part o (is_under front) q ∙ (λ i. (ap (set.contains o) is ∙ p.member) i && under i)
 
   from_part : (q : List ℕ) → set.contains (part o (is_under front)) q ≡ true → Contains records q
@@ -209,10 +241,13 @@ module _ (front : List ℕ) (o : Operations) (text : List ℕ) (records : List (
   content_is = ap content_of records_are ∙ (part_content o (is_under front) content).itself
 
 -- with the index of the archive whose text this is
-pub right : (front : List ℕ) (o p : Operations) → length front ≤ 24 → IsContent o → length (written o) < 2 ^ 64 → AreNamed front (index o) (written o) p → p ≡ part o (is_under front)
-right front o p short content fits n = n.made ∙ content_is front o (written o) n.records short content n.named (λ e r _ q named. right_record o e r content fits q named)
+pub right : (front : List ℕ) (o p : Operations) → length front ≤ 24 → IsContent o → length (written o) < 2 ^ 64
+    → AreNamed front (index o) (written o) p → p ≡ part o (is_under front)
+right front o p short content fits n = n.made ∙ content_is front o (written o) n.records short content n.named
+    (λ e r _ q named. right_record o e r content fits q named)
 
 -- over any text, where digests tell
-pub of_the_index : (front text : List ℕ) (o p : Operations) → length front ≤ 24 → IsContent o → (n : AreNamed front (index o) text p) → TellsFound o n.records → p ≡ part o (is_under front)
+pub of_the_index : (front text : List ℕ) (o p : Operations) → length front ≤ 24 → IsContent o
+    → (n : AreNamed front (index o) text p) → TellsFound o n.records → p ≡ part o (is_under front)
 of_the_index front text o p short content n tells = n.made ∙ content_is front o text n.records short content n.named (λ e r there q named.
     own_record o text e r content q named (λ a b in_o rb same. tells a b in_o (subst (Contains n.records) rb there) same))

@@ -1,5 +1,7 @@
 -- The record that an entry names, and when none is there.
-use Rattle.std.proofs.Common.{◌≡◌, ◌≢◌, ℕ, ◌+◌, ◌-◌, ◌<◌, ◌^◌, true, false, cond, eqb, List, ◌∷◌, ◌++◌, length, take, drop, get_or, Option, Some, None, refl, sym, ap, ◌∙◌, subst, inl, inr, arith, length-drop, length-take, nat_le, ◌&&◌, eq-eqb}
+use Rattle.std.proofs.Common.{◌≡◌, ◌≢◌, ℕ, ◌+◌, ◌-◌, ◌<◌, ◌^◌, true, false, cond, eqb, List, ◌∷◌, ◌++◌, length, take}
+use Rattle.std.proofs.Common.{drop, get_or, Option, Some, None, refl, sym, ap, ◌∙◌, subst, inl, inr, arith, length-drop}
+use Rattle.std.proofs.Common.{length-take, nat_le, ◌&&◌, eq-eqb}
 use Rattle.std.specs.Prelude.{IfSome}
 use Rattle.archive_records.proofs.Forms.{parts-of}
 use Rattle.std.specs.Int.{w64, to_be_bytes, from_be_bytes}
@@ -37,7 +39,8 @@ pub record IsAdmissionAt (text : List ℕ) (e : IndexEntry) (r : List ℕ) : Typ
   pub entry_is : placed_bytes e ≡ placed_entry offset r
   pub stands : take (length r) (drop e.offset text) ≡ r
 
-pub admission_at : (text : List ℕ) (e : IndexEntry) (r : List ℕ) → IsPlacedEntry (placed_bytes e) → e.offset < 2 ^ 64 → e.length < 2 ^ 64 → e.row.state ≢ Retired → IsNamedBy text (placed_bytes e) r → IsAdmissionAt text e r
+pub admission_at : (text : List ℕ) (e : IndexEntry) (r : List ℕ) → IsPlacedEntry (placed_bytes e) → e.offset < 2 ^ 64
+    → e.length < 2 ^ 64 → e.row.state ≢ Retired → IsNamedBy text (placed_bytes e) r → IsAdmissionAt text e r
 admission_at text e r is offset_fits length_fits other n =
     let tag : get_or r 0 0 ≡ 2 = sym (tag_is n.offset r n.is) ∙ ap (λ (t : List ℕ). get_or t 0 0) (sym n.entry_is) ∙ first_byte e ∙ tag_two e.row.state other in
     let offsets : n.offset ≡ e.offset = sym (offset_is n.offset r n.is n.fits) ∙ ap offset_in (sym n.entry_is) ∙ offset_of_bytes e is.long offset_fits in
@@ -59,7 +62,8 @@ pub read_of : (e : IndexEntry) → IsPlacedEntry (placed_bytes e) → e.offset <
 read_of e is fits other = (ap (λ (n : ℕ). eqb n 2) (first_byte e ∙ tag_two e.row.state other), sym (offset_of_bytes e is.long fits))
 
 -- none where fewer bytes stand
-pub none_short : (whole : Option (List ℕ)) (number : ℕ) (e : IndexEntry) → IsPlacedEntry (placed_bytes e) → e.offset < 2 ^ 64 → e.length < 2 ^ 64 → e.row.state ≢ Retired → EndsBefore whole (e.offset + e.length)
+pub none_short : (whole : Option (List ℕ)) (number : ℕ) (e : IndexEntry) → IsPlacedEntry (placed_bytes e)
+    → e.offset < 2 ^ 64 → e.length < 2 ^ 64 → e.row.state ≢ Retired → EndsBefore whole (e.offset + e.length)
     → IfSome whole (λ text. IsUnnamed number (placed_bytes e) text (Stale (Some number)))
 none_short None number e is offset_fits length_fits other ends = tt
 none_short (Some text) number e is offset_fits length_fits other ends = (
@@ -70,7 +74,9 @@ none_short (Some text) number e is offset_fits length_fits other ends = (
 )
 
 -- none where other bytes stand
-pub none_other : (whole : Option (List ℕ)) (number : ℕ) (e : IndexEntry) (bytes : List ℕ) → IsPlacedEntry (placed_bytes e) → e.offset < 2 ^ 64 → e.length < 2 ^ 64 → e.row.state ≢ Retired → length bytes ≡ e.length → Stands whole e.offset bytes
+pub none_other : (whole : Option (List ℕ)) (number : ℕ) (e : IndexEntry) (bytes : List ℕ)
+    → IsPlacedEntry (placed_bytes e) → e.offset < 2 ^ 64 → e.length < 2 ^ 64 → e.row.state ≢ Retired → length bytes
+    ≡ e.length → Stands whole e.offset bytes
     → (Admits bytes → placed_bytes e ≡ placed_entry e.offset bytes → ⊥) → IfSome whole (λ text. IsUnnamed number (placed_bytes e) text (Stale (Some number)))
 none_other None number e bytes is offset_fits length_fits other long stands not = tt
 none_other (Some text) number e bytes is offset_fits length_fits other long stands not = (
@@ -85,10 +91,14 @@ none_other (Some text) number e bytes is offset_fits length_fits other long stan
 retired_length : (e : IndexEntry) → IsPlacedEntry (placed_bytes e) → e.length < 2 ^ 64 → e.row.state ≡ Retired → e.length ≡ 57
 retired_length e is fits retired =
     let tag : get_or (placed_bytes e) 0 0 ≡ 1 = first_byte e ∙ ap tag_byte retired in
-    let test : eqb (length_in (placed_bytes e)) 57 ≡ true = sym (ap (λ (n : ℕ). cond (eqb n 2) (nat_le 33 (length_in (placed_bytes e)) && nat_le (length_in (placed_bytes e)) (33 + largest_slice)) (eqb (length_in (placed_bytes e)) 57)) tag) ∙ is.length_is in
+    let test : eqb (length_in (placed_bytes e)) 57 ≡ true =
+    sym (ap (λ (n : ℕ). cond (eqb n 2) (nat_le 33 (length_in (placed_bytes e))
+    && nat_le (length_in (placed_bytes e)) (33 + largest_slice)) (eqb (length_in (placed_bytes e)) 57)) tag)
+    ∙ is.length_is in
     sym (length_of_bytes e is.long fits) ∙ eqb-true (length_in (placed_bytes e)) 57 test
 
-pub named_retirement : (whole : Option (List ℕ)) (e : IndexEntry) → IsPlacedEntry (placed_bytes e) → e.offset < 2 ^ 64 → e.length < 2 ^ 64 → e.row.state ≡ Retired → IsKey e.row.key → length e.row.digest.0 ≡ 32
+pub named_retirement : (whole : Option (List ℕ)) (e : IndexEntry) → IsPlacedEntry (placed_bytes e) → e.offset < 2 ^ 64
+    → e.length < 2 ^ 64 → e.row.state ≡ Retired → IsKey e.row.key → length e.row.digest.0 ≡ 32
     → IfSome whole (λ text. IsNamedBy text (placed_bytes e) (retirement_record e.row.key e.row.digest.0))
 unfolding placed_bytes placed_entry
 named_retirement None e is offset_fits length_fits retired is_key long = tt
@@ -100,7 +110,8 @@ named_retirement (Some text) e is offset_fits length_fits retired is_key long =
       offset = e.offset;
       fits = offset_fits;
       entry_is =
-          (λ i. (tag_byte (retired i) ∷ (key_bytes e.row.key ++ e.row.digest.0)) ++ (dsym_byte (retired i) ∷ (to_be_bytes w64 e.offset ++ to_be_bytes w64 (n i))))
+          (λ i. (tag_byte (retired i) ∷ (key_bytes e.row.key ++ e.row.digest.0))
+          ++ (dsym_byte (retired i) ∷ (to_be_bytes w64 e.offset ++ to_be_bytes w64 (n i))))
           ∙ ap (λ (t : List ℕ). t ++ (0 ∷ (to_be_bytes w64 e.offset ++ to_be_bytes w64 (length r)))) (sym (retirement_entry e.row.key e.row.digest.0));
       stands = λ h. cc;
     }

@@ -1,5 +1,6 @@
 -- Entries of one tag under a prefix stand together, and the retirements before the admissions.
-use Rattle.std.proofs.Common.{◌≡◌, ℕ, ◌+◌, ◌-◌, ◌<◌, ◌≤◌, Bool, true, false, cond, ◌&&◌, eqb, List, [], ◌∷◌, ◌++◌, length, map, take, drop, get_or, refl, sym, ap, ◌∙◌, arith, length-drop, length-take}
+use Rattle.std.proofs.Common.{◌≡◌, ℕ, ◌+◌, ◌-◌, ◌<◌, ◌≤◌, Bool, true, false, cond, ◌&&◌, eqb, List, [], ◌∷◌, ◌++◌}
+use Rattle.std.proofs.Common.{length, map, take, drop, get_or, refl, sym, ap, ◌∙◌, arith, length-drop, length-take}
 use mathlib.Core.Bool.{true≢false}
 use Rattle.std.specs.declared.cmp.Ordering.{Ordering}
 use Rattle.std.specs.declared.cmp.Ordering.TheVariants.{Less}
@@ -28,7 +29,10 @@ long_enough n [] few are = tt
 long_enough n (x ∷ xs) few are = (omega (arith, few, are.0.long), long_enough n xs few are.1)
 
 -- an entry of a run, among all
-pub in_run : (xs : List IndexEntry) (start stop i : ℕ) (e : IndexEntry) → i < length (take (stop - start) (drop start xs)) → e ≡ get_or (take (stop - start) (drop start xs)) i e → (start + i < stop) × (start + i < length xs) × (e ≡ get_or xs (start + i) e) × (placed_bytes e ≡ get_or (map placed_bytes xs) (start + i) [])
+pub in_run : (xs : List IndexEntry) (start stop i : ℕ) (e : IndexEntry)
+    → i < length (take (stop - start) (drop start xs)) → e ≡ get_or (take (stop - start) (drop start xs)) i e
+    → (start + i < stop) × (start + i < length xs) × (e ≡ get_or xs (start + i) e)
+    × (placed_bytes e ≡ get_or (map placed_bytes xs) (start + i) [])
 in_run xs start stop i e lt is =
     let long = length-take (stop - start) (drop start xs) in
     let all = length-drop start xs in
@@ -54,14 +58,17 @@ module _ (prefix : List ℕ) where
   none_behind x [] e up = refl
   none_behind x (y ∷ ys) e up = rw (ap (λ (b : Bool). b && is_under prefix y) (not_before x y e up.0)) (none_behind x ys e up.1)
 
-  first_one : (p q u : Bool) (x : List ℕ) (xs ys all : List (List ℕ)) → p ≡ true → q ≡ false → xs ++ ys ≡ all → cond (p && u) (x ∷ xs) xs ++ cond (q && u) (x ∷ ys) ys ≡ cond u (x ∷ all) all
+  first_one : (p q u : Bool) (x : List ℕ) (xs ys all : List (List ℕ)) → p ≡ true → q ≡ false → xs ++ ys ≡ all
+      → cond (p && u) (x ∷ xs) xs ++ cond (q && u) (x ∷ ys) ys ≡ cond u (x ∷ all) all
   first_one p q u x xs ys all e f h = grind arith
 
-  second_one : (p q u : Bool) (x : List ℕ) (xs ys all : List (List ℕ)) → p ≡ false → q ≡ true → xs ≡ [] → xs ++ ys ≡ all → cond (p && u) (x ∷ xs) xs ++ cond (q && u) (x ∷ ys) ys ≡ cond u (x ∷ all) all
+  second_one : (p q u : Bool) (x : List ℕ) (xs ys all : List (List ℕ)) → p ≡ false → q ≡ true → xs ≡ [] → xs ++ ys ≡ all
+      → cond (p && u) (x ∷ xs) xs ++ cond (q && u) (x ∷ ys) ys ≡ cond u (x ∷ all) all
   second_one p q u x xs ys all e f none h = grind arith
 
   -- so the entries under a prefix are the retirements there, and after them the admissions
-  pub two_runs : (xs : List (List ℕ)) → IsStrictlySortedBy order xs → AllByRecursion IsPlacedEntry xs → filter (is_tagged 1 prefix) xs ++ filter (is_tagged 2 prefix) xs ≡ filter (is_under prefix) xs
+  pub two_runs : (xs : List (List ℕ)) → IsStrictlySortedBy order xs → AllByRecursion IsPlacedEntry xs
+      → filter (is_tagged 1 prefix) xs ++ filter (is_tagged 2 prefix) xs ≡ filter (is_under prefix) xs
   unfolding IsStrictlySortedBy
   two_runs [] up are = refl
   two_runs (x ∷ xs) up are =
@@ -70,15 +77,18 @@ module _ (prefix : List ℕ) where
       either _ (eqb t 1) (eqb t 2)
       (λ one.
       let other : eqb t 2 ≡ false = ap (λ (n : ℕ). eqb n 2) (eqb-true t 1 one) in
-      first_one (eqb t 1) (eqb t 2) (is_under prefix x) x (filter (is_tagged 1 prefix) xs) (filter (is_tagged 2 prefix) xs) (filter (is_under prefix) xs) one other rest)
+      first_one (eqb t 1) (eqb t 2) (is_under prefix x) x (filter (is_tagged 1 prefix) xs)
+      (filter (is_tagged 2 prefix) xs) (filter (is_under prefix) xs) one other rest)
       (λ two.
       let is : t ≡ 2 = eqb-true t 2 two in
       let other : eqb t 1 ≡ false = ap (λ (n : ℕ). eqb n 1) is in
-      second_one (eqb t 1) (eqb t 2) (is_under prefix x) x (filter (is_tagged 1 prefix) xs) (filter (is_tagged 2 prefix) xs) (filter (is_under prefix) xs) other two (none_behind x xs is up.0) rest)
+      second_one (eqb t 1) (eqb t 2) (is_under prefix x) x (filter (is_tagged 1 prefix) xs)
+      (filter (is_tagged 2 prefix) xs) (filter (is_under prefix) xs) other two (none_behind x xs is up.0) rest)
       are.0.tag
 
   -- an entry under a prefix is a retirement or an admission there
-  pub one_of_two : (P : Type 0) (e : List ℕ) → IsPlacedEntry e → is_under prefix e ≡ true → (is_tagged 1 prefix e ≡ true → P) → (is_tagged 2 prefix e ≡ true → P) → P
+  pub one_of_two : (P : Type 0) (e : List ℕ) → IsPlacedEntry e → is_under prefix e ≡ true
+      → (is_tagged 1 prefix e ≡ true → P) → (is_tagged 2 prefix e ≡ true → P) → P
   one_of_two P e is under first second =
       either P (eqb (get_or e 0 0) 1) (eqb (get_or e 0 0) 2)
       (λ one. first (ap (λ (b : Bool). b && is_under prefix e) one ∙ under))
@@ -86,6 +96,9 @@ module _ (prefix : List ℕ) where
       is.tag
 
   -- no admission stands before a retirement
-  pub not_second : (xs : List (List ℕ)) (j k : ℕ) → AreIndexed xs → j < k → k < length xs → is_tagged 2 prefix (get_or xs j []) ≡ true → is_tagged 1 prefix (get_or xs k []) ≡ true → ⊥
+  pub not_second : (xs : List (List ℕ)) (j k : ℕ) → AreIndexed xs → j < k → k < length xs
+      → is_tagged 2 prefix (get_or xs j []) ≡ true → is_tagged 1 prefix (get_or xs k []) ≡ true → ⊥
   not_second xs j k are below there two one =
-      true≢false (sym (and_left _ _ one) ∙ not_before (get_or xs j []) (get_or xs k []) (eqb-true (get_or (get_or xs j []) 0 0) 2 (and_left _ _ two)) (Less-from_sorted order xs j k [] are.ascending below there))
+      true≢false (sym (and_left _ _ one) ∙ not_before (get_or xs j []) (get_or xs k [])
+      (eqb-true (get_or (get_or xs j []) 0 0) 2 (and_left _ _ two))
+      (Less-from_sorted order xs j k [] are.ascending below there))

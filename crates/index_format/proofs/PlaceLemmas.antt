@@ -1,5 +1,6 @@
 -- Entries whose records follow one another, in the order of their offsets.
-use Rattle.std.proofs.Common.{◌≡◌, ℕ, ◌+◌, ◌<◌, ◌≤◌, Bool, true, cond, ◌&&◌, ◌↔◌, eqb, suc, List, [], ◌∷◌, length, map, drop, get_or, refl, sym, ap, ◌∙◌, subst, inl, inr, arith, nat_le, Bor}
+use Rattle.std.proofs.Common.{◌≡◌, ℕ, ◌+◌, ◌<◌, ◌≤◌, Bool, true, cond, ◌&&◌, ◌↔◌, eqb, suc, List, [], ◌∷◌, length, map}
+use Rattle.std.proofs.Common.{drop, get_or, refl, sym, ap, ◌∙◌, subst, inl, inr, arith, nat_le, Bor}
 use Rattle.std.specs.Prelude.{All, Contains}
 use Rattle.std.specs.List.{sum_by}
 use Rattle.std.specs.List.Sorted.{IsNonDecreasingBy, IsPermutation}
@@ -61,7 +62,8 @@ first_least : (y z : List ℕ) (ys : List (List ℕ)) → IsNonDecreasingBy offs
 first_least y z ys up c = omega (arith, up 0 c.0 z (omega arith) c.1, ap offset_in c.2)
 
 -- entries that follow one another are the one list of them that is sorted by offsets
-pub one_order : (offset at end : ℕ) (xs ys : List (List ℕ)) → FollowOn offset at end xs → ((z : List ℕ) → Contains xs z → 0 < length_in z) → IsNonDecreasingBy offset_in ys → AreAlike xs ys → xs ≡ ys
+pub one_order : (offset at end : ℕ) (xs ys : List (List ℕ)) → FollowOn offset at end xs
+    → ((z : List ℕ) → Contains xs z → 0 < length_in z) → IsNonDecreasingBy offset_in ys → AreAlike xs ys → xs ≡ ys
 one_order offset at end [] [] follow some up alike = refl
 one_order offset at end [] (y ∷ ys) follow some up alike = absurd (omega (arith, alike (λ _. 1), sum_by-cons (λ _. 1) y ys))
 one_order offset at end (x ∷ xs) [] follow some up alike = absurd (omega (arith, alike (λ _. 1), sum_by-cons (λ _. 1) x xs))
@@ -72,9 +74,19 @@ one_order offset at end (x ∷ xs) (y ∷ ys) follow some up alike =
     elim (in_cons x xs y y_there) [
       | inl e ↦
           let tails : AreAlike xs ys = alike_tails x xs ys (subst (λ (t : List ℕ). AreAlike (x ∷ xs) (t ∷ ys)) (sym e) alike) in
-          cc (e, one_order (offset + length_in x) (at + stored_size (claim_in x)) end xs ys follow.2 (λ z c. some z (in_rest x xs z c)) (IsNonDecreasingBy-drop offset_in 1 (y ∷ ys) up) tails)
+          cc (
+            e,
+            one_order (offset + length_in x) (at + stored_size (claim_in x)) end xs ys follow.2
+                (λ z c. some z (in_rest x xs z c)) (IsNonDecreasingBy-drop offset_in 1 (y ∷ ys) up) tails,
+          )
       | inr there ↦
-          absurd (omega (arith, least, follow.0, some x (in_front x xs), follows (offset + length_in x) (at + stored_size (claim_in x)) end xs y follow.2 there))
+          absurd (omega (
+            arith,
+            least,
+            follow.0,
+            some x (in_front x xs),
+            follows (offset + length_in x) (at + stored_size (claim_in x)) end xs y follow.2 there,
+          ))
     ]
 
 -- ---- entries that pass their checks
@@ -90,10 +102,13 @@ each_some end low (x ∷ xs) z pass c = elim (in_cons x xs z c) [
 ]
 
 -- in the order of their offsets they follow one another, if they do in any
-pub follow_sorted : (end : ℕ) (entries sorted : List (List ℕ)) → PassChecks end [] entries → IsPermutation entries sorted → IsNonDecreasingBy offset_in sorted → AreLaid end entries → FollowOn 8 8 end sorted
+pub follow_sorted : (end : ℕ) (entries sorted : List (List ℕ)) → PassChecks end [] entries
+    → IsPermutation entries sorted → IsNonDecreasingBy offset_in sorted → AreLaid end entries → FollowOn 8 8 end sorted
 follow_sorted end entries sorted pass moved up laid =
     let alike : AreAlike laid.order sorted = λ f. sum_by-IsPermutation f entries laid.order laid.permuted ∙ sym (sum_by-IsPermutation f entries sorted moved) in
-    let some : (z : List ℕ) → Contains laid.order z → 0 < length_in z = λ z c. each_some end [] entries z pass (Contains-permutation laid.order entries z (IsPermutation-sym entries laid.order laid.permuted) c) in
+    let some : (z : List ℕ) → Contains laid.order z → 0 < length_in z =
+    λ z c. each_some end [] entries z pass (Contains-permutation laid.order entries z
+    (IsPermutation-sym entries laid.order laid.permuted) c) in
     subst (FollowOn 8 8 end) (one_order 8 8 end laid.order sorted laid.follow some up alike) laid.follow
 
 -- ---- one entry after another
@@ -106,7 +121,8 @@ rest_from xs i e lt is =
 moved : (o p a b end : ℕ) (xs : List (List ℕ)) → o ≡ p → a ≡ b → FollowOn o a end xs → FollowOn p b end xs
 moved o p a b end xs same alike h = subst (λ (n : ℕ). FollowOn n b end xs) same (subst (λ (n : ℕ). FollowOn o n end xs) alike h)
 
-module _ (offset at end i : ℕ) (xs : List (List ℕ)) (e : List ℕ) (P : Type 0) (lt : i < length xs) (is : e ≡ get_or xs i []) (left : FollowOn offset at end (drop i xs) ↔ P) where
+module _ (offset at end i : ℕ) (xs : List (List ℕ)) (e : List ℕ) (P : Type 0) (lt : i < length xs)
+    (is : e ≡ get_or xs i []) (left : FollowOn offset at end (drop i xs) ↔ P) where
   head_of : P → FollowOn offset at end (e ∷ drop (i + 1) xs)
   head_of p = subst (FollowOn offset at end) (rest_from xs i e lt is) (left.1 p)
 
@@ -115,10 +131,16 @@ module _ (offset at end i : ℕ) (xs : List (List ℕ)) (e : List ℕ) (P : Type
   not_here other p = other (head_of p).0 (head_of p).1
 
   -- this entry follows
-  pub one_more : (offset_more at_more : ℕ) → offset_in e ≡ offset → (is_admission e ≡ true → (claim_in e).offset ≡ at) → offset_more ≡ offset + length_in e → at_more ≡ at + stored_size (claim_in e)
+  pub one_more : (offset_more at_more : ℕ) → offset_in e ≡ offset → (is_admission e ≡ true → (claim_in e).offset ≡ at)
+      → offset_more ≡ offset + length_in e → at_more ≡ at + stored_size (claim_in e)
       → FollowOn offset_more at_more end (drop (i + 1) xs) ↔ P
   one_more offset_more at_more offset_is at_is o a = (
-    λ h. left.0 (subst (FollowOn offset at end) (sym (rest_from xs i e lt is)) (offset_is, at_is, moved offset_more (offset + length_in e) at_more (at + stored_size (claim_in e)) end (drop (i + 1) xs) o a h)),
+    λ h. left.0 (subst (FollowOn offset at end) (sym (rest_from xs i e lt is)) (
+      offset_is,
+      at_is,
+      moved offset_more (offset + length_in e) at_more (at + stored_size (claim_in e)) end
+          (drop (i + 1) xs) o a h,
+    )),
     λ p. moved (offset + length_in e) offset_more (at + stored_size (claim_in e)) at_more end (drop (i + 1) xs) (sym o) (sym a) (head_of p).2,
   )
 
@@ -131,7 +153,8 @@ all_followed offset at end i xs P all left =
 -- ---- entries and their fields
 
 -- the bytes of an entry among those of all
-pub bytes_at : (entries : List IndexEntry) (i : ℕ) (e : IndexEntry) → i < length entries → e ≡ get_or entries i e → entry_bytes e ≡ get_or (map entry_bytes entries) i []
+pub bytes_at : (entries : List IndexEntry) (i : ℕ) (e : IndexEntry) → i < length entries → e ≡ get_or entries i e
+    → entry_bytes e ≡ get_or (map entry_bytes entries) i []
 bytes_at entries i e lt is = ap entry_bytes is ∙ sym (get_or-map entry_bytes entries i e [] lt)
 
 pub fields_at : (entries : List IndexEntry) (i : ℕ) (e : IndexEntry) → All HasItsFields entries → i < length entries → e ≡ get_or entries i e → HasItsFields e
@@ -144,8 +167,12 @@ offsets_rise (x ∷ xs) fields up = λ i j d le lt.
     let all : List IndexEntry = x ∷ xs in
     let within : j < length all = omega (arith, lt, length-map all entry_bytes) in
     let before : i < length all = omega (arith, le, within) in
-    let a : offset_in (get_or (map entry_bytes all) i d) ≡ (get_or all i x).offset = ap offset_in (get_or-map entry_bytes all i x d before) ∙ (All-contains HasItsFields all (get_or all i x) fields (Contains-get_or all i x before)).offset_is in
-    let b : offset_in (get_or (map entry_bytes all) j d) ≡ (get_or all j x).offset = ap offset_in (get_or-map entry_bytes all j x d within) ∙ (All-contains HasItsFields all (get_or all j x) fields (Contains-get_or all j x within)).offset_is in
+    let a : offset_in (get_or (map entry_bytes all) i d) ≡ (get_or all i x).offset =
+    ap offset_in (get_or-map entry_bytes all i x d before)
+    ∙ (All-contains HasItsFields all (get_or all i x) fields (Contains-get_or all i x before)).offset_is in
+    let b : offset_in (get_or (map entry_bytes all) j d) ≡ (get_or all j x).offset =
+    ap offset_in (get_or-map entry_bytes all j x d within)
+    ∙ (All-contains HasItsFields all (get_or all j x) fields (Contains-get_or all j x within)).offset_is in
     omega (arith, a, b, up i j x le within)
 
 -- ---- entries that are borrowed
@@ -157,7 +184,8 @@ abbrev pub all_borrowed : List (Bor IndexEntry) → List IndexEntry
 all_borrowed xs = map of_borrowed xs
 
 -- the one at a place
-pub borrowed_at : (xs : List (Bor IndexEntry)) (i : ℕ) (e : Bor IndexEntry) → i < length xs → e ≡ get_or xs i e → of_borrowed e ≡ get_or (all_borrowed xs) i (of_borrowed e)
+pub borrowed_at : (xs : List (Bor IndexEntry)) (i : ℕ) (e : Bor IndexEntry) → i < length xs → e ≡ get_or xs i e
+    → of_borrowed e ≡ get_or (all_borrowed xs) i (of_borrowed e)
 borrowed_at xs i e lt is = ap of_borrowed is ∙ sym (get_or-map of_borrowed xs i e (of_borrowed e) lt)
 
 pub borrowed_within : (xs : List (Bor IndexEntry)) (i : ℕ) → i < length xs → i < length (all_borrowed xs)
@@ -170,6 +198,8 @@ borrowed_rise (x ∷ xs) up = λ i j d le lt.
     let all : List (Bor IndexEntry) = x ∷ xs in
     let within : j < length all = omega (arith, lt, length-map all of_borrowed) in
     let before : i < length all = omega (arith, le, within) in
-    let a : (get_or (all_borrowed all) i d).offset ≡ (get_or all i x).now.offset = ap (λ (e : IndexEntry). e.offset) (get_or-map of_borrowed all i x d before) in
-    let b : (get_or (all_borrowed all) j d).offset ≡ (get_or all j x).now.offset = ap (λ (e : IndexEntry). e.offset) (get_or-map of_borrowed all j x d within) in
+    let a : (get_or (all_borrowed all) i d).offset ≡ (get_or all i x).now.offset =
+    ap (λ (e : IndexEntry). e.offset) (get_or-map of_borrowed all i x d before) in
+    let b : (get_or (all_borrowed all) j d).offset ≡ (get_or all j x).now.offset =
+    ap (λ (e : IndexEntry). e.offset) (get_or-map of_borrowed all j x d within) in
     omega (arith, a, b, up i j x le within)

@@ -1,5 +1,6 @@
 -- The entries of records that stand one after another.
-use Rattle.std.proofs.Common.{◌≡◌, ℕ, ◌+◌, ◌<◌, ◌^◌, Bool, true, cond, ◌&&◌, ◌||◌, eqb, List, ◌∷◌, ◌++◌, length, take, drop, get_or, sym, ap, ◌∙◌, inl, inr, arith, length-append, nat_le}
+use Rattle.std.proofs.Common.{◌≡◌, ℕ, ◌+◌, ◌<◌, ◌^◌, Bool, true, cond, ◌&&◌, ◌||◌, eqb, List, ◌∷◌, ◌++◌, length, take}
+use Rattle.std.proofs.Common.{drop, get_or, sym, ap, ◌∙◌, inl, inr, arith, length-append, nat_le}
 use Rattle.std.specs.Int.{w64, to_be_bytes, from_be_bytes}
 use Rattle.std.proofs.Math.ListN.{get_or-append}
 use Rattle.std.proofs.Math.Seq.{take-append_seam, drop-append_seam, drop-append-add}
@@ -28,7 +29,8 @@ module _ (front : List ℕ) (kind offset len : ℕ) (long : length front ≡ 57)
   behind = ap (λ (n : ℕ). drop (n + 1) laid) (sym long) ∙ drop-append-add front (kind ∷ (to_be_bytes w64 offset ++ to_be_bytes w64 len)) 1
 
   pub offset_laid : offset < 2 ^ 64 → offset_in laid ≡ offset
-  offset_laid fits = ap (from_be_bytes w64) (ap (take 8) behind ∙ take-append_seam (to_be_bytes w64 offset) (to_be_bytes w64 len)) ∙ from_be_bytes-to_be_bytes_8 offset fits
+  offset_laid fits = ap (from_be_bytes w64) (ap (take 8) behind
+      ∙ take-append_seam (to_be_bytes w64 offset) (to_be_bytes w64 len)) ∙ from_be_bytes-to_be_bytes_8 offset fits
 
   pub length_laid : len < 2 ^ 64 → length_in laid ≡ len
   length_laid fits =
@@ -44,7 +46,13 @@ module _ (offset : ℕ) (r : List ℕ) (is : IsRecord r) where
 
   pub entry_long : length (placed_entry offset r) ≡ 74
   unfolding placed_entry
-  entry_long = omega (arith, length-entry r is, length-append (entry r) (kind_byte r ∷ (to_be_bytes w64 offset ++ to_be_bytes w64 (length r))), length-append (to_be_bytes w64 offset) (to_be_bytes w64 (length r)))
+  entry_long = omega (
+    arith,
+    length-entry r is,
+    length-append (entry r)
+        (kind_byte r ∷ (to_be_bytes w64 offset ++ to_be_bytes w64 (length r))),
+    length-append (to_be_bytes w64 offset) (to_be_bytes w64 (length r)),
+  )
 
   first_of : get_or (placed_entry offset r) 0 0 ≡ get_or (entry r) 0 0
   unfolding placed_entry
@@ -68,8 +76,10 @@ length_is offset r is = length_laid (entry r) (kind_byte r) offset (length r) (l
 
 -- the tag of an entry is that of its record
 pub tag_is : (offset : ℕ) (r : List ℕ) → IsRecord r → get_or (placed_entry offset r) 0 0 ≡ get_or r 0 0
-tag_is offset r (inl a) = first_of offset r (inl a) ∙ ap (λ (x : List ℕ). get_or (entry x) 0 0) a.is ∙ ap (λ (x : List ℕ). get_or x 0 0) (admission_entry a.slice a.valid) ∙ sym (ap (λ (x : List ℕ). get_or x 0 0) a.is)
-tag_is offset r (inr b) = first_of offset r (inr b) ∙ ap (λ (x : List ℕ). get_or (entry x) 0 0) b.is ∙ ap (λ (x : List ℕ). get_or x 0 0) (retirement_entry b.key b.digest) ∙ sym (ap (λ (x : List ℕ). get_or x 0 0) b.is)
+tag_is offset r (inl a) = first_of offset r (inl a) ∙ ap (λ (x : List ℕ). get_or (entry x) 0 0) a.is
+    ∙ ap (λ (x : List ℕ). get_or x 0 0) (admission_entry a.slice a.valid) ∙ sym (ap (λ (x : List ℕ). get_or x 0 0) a.is)
+tag_is offset r (inr b) = first_of offset r (inr b) ∙ ap (λ (x : List ℕ). get_or (entry x) 0 0) b.is
+    ∙ ap (λ (x : List ℕ). get_or x 0 0) (retirement_entry b.key b.digest) ∙ sym (ap (λ (x : List ℕ). get_or x 0 0) b.is)
 
 -- ---- the entry of a record is one of an index
 
@@ -81,27 +91,33 @@ module _ (offset : ℕ) (r : List ℕ) where
   admitted_entry a =
       let is : IsRecord r = inl a in
       let tag : get_or (placed_entry offset r) 0 0 ≡ 2 = tag_is offset r is ∙ ap (λ (x : List ℕ). get_or x 0 0) a.is in
-      let kind : get_or (placed_entry offset r) 57 0 ≡ cond (is_dsym_image (drop 33 r)) 1 0 = kind_of offset r is ∙ ap (λ (x : List ℕ). cond (is_admission x && is_dsym_image (drop 33 r)) 1 0) a.is in
+      let kind : get_or (placed_entry offset r) 57 0 ≡ cond (is_dsym_image (drop 33 r)) 1 0 = kind_of offset r is
+      ∙ ap (λ (x : List ℕ). cond (is_admission x && is_dsym_image (drop 33 r)) 1 0) a.is in
       record {
         long = entry_long offset r is;
         tag = ap (λ (n : ℕ). eqb n 1 || eqb n 2) tag;
         kind = kind_admitted (is_dsym_image (drop 33 r)) (get_or (placed_entry offset r) 57 0) (get_or (placed_entry offset r) 0 0) kind tag;
         length_is =
-            (λ i. cond (eqb (tag i) 2) (nat_le 33 (length_is offset r is i) && nat_le (length_is offset r is i) (33 + largest_slice)) (eqb (length_is offset r is i) 57))
-            ∙ and_from (nat_le 33 (length r)) (nat_le (length r) (33 + largest_slice)) (le-leb 33 (length r) (omega (arith, ap length a.is, length-admission_record a.slice a.valid))) (le-leb (length r) (33 + largest_slice) (omega (arith, record_short r is)));
+            (λ i. cond (eqb (tag i) 2) (nat_le 33 (length_is offset r is i)
+            && nat_le (length_is offset r is i) (33 + largest_slice)) (eqb (length_is offset r is i) 57))
+            ∙ and_from (nat_le 33 (length r)) (nat_le (length r) (33 + largest_slice))
+            (le-leb 33 (length r) (omega (arith, ap length a.is, length-admission_record a.slice a.valid)))
+            (le-leb (length r) (33 + largest_slice) (omega (arith, record_short r is)));
       }
 
   retired_entry : Retires r → IsPlacedEntry (placed_entry offset r)
   retired_entry b =
       let is : IsRecord r = inr b in
       let tag : get_or (placed_entry offset r) 0 0 ≡ 1 = tag_is offset r is ∙ ap (λ (x : List ℕ). get_or x 0 0) b.is in
-      let kind : get_or (placed_entry offset r) 57 0 ≡ 0 = kind_of offset r is ∙ ap (λ (x : List ℕ). cond (is_admission x && is_dsym_image (drop 33 r)) 1 0) b.is in
+      let kind : get_or (placed_entry offset r) 57 0 ≡ 0 = kind_of offset r is
+      ∙ ap (λ (x : List ℕ). cond (is_admission x && is_dsym_image (drop 33 r)) 1 0) b.is in
       record {
         long = entry_long offset r is;
         tag = ap (λ (n : ℕ). eqb n 1 || eqb n 2) tag;
         kind = (λ i. eqb (kind i) 0 || (eqb (get_or (placed_entry offset r) 57 0) 1 && eqb (get_or (placed_entry offset r) 0 0) 2));
         length_is =
-            (λ i. cond (eqb (tag i) 2) (nat_le 33 (length_in (placed_entry offset r)) && nat_le (length_in (placed_entry offset r)) (33 + largest_slice)) (eqb (length_is offset r is i) 57))
+            (λ i. cond (eqb (tag i) 2) (nat_le 33 (length_in (placed_entry offset r))
+            && nat_le (length_in (placed_entry offset r)) (33 + largest_slice)) (eqb (length_is offset r is i) 57))
             ∙ ap (λ (n : ℕ). eqb n 57) (ap length b.is ∙ length-retirement_record b.key b.digest b.is_key b.long);
       }
 

@@ -14,28 +14,41 @@ refused_as A B text f to (inr fault) = inr (to fault)
 
 err_as : {D T U : Type 0} (whole : D → Option (List ℕ)) (failures : D → ℕ) (old new : D) (f : IndexFault)
     (A : List ℕ → T → Type 0) (B : List ℕ → IndexFault → Type 0) (A' : List ℕ → U → Type 0) (B' : List ℕ → IndexFault → Type 0)
-    → ((text : List ℕ) → whole old ≡ Some text → IsRefused B text f → IsRefused B' text f) → ReadsText whole failures old new (Err f) A B → ReadsText whole failures old new (Err f) A' B'
+    → ((text : List ℕ) → whole old ≡ Some text → IsRefused B text f → IsRefused B' text f)
+    → ReadsText whole failures old new (Err f) A B → ReadsText whole failures old new (Err f) A' B'
 err_as whole failures old new f A B A' B' to h = record { says = λ text is. to text is (h.says text is); keeps = h.keeps; counts = h.counts }
 
 -- a refusal is passed on
-pub passed_on : {D T U : Type 0} (whole : D → Option (List ℕ)) (failures : D → ℕ) (old new : D) (f : IndexFault) (r : Result T IndexFault) (s : Result U IndexFault)
+pub passed_on : {D T U : Type 0} (whole : D → Option (List ℕ)) (failures : D → ℕ) (old new : D) (f : IndexFault)
+    (r : Result T IndexFault) (s : Result U IndexFault)
     (A : List ℕ → T → Type 0) (B : List ℕ → IndexFault → Type 0) (A' : List ℕ → U → Type 0) (B' : List ℕ → IndexFault → Type 0)
-    → r ≡ Err f → s ≡ Err f → ((text : List ℕ) → whole old ≡ Some text → IsRefused B text f → IsRefused B' text f) → ReadsText whole failures old new r A B → ReadsText whole failures old new s A' B'
+    → r ≡ Err f → s ≡ Err f → ((text : List ℕ) → whole old ≡ Some text → IsRefused B text f → IsRefused B' text f)
+    → ReadsText whole failures old new r A B → ReadsText whole failures old new s A' B'
 passed_on whole failures old new f r s A B A' B' was is to h =
-    subst (λ t. ReadsText whole failures old new t A' B') (sym is) (err_as whole failures old new f A B A' B' to (subst (λ t. ReadsText whole failures old new t A B) was h))
+    subst (λ t. ReadsText whole failures old new t A' B') (sym is)
+    (err_as whole failures old new f A B A' B' to (subst (λ t. ReadsText whole failures old new t A B) was h))
 
-said_as : {T : Type 0} (r : Result T IndexFault) (A A' : T → Type 0) (B B' : IndexFault → Type 0) → ((value : T) → A value → A' value) → ((f : IndexFault) → B f → B' f) → MatchResult r A B → MatchResult r A' B'
+said_as : {T : Type 0} (r : Result T IndexFault) (A A' : T → Type 0) (B B' : IndexFault → Type 0)
+    → ((value : T) → A value → A' value) → ((f : IndexFault) → B f → B' f) → MatchResult r A B → MatchResult r A' B'
 said_as (Ok value) A A' B B' of to h = of value h
 said_as (Err f) A A' B B' of to h = to f h
 
 -- what is read is read
 pub read_as : {D T : Type 0} (whole : D → Option (List ℕ)) (failures : D → ℕ) (old new : D) (r : Result T IndexFault)
     (A : List ℕ → T → Type 0) (B : List ℕ → IndexFault → Type 0) (A' : List ℕ → T → Type 0) (B' : List ℕ → IndexFault → Type 0)
-    → ((text : List ℕ) → whole old ≡ Some text → (value : T) → A text value → A' text value) → ((text : List ℕ) → whole old ≡ Some text → (f : IndexFault) → IsRefused B text f → IsRefused B' text f) → ReadsText whole failures old new r A B → ReadsText whole failures old new r A' B'
-read_as whole failures old new r A B A' B' of to h = record { says = λ text is. said_as r (A text) (A' text) (IsRefused B text) (IsRefused B' text) (of text is) (to text is) (h.says text is); keeps = h.keeps; counts = h.counts }
+    → ((text : List ℕ) → whole old ≡ Some text → (value : T) → A text value → A' text value)
+    → ((text : List ℕ) → whole old ≡ Some text → (f : IndexFault) → IsRefused B text f → IsRefused B' text f)
+    → ReadsText whole failures old new r A B → ReadsText whole failures old new r A' B'
+read_as whole failures old new r A B A' B' of to h = record {
+  says = λ text is. said_as r (A text) (A' text) (IsRefused B text) (IsRefused B' text) (of text is) (to text is)
+      (h.says text is);
+  keeps = h.keeps;
+  counts = h.counts;
+}
 
 -- what is read after a call that did not fail
-pub after_ok : {D T : Type 0} (whole : D → Option (List ℕ)) (failures : D → ℕ) (old mid new : D) (r : Result T IndexFault) (A : List ℕ → T → Type 0) (B : List ℕ → IndexFault → Type 0)
+pub after_ok : {D T : Type 0} (whole : D → Option (List ℕ)) (failures : D → ℕ) (old mid new : D)
+    (r : Result T IndexFault) (A : List ℕ → T → Type 0) (B : List ℕ → IndexFault → Type 0)
     → whole mid ≡ whole old → failures mid ≡ failures old → ReadsText whole failures mid new r A B → ReadsText whole failures old new r A B
 after_ok whole failures old mid new r A B same unfailed h = record {
   says = λ text is. h.says text (same ∙ is);
@@ -44,7 +57,8 @@ after_ok whole failures old mid new r A B same unfailed h = record {
 }
 
 -- a refusal under a premise that holds
-pub flat : {P : Type 0} (B : List ℕ → IndexFault → Type 0) (text : List ℕ) (f : IndexFault) → ((IsOfMachine f.kind × IsPartOffset text f.offset) ⊎ P) → (P → IsRefused B text f) → IsRefused B text f
+pub flat : {P : Type 0} (B : List ℕ → IndexFault → Type 0) (text : List ℕ) (f : IndexFault)
+    → ((IsOfMachine f.kind × IsPartOffset text f.offset) ⊎ P) → (P → IsRefused B text f) → IsRefused B text f
 flat B text f (inl machine) to = inl machine
 flat B text f (inr under) to = to under
 
@@ -54,17 +68,28 @@ unfailed_blames old new Device other same = absurd (other refl)
 unfailed_blames old new _ other same = same
 
 -- what was read is checked
-pub checked : {D T : Type 0} (whole : D → Option (List ℕ)) (failures : D → ℕ) (old new : D) (r : Result T IndexFault) (A : List ℕ → T → Type 0) (B : List ℕ → IndexFault → Type 0)
-    → whole new ≡ whole old → failures new ≡ failures old → ((text : List ℕ) → whole old ≡ Some text → MatchResult r (A text) (B text)) → IfErr r (λ f. f.kind ≢ Device) → ReadsText whole failures old new r A B
+pub checked : {D T : Type 0} (whole : D → Option (List ℕ)) (failures : D → ℕ) (old new : D) (r : Result T IndexFault)
+    (A : List ℕ → T → Type 0) (B : List ℕ → IndexFault → Type 0)
+    → whole new ≡ whole old → failures new ≡ failures old
+    → ((text : List ℕ) → whole old ≡ Some text → MatchResult r (A text) (B text)) → IfErr r (λ f. f.kind ≢ Device)
+    → ReadsText whole failures old new r A B
 checked whole failures old new (Ok value) A B keeps same says other = record { says = says; keeps = keeps; counts = same }
-checked whole failures old new (Err f) A B keeps same says other = record { says = λ text is. inr (says text is); keeps = keeps; counts = unfailed_blames (failures old) (failures new) f.kind other same }
+checked whole failures old new (Err f) A B keeps same says other =
+    record {
+      says = λ text is. inr (says text is);
+      keeps = keeps;
+      counts =
+          unfailed_blames (failures old) (failures new) f.kind other same;
+    }
 
 -- a premise of what is said
-pub under : {T P : Type 0} (r : Result T IndexFault) (A : T → Type 0) (B : IndexFault → Type 0) → (P → MatchResult r A B) → MatchResult r (λ value. P → A value) (λ f. P → B f)
+pub under : {T P : Type 0} (r : Result T IndexFault) (A : T → Type 0) (B : IndexFault → Type 0)
+    → (P → MatchResult r A B) → MatchResult r (λ value. P → A value) (λ f. P → B f)
 under (Ok value) A B h = h
 under (Err f) A B h = h
 
 -- a fault of the text is one that the machine might have had
-pub as_refused : {T : Type 0} (r : Result T IndexFault) (A : T → Type 0) (B : List ℕ → IndexFault → Type 0) (text : List ℕ) → MatchResult r A (B text) → MatchResult r A (IsRefused B text)
+pub as_refused : {T : Type 0} (r : Result T IndexFault) (A : T → Type 0) (B : List ℕ → IndexFault → Type 0)
+    (text : List ℕ) → MatchResult r A (B text) → MatchResult r A (IsRefused B text)
 as_refused (Ok value) A B text h = h
 as_refused (Err f) A B text h = inr h

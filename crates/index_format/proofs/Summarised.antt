@@ -24,7 +24,8 @@ summary_of_index o content =
     let m = member_of_entry o q h in
     let e = entry_for o m.0 m.1 in
     let is : take 57 e.0 ≡ q = ap (take 57) e.3 ∙ entry_front e.2 m.0 (content.records m.0 m.1) ∙ m.2 in
-    (in_made mapped q).0 (subst (Contains mapped) is (to_map (take 57) (listing (index o)) e.0 ((in_listing nat_list_cmp_total bytes_same (index o) e.0).1 e.1))))
+    (in_made mapped q).0 (subst (Contains mapped) is (to_map (take 57) (listing (index o)) e.0
+    ((in_listing nat_list_cmp_total bytes_same (index o) e.0).1 e.1))))
     (λ h.
     let f = in_map (take 57) (listing (index o)) q ((in_made mapped q).1 h) in
     let p = entry_in o f.0 ((in_listing nat_list_cmp_total bytes_same (index o) f.0).0 f.1) in

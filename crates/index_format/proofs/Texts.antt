@@ -5,5 +5,6 @@ use Rattle.index_format.specs.declared.entry.IndexEntry.{IndexEntry}
 use Rattle.index_format.specs.Entry.{placed_bytes}
 
 -- the bytes of an entry among those of all
-pub bytes_at : (entries : List IndexEntry) (i : ℕ) (e : IndexEntry) (bytes : List ℕ) → i < length entries → e ≡ get_or entries i e → bytes ≡ placed_bytes e → bytes ≡ get_or (map placed_bytes entries) i []
+pub bytes_at : (entries : List IndexEntry) (i : ℕ) (e : IndexEntry) (bytes : List ℕ) → i < length entries → e
+    ≡ get_or entries i e → bytes ≡ placed_bytes e → bytes ≡ get_or (map placed_bytes entries) i []
 bytes_at entries i e bytes lt at of = of ∙ ap placed_bytes at ∙ sym (get_or-map placed_bytes entries i e [] lt)

@@ -1,5 +1,6 @@
 -- An archive of version 1 is told by its first eight bytes.
-use Rattle.std.proofs.Common.{◌≡◌, ◌≢◌, ℕ, ◌<◌, List, [], ◌++◌, length, take, Option, Some, None, Err, refl, sym, ap, ◌∙◌, inl, inr, arith, length-take, length-append}
+use Rattle.std.proofs.Common.{◌≡◌, ◌≢◌, ℕ, ◌<◌, List, [], ◌++◌, length, take, Option, Some, None, Err, refl, sym, ap}
+use Rattle.std.proofs.Common.{◌∙◌, inl, inr, arith, length-take, length-append}
 use Rattle.std.specs.Io.KnownBytes.{Consumes, IsAtEnd}
 use Rattle.std.proofs.lemmas.List.{take-append-le, take-take}
 use Rattle.archive_records.specs.declared.fault.RecordFaultKind.{RecordFaultKind}
@@ -16,14 +17,16 @@ use Rattle.index_format.specs.InnerMaking.{MagicTested}
 use Rattle.index_format.specs.Making.{TellsVersion}
 
 -- the magic of version 1 is no fault of it
-no_fault : (text came left : List ℕ) (kind : RecordFaultKind) → text ≡ came ++ left → (length came < 8 → left ≡ []) → take 8 text ≡ old_magic → IsMagicFault Old_format came kind → ⊥
+no_fault : (text came left : List ℕ) (kind : RecordFaultKind) → text ≡ came ++ left → (length came < 8 → left ≡ [])
+    → take 8 text ≡ old_magic → IsMagicFault Old_format came kind → ⊥
 no_fault text came left BadMagic whole ends old f =
     f.3 (sym (take-append-le f.0 came left f.2) ∙ ap (take f.0) (sym whole) ∙ sym (take-take f.0 8 text f.1) ∙ ap (take f.0) old)
 no_fault text came left Truncated whole ends old f =
     omega (arith, f.0, length-take 8 text, ap length old, ap length whole, length-append came left, ap length (ends f.0))
 no_fault text came left _ whole ends old f = f
 
-stops_old : (text came left : List ℕ) (kind : RecordFaultKind) → text ≡ came ++ left → (length came < 8 → left ≡ []) → StopsInMagicOf Archive_text came kind → take 8 text ≡ old_magic → IsOfMachine kind
+stops_old : (text came left : List ℕ) (kind : RecordFaultKind) → text ≡ came ++ left → (length came < 8 → left ≡ [])
+    → StopsInMagicOf Archive_text came kind → take 8 text ≡ old_magic → IsOfMachine kind
 stops_old text came left kind whole ends stops old = elim (stops Old_format refl) [
   | inl f ↦ absurd (no_fault text came left kind whole ends old f)
   | inr (inl f) ↦ inl f.0
@@ -31,7 +34,8 @@ stops_old text came left kind whole ends stops old = elim (stops Old_format refl
 ]
 
 -- the tests of the magic tell the version
-pub tells_version : (a b : Option (List ℕ)) (came : List ℕ) (fault : IndexingFault) → Consumes a b came → (length came < 8 → IsAtEnd b) → MagicTested came (Err fault) → TellsVersion a fault
+pub tells_version : (a b : Option (List ℕ)) (came : List ℕ) (fault : IndexingFault) → Consumes a b came
+    → (length came < 8 → IsAtEnd b) → MagicTested came (Err fault) → TellsVersion a fault
 tells_version a b came OldArchive taken ends tested = tt
 tells_version a b came TooLong taken ends tested = absurd tested
 tells_version None b came (Archive_fault fault) taken ends tested = tt

@@ -1,4 +1,4 @@
--- Entries of an index: what a record is, where it stands in its archive, and where the table of its slice is stored.
+-- Entries of an index: the kind of a record, its place in its archive, and the place of the table of its slice.
 use Rattle.std.specs.Prelude.{◌≡◌, ℕ, zero, suc, ◌+◌, ◌*◌, List, [], ◌∷◌, ◌++◌, length, map, take, drop, slice_index}
 use Rattle.std.specs.Prelude.{All, Bool, true, ◌&&◌, ◌||◌, ◌==◌, nat_le, if◌then◌else◌}
 use Rattle.std.specs.Int.{w64, to_be_bytes, from_be_bytes}

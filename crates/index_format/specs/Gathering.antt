@@ -1,4 +1,4 @@
--- What is gathered at the places that an index names.
+-- The records that are gathered at the places that an index names.
 use Rattle.std.specs.Prelude.{◌≡◌, ◌<◌, ◌^◌, ℕ, List, ◌++◌, length, Option, Some, None, IfSome, Result, Ok, Err}
 use Rattle.std.specs.List.{AllZip}
 use Rattle.archive_core.specs.Summary.{Entries}

@@ -3,7 +3,8 @@ use Rattle.std.specs.Prelude.{◌≡◌, ℕ, ◌+◌, ◌-◌, ◌<◌, List, [
 use Rattle.std.specs.Int.{w64, to_be_bytes}
 use Rattle.std.specs.List.{concat}
 use Rattle.index_format.specs.Entry.{HasItsFields, entry_bytes}
-use Rattle.index_format.specs.Fault.{FailsAtEnd, FailsDigest, FailsInEntries, FailsInBeginning, FailsInPlaces, HasDigest}
+use Rattle.index_format.specs.Fault.{FailsAtEnd, FailsDigest, FailsInEntries, FailsInBeginning, FailsInPlaces}
+use Rattle.index_format.specs.Fault.{HasDigest}
 use Rattle.index_format.specs.Fault.{HasEnds, IsOfMachine, check_beginning}
 use Rattle.index_format.specs.Text.{AreLaid, PassChecks, count_in, digest_in, entries_in, start_in}
 use Rattle.index_format.specs.declared.ends.Ends.{Ends}

@@ -1,4 +1,4 @@
--- What is read at the places that an index names.
+-- The records that are read at the places that an index names.
 use Rattle.std.specs.Prelude.{◌≡◌, ℕ, ◌+◌, ◌^◌, ◌<◌, Bool, List, [], true, length, take, drop, filter}
 use Rattle.std.specs.Prelude.{slice_index_or, Contains, Option, Some, None}
 use Rattle.std.specs.List.{AllZip}

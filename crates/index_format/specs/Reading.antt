@@ -1,4 +1,4 @@
--- What comes of reading an index.
+-- The result of reading an index.
 use Rattle.std.specs.Prelude.{◌≡◌, ℕ, List, ◌⊎◌, Option, Some, Result, MatchResult}
 use Rattle.byte_device.specs.Devices.{FailedIn}
 use Rattle.index_format.specs.Fault.{IsIndexFault, IsOfMachine, IsPartOffset}

@@ -1,4 +1,4 @@
--- Where the entries of one tag under a front stand: together, since entries ascend.
+-- The entries of one tag under a front: together, since entries ascend.
 use Rattle.std.specs.Prelude.{◌≡◌, ◌≤◌, ◌==◌, ◌&&◌, ℕ, Bool, true, false, List, length, slice_index}
 use Rattle.std.specs.List.{AllWithin}
 use Rattle.archive_core.specs.Part.{is_under}

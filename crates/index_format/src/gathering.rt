@@ -112,7 +112,8 @@ pub fn gather_at<P: Placed>(
     requires prefix { length prefix.now ≤ 24 }
     requires size { HasSize (P.whole archive.old) size }
     ensures { ReadsPlaces P.whole P.failures archive.old archive.new result
-        (λ _. AreGatheredUnder (P.whole archive.old) prefix.now (placed_of index.now) (map record_bytes gathered.old.items)
+        (λ _. AreGatheredUnder (P.whole archive.old) prefix.now (placed_of index.now)
+        (map record_bytes gathered.old.items)
         (map record_bytes gathered.new.items)) (IsEntryFault prefix.now (placed_of index.now))
         (IsReadUnder prefix.now (placed_of index.now)) }
 {

@@ -17,8 +17,8 @@
 //! - `beginning`: [`begin_archive`], of the first bytes of an archive of which an index is made;
 //! - `records`: the record at the place of an entry, tested and hashed;
 //! - `gathering`: [`gather_at`], the records under a UUID or a key;
-//! - `parts`: [`archive_of`], what they make; [`indexed_size`], the size of the archive, if it is the one that the index
-//!   tells; [`is_under`], whether an entry is under a prefix;
+//! - `parts`: [`archive_of`], what they make; [`indexed_size`], the size of the archive, if it is the one that the
+//!   index tells; [`is_under`], whether an entry is under a prefix;
 //! - [`laws`]: what the entries tell of the content that they were made of; a text is the index with one list of
 //!   entries, or has one fault.
 //!

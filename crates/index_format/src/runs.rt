@@ -21,8 +21,8 @@ fn compare(entry: &IndexEntry, tag: u8, prefix: &[u8]) -> Ordering
         .then(bytes[1..prefix.len() + 1].cmp(prefix))
 }
 
-/// From which number on, and up to which, the entries of a tag under a prefix stand, a key or less: the retirements under
-/// it, tag 1, or the admissions, tag 2. They are found by halving.
+/// From which number on, and up to which, the entries of a tag under a prefix stand, a key or less: the retirements
+/// under it, tag 1, or the admissions, tag 2. They are found by halving.
 pub fn run_under(entries: &[IndexEntry], tag: u8, prefix: &[u8]) -> (usize, usize)
     requires indexed { AreIndexed (map placed_bytes entries.now) }
     requires short { length prefix.now ≤ 24 }

@@ -38,24 +38,31 @@ module _ {D V : Type 0} (known : D → V) (devices : List D) (i : ℕ) (before :
       ∙ set-get_or (each_known known devices) i (known before)
 
 -- the text of a device
-pub text_at : {D : Type 0} (whole : D → Option (List ℕ)) (devices : List D) (texts : List (List ℕ)) (i : ℕ) (before : D) → slice_get devices i ≡ Some before → HaveTexts whole devices texts
+pub text_at : {D : Type 0} (whole : D → Option (List ℕ)) (devices : List D) (texts : List (List ℕ)) (i : ℕ) (before : D)
+    → slice_get devices i ≡ Some before → HaveTexts whole devices texts
     → (text : List ℕ) × (slice_get texts i ≡ Some text) × (whole before ≡ Some text)
 text_at whole devices texts i before is have =
     let ks = each_known whole devices in
     let here = known_at whole devices i before is in
     let lt : i < length ks = slice_get_within ks i (whole before) here in
-    let long : length texts ≡ length ks = AllZip-long HasText ks texts have in
-    (get_or texts i [], slice_get-get_or texts i [] (omega (arith, lt, long)), subst (λ k. HasText k (get_or texts i [])) (get_or_from_slice_get ks i (whole before) (whole before) here) (zip_at HasText ks texts i (whole before) [] have lt))
+    let long : length texts ≡ length ks = AllZip-long HasText ks texts have in (
+      get_or texts i [],
+      slice_get-get_or texts i [] (omega (arith, lt, long)),
+      subst (λ k. HasText k (get_or texts i [])) (get_or_from_slice_get ks i (whole before) (whole before) here)
+          (zip_at HasText ks texts i (whole before) [] have lt),
+    )
 
 -- as many devices are there whose bytes are as they were
-all_there : {D : Type 0} (whole : D → Option (List ℕ)) (old new : List D) (xs : List EntryAt) → each_known whole new ≡ each_known whole old → AreThere old xs → AreThere new xs
+all_there : {D : Type 0} (whole : D → Option (List ℕ)) (old new : List D) (xs : List EntryAt) → each_known whole new
+    ≡ each_known whole old → AreThere old xs → AreThere new xs
 all_there whole old new xs same there =
     let long : length new ≡ length old = sym (length-map new whole) ∙ ap length same ∙ length-map old whole in
     All-weaker (λ x. x.input < length old) (λ x. x.input < length new) (λ x h. omega (arith, h, long)) xs there
 
 -- ---- one entry, of its device
 
-module _ {D : Type 0} (whole : D → Option (List ℕ)) (failures : D → ℕ) (lines : Bool) (asked : List Where) (answering : List EntryAt) (x : EntryAt) (answers : Contains answering x) (devices : List D) (before after : D)
+module _ {D : Type 0} (whole : D → Option (List ℕ)) (failures : D → ℕ) (lines : Bool) (asked : List Where)
+    (answering : List EntryAt) (x : EntryAt) (answers : Contains answering x) (devices : List D) (before after : D)
     (is : slice_get devices x.input ≡ Some before) where
   abbrev news : List D
   news = set devices x.input after
@@ -64,11 +71,14 @@ module _ {D : Type 0} (whole : D → Option (List ℕ)) (failures : D → ℕ) (
   named input number a b = subst (Contains answering) (λ i. record { input = sym a i; number = sym b i; entry = x.entry }) answers
 
   says_of : (r : Result EntryAnswers AnswerFault) (texts : List (List ℕ)) (text : List ℕ) → slice_get texts x.input ≡ Some text
-      → MatchResult r (λ column. IsColumnOf text lines asked x column) (IsUntoldOne text x) → MatchResult r (λ column. IsColumnAt texts lines asked x column) (IsUntoldAmong texts answering)
+      → MatchResult r (λ column. IsColumnOf text lines asked x column) (IsUntoldOne text x)
+      → MatchResult r (λ column. IsColumnAt texts lines asked x column) (IsUntoldAmong texts answering)
   says_of (Ok column) texts text at h = record {
     digest_is = h.digest_is;
-    owns = λ other there. subst (λ t. AllZip (IsToldBy t (claim_in x.entry)) asked (map told_view column.owns.items)) (same_Some text other (sym at ∙ there)) h.owns;
-    frames = λ wanted other there. subst (λ t. AllZip (AreFramesToldBy t (claim_in x.entry)) asked (frame_lists column)) (same_Some text other (sym at ∙ there)) (h.frames wanted);
+    owns = λ other there. subst (λ t. AllZip (IsToldBy t (claim_in x.entry)) asked (map told_view column.owns.items))
+        (same_Some text other (sym at ∙ there)) h.owns;
+    frames = λ wanted other there. subst (λ t. AllZip (AreFramesToldBy t (claim_in x.entry)) asked (frame_lists column))
+        (same_Some text other (sym at ∙ there)) (h.frames wanted);
   }
   says_of (Err (Damaged input number)) texts text at h = record {
     entry = x.entry;
@@ -86,8 +96,10 @@ module _ {D : Type 0} (whole : D → Option (List ℕ)) (failures : D → ℕ) (
   }
   says_of r texts text at h = tt
 
-  counts_of : (r : Result EntryAnswers AnswerFault) → MatchResult r (λ _. failures after ≡ failures before) (BlamesOne lines x (failures before) (failures after))
-      → MatchResult r (λ _. each_known failures news ≡ each_known failures devices) (BlamesAmong lines answering (each_known failures devices) (each_known failures news))
+  counts_of : (r : Result EntryAnswers AnswerFault) → MatchResult r (λ _. failures after ≡ failures before)
+      (BlamesOne lines x (failures before) (failures after))
+      → MatchResult r (λ _. each_known failures news ≡ each_known failures devices)
+      (BlamesAmong lines answering (each_known failures devices) (each_known failures news))
   counts_of (Ok column) h = known_kept failures devices x.input before is after h
   counts_of (Err (Damaged input number)) h = known_kept failures devices x.input before is after h
   counts_of (Err (NoLines input number)) h = (h.0, known_kept failures devices x.input before is after h.1)
@@ -103,7 +115,9 @@ module _ {D : Type 0} (whole : D → Option (List ℕ)) (failures : D → ℕ) (
     },
   )
 
-  pub asked_one : (r : Result EntryAnswers AnswerFault) → ((text : List ℕ) → whole before ≡ Some text → MatchResult r (λ column. IsColumnOf text lines asked x column) (IsUntoldOne text x)) → whole after ≡ whole before
+  pub asked_one : (r : Result EntryAnswers AnswerFault)
+      → ((text : List ℕ) → whole before ≡ Some text → MatchResult r (λ column. IsColumnOf text lines asked x column)
+      (IsUntoldOne text x)) → whole after ≡ whole before
       → MatchResult r (λ _. failures after ≡ failures before) (BlamesOne lines x (failures before) (failures after))
       → AsksAmong whole failures lines answering devices news r (λ texts column. IsColumnAt texts lines asked x column)
   asked_one r says keeps counts = record {
@@ -113,8 +127,10 @@ module _ {D : Type 0} (whole : D → Option (List ℕ)) (failures : D → ℕ) (
   }
 
 -- the same of the device as it is read and written
-pub asked_at : {D : Type 0} (whole : D → Option (List ℕ)) (failures : D → ℕ) (lines : Bool) (asked : List Where) (answering : List EntryAt) (x : EntryAt) (devices : List D) (old new : D) (r : Result EntryAnswers AnswerFault)
-    → Contains answering x → slice_get devices x.input ≡ Some old → AsksOne whole failures lines x old new r (λ text column. IsColumnOf text lines asked x column)
+pub asked_at : {D : Type 0} (whole : D → Option (List ℕ)) (failures : D → ℕ) (lines : Bool) (asked : List Where)
+    (answering : List EntryAt) (x : EntryAt) (devices : List D) (old new : D) (r : Result EntryAnswers AnswerFault)
+    → Contains answering x → slice_get devices x.input ≡ Some old
+    → AsksOne whole failures lines x old new r (λ text column. IsColumnOf text lines asked x column)
     → AsksAmong whole failures lines answering devices (set devices x.input new) r (λ texts column. IsColumnAt texts lines asked x column)
 asked_at whole failures lines asked answering x devices old new r answers is one =
     asked_one whole failures lines asked answering x answers devices old new is r one.says one.keeps one.counts
@@ -127,32 +143,41 @@ module _ {D : Type 0} (whole : D → Option (List ℕ)) (failures : D → ℕ) (
 
   -- what the first of the entries tell
   abbrev pub HaveTold : ℕ → List D → List D → List EntryAnswers → Type 0
-  HaveTold i old new columns = AsksAmong whole failures lines answering old new (Ok columns) (λ texts cs. AllZip (IsColumnAt texts lines asked) (take i answering) cs)
+  HaveTold i old new columns = AsksAmong whole failures lines answering old new (Ok columns)
+      (λ texts cs. AllZip (IsColumnAt texts lines asked) (take i answering) cs)
 
-  module _ (i : ℕ) (n : Numbered) (lt : i < length entries) (is : n ≡ get_or entries i n) (old mid : List D) (columns : List EntryAnswers) (so_far : HaveTold i old mid columns) where
+  module _ (i : ℕ) (n : Numbered) (lt : i < length entries) (is : n ≡ get_or entries i n) (old mid : List D)
+      (columns : List EntryAnswers) (so_far : HaveTold i old mid columns) where
     -- the device of the next one is there
     pub there_here : AreThere old answering → n.input < length mid
     there_here there =
-        subst (λ z. z.input < length mid) (sym (read_map entry_at entries i n lt is)) (all_there whole old mid answering so_far.keeps there i (entry_at n) (map_within entry_at entries i n lt is))
+        subst (λ z. z.input < length mid) (sym (read_map entry_at entries i n lt is))
+        (all_there whole old mid answering so_far.keeps there i (entry_at n)
+        (map_within entry_at entries i n lt is))
 
     have_texts : (texts : List (List ℕ)) → HaveTexts whole old texts → HaveTexts whole mid texts
     have_texts texts have = subst (λ ks. AllZip HasText ks texts) (sym so_far.keeps) have
 
     -- what comes of asking it, where it is among entries
     abbrev IsAsked : List D → Result EntryAnswers AnswerFault → Type 0
-    IsAsked new r = (xs : List EntryAt) → Contains xs (entry_at n) → AsksAmong whole failures lines xs mid new r (λ texts c. IsColumnAt texts lines asked (entry_at n) c)
+    IsAsked new r = (xs : List EntryAt) → Contains xs (entry_at n)
+        → AsksAmong whole failures lines xs mid new r (λ texts c. IsColumnAt texts lines asked (entry_at n) c)
 
-    pub one_told : (new : List D) (after : List EntryAnswers) (column : EntryAnswers) → after ≡ columns ++ column ∷ [] → IsAsked new (Ok column) → HaveTold (i + 1) old new after
+    pub one_told : (new : List D) (after : List EntryAnswers) (column : EntryAnswers) → after ≡ columns ++ column ∷ []
+        → IsAsked new (Ok column) → HaveTold (i + 1) old new after
     one_told new after column grown all =
         let told = all answering (map_has entry_at entries i n lt is) in
         record {
-          says = λ texts have. zip_more (IsColumnAt texts lines asked) answering i (entry_at n) columns after column (map_within entry_at entries i n lt is) (read_map entry_at entries i n lt is) grown (so_far.says texts have) (told.says texts (have_texts texts have));
+          says = λ texts have. zip_more (IsColumnAt texts lines asked) answering i (entry_at n) columns after column
+              (map_within entry_at entries i n lt is) (read_map entry_at entries i n lt is) grown
+              (so_far.says texts have) (told.says texts (have_texts texts have));
           keeps = told.keeps ∙ so_far.keeps;
           counts = told.counts ∙ so_far.counts;
         }
 
     -- a refusal is passed on
-    pub none_more : {U : Type 0} (new : List D) (f : AnswerFault) (B : List (List ℕ) → U → Type 0) → IsAsked new (Err f) → AsksAmong whole failures lines answering old new (Err f) B
+    pub none_more : {U : Type 0} (new : List D) (f : AnswerFault) (B : List (List ℕ) → U → Type 0) → IsAsked new (Err f)
+        → AsksAmong whole failures lines answering old new (Err f) B
     none_more new f B all =
         let told = all answering (map_has entry_at entries i n lt is) in
         record {
@@ -162,7 +187,8 @@ module _ {D : Type 0} (whole : D → Option (List ℕ)) (failures : D → ℕ) (
         }
 
     -- no memory is left for what was told
-    pub no_memory : {U : Type 0} (new : List D) (column : EntryAnswers) (B : List (List ℕ) → U → Type 0) → IsAsked new (Ok column) → AsksAmong whole failures lines answering old new (Err OutOfMemory) B
+    pub no_memory : {U : Type 0} (new : List D) (column : EntryAnswers) (B : List (List ℕ) → U → Type 0)
+        → IsAsked new (Ok column) → AsksAmong whole failures lines answering old new (Err OutOfMemory) B
     no_memory new column B all =
         let told = all answering (map_has entry_at entries i n lt is) in
         record { says = λ texts have. tt; keeps = told.keeps ∙ so_far.keeps; counts = told.counts ∙ so_far.counts }

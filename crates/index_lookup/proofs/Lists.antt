@@ -1,5 +1,6 @@
 -- Lists that are filtered, put into another order, and joined.
-use Rattle.std.proofs.Common.{◌≡◌, ◌≢◌, ℕ, zero, suc, ◌+◌, ◌<◌, Bool, true, false, cond, eqb, ◌&&◌, ◌||◌, List, [], ◌∷◌, ◌++◌, length, map, take, get_or, refl, sym, ap, ◌∙◌, inl, inr, arith}
+use Rattle.std.proofs.Common.{◌≡◌, ◌≢◌, ℕ, zero, suc, ◌+◌, ◌<◌, Bool, true, false, cond, eqb, ◌&&◌, ◌||◌, List, [], ◌∷◌}
+use Rattle.std.proofs.Common.{◌++◌, length, map, take, get_or, refl, sym, ap, ◌∙◌, inl, inr, arith}
 use Rattle.std.specs.Prelude.{All, Contains, filter}
 use Rattle.std.specs.List.{AllPairs, dedup, dedup_from, list_any, swap}
 use Rattle.std.specs.List.Sorted.{IsPermutation}
@@ -48,10 +49,12 @@ module _ {X Y : Type 0} (f : X → Y) (xs : List X) (i : ℕ) (x : X) (lt : i < 
   map_has = (i, map_within, sym read_map)
 
 -- one element more that does not pass, or does
-pub filter_passed : {X : Type 0} (p : X → Bool) (xs : List X) (i : ℕ) (x : X) → i < length xs → x ≡ get_or xs i x → p x ≡ false → filter p (take (i + 1) xs) ≡ filter p (take i xs)
+pub filter_passed : {X : Type 0} (p : X → Bool) (xs : List X) (i : ℕ) (x : X) → i < length xs → x ≡ get_or xs i x → p x
+    ≡ false → filter p (take (i + 1) xs) ≡ filter p (take i xs)
 filter_passed p xs i x lt is other = grind (arith, filter_more p xs i x lt, append-nil)
 
-pub filter_pushed : {X : Type 0} (p : X → Bool) (xs : List X) (i : ℕ) (x : X) → i < length xs → x ≡ get_or xs i x → p x ≡ true → filter p (take (i + 1) xs) ≡ filter p (take i xs) ++ x ∷ []
+pub filter_pushed : {X : Type 0} (p : X → Bool) (xs : List X) (i : ℕ) (x : X) → i < length xs → x ≡ get_or xs i x → p x
+    ≡ true → filter p (take (i + 1) xs) ≡ filter p (take i xs) ++ x ∷ []
 filter_pushed p xs i x lt is here = grind (arith, filter_more p xs i x lt)
 
 -- ---- pairs
@@ -70,7 +73,8 @@ pairs_skip R k x xs h =
 pub pairs_append : {X : Type 0} (R : X → X → Type 0) (xs ys : List X) → AllPairs R xs → AllPairs R ys → All (λ x. All (R x) ys) xs → AllPairs R (xs ++ ys)
 pairs_append R [] ys a b c = b
 pairs_append R (x ∷ xs) ys a b c =
-    AllPairs-cons R x (xs ++ ys) (All-append (R x) xs ys (pairs_head R x xs a) (c zero x (omega arith))) (pairs_append R xs ys (pairs_tail R x xs a) b (λ k d lt. c (suc k) d (omega (arith, lt))))
+    AllPairs-cons R x (xs ++ ys) (All-append (R x) xs ys (pairs_head R x xs a) (c zero x (omega arith)))
+    (pairs_append R xs ys (pairs_tail R x xs a) b (λ k d lt. c (suc k) d (omega (arith, lt))))
 
 -- ---- in another order
 
@@ -100,7 +104,9 @@ module _ {X : Type 0} (R : X → X → Type 0) (both : (x y : X) → R x y → R
       let long : length (swap xs a b) ≡ length xs = length_permutation xs (swap xs a b) (IsPermutation-swap xs (swap xs a b) a b la lb refl) in
       let within : j < length xs = omega (arith, lj, long) in
       rw (stood xs a b i d la lb, stood xs a b j d la lb)
-      (apart xs (from a b i) (from a b j) d h (other_from a b i j lt) (from_within a b i (length xs) la lb (omega (arith, lt, within))) (from_within a b j (length xs) la lb within))
+      (apart xs (from a b i) (from a b j) d h (other_from a b i j lt)
+      (from_within a b i (length xs) la lb (omega (arith, lt, within)))
+      (from_within a b j (length xs) la lb within))
 
   -- what holds of each two elements, in whatever order they stand
   pub pairs_permutation : (xs ys : List X) → IsPermutation xs ys → AllPairs R xs → AllPairs R ys

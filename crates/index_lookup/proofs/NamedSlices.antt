@@ -11,7 +11,8 @@ use Rattle.index_lookup.proofs.Entries.{are_among, has_among}
 use Rattle.archive_core.proofs.Members.{to_filter}
 
 -- one entry more has another digest
-pub others_more : (digest : List ℕ) (xs : List EntryAt) (i : ℕ) (x : EntryAt) → i < length xs → x ≡ get_or xs i x → ((y : EntryAt) → Contains (take i xs) y → digest_at y ≢ digest) → digest_at x ≢ digest
+pub others_more : (digest : List ℕ) (xs : List EntryAt) (i : ℕ) (x : EntryAt) → i < length xs → x ≡ get_or xs i x
+    → ((y : EntryAt) → Contains (take i xs) y → digest_at y ≢ digest) → digest_at x ≢ digest
     → (y : EntryAt) → Contains (take (i + 1) xs) y → digest_at y ≢ digest
 others_more digest xs i x lt is before other y there =
     elim (Contains-push_cases (take i xs) (get_or xs i x) y (subst (λ (zs : List EntryAt). Contains zs y) (take_more xs i x lt) there)) [
@@ -19,7 +20,8 @@ others_more digest xs i x lt is before other y there =
       | inr this ↦ subst (λ (z : EntryAt). digest_at z ≢ digest) this (subst (λ (z : EntryAt). digest_at z ≢ digest) is other)
     ]
 
-module _ (prefix digest : List ℕ) (indexes : List (List (List ℕ))) (live : List EntryAt) (is : live ≡ filter (λ x. lives_under prefix (all_of indexes) x.entry) (all_at 0 indexes)) where
+module _ (prefix digest : List ℕ) (indexes : List (List (List ℕ))) (live : List EntryAt)
+    (is : live ≡ filter (λ x. lives_under prefix (all_of indexes) x.entry) (all_at 0 indexes)) where
   abbrev lives : EntryAt → Bool
   lives x = lives_under prefix (all_of indexes) x.entry
 
@@ -27,8 +29,11 @@ module _ (prefix digest : List ℕ) (indexes : List (List (List ℕ))) (live : L
   found = filter lives (all_at 0 indexes)
 
   -- what was found of them
-  pub with_digest : (result : Option NamedSlice) → MatchOption result ((x : EntryAt) → Contains live x → digest_at x ≢ digest) (λ named. (x : EntryAt) × Contains live x × (digest_at x ≡ digest) × Names x named)
-      → MatchOption result ((x : EntryAt) → LivesAmong prefix digest indexes x → ⊥) (λ named. (x : EntryAt) × LivesAmong prefix digest indexes x × Names x named)
+  pub with_digest : (result : Option NamedSlice) → MatchOption result
+      ((x : EntryAt) → Contains live x → digest_at x ≢ digest)
+      (λ named. (x : EntryAt) × Contains live x × (digest_at x ≡ digest) × Names x named)
+      → MatchOption result ((x : EntryAt) → LivesAmong prefix digest indexes x → ⊥)
+      (λ named. (x : EntryAt) × LivesAmong prefix digest indexes x × Names x named)
   with_digest None none = λ x h. none x (rw is (to_filter lives (all_at 0 indexes) x (has_among indexes x h.among) h.lives)) h.digest_is
   with_digest (Some named) (x, there, same, names) =
       let here : Contains found x = rw is at there in (

@@ -1,5 +1,6 @@
 -- Entries in the order of their records.
-use Rattle.std.proofs.Common.{◌≡◌, ◌≢◌, ℕ, zero, suc, ◌<◌, ◌≤◌, true, false, cond, not, List, [], ◌∷◌, length, get_or, refl, sym, subst, ap, ◌∙◌, inl, inr, ◌⊎◌, arith, eqb}
+use Rattle.std.proofs.Common.{◌≡◌, ◌≢◌, ℕ, zero, suc, ◌<◌, ◌≤◌, true, false, cond, not, List, [], ◌∷◌, length, get_or}
+use Rattle.std.proofs.Common.{refl, sym, subst, ap, ◌∙◌, inl, inr, ◌⊎◌, arith, eqb}
 use Rattle.std.specs.Prelude.{All, Contains}
 use Rattle.std.specs.List.{AllPairs, dedup, dedup_from}
 use Rattle.std.specs.List.Sorted.{IsSortedByKey}
@@ -27,11 +28,13 @@ IsNotAfter x y = (length_in x.entry < length_in y.entry)
     ⊎ ((length_in x.entry ≡ length_in y.entry) × ((x.input < y.input) ⊎ ((x.input ≡ y.input) × (offset_in x.entry ≤ offset_in y.entry))))
 
 -- three numbers in a row that are not below three others
-not_lower : (a b c d e f : ℕ) → is_lt (slice_cmp nat_cmp (d ∷ (e ∷ (f ∷ []))) (a ∷ (b ∷ (c ∷ [])))) ≡ false → (a < d) ⊎ ((a ≡ d) × ((b < e) ⊎ ((b ≡ e) × (c ≤ f))))
+not_lower : (a b c d e f : ℕ) → is_lt (slice_cmp nat_cmp (d ∷ (e ∷ (f ∷ []))) (a ∷ (b ∷ (c ∷ [])))) ≡ false → (a < d)
+    ⊎ ((a ≡ d) × ((b < e) ⊎ ((b ≡ e) × (c ≤ f))))
 not_lower a b c d e f h = grind (arith, nat_tests)
 
 -- what a sort by places says
-pub in_order_of_places : (xs : List EntryAt) → IsSortedByKey rank_in (slice_cmp nat_cmp) xs → (i j : ℕ) (d : EntryAt) → i ≤ j → j < length xs → IsNotAfter (get_or xs i d) (get_or xs j d)
+pub in_order_of_places : (xs : List EntryAt) → IsSortedByKey rank_in (slice_cmp nat_cmp) xs → (i j : ℕ) (d : EntryAt)
+    → i ≤ j → j < length xs → IsNotAfter (get_or xs i d) (get_or xs j d)
 in_order_of_places xs sorted i j d le lt =
     let x = get_or xs i d in
     let y = get_or xs j d in
@@ -50,11 +53,16 @@ placed_tail : (x : EntryAt) (xs : List EntryAt) → ArePlaced (x ∷ xs) → Are
 placed_tail x xs h = record { rise = pairs_tail IsNotAfter x xs h.rise; apart = pairs_tail AreApart x xs h.apart; agree = pairs_tail HaveOrder x xs h.agree }
 
 placed_skip : (k x : EntryAt) (xs : List EntryAt) → ArePlaced (k ∷ (x ∷ xs)) → ArePlaced (k ∷ xs)
-placed_skip k x xs h = record { rise = pairs_skip IsNotAfter k x xs h.rise; apart = pairs_skip AreApart k x xs h.apart; agree = pairs_skip HaveOrder k x xs h.agree }
+placed_skip k x xs h = record {
+  rise = pairs_skip IsNotAfter k x xs h.rise;
+  apart = pairs_skip AreApart k x xs h.apart;
+  agree = pairs_skip HaveOrder k x xs h.agree;
+}
 
 kept_head : (k : EntryAt) (xs : List EntryAt) → Contains (dedup_from has_same_length_elsewhere k xs) k
 kept_head k [] = in_front k []
-kept_head k (x ∷ xs) = elim (cases_Bool (has_same_length_elsewhere x k)) [ inl t ↦ rw t (kept_head k xs) | inr f ↦ rw f (in_front k (dedup_from has_same_length_elsewhere x xs)) ]
+kept_head k (x ∷ xs) = elim (cases_Bool (has_same_length_elsewhere x k))
+    [ inl t ↦ rw t (kept_head k xs) | inr f ↦ rw f (in_front k (dedup_from has_same_length_elsewhere x xs)) ]
 
 -- an entry is kept, or it is a repeat of one that is
 abbrev pub IsCovered : List EntryAt → EntryAt → Type 0
@@ -121,7 +129,9 @@ kept_from k (x ∷ xs) h = elim (cases_Bool (has_same_length_elsewhere x k)) [
   where
     skipped : has_same_length_elsewhere x k ≡ true → KeptFrom k xs → KeptFrom k (x ∷ xs)
     skipped t rest =
-        let same : dedup_from has_same_length_elsewhere k xs ≡ dedup_from has_same_length_elsewhere k (x ∷ xs) = sym (ap (λ b. cond b (dedup_from has_same_length_elsewhere k xs) (k ∷ dedup_from has_same_length_elsewhere x xs)) t) in
+        let same : dedup_from has_same_length_elsewhere k xs ≡ dedup_from has_same_length_elsewhere k (x ∷ xs) =
+        sym (ap (λ b. cond b (dedup_from has_same_length_elsewhere k xs)
+        (k ∷ dedup_from has_same_length_elsewhere x xs)) t) in
         let rise : IsNotAfter k x = h.rise zero (suc zero) k (omega arith) (omega arith) in
         let agree : HaveOrder k x = h.agree zero (suc zero) k (omega arith) (omega arith) in
         let covered = rest.covered in
@@ -130,22 +140,34 @@ kept_from k (x ∷ xs) h = elim (cases_Bool (has_same_length_elsewhere x k)) [
           ordered = subst (AllPairs StandsBefore) same rest.ordered;
           covered = subst (λ (zs : List EntryAt). All (IsCovered zs) (k ∷ (x ∷ xs))) same
               (All-cons (IsCovered (dedup_from has_same_length_elsewhere k xs)) k (x ∷ xs) (inl (kept_head k xs))
-              (All-cons (IsCovered (dedup_from has_same_length_elsewhere k xs)) x xs (inr (k, kept_head k xs, repeat k x t rise agree)) (λ i d lt. covered (suc i) d (omega (arith, lt)))));
+              (All-cons (IsCovered (dedup_from has_same_length_elsewhere k xs)) x xs
+              (inr (k, kept_head k xs, repeat k x t rise agree))
+              (λ i d lt. covered (suc i) d (omega (arith, lt)))));
         }
 
     stays : has_same_length_elsewhere x k ≡ false → KeptFrom x xs → KeptFrom k (x ∷ xs)
     stays f rest =
-        let same : k ∷ dedup_from has_same_length_elsewhere x xs ≡ dedup_from has_same_length_elsewhere k (x ∷ xs) = sym (ap (λ b. cond b (dedup_from has_same_length_elsewhere k xs) (k ∷ dedup_from has_same_length_elsewhere x xs)) f) in
-        let next : StandsBefore k x = near k x f (h.rise zero (suc zero) k (omega arith) (omega arith)) (h.apart zero (suc zero) k (omega arith) (omega arith)) in
-        let apart : All (AreApart k) (dedup_from has_same_length_elsewhere x xs) = All-dedup has_same_length_elsewhere (AreApart k) (x ∷ xs) (pairs_head AreApart k (x ∷ xs) h.apart) in
+        let same : k ∷ dedup_from has_same_length_elsewhere x xs ≡ dedup_from has_same_length_elsewhere k (x ∷ xs) =
+        sym (ap (λ b. cond b (dedup_from has_same_length_elsewhere k xs)
+        (k ∷ dedup_from has_same_length_elsewhere x xs)) f) in
+        let next : StandsBefore k x = near k x f (h.rise zero (suc zero) k (omega arith) (omega arith))
+        (h.apart zero (suc zero) k (omega arith) (omega arith)) in
+        let apart : All (AreApart k) (dedup_from has_same_length_elsewhere x xs) =
+        All-dedup has_same_length_elsewhere (AreApart k) (x ∷ xs) (pairs_head AreApart k (x ∷ xs) h.apart) in
         let first = rest.first in
-        let after : All (StandsBefore k) (dedup_from has_same_length_elsewhere x xs) = λ i d lt. before k x (get_or (dedup_from has_same_length_elsewhere x xs) i d) next (first i d lt) (apart i d lt) in
+        let after : All (StandsBefore k) (dedup_from has_same_length_elsewhere x xs) =
+        λ i d lt. before k x (get_or (dedup_from has_same_length_elsewhere x xs) i d) next (first i d lt)
+        (apart i d lt) in
         record {
-          first = subst (All (λ y. (y ≡ k) ⊎ StandsBefore k y)) same (All-cons (λ y. (y ≡ k) ⊎ StandsBefore k y) k (dedup_from has_same_length_elsewhere x xs) (inl refl) (λ i d lt. inr (after i d lt)));
+          first = subst (All (λ y. (y ≡ k) ⊎ StandsBefore k y)) same
+              (All-cons (λ y. (y ≡ k) ⊎ StandsBefore k y) k (dedup_from has_same_length_elsewhere x xs) (inl refl)
+              (λ i d lt. inr (after i d lt)));
           ordered = subst (AllPairs StandsBefore) same (AllPairs-cons StandsBefore k (dedup_from has_same_length_elsewhere x xs) after rest.ordered);
           covered = subst (λ (zs : List EntryAt). All (IsCovered zs) (k ∷ (x ∷ xs))) same
               (All-cons (IsCovered (k ∷ dedup_from has_same_length_elsewhere x xs)) k (x ∷ xs) (inl (in_front k (dedup_from has_same_length_elsewhere x xs)))
-              (All-weaker (IsCovered (dedup_from has_same_length_elsewhere x xs)) (IsCovered (k ∷ dedup_from has_same_length_elsewhere x xs)) (covered_more k (dedup_from has_same_length_elsewhere x xs)) (x ∷ xs) rest.covered));
+              (All-weaker (IsCovered (dedup_from has_same_length_elsewhere x xs))
+              (IsCovered (k ∷ dedup_from has_same_length_elsewhere x xs))
+              (covered_more k (dedup_from has_same_length_elsewhere x xs)) (x ∷ xs) rest.covered));
         }
 
 pub once_ordered : (xs : List EntryAt) → ArePlaced xs → AllPairs StandsBefore (dedup has_same_length_elsewhere xs)

@@ -51,28 +51,35 @@ none_passed xs first lt is = record {
   agree = λ i j d lt le. absurd (omega (arith, lt, le));
 }
 
-module _ (xs : List EntryAt) (i : ℕ) (first : EntryAt) (differ : Bool) (q : EntryAt) (sorted : IsSortedByKey rank_in (slice_cmp nat_cmp) xs) (lt : i < length xs) (is : q ≡ get_or xs i q)
+module _ (xs : List EntryAt) (i : ℕ) (first : EntryAt) (differ : Bool) (q : EntryAt)
+    (sorted : IsSortedByKey rank_in (slice_cmp nat_cmp) xs) (lt : i < length xs) (is : q ≡ get_or xs i q)
     (passed : ArePassed xs i first differ) where
   q_is : (d : EntryAt) → q ≡ get_or xs i d
   q_is = get_or_read xs i q lt is
 
   -- the first of the length is not after this one
   reached : IsNotAfter first q
-  reached = subst (λ x. IsNotAfter x q) (sym (passed.first_is q)) (subst (λ y. IsNotAfter (get_or xs passed.place q) y) (sym (q_is q)) (in_order_of_places xs sorted passed.place i q passed.not_past lt))
+  reached = subst (λ x. IsNotAfter x q) (sym (passed.first_is q))
+      (subst (λ y. IsNotAfter (get_or xs passed.place q) y) (sym (q_is q))
+      (in_order_of_places xs sorted passed.place i q passed.not_past lt))
 
   -- nor is one that was passed
   before_this : All (λ x. IsNotAfter x q) (take i xs)
   before_this = λ k d within.
       let long : length (take i xs) ≡ i = length-take-le i xs (omega (arith, lt)) in
       let below : k < i = omega (arith, within, long) in
-      subst (λ x. IsNotAfter x q) (sym (get_or-take i xs k d below)) (subst (λ y. IsNotAfter (get_or xs k d) y) (sym (q_is d)) (in_order_of_places xs sorted k i d (omega (arith, below)) lt))
+      subst (λ x. IsNotAfter x q) (sym (get_or-take i xs k d below))
+      (subst (λ y. IsNotAfter (get_or xs k d) y) (sym (q_is d))
+      (in_order_of_places xs sorted k i d (omega (arith, below)) lt))
 
   one_more : (P : EntryAt → Type 0) → All P (take i xs) → P q → All P (take (i + 1) xs)
   one_more P all one = All-more P xs i q lt all (subst P (q_is q) one)
 
   pairs_more : All (λ x. HaveOrder x q) (take i xs) → AllPairs HaveOrder (take (i + 1) xs)
   pairs_more all =
-      subst (AllPairs HaveOrder) (sym (take_more xs i q lt)) (all_pairs_push HaveOrder (take i xs) (get_or xs i q) passed.agree (λ k d within. subst (HaveOrder (get_or (take i xs) k d)) (q_is q) (all k d within)))
+      subst (AllPairs HaveOrder) (sym (take_more xs i q lt))
+      (all_pairs_push HaveOrder (take i xs) (get_or xs i q) passed.agree
+      (λ k d within. subst (HaveOrder (get_or (take i xs) k d)) (q_is q) (all k d within)))
 
   -- it is longer
   pub longer : (length_in q.entry ≡ length_in first.entry → ⊥) → ArePassed xs (i + 1) q false
@@ -83,9 +90,12 @@ module _ (xs : List EntryAt) (i : ℕ) (first : EntryAt) (differ : Bool) (q : En
         not_past = omega arith;
         within = lt;
         first_is = q_is;
-        each = one_more (IsPassed q false) (All-weaker (IsPassed first differ) (IsPassed q false) (λ x p. inl (shorter more x p)) (take i xs) passed.each) (inr (refl, omega arith, λ _. refl, λ e. absurd (false≢true e)));
+        each = one_more (IsPassed q false) (All-weaker (IsPassed first differ) (IsPassed q false)
+            (λ x p. inl (shorter more x p)) (take i xs) passed.each)
+            (inr (refl, omega arith, λ _. refl, λ e. absurd (false≢true e)));
         other = λ e. absurd (false≢true e);
-        agree = pairs_more (All-weaker (IsPassed first differ) (λ x. HaveOrder x q) (λ x p same. let below = shorter more x p in absurd (omega (arith, below, same))) (take i xs) passed.each);
+        agree = pairs_more (All-weaker (IsPassed first differ) (λ x. HaveOrder x q)
+            (λ x p same. let below = shorter more x p in absurd (omega (arith, below, same))) (take i xs) passed.each);
       }
     where
       grown : IsNotAfter first q → length_in first.entry < length_in q.entry
@@ -121,7 +131,14 @@ module _ (xs : List EntryAt) (i : ℕ) (first : EntryAt) (differ : Bool) (q : En
     -- this one stands in another index, and two differ
     pub tied : (differ || not alike) ≡ true → (q.input ≡ first.input → ⊥) → HaveTie xs
     tied some elsewhere = elim (cases_Bool alike) [
-      | inr not_so ↦ record { one = first; other = q; one_in = has_first; other_in = has_this; unordered = record { same_length = sym same; inputs = λ e. elsewhere (sym e); slices = other_slice not_so } }
+      | inr not_so ↦ record {
+        one = first;
+        other = q;
+        one_in = has_first;
+        other_in = has_this;
+        unordered =
+            record { same_length = sym same; inputs = λ e. elsewhere (sym e); slices = other_slice not_so };
+      }
       | inl so ↦
           let before : differ ≡ true = elim (or_cases differ (not alike) some) [ inl d ↦ d | inr n ↦ absurd (both_ways alike (not-true alike n) so) ] in
           let o = passed.other before in
@@ -131,7 +148,11 @@ module _ (xs : List EntryAt) (i : ℕ) (first : EntryAt) (differ : Bool) (q : En
             other = q;
             one_in = o.other_in;
             other_in = has_this;
-            unordered = record { same_length = o.same_length ∙ sym same; inputs = λ e. elsewhere (sym e ∙ o.same_input); slices = λ e. o.slices (here ∙ sym e) };
+            unordered = record {
+              same_length = o.same_length ∙ sym same;
+              inputs = λ e. elsewhere (sym e ∙ o.same_input);
+              slices = λ e. o.slices (here ∙ sym e);
+            };
           }
     ]
 
@@ -142,7 +163,9 @@ module _ (xs : List EntryAt) (i : ℕ) (first : EntryAt) (differ : Bool) (q : En
       not_past = let p = passed.not_past in omega (arith, p);
       within = passed.within;
       first_is = passed.first_is;
-      each = one_more (IsPassed first (differ || not alike)) (λ k d within. still (get_or (take i xs) k d) (before_this k d within) (passed.each k d within)) (inr (same, after_first, one_slice, here));
+      each = one_more (IsPassed first (differ || not alike))
+          (λ k d within. still (get_or (take i xs) k d) (before_this k d within) (passed.each k d within))
+          (inr (same, after_first, one_slice, here));
       other = λ some. elim (cases_Bool alike) [
         | inr not_so ↦ record { other = q; other_in = has_this; same_length = same; same_input = here some; slices = other_slice not_so }
         | inl so ↦ passed.other (elim (or_cases differ (not alike) some) [ inl d ↦ d | inr n ↦ absurd (both_ways alike (not-true alike n) so) ])
@@ -150,7 +173,8 @@ module _ (xs : List EntryAt) (i : ℕ) (first : EntryAt) (differ : Bool) (q : En
       agree = pairs_more (λ k d within. in_order (get_or (take i xs) k d) (still (get_or (take i xs) k d) (before_this k d within) (passed.each k d within)));
     }
       where
-        kept_input : (x : EntryAt) → IsNotAfter x q → length_in x.entry ≡ length_in first.entry → first.input ≤ x.input → q.input ≡ first.input → x.input ≡ first.input
+        kept_input : (x : EntryAt) → IsNotAfter x q → length_in x.entry ≡ length_in first.entry → first.input ≤ x.input
+            → q.input ≡ first.input → x.input ≡ first.input
         kept_input x (inl below) e le this = absurd (omega (arith, below, e, same))
         kept_input x (inr (_, inl below)) e le this = absurd (omega (arith, below, le, this))
         kept_input x (inr (_, inr (at, _))) e le this = at ∙ this
@@ -173,7 +197,8 @@ all_passed xs i first differ le passed = subst (AllPairs HaveOrder) (take_all i 
 -- entries of which each two have an order have no tie
 pub untied : (xs : List EntryAt) → AllPairs HaveOrder xs → HaveTie xs → ⊥
 untied xs agree tie = elim (cases_order tie.one_in.0 tie.other_in.0) [
-  | inl e ↦ tie.unordered.inputs (ap (λ x. x.input) (sym tie.one_in.2 ∙ ap (λ k. get_or xs k tie.one) e ∙ get_or_default xs tie.other_in.0 tie.one tie.other tie.other_in.1 ∙ tie.other_in.2))
+  | inl e ↦ tie.unordered.inputs (ap (λ x. x.input) (sym tie.one_in.2 ∙ ap (λ k. get_or xs k tie.one) e
+      ∙ get_or_default xs tie.other_in.0 tie.one tie.other tie.other_in.1 ∙ tie.other_in.2))
   | inr (inl lt) ↦
       tie.unordered.slices (ordered tie.one tie.other tie.one_in tie.other_in lt tie.unordered.same_length tie.unordered.inputs)
   | inr (inr gt) ↦

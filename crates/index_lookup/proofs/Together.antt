@@ -85,7 +85,16 @@ module _ (prefix : List ℕ) (indexes : List (List (List ℕ))) where
         record {
           among = All-dedup has_same_length_elsewhere (IsAmong indexes) sorted stand;
           each = All-dedup has_same_length_elsewhere (λ x. answers x ≡ true) sorted each;
-          whole = λ x among is. All-contains (λ z. Contains (dedup has_same_length_elsewhere sorted) z ⊎ ((y : EntryAt) × Contains (dedup has_same_length_elsewhere sorted) y × IsRepeatOf y z)) sorted x (once_covered sorted placed) (has x among is);
+          whole = λ x among is. All-contains (λ z. Contains (dedup has_same_length_elsewhere sorted) z
+              ⊎ ((y : EntryAt) × Contains (dedup has_same_length_elsewhere sorted) y × IsRepeatOf y z)) sorted x
+              (once_covered sorted placed) (has x among is);
           ordered = once_ordered sorted placed;
-          untied = λ tie. untied sorted agree (record { one = tie.one; other = tie.other; one_in = has tie.one tie.one_among tie.one_answers; other_in = has tie.other tie.other_among tie.other_answers; unordered = tie.unordered });
+          untied = λ tie. untied sorted agree (record {
+            one = tie.one;
+            other = tie.other;
+            one_in =
+                has tie.one tie.one_among tie.one_answers;
+            other_in = has tie.other tie.other_among tie.other_answers;
+            unordered = tie.unordered;
+          });
         }

@@ -1,4 +1,4 @@
--- What comes of asking entries of several indexes.
+-- The results of asking entries of several indexes.
 use Rattle.std.specs.Prelude.{◌≡◌, ◌<◌, ◌^◌, ℕ, Bool, true, List, All, Contains, length, map, slice_get, slice_set}
 use Rattle.std.specs.Prelude.{Option, Some, Result, MatchResult}
 use Rattle.std.specs.List.{AllZip}

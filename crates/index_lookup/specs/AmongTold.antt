@@ -1,4 +1,4 @@
--- What the tables of entries tell that stand in several indexes.
+-- The answers of the tables of entries in several indexes.
 use Rattle.std.specs.Prelude.{◌≡◌, ◌≤◌, ℕ, Bool, true, false, List, [], ◌∷◌, Some, length, take, drop, slice_get}
 use Rattle.std.specs.List.{AllZip}
 use Rattle.dwarf_source_frames.specs.Frames.{FrameRecord}

@@ -1,4 +1,4 @@
--- What the entries of an index say, and what the tables tell that may be stored where they say.
+-- The statements of the entries of an index, and the answers of the tables that may be stored where they say.
 use Rattle.std.specs.Prelude.{◌≡◌, ◌&&◌, ◌==◌, ℕ, Bool, List, [], slice_index, Option, MatchOption}
 use Rattle.macho_symbols.specs.Found.{FoundRecord}
 use Rattle.table_checked_pages.specs.Pages.{Claim, MayBeStored}

@@ -1,4 +1,4 @@
--- What is told, as the code has it.
+-- Answers of the code, as the definitions have them.
 use Rattle.std.specs.Prelude.{◌≡◌, ℕ, Bool, true, false, List, [], ◌∷◌, map, take, drop, slice_get, slice_index_or}
 use Rattle.std.specs.Prelude.{Option, None, Some, Vec}
 use Rattle.std.specs.List.{AllZip}

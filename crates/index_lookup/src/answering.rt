@@ -49,8 +49,8 @@ impl Answering {
 }
 
 /// The entries of these indexes that answer under a key, in the order of their records. Of the admissions under the key
-/// that no retirement of any index covers the companions answer, or else all of them. Each slice answers once: the entry
-/// of the first index stays.
+/// that no retirement of any index covers the companions answer, or else all of them. Each slice answers once: the
+/// entry of the first index stays.
 ///
 /// `None` if the entries do not tell the order: two slices of one length answer that stand in two archives. Refused for
 /// want of memory alone.

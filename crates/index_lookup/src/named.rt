@@ -109,8 +109,8 @@ fn first_with(live: &[Numbered], digest: &Digest) -> Option<NamedSlice>
     None
 }
 
-/// A slice that lives under a key and has the digest, also if it does not answer, as an entry of these indexes names it:
-/// the first that does. Refused for want of memory alone.
+/// A slice that lives under a key and has the digest, also if it does not answer, as an entry of these indexes names
+/// it: the first that does. Refused for want of memory alone.
 pub fn named_with(
     heap: &Heap,
     key: &SliceKey,

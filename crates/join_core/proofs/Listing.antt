@@ -40,11 +40,13 @@ module _ {K : Type 0} {R : K → K → Ordering} (o : IsTotalOrder R) where
   -- with the same members, and the key
   any_put : (q k : K) (xs : List K) → list_any (eq_by_cmp R q) (put R k xs) ≡ (eq_by_cmp R q k || list_any (eq_by_cmp R q) xs)
   any_put q k [] = refl
-  any_put q k (x ∷ xs) = elim (R k x) as (λ r. R k x ≡ r → list_any (eq_by_cmp R q) (match_ordering r (k ∷ x ∷ xs) (x ∷ xs) (x ∷ put R k xs)) ≡ (eq_by_cmp R q k || (eq_by_cmp R q x || list_any (eq_by_cmp R q) xs))) [
-    | Less ↦ λ _. refl
-    | Equal ↦ λ e. cc (alike_right o k x q e, or_self_left (eq_by_cmp R q x) (list_any (eq_by_cmp R q) xs))
-    | Greater ↦ λ _. grind (arith, any_put q k xs)
-  ] refl
+  any_put q k (x ∷ xs) = elim (R k x) as (λ r. R k x ≡ r
+      → list_any (eq_by_cmp R q) (match_ordering r (k ∷ x ∷ xs) (x ∷ xs) (x ∷ put R k xs))
+      ≡ (eq_by_cmp R q k || (eq_by_cmp R q x || list_any (eq_by_cmp R q) xs))) [
+        | Less ↦ λ _. refl
+        | Equal ↦ λ e. cc (alike_right o k x q e, or_self_left (eq_by_cmp R q x) (list_any (eq_by_cmp R q) xs))
+        | Greater ↦ λ _. grind (arith, any_put q k xs)
+      ] refl
 
   any_ascending_of : (q : K) (ks : List K) → list_any (eq_by_cmp R q) (ascending_of R ks) ≡ list_any (eq_by_cmp R q) ks
   any_ascending_of q [] = refl
@@ -61,7 +63,9 @@ module _ {K : Type 0} {R : K → K → Ordering} (o : IsTotalOrder R) where
     unfolding listing
     listed s = record {
       ascending = ascending_ascending_of (items s);
-      same = same_set o same s (from_list (ascending_of R (items s))) (λ q. contains-items s q ∙ sym (any_ascending_of q (items s)) ∙ sym (contains-from_list o (ascending_of R (items s)) q));
+      same = same_set o same s (from_list (ascending_of R (items s)))
+          (λ q. contains-items s q ∙ sym (any_ascending_of q (items s))
+          ∙ sym (contains-from_list o (ascending_of R (items s)) q));
     }
 
     first_none : (x : K) (y : K) (ys : List K) → R x y ≡ Less → AllByRecursion (λ z. R y z ≡ Less) ys → list_any (eq_by_cmp R x) (y ∷ ys) ≡ false
@@ -71,7 +75,8 @@ module _ {K : Type 0} {R : K → K → Ordering} (o : IsTotalOrder R) where
     itself x xs = ap (λ r. is_eq r || list_any (eq_by_cmp R x) xs) (tied_itself o x)
 
     -- two ascending lists with the same members are one
-    pub one_ascending : (xs ys : List K) → IsStrictlySortedBy R xs → IsStrictlySortedBy R ys → ((q : K) → list_any (eq_by_cmp R q) xs ≡ list_any (eq_by_cmp R q) ys) → xs ≡ ys
+    pub one_ascending : (xs ys : List K) → IsStrictlySortedBy R xs → IsStrictlySortedBy R ys
+        → ((q : K) → list_any (eq_by_cmp R q) xs ≡ list_any (eq_by_cmp R q) ys) → xs ≡ ys
     unfolding IsStrictlySortedBy
     one_ascending [] [] a b e = refl
     one_ascending [] (y ∷ ys) a b e = cc (e y, itself y ys)
@@ -94,7 +99,8 @@ module _ {K : Type 0} {R : K → K → Ordering} (o : IsTotalOrder R) where
 
     -- a set has no listing but this one
     pub one_listing : (s : FinSet R) (xs : List K) → IsListing R s xs → listing s ≡ xs
-    one_listing s xs h = one_ascending (listing s) xs (listed s).ascending h.ascending (λ q. any_listing s q ∙ ap (λ t. contains t q) h.same ∙ contains-from_list o xs q)
+    one_listing s xs h = one_ascending (listing s) xs (listed s).ascending h.ascending
+        (λ q. any_listing s q ∙ ap (λ t. contains t q) h.same ∙ contains-from_list o xs q)
 
     -- an ascending list is the listing of its set
     pub listing_ascending : (xs : List K) → IsStrictlySortedBy R xs → listing (from_list {R = R} xs) ≡ xs

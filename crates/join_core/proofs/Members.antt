@@ -18,7 +18,9 @@ module _ {K : Type 0} {R : K → K → Ordering} (o : IsTotalOrder R) (same : Is
   pub from_list_same : (xs ys : List K) → ((k : K) → Contains xs k ↔ Contains ys k) → from_list {R = R} xs ≡ from_list ys
   from_list_same xs ys each = same_set o same _ _ (λ k.
       contains-from_list o xs k
-      ∙ both_ways _ _ (λ h. list_any-from_Contains (eq_by_cmp_equiv o) k ys ((each k).0 (Contains-from_any one_key k xs h))) (λ h. list_any-from_Contains (eq_by_cmp_equiv o) k xs ((each k).1 (Contains-from_any one_key k ys h)))
+      ∙ both_ways _ _ (λ h. list_any-from_Contains (eq_by_cmp_equiv o) k ys
+      ((each k).0 (Contains-from_any one_key k xs h)))
+      (λ h. list_any-from_Contains (eq_by_cmp_equiv o) k xs ((each k).1 (Contains-from_any one_key k ys h)))
       ∙ sym (contains-from_list o ys k))
 
   -- a key goes into either part of a union

@@ -13,12 +13,15 @@ use Rattle.std.proofs.lemmas.List.Sorted.{list_any-IsPermutation}
 use Rattle.std.proofs.lemmas.List.Kept.{IsStrictlySortedBy-dedup}
 
 -- of elements with one key one is kept, as of the keys
-map_dedup_from : {X K : Type 0} (f : X → K) (same : K → K → Bool) (x : X) (xs : List X) → map f (dedup_from (λ a b. same (f a) (f b)) x xs) ≡ dedup_from same (f x) (map f xs)
+map_dedup_from : {X K : Type 0} (f : X → K) (same : K → K → Bool) (x : X) (xs : List X)
+    → map f (dedup_from (λ a b. same (f a) (f b)) x xs) ≡ dedup_from same (f x) (map f xs)
 map_dedup_from f same x [] = refl
-map_dedup_from f same x (y ∷ ys) = elim (same (f y) (f x)) as (λ b. map f (cond b (dedup_from (λ a b. same (f a) (f b)) x ys) (x ∷ dedup_from (λ a b. same (f a) (f b)) y ys)) ≡ cond b (dedup_from same (f x) (map f ys)) (f x ∷ dedup_from same (f y) (map f ys))) [
-  | true ↦ map_dedup_from f same x ys
-  | false ↦ ap (λ l. f x ∷ l) (map_dedup_from f same y ys)
-]
+map_dedup_from f same x (y ∷ ys) = elim (same (f y) (f x)) as
+    (λ b. map f (cond b (dedup_from (λ a b. same (f a) (f b)) x ys) (x ∷ dedup_from (λ a b. same (f a) (f b)) y ys))
+    ≡ cond b (dedup_from same (f x) (map f ys)) (f x ∷ dedup_from same (f y) (map f ys))) [
+      | true ↦ map_dedup_from f same x ys
+      | false ↦ ap (λ l. f x ∷ l) (map_dedup_from f same y ys)
+    ]
 
 pub map_dedup : {X K : Type 0} (f : X → K) (same : K → K → Bool) (xs : List X) → map f (dedup (λ a b. same (f a) (f b)) xs) ≡ dedup same (map f xs)
 map_dedup f same [] = refl
@@ -36,10 +39,13 @@ module _ {K : Type 0} {R : K → K → Ordering} (o : IsTotalOrder R) where
   -- a key is among those of which one is kept just where it is among all
   any_dedup_from : (q k : K) (ks : List K) → list_any (eq_by_cmp R q) (dedup_from (eq_by_cmp R) k ks) ≡ (eq_by_cmp R q k || list_any (eq_by_cmp R q) ks)
   any_dedup_from q k [] = refl
-  any_dedup_from q k (x ∷ xs) = elim (eq_by_cmp R x k) as (λ b. eq_by_cmp R x k ≡ b → list_any (eq_by_cmp R q) (cond b (dedup_from (eq_by_cmp R) k xs) (k ∷ dedup_from (eq_by_cmp R) x xs)) ≡ (eq_by_cmp R q k || (eq_by_cmp R q x || list_any (eq_by_cmp R q) xs))) [
-    | true ↦ λ e. cc (any_dedup_from q k xs, or_self_left (eq_by_cmp R q k) (list_any (eq_by_cmp R q) xs), alike_right o x k q ((Equal-is (R x k)).0 e))
-    | false ↦ λ _. ap (λ b. eq_by_cmp R q k || b) (any_dedup_from q x xs)
-  ] refl
+  any_dedup_from q k (x ∷ xs) = elim (eq_by_cmp R x k) as
+      (λ b. eq_by_cmp R x k ≡ b → list_any (eq_by_cmp R q)
+      (cond b (dedup_from (eq_by_cmp R) k xs) (k ∷ dedup_from (eq_by_cmp R) x xs))
+      ≡ (eq_by_cmp R q k || (eq_by_cmp R q x || list_any (eq_by_cmp R q) xs))) [
+        | true ↦ λ e. cc (any_dedup_from q k xs, or_self_left (eq_by_cmp R q k) (list_any (eq_by_cmp R q) xs), alike_right o x k q ((Equal-is (R x k)).0 e))
+        | false ↦ λ _. ap (λ b. eq_by_cmp R q k || b) (any_dedup_from q x xs)
+      ] refl
 
   any_dedup : (q : K) (ks : List K) → list_any (eq_by_cmp R q) (dedup (eq_by_cmp R) ks) ≡ list_any (eq_by_cmp R q) ks
   any_dedup q [] = refl
@@ -48,7 +54,8 @@ module _ {K : Type 0} {R : K → K → Ordering} (o : IsTotalOrder R) where
   module _ (same : IsAntisymmetric R) where
     -- the order of a list does not count
     pub from_list_permuted : (xs ys : List K) → IsPermutation xs ys → from_list {R = R} ys ≡ from_list xs
-    from_list_permuted xs ys p = same_set o same _ _ (λ q. contains-from_list o ys q ∙ sym (list_any-IsPermutation (eq_by_cmp R q) xs ys p) ∙ sym (contains-from_list o xs q))
+    from_list_permuted xs ys p = same_set o same _ _ (λ q. contains-from_list o ys q
+        ∙ sym (list_any-IsPermutation (eq_by_cmp R q) xs ys p) ∙ sym (contains-from_list o xs q))
 
     -- two lists put together make the union
     pub from_list_append : (xs ys : List K) → from_list {R = R} (xs ++ ys) ≡ union (from_list xs) (from_list ys)

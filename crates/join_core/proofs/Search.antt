@@ -1,5 +1,6 @@
 -- What a binary search finds in an ascending list.
-use Rattle.std.proofs.Common.{◌≡◌, ℕ, ◌+◌, ◌-◌, ◌<◌, Bool, true, false, nat_lt, get_or, ◌||◌, List, [], ◌∷◌, length, map, take, drop, refl, sym, ap, ◌∙◌, arith, Result, Ok, Err}
+use Rattle.std.proofs.Common.{◌≡◌, ℕ, ◌+◌, ◌-◌, ◌<◌, Bool, true, false, nat_lt, get_or, ◌||◌, List, [], ◌∷◌, length}
+use Rattle.std.proofs.Common.{map, take, drop, refl, sym, ap, ◌∙◌, arith, Result, Ok, Err}
 use Rattle.std.specs.declared.cmp.Ordering.{Ordering}
 use Rattle.std.specs.declared.cmp.Ordering.TheVariants.{Less, Greater}
 use Rattle.std.specs.Ordering.{eq_by_cmp, is_eq, is_le, is_lt, ordering_reverse, ordering_index}
@@ -39,7 +40,8 @@ module _ {K : Type 0} {R : K → K → Ordering} (o : IsTotalOrder R) where
   sorted_by ks h i d _ lt = ap is_lt (turned _ _ (Less-from_sorted R ks i (i + 1) d h (omega arith) lt))
 
   -- a binary search by the order finds the key or its place
-  pub searched : (ks : List K) (k : K) (r : Result ℕ ℕ) → IsStrictlySortedBy R ks → IsSearchInRange r (length ks) → IsBinarySearchResult (λ x. R x k) ks r → IsFound R ks k r
+  pub searched : (ks : List K) (k : K) (r : Result ℕ ℕ) → IsStrictlySortedBy R ks → IsSearchInRange r (length ks)
+      → IsBinarySearchResult (λ x. R x k) ks r → IsFound R ks k r
   searched ks k (Ok i) up lt at = record {
     present = contains-from_list o ks k ∙ list_any_at (eq_by_cmp R k) ks i k lt (ap is_eq (tied_back o _ k (at k)));
     absent = tt;
@@ -47,7 +49,8 @@ module _ {K : Type 0} {R : K → K → Ordering} (o : IsTotalOrder R) where
   searched ks k (Err i) up le parted =
       let parts = parted (searchable_from_sorted o (λ x. x) ks k (sorted_by ks up)) in
       let before : AllByRecursion (λ x. R x k ≡ Less) (take i ks) = along_take (λ x. R x k ≡ Less) ks i (λ j d lt _. parts.0 j d (omega arith) lt) in
-      let after : AllByRecursion (λ x. R k x ≡ Less) (drop i ks) = along_drop (λ x. R k x ≡ Less) ks i (λ j d ge lt. o.antisymm k _ ∙ ap ordering_reverse (parts.1 j d ge lt)) in
+      let after : AllByRecursion (λ x. R k x ≡ Less) (drop i ks) =
+      along_drop (λ x. R k x ≡ Less) ks i (λ j d ge lt. o.antisymm k _ ∙ ap ordering_reverse (parts.1 j d ge lt)) in
       record {
         present = tt;
         absent = record {
@@ -66,7 +69,8 @@ module _ {K : Type 0} {R : K → K → Ordering} (o : IsTotalOrder R) where
     rises xs h i j d le lt = rw (← get_or-map_at f xs i d, ← get_or-map_at f xs j d) (h i j (f d) le (rw length-map lt))
 
     -- the same, by a key of each element
-    pub searched_by : (xs : List X) (r : Result ℕ ℕ) → IsStrictlySortedBy R (map f xs) → IsSearchInRange r (length xs) → IsBinarySearchResult (λ x. R (f x) k) xs r → IsFound R (map f xs) k r
+    pub searched_by : (xs : List X) (r : Result ℕ ℕ) → IsStrictlySortedBy R (map f xs) → IsSearchInRange r (length xs)
+        → IsBinarySearchResult (λ x. R (f x) k) xs r → IsFound R (map f xs) k r
     searched_by [] (Ok i) up lt at = absurd (omega arith)
     searched_by [] (Err i) up le parted = searched [] k (Err i) up le (λ _. (λ j d a b. absurd (omega arith), λ j d a b. absurd (omega arith)))
     searched_by (x ∷ xs) (Ok i) up lt at = searched (map f (x ∷ xs)) k (Ok i) up (rw length-map lt) (λ d. rw (get_or-map f (x ∷ xs) i x d lt) (at x))
@@ -78,7 +82,8 @@ module _ {K : Type 0} {R : K → K → Ordering} (o : IsTotalOrder R) where
         ))
 
   -- above the last key, a key goes to the end
-  pub searched_last : (ks : List K) (k : K) (d : K) → IsStrictlySortedBy R ks → 0 < length ks → R (get_or ks (length ks - 1) d) k ≡ Less → IsFound R ks k (Err (length ks))
+  pub searched_last : (ks : List K) (k : K) (d : K) → IsStrictlySortedBy R ks → 0 < length ks
+      → R (get_or ks (length ks - 1) d) k ≡ Less → IsFound R ks k (Err (length ks))
   searched_last ks k d up some above =
       searched ks k (Err (length ks)) up (omega arith) (λ _. (
         λ j e ge lt. below_last j e lt,

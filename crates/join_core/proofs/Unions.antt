@@ -10,7 +10,8 @@ module _ {K : Type 0} {R : K → K → Ordering} (o : IsTotalOrder R) where
   either_has P a b f g h = grind arith
 
   -- what each member of two sets has, each of their union has
-  pub union_members : (P : K → Type 0) → (s t : FinSet R) → ((q : K) → contains s q ≡ true → P q) → ((q : K) → contains t q ≡ true → P q) → (q : K) → contains (union s t) q ≡ true → P q
+  pub union_members : (P : K → Type 0) → (s t : FinSet R) → ((q : K) → contains s q ≡ true → P q)
+      → ((q : K) → contains t q ≡ true → P q) → (q : K) → contains (union s t) q ≡ true → P q
   union_members P s t a b q h = either_has (P q) (contains s q) (contains t q) (a q) (b q) (sym (contains-union o s t q) ∙ h)
 
   -- the union with nothing changes nothing

@@ -1,4 +1,4 @@
--- Least bounds: what a join gives, and where a join may stop half way.
+-- Least bounds: the result of a join, and the places where a join may stop half way.
 
 -- the join of x and y, their least upper bound: a content above both, and below each content that is above both (INRIA
 -- RR-7506, state-based objects)

@@ -8,7 +8,8 @@ use Rattle.archive_records.specs.declared.kind.TextKind.TheVariants.{Archive as 
 use Rattle.command_common.specs.declared.faults.InputName.{InputName}
 use Rattle.command_common.specs.declared.faults.Why.{Why}
 use Rattle.command_common.specs.Archives.{further_name}
-use Rattle.command_common.specs.Inputs.{Reader, IsArchive, IsArchiveRefused, IsDeviceFault, IsFirstRefused, IsGiven, IsGivenArchive, IsRefusedInTurn, IsTextRefused}
+use Rattle.command_common.specs.Inputs.{Reader, IsArchive, IsArchiveRefused, IsDeviceFault, IsFirstRefused, IsGiven}
+use Rattle.command_common.specs.Inputs.{IsGivenArchive, IsRefusedInTurn, IsTextRefused}
 use Rattle.command_write.specs.Merge.{merge}
 use Rattle.laws_archive.proofs.Given.{gives}
 use Rattle.laws_archive.proofs.Refusals.{text_accepted}
@@ -19,7 +20,8 @@ text : {S : Type 0} (kind : TextKind) (input : Reader S) (m : Meaning kind) (byt
 text kind input m bytes why is of given refused =
     text_accepted kind input input why (bytes, given, given) (m, is, gives input bytes (IsTextOf kind m) given of) refused
 
-pub archive : {R : Type 0} (input : Reader R) (o : Operations) (why : Why) → IsContent o → IsGivenArchive input o → IsArchiveRefused input why → IsDeviceFault why
+pub archive : {R : Type 0} (input : Reader R) (o : Operations) (why : Why) → IsContent o → IsGivenArchive input o
+    → IsArchiveRefused input why → IsDeviceFault why
 archive input o why content given refused = text ArchiveFile input o given.0 why content given.1 given.2 refused
 
 -- and a text after an archive
@@ -40,7 +42,8 @@ at_place R P (f ∷ files) (text ∷ texts) (suc place) file given good at = at_
 -- an archive and files after it
 module _ {R S Y : Type 0} (input : Reader R) (files : List (Reader S)) (o : Operations) (texts : List Y) (at : InputName) (why : Why)
     (content : IsContent o) (given : IsGivenArchive input o) where
-  pub listed_refused : (Is : Reader S → Y → Type 0) (P : Y → Type 0) (asked_of : ℕ → InputName) (IsGood : Reader S → Type 0) (IsRefused : Reader S → Why → Type 0)
+  pub listed_refused : (Is : Reader S → Y → Type 0) (P : Y → Type 0) (asked_of : ℕ → InputName)
+      (IsGood : Reader S → Type 0) (IsRefused : Reader S → Why → Type 0)
       → ((file : Reader S) (text : Y) → P text → Is file text → IsRefused file why → IsDeviceFault why) → AllZip Is files texts → AllByRecursion P texts
       → IsRefusedInTurn input (IsFirstRefused asked_of IsGood IsRefused files) at why → IsDeviceFault why
   listed_refused Is P asked_of IsGood IsRefused alone are good (inl p) = archive input o why content given p.1

@@ -1,5 +1,6 @@
 -- Each key has one list of the slices that answer under it, in any set of operations.
-use Rattle.std.proofs.Common.{◌≡◌, ℕ, Bool, true, ◌&&◌, not, List, [], ◌∷◌, ◌++◌, length, drop, map, filter, refl, sym, ap, ◌∙◌, subst, arith, Contains, bytes_eq, drop_at}
+use Rattle.std.proofs.Common.{◌≡◌, ℕ, Bool, true, ◌&&◌, not, List, [], ◌∷◌, ◌++◌, length, drop, map, filter, refl, sym}
+use Rattle.std.proofs.Common.{ap, ◌∙◌, subst, arith, Contains, bytes_eq, drop_at}
 use Rattle.std.specs.Int.{w64, to_be_bytes}
 use Rattle.std.specs.Ordering.{nat_cmp, on}
 use Rattle.std.specs.Cmp.Lexicographic.{slice_cmp, nat_list_cmp_total}
@@ -32,7 +33,8 @@ module _ (o : Operations) (key : SliceKey) where
   unfolding admission
   back_in slice under =
       let long = to_be_bytes w64 (length slice) in
-      ap (drop 8) (drop_at (key_bytes (key_of slice)) (long ++ slice) (length (key_bytes key)) (ap (λ k. length (key_bytes k)) under)) ∙ drop_at long slice 8 refl
+      ap (drop 8) (drop_at (key_bytes (key_of slice)) (long ++ slice) (length (key_bytes key))
+      (ap (λ k. length (key_bytes k)) under)) ∙ drop_at long slice 8 refl
 
   -- whether the record admits the slice, which is live under the key
   abbrev passes : List ℕ → List ℕ → Bool
@@ -51,7 +53,8 @@ module _ (o : Operations) (key : SliceKey) where
       }
 
   test_of_live : (slice : List ℕ) → IsLive o key slice → passes (admission_record slice) slice ≡ true
-  test_of_live slice h = λ i. (bytes_eq-Decides (admission_record slice) (admission_record slice)).1 refl i && (is_key_of (key_of slice) key h.under i && not (h.kept i))
+  test_of_live slice h = λ i. (bytes_eq-Decides (admission_record slice) (admission_record slice)).1 refl i
+      && (is_key_of (key_of slice) key h.under i && not (h.kept i))
 
   -- the live slices of the key, in the order of their records
   abbrev picks : List ℕ → Bool
@@ -75,7 +78,8 @@ module _ (o : Operations) (key : SliceKey) where
 
   same_records : (rs : List (List ℕ)) → map admission_record (map slice_in (filter picks rs)) ≡ filter picks rs
   same_records [] = refl
-  same_records (r ∷ rs) = cond_both (picks r) _ _ (λ kept. map admission_record (map slice_in kept) ≡ kept) (λ t i. admits r (slice_in r) t i ∷ same_records rs i) (λ t. same_records rs)
+  same_records (r ∷ rs) = cond_both (picks r) _ _ (λ kept. map admission_record (map slice_in kept) ≡ kept)
+      (λ t i. admits r (slice_in r) t i ∷ same_records rs i) (λ t. same_records rs)
 
   live_ascending : IsStrictlySortedBy (on admission_record (slice_cmp nat_cmp)) slices_live
   live_ascending =
@@ -92,7 +96,9 @@ module _ (o : Operations) (key : SliceKey) where
         λ h. record {
           live = held_in slice h;
           companions_first = λ companion live t.
-              let nowhere = subst (λ l. Contains l companion) none (to_filter is_dsym_image slices_live companion (in_live companion live) t) in absurd (omega (arith, nowhere.1));
+              let nowhere = subst (λ l. Contains l companion) none
+              (to_filter is_dsym_image slices_live companion (in_live companion live) t)
+              in absurd (omega (arith, nowhere.1));
         },
         λ h. in_live slice h.live,
       );

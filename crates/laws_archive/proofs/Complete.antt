@@ -1,5 +1,8 @@
 -- Each text is that of a content, or has a fault.
-use Rattle.std.proofs.Common.{◌≡◌, ◌≢◌, ℕ, zero, suc, ◌+◌, ◌<◌, ◌≤◌, true, false, List, [], ◌∷◌, ◌++◌, length, get_or, take, drop, ◌==◌, Some, Ok, Err, refl, sym, ap, ◌∙◌, subst, arith, inl, inr, ◌⊎◌, append_assoc, length-append, length-take, take-append-drop, lit≤, bytes_eq, take_all, drop_at, get_or-take}
+use Rattle.std.proofs.Common.{◌≡◌, ◌≢◌, ℕ, zero, suc, ◌+◌, ◌<◌, ◌≤◌, true, false, List, [], ◌∷◌, ◌++◌, length, get_or}
+use Rattle.std.proofs.Common.{take, drop, ◌==◌, Some, Ok, Err, refl, sym, ap, ◌∙◌, subst, arith, inl, inr, ◌⊎◌}
+use Rattle.std.proofs.Common.{append_assoc, length-append, length-take, take-append-drop, lit≤, bytes_eq, take_all}
+use Rattle.std.proofs.Common.{drop_at, get_or-take}
 use Rattle.std.proofs.lemmas.Slice.Eq.{bytes_eq-Decides}
 use Rattle.std.proofs.lemmas.Bool.{cases_Bool, cases_lt, eqb-true}
 use Rattle.std.specs.List.{concat}
@@ -17,7 +20,8 @@ use Rattle.archive_records.specs.declared.fault.RecordFault.{RecordFault}
 use Rattle.archive_records.specs.Layout.{head_length, body_length, framed}
 use Rattle.archive_records.specs.Kind.{magic_of, kind_of, archive_format, IsItem}
 use Rattle.archive_records.specs.Text.{ending, text_of, IsArchiveOf, taken_of, InOrder, AreApart, last_of, IsOperationsText, IsSummaryText}
-use Rattle.archive_records.specs.Fault.{is_end, next, FailsNext, FailsBehind, Fails, RefusesSlice, Refuses, IsTrailing, IsUnended, IsFault, IsOperationsFault, IsSummaryFault, IsFaultOf}
+use Rattle.archive_records.specs.Fault.{is_end, next, FailsNext, FailsBehind, Fails, RefusesSlice, Refuses, IsTrailing}
+use Rattle.archive_records.specs.Fault.{IsUnended, IsFault, IsOperationsFault, IsSummaryFault, IsFaultOf}
 use Rattle.archive_records.specs.Front.{IsGoodFront, front_length}
 use Rattle.archive_records.proofs.Formats.{kind_archive, length-magic}
 use Rattle.archive_records.proofs.Versions.{Formed, formed_content, formed_text}
@@ -44,7 +48,8 @@ same_or_not a b = elim (cases_Bool (bytes_eq a b)) [
 ]
 
 -- whole bytes that are no end record are a record, or refused for what they hold
-record_or_refused : (bytes : List ℕ) → framed Archive bytes ≡ Ok (length bytes) → is_end bytes ≡ false → IsBytes bytes → IsRecord bytes ⊎ ((kind : RecordFaultKind) × RefusesSlice bytes kind)
+record_or_refused : (bytes : List ℕ) → framed Archive bytes ≡ Ok (length bytes) → is_end bytes ≡ false → IsBytes bytes
+    → IsRecord bytes ⊎ ((kind : RecordFaultKind) × RefusesSlice bytes kind)
 record_or_refused bytes whole no_end fits =
     elim (cases_Bool (get_or bytes 0 0 == 1)) [
       | inl one ↦ inl (inr (retires bytes whole (eqb-true _ _ one) fits))
@@ -60,11 +65,13 @@ record_or_refused bytes whole no_end fits =
     ]
 
 -- and so of each kind of file
-item_or_refused : (file : Format) (bytes : List ℕ) → framed file bytes ≡ Ok (length bytes) → is_end bytes ≡ false → IsBytes bytes → IsItem file bytes ⊎ ((kind : RecordFaultKind) × Refuses file bytes kind)
+item_or_refused : (file : Format) (bytes : List ℕ) → framed file bytes ≡ Ok (length bytes) → is_end bytes ≡ false
+    → IsBytes bytes → IsItem file bytes ⊎ ((kind : RecordFaultKind) × Refuses file bytes kind)
 item_or_refused Archive bytes whole no_end fits = record_or_refused bytes whole no_end fits
 item_or_refused OldArchive bytes whole no_end fits = record_or_refused bytes (archive_framed OldArchive (inr (inl refl)) bytes whole no_end) no_end fits
 item_or_refused Summary_file bytes whole no_end fits = inl (entry-of bytes whole no_end)
-item_or_refused Operations_file bytes whole no_end fits = record_or_refused bytes (archive_framed Operations_file (inr (inr refl)) bytes whole no_end) no_end fits
+item_or_refused Operations_file bytes whole no_end fits =
+    record_or_refused bytes (archive_framed Operations_file (inr (inr refl)) bytes whole no_end) no_end fits
 
 ended_or_not : (file : Format) (rest : List ℕ) (count : ℕ) → IsUnended file rest ⊎ (rest ≡ ending file count)
 ended_or_not Operations_file [] count = inr refl
@@ -72,7 +79,9 @@ ended_or_not Operations_file (x ∷ rest) count = inl (λ e. cc)
 ended_or_not _ rest count = inl tt
 
 -- a record that may follow is covered by none of those before, or refused for one that covers it
-apart_or_not : (file : Format) (records : List (List ℕ)) (rest : List ℕ) → InOrder file [] records → AreApart file records → (k : Takes file (last_of [] records) rest) → AreApart file (records ++ k.item ∷ []) ⊎ FailsBehind file records rest Covered
+apart_or_not : (file : Format) (records : List (List ℕ)) (rest : List ℕ) → InOrder file [] records
+    → AreApart file records → (k : Takes file (last_of [] records) rest) → AreApart file (records ++ k.item ∷ [])
+    ⊎ FailsBehind file records rest Covered
 apart_or_not Archive records rest a is k = elim (cases_Bool (is_covered (set.from_list records) k.item)) [
   | inl covered ↦ inr (refl, record { item = k.item; more = k.more; whole = k.whole; is = k.is; above = k.above; covered = covered })
   | inr free ↦ inl (push_apart records k.item a k.above is free)
@@ -92,7 +101,8 @@ module _ (file : Format) where
       let split : item ++ drop n rest ≡ rest = take-append-drop n rest in
       let some = Holds-nine file rest n h in
       let tag : head_length file (get_or item 0 0) ≡ Some h.head = ap (head_length file) (get_or-take n rest 0 0 (omega arith)) ∙ h.tag in
-      let body : body_length file rest ≡ body_length file item = ap (body_length file) (sym split) ∙ same_body file item (drop n rest) h.head (omega arith) tag (omega arith) in
+      let body : body_length file rest ≡ body_length file item = ap (body_length file) (sym split)
+      ∙ same_body file item (drop n rest) h.head (omega arith) tag (omega arith) in
       let small : body_length file item ≤ 4294967295 = rw (← body) h.small in
       framed-whole file item h.head (omega arith) tag (omega arith) small (omega arith) ∙ ap done (omega arith)
 
@@ -115,16 +125,25 @@ module _ (file : Format) where
         let long = h.fits in
         elim (cases_lt 9 (length rest)) [
           | inl more ↦ inr (inl (record { whole = e ∙ ap done nine; end = end; more = more }))
-          | inr all ↦ inr (inr (inl (ending_is file rest n count whole three (ends file rest count (whole ∙ ap done (omega arith)) three (next-counts file last count rest n e end) fits))))
+          | inr all ↦ inr (inr (inl (ending_is file rest n count whole three
+              (ends file rest count (whole ∙ ap done (omega arith)) three (next-counts file last count rest n e end)
+              fits))))
         ]
 
     found_whole : is_end rest ≡ false → Found last count rest
     found_whole no_end =
         let bytes : List ℕ = take n rest in
         let cut : framed file bytes ≡ Ok (length bytes) = framed-cut rest n whole in
-        let same : is_end bytes ≡ false = sym (is_end-grows bytes (drop n rest) (holds file bytes (length bytes) cut).one) ∙ ap is_end (take-append-drop n rest) ∙ no_end in
+        let same : is_end bytes ≡ false = sym (is_end-grows bytes (drop n rest)
+        (holds file bytes (length bytes) cut).one) ∙ ap is_end (take-append-drop n rest) ∙ no_end in
         elim (item_or_refused file bytes cut same (IsBytes-take n rest fits)) [
-          | inl is ↦ inr (inr (inr (record { item = bytes; more = drop n rest; whole = sym (take-append-drop n rest); is = is; above = next-above file last count rest n e no_end })))
+          | inl is ↦ inr (inr (inr (record {
+            item = bytes;
+            more = drop n rest;
+            whole = sym (take-append-drop n rest);
+            is = is;
+            above = next-above file last count rest n e no_end;
+          })))
           | inr refused ↦ inl (refused.0, inr (n, e, refused.1))
         ]
 
@@ -139,9 +158,11 @@ module _ (file : Format) where
 
   -- a text is that of records, or has a fault
   abbrev pub Known : List ℕ → Type 0
-  Known t = ((records : List (List ℕ)) × InOrder file [] records × AreApart file records × (t ≡ text_of file records)) ⊎ ((fault : RecordFault) × IsFaultOf file t fault)
+  Known t = ((records : List (List ℕ)) × InOrder file [] records × AreApart file records × (t ≡ text_of file records))
+      ⊎ ((fault : RecordFault) × IsFaultOf file t fault)
 
-  fault_known : (t : List ℕ) (records : List (List ℕ)) (front : IsGoodFront file t records) (kind : RecordFaultKind) → IsUnended file front.rest → Fails file records front.rest kind → Known t
+  fault_known : (t : List ℕ) (records : List (List ℕ)) (front : IsGoodFront file t records) (kind : RecordFaultKind)
+      → IsUnended file front.rest → Fails file records front.rest kind → Known t
   fault_known t records front kind u f = inr (record { kind = kind; offset = front_length records }, inr (records, front, u, inl (f, refl)))
 
   all_known : (t : List ℕ) (records : List (List ℕ)) (front : IsGoodFront file t records) → front.rest ≡ ending file (length records) → Known t
@@ -149,12 +170,15 @@ module _ (file : Format) where
       inl (records, front.ordered, front.apart, front.whole ∙ ap (λ (x : List ℕ). magic_of file ++ (concat records ++ x)) end)
 
   -- one record more in front of the rest
-  abbrev goes_on : (t : List ℕ) (records : List (List ℕ)) (front : IsGoodFront file t records) (k : Takes file (last_of [] records) front.rest) → AreApart file (records ++ k.item ∷ []) → IsGoodFront file t (records ++ k.item ∷ [])
+  abbrev goes_on : (t : List ℕ) (records : List (List ℕ)) (front : IsGoodFront file t records)
+      (k : Takes file (last_of [] records) front.rest) → AreApart file (records ++ k.item ∷ [])
+      → IsGoodFront file t (records ++ k.item ∷ [])
   goes_on t records front k free = record {
     ordered = InOrder-push file [] records k.item front.ordered k.is k.above;
     apart = free;
     rest = k.more;
-    whole = front.whole ∙ ap (λ (x : List ℕ). magic_of file ++ x) (rw (k.whole, concat-push records k.item) (sym (append_assoc (concat records) k.item k.more)));
+    whole = front.whole ∙ ap (λ (x : List ℕ). magic_of file ++ x)
+        (rw (k.whole, concat-push records k.item) (sym (append_assoc (concat records) k.item k.more)));
   }
 
   -- the records in front of the rest, one after another
@@ -171,7 +195,8 @@ module _ (file : Format) where
                 let some = (holds file k.item (length k.item) (item-framed file k.item k.is)).one in
                 let shorter : length k.more < fuel = omega (arith, ap length k.whole, length-append k.item k.more) in
                 let tail : drop (length k.item) front.rest ≡ k.more = ap (drop (length k.item)) k.whole ∙ drop_at k.item k.more (length k.item) refl in
-                walk t fuel (records ++ k.item ∷ []) (goes_on t records front k free) shorter (subst IsBytes tail (IsBytes-drop (length k.item) front.rest fits))
+                walk t fuel (records ++ k.item ∷ []) (goes_on t records front k free) shorter
+                (subst IsBytes tail (IsBytes-drop (length k.item) front.rest fits))
             | inr fails ↦ fault_known t records front Covered u (inr fails)
           ]
         ]
@@ -189,24 +214,37 @@ module _ (file : Format) where
     ]
     | inr long ↦ elim (same_or_not (take 8 t) (take 8 (magic_of file))) [
       | inl same ↦
-          let whole : t ≡ magic_of file ++ drop 8 t = sym (take-append-drop 8 t) ∙ ap (λ (x : List ℕ). x ++ drop 8 t) (same ∙ take_all 8 (magic_of file) (omega (arith, length-magic file))) in
-          walk t (length (drop 8 t) + 1) [] (record { ordered = tt; apart = apart_none file; rest = drop 8 t; whole = whole }) (omega arith) (IsBytes-drop 8 t fits)
+          let whole : t ≡ magic_of file ++ drop 8 t = sym (take-append-drop 8 t)
+          ∙ ap (λ (x : List ℕ). x ++ drop 8 t) (same
+          ∙ take_all 8 (magic_of file) (omega (arith, length-magic file))) in
+          walk t (length (drop 8 t) + 1) [] (record {
+            ordered = tt;
+            apart = apart_none file;
+            rest = drop 8 t;
+            whole =
+                whole;
+          }) (omega arith) (IsBytes-drop 8 t fits)
       | inr other ↦ bad_magic t 8 (lit≤ tt) long other
     ]
   ]
 
-content_known : (file : Format) → kind_of file ≡ Archive_text → (t : List ℕ) → Known file t → ((o : Operations) × IsContent o × IsArchiveOf o t) ⊎ ((fault : RecordFault) × IsFaultOf file t fault)
+content_known : (file : Format) → kind_of file ≡ Archive_text → (t : List ℕ) → Known file t
+    → ((o : Operations) × IsContent o × IsArchiveOf o t) ⊎ ((fault : RecordFault) × IsFaultOf file t fault)
 content_known file is t (inl k) =
-    let form : Formed (set.from_list (taken_of file k.0)) t = record { format = file; archive = is; records = k.0; ordered = k.1; apart = k.2; whole = k.3; content = refl } in
+    let form : Formed (set.from_list (taken_of file k.0)) t =
+    record { format = file; archive = is; records = k.0; ordered = k.1; apart = k.2; whole = k.3; content = refl }
+    in
     inl (set.from_list (taken_of file k.0), formed_content (set.from_list (taken_of file k.0)) t form, formed_text (set.from_list (taken_of file k.0)) t form)
 content_known file is t (inr f) = inr f
 
 pub content_or_fault : (t : List ℕ) → IsBytes t → ((o : Operations) × IsContent o × IsArchiveOf o t) ⊎ ((fault : RecordFault) × IsFault t fault)
 content_or_fault t fits = content_known (archive_format t) (kind_archive t) t (text_or_fault (archive_format t) t fits)
 
-pub operations_or_fault : (t : List ℕ) → IsBytes t → ((operations : List Operation) × IsOperationsText t operations) ⊎ ((fault : RecordFault) × IsOperationsFault t fault)
+pub operations_or_fault : (t : List ℕ) → IsBytes t → ((operations : List Operation) × IsOperationsText t operations)
+    ⊎ ((fault : RecordFault) × IsOperationsFault t fault)
 operations_or_fault t fits = elim (text_or_fault Operations_file t fits) [
-  | inl k ↦ let listed = operations_in [] k.0 k.1 in inl (listed.0, IsOperationsText-text t listed.0 listed.1 (k.3 ∙ ap (text_of Operations_file) (sym listed.2)))
+  | inl k ↦ let listed = operations_in [] k.0 k.1 in inl
+      (listed.0, IsOperationsText-text t listed.0 listed.1 (k.3 ∙ ap (text_of Operations_file) (sym listed.2)))
   | inr f ↦ inr f
 ]
 

@@ -25,12 +25,16 @@ use Rattle.archive_records.proofs.Formats.{format_magic}
 no_magic_covers : (file : Format) (text : List ℕ) (kind : RecordFaultKind) → kind ≡ Covered → IsMagicFault file text kind → ⊥
 no_magic_covers file text kind e m = subst (IsMagicFault file text) e m
 
-by_behind : (file : Format) (records : List (List ℕ)) (rest : List ℕ) (kind : RecordFaultKind) → kind ≡ Covered → Fails file records rest kind → FailsBehind file records rest kind
-by_behind file records rest kind e (inl f) = absurd (fails_not_covered file (last_of [] records) (length records) rest (subst (FailsNext file (last_of [] records) (length records) rest) e f))
+by_behind : (file : Format) (records : List (List ℕ)) (rest : List ℕ) (kind : RecordFaultKind) → kind ≡ Covered
+    → Fails file records rest kind → FailsBehind file records rest kind
+by_behind file records rest kind e (inl f) = absurd (fails_not_covered file (last_of [] records) (length records) rest
+    (subst (FailsNext file (last_of [] records) (length records) rest) e f))
 by_behind file records rest kind e (inr f) = f
 
 -- only an archive's text has such a fault
-behind_covered : (file : Format) (records : List (List ℕ)) (rest : List ℕ) (fault : RecordFault) → fault.kind ≡ Covered → IsFaultBehind file records rest fault → FailsBehind file records rest fault.kind × (fault.offset ≡ front_length records)
+behind_covered : (file : Format) (records : List (List ℕ)) (rest : List ℕ) (fault : RecordFault) → fault.kind ≡ Covered
+    → IsFaultBehind file records rest fault → FailsBehind file records rest fault.kind
+    × (fault.offset ≡ front_length records)
 behind_covered file records rest fault e (inl f) = (by_behind file records rest fault.kind e f.0, f.1)
 behind_covered file records rest fault e (inr t) = cc (sym e ∙ t.0)
 
@@ -46,7 +50,9 @@ StandsCovered text records slice rest =
     IsValid slice × (text ≡ magic ++ (concat records ++ (admission_record slice ++ rest))) × Contains records (retirement_record (key_of slice) (sha256 slice))
 
 -- a record that is covered admits a slice
-covered_slice : (records : List (List ℕ)) (item : List ℕ) → IsRecord item → is_covered (set_of records) item ≡ true → (slice : List ℕ) × IsValid slice × (item ≡ admission_record slice) × Contains records (retirement_record (key_of slice) (sha256 slice))
+covered_slice : (records : List (List ℕ)) (item : List ℕ) → IsRecord item → is_covered (set_of records) item ≡ true
+    → (slice : List ℕ) × IsValid slice × (item ≡ admission_record slice)
+    × Contains records (retirement_record (key_of slice) (sha256 slice))
 covered_slice records item (inl a) c =
     let at : Contains records (covering item) = from_set records (covering item) (and_right _ _ c) in
     (a.slice, a.valid, a.is, subst (Contains records) (ap covering a.is ∙ covering_admission a.slice a.valid) at)
@@ -54,9 +60,13 @@ covered_slice records item (inr t) c = absurd (not_covering item _ (and_left _ _
 
 -- a covered slice, as words tell it
 abbrev IsCoveredThere : List ℕ → RecordFault → Type 0
-IsCoveredThere text fault = (records : List (List ℕ)) × (slice : List ℕ) × (rest : List ℕ) × IsLongestFront Archive text records × StandsCovered text records slice rest × (fault.offset ≡ front_length records)
+IsCoveredThere text fault = (records : List (List ℕ)) × (slice : List ℕ) × (rest : List ℕ)
+    × IsLongestFront Archive text records × StandsCovered text records slice rest
+    × (fault.offset ≡ front_length records)
 
-covered_behind : (text : List ℕ) (fault : RecordFault) (records : List (List ℕ)) (front : IsGoodFront Archive text records) → IsFaultBehind Archive records front.rest fault → fault.kind ≡ Covered → IsCoveredThere text fault
+covered_behind : (text : List ℕ) (fault : RecordFault) (records : List (List ℕ))
+    (front : IsGoodFront Archive text records) → IsFaultBehind Archive records front.rest fault → fault.kind ≡ Covered
+    → IsCoveredThere text fault
 covered_behind text fault records front f e =
     let behind = behind_covered Archive records front.rest fault e f in
     let next = behind.0.1 in
@@ -77,7 +87,9 @@ covered_in file text fault (inr f) e = absurd (behind_covered file f.0 f.1.rest 
 pub is_covered_there : (text : List ℕ) (fault : RecordFault) → IsFault text fault → fault.kind ≡ Covered → IsCoveredThere text fault
 is_covered_there text fault f e = covered_in (archive_format text) text fault f e
 
-pub told_covered : (text : List ℕ) (records : List (List ℕ)) (front : IsGoodFront Archive text records) (slice rest : List ℕ) → IsValid slice → front.rest ≡ admission_record slice ++ rest → may_follow Archive (last_of [] records) (admission_record slice) ≡ true
+pub told_covered : (text : List ℕ) (records : List (List ℕ)) (front : IsGoodFront Archive text records)
+    (slice rest : List ℕ) → IsValid slice → front.rest ≡ admission_record slice ++ rest
+    → may_follow Archive (last_of [] records) (admission_record slice) ≡ true
     → Contains records (retirement_record (key_of slice) (sha256 slice)) → IsFault text (record { kind = Covered; offset = front_length records })
 told_covered text records front slice rest valid whole above there =
     let told : IsFaultOf Archive text (record { kind = Covered; offset = front_length records }) =
@@ -100,7 +112,8 @@ told_covered text records front slice rest valid whole above there =
         refl,
       ),
     ) in
-    subst (λ (f : Format). IsFaultOf f text (record { kind = Covered; offset = front_length records })) (sym (format_magic Archive refl text (concat records ++ front.rest) front.whole)) told
+    subst (λ (f : Format). IsFaultOf f text (record { kind = Covered; offset = front_length records }))
+    (sym (format_magic Archive refl text (concat records ++ front.rest) front.whole)) told
 
 -- a text of version 1 has no such fault
 pub old_uncovered : (text rest : List ℕ) (fault : RecordFault) → text ≡ old_magic ++ rest → IsFault text fault → fault.kind ≢ Covered

@@ -1,10 +1,13 @@
 -- The draft after each of the calls.
-use Rattle.std.proofs.Common.{◌≡◌, ◌≢◌, ◌⊎◌, ℕ, Contains, zero, suc, true, false, List, [], ◌∷◌, ◌++◌, take, map, fold, length, Option, Some, refl, sym, ap, ◌∙◌, inl, inr, subst, append_assoc, arith, bytes_eq, append-nil, take_all}
+use Rattle.std.proofs.Common.{◌≡◌, ◌≢◌, ◌⊎◌, ℕ, Contains, zero, suc, true, false, List, [], ◌∷◌, ◌++◌, take, map, fold}
+use Rattle.std.proofs.Common.{length, Option, Some, refl, sym, ap, ◌∙◌, inl, inr, subst, append_assoc, arith, bytes_eq}
+use Rattle.std.proofs.Common.{append-nil, take_all}
 use Rattle.std.specs.List.{AllByRecursion, concat}
 use Rattle.std.proofs.lemmas.Bool.{and_parts, false_from_ne_true, or_right}
 use Rattle.std.proofs.lemmas.List.Sums.{fold-append}
 use Rattle.std.proofs.lemmas.Slice.Eq.{bytes_eq-Decides}
-use Rattle.cli_files.specs.FileCalls.{FileCall, Creates, Opens, Writes, Syncs, Renames, SyncsFolder, Removes, Finds, FindsLink, Leads, are_probes, drafting, is_probe, publishing, taking, writing}
+use Rattle.cli_files.specs.FileCalls.{FileCall, Creates, Opens, Writes, Syncs, Renames, SyncsFolder, Removes, Finds}
+use Rattle.cli_files.specs.FileCalls.{FindsLink, Leads, are_probes, drafting, is_probe, publishing, taking, writing}
 use Rattle.cli_files.specs.Publishing.{IsDescriptor, IsDraftRemoved, IsDrafted, IsReplaced, IsTargetOf, IsWrittenThrough, draft_mode, folder_of, there}
 use Rattle.cli_files.specs.declared.found.Found.{Found}
 use Rattle.cli_files.specs.declared.replaceable.Replaces.{Replaces}
@@ -86,7 +89,8 @@ module _ (draft target : List ℕ) (other : draft ≢ target) (probes : List Fil
   front_off : AllByRecursion (IsOff target) front
   front_off =
       both_off target (probes ++ drafting draft mode pieces) tests
-      (both_off target probes (drafting draft mode pieces) (all_ask target probes asked).0 (still_apart, (all_write target pieces).0)) (all_ask target tests tested).0
+      (both_off target probes (drafting draft mode pieces) (all_ask target probes asked).0
+      (still_apart, (all_write target pieces).0)) (all_ask target tests tested).0
 
   front_bytes : (replay target front).bytes ≡ concat pieces
   front_bytes =
@@ -137,9 +141,12 @@ module _ (path text : List ℕ) (replaces : Replaces) (calls : List FileCall) (i
   whole_at : (done : ℕ) → IsWhole text (replay is.target (take done calls))
   whole_at done =
       subst (λ cs. IsWhole text (replay is.target (take done cs))) (sym is.calls_are)
-      (subst (λ t. IsWhole t (replay is.target (take done (front is.draft is.target is.beside.apart (is.probes ++ taking is.taken) (draft_mode (there is.probes)) is.pieces is.tests asked_first are_tested
+      (subst (λ t. IsWhole t (replay is.target (take done
+      (front is.draft is.target is.beside.apart (is.probes ++ taking is.taken) (draft_mode (there is.probes))
+      is.pieces is.tests asked_first are_tested
       ++ publishing is.draft is.target (folder_of is.target))))) is.whole
-      (placed is.draft is.target is.beside.apart (is.probes ++ taking is.taken) (draft_mode (there is.probes)) is.pieces is.tests asked_first are_tested (folder_of is.target) done))
+      (placed is.draft is.target is.beside.apart (is.probes ++ taking is.taken) (draft_mode (there is.probes)) is.pieces
+      is.tests asked_first are_tested (folder_of is.target) done))
 
   pub any_moment : (before left : Option (List ℕ)) (done : ℕ) → MayBeAt before (replay is.target (take done calls)) left
       → (left ≡ before) ⊎ (left ≡ Some text)
@@ -156,7 +163,8 @@ module _ (path text : List ℕ) (replaces : Replaces) (calls : List FileCall) (i
       leaves left _
       (subst (λ cs. IsWhole text (replay is.target cs)) (take_all (length calls) calls (omega arith)) (whole_at (length calls)))
       (ap (λ cs. (replay is.target cs).kept) is.calls_are
-      ∙ kept is.draft is.target is.beside.apart (is.probes ++ taking is.taken) (draft_mode (there is.probes)) is.pieces is.tests asked_first are_tested (folder_of is.target)) may
+      ∙ kept is.draft is.target is.beside.apart (is.probes ++ taking is.taken) (draft_mode (there is.probes)) is.pieces
+      is.tests asked_first are_tested (folder_of is.target)) may
     where
       leaves : (left : Option (List ℕ)) (d : DraftState) → IsWhole text d → d.kept ≡ true → MayBeAt before d left → left ≡ Some text
       leaves _ d whole kept (Old unkept) = cc
@@ -200,7 +208,8 @@ removed_leaves replaces path calls before left done is may =
         → IsStill (replay is.target (take done calls))
     still_at rest are off =
         subst (λ cs. IsStill (replay is.target (take done cs))) (sym (are ∙ ap (λ cs. cs ++ is.taken_back.0 ++ rest) drafted.calls_are))
-        (removed is.draft is.target drafted.beside.apart (drafted.probes ++ taking drafted.taken) (draft_mode (there drafted.probes)) drafted.pieces is.taken_back.0
+        (removed is.draft is.target drafted.beside.apart (drafted.probes ++ taking drafted.taken)
+        (draft_mode (there drafted.probes)) drafted.pieces is.taken_back.0
         (taking_probes drafted.probes drafted.taken (target_probes replaces path is.target drafted.probes drafted.target_is))
         is.taken_back.1 rest done off)
 

@@ -36,7 +36,8 @@ one_text rows =
     (λ i. flat_map (λ (row : Answered). sym (append-nil (answer_lines row.address row.answer row.frames)) i) rows)
     ∙ sym (flat_map-map (λ (one : Told). one.text) alone_told rows)
 
-each_alone : {S T : Type 0} (lines : Bool) (input : Reader S) (others : List (Reader T)) (o : Operations) (frames : List Frame) (rows : List Answered) → IsGivenJoin input others o
+each_alone : {S T : Type 0} (lines : Bool) (input : Reader S) (others : List (Reader T)) (o : Operations)
+    (frames : List Frame) (rows : List Answered) → IsGivenJoin input others o
     → AllZip (IsFrameAnswered lines o) frames rows → AllZip (IsToldAlone lines input others) frames (map alone_told rows)
 each_alone lines input others o [] [] given all = tt
 each_alone lines input others o (frame ∷ frames) (row ∷ rows) given all =
@@ -47,7 +48,8 @@ each_alone lines input others o (frame ∷ frames) (row ∷ rows) given all =
       status_is = refl;
       text_is = refl;
     } in (
-      holds_join input others o given (λ p. TellsAddresses p frame.key frame.load lines (frame.address ∷ []) (answers_status (row ∷ [])) (answers_text (row ∷ []))) tells,
+      holds_join input others o given (λ p. TellsAddresses p frame.key frame.load lines (frame.address ∷ [])
+          (answers_status (row ∷ [])) (answers_text (row ∷ []))) tells,
       each_alone lines input others o frames rows given all.1,
     )
 each_alone lines input others o _ _ given all = absurd all
@@ -61,7 +63,8 @@ one_row lines o frame told (row ∷ []) are all status text =
     (row, (address, all.0), λ i. record { status = status i; text = text i })
 one_row lines o frame told rows are all status text = cc
 
-each_row : {S T : Type 0} (lines : Bool) (input : Reader S) (others : List (Reader T)) (o : Operations) (frames : List Frame) (told : List Told) → IsGivenJoin input others o
+each_row : {S T : Type 0} (lines : Bool) (input : Reader S) (others : List (Reader T)) (o : Operations)
+    (frames : List Frame) (told : List Told) → IsGivenJoin input others o
     → AllZip (IsToldAlone lines input others) frames told → (rows : List Answered) × AllZip (IsFrameAnswered lines o) frames rows × (told ≡ map alone_told rows)
 each_row lines input others o [] [] given all = ([], tt, refl)
 each_row lines input others o (frame ∷ frames) (t ∷ told) given all =
@@ -73,20 +76,28 @@ each_row lines input others o _ _ given all = absurd all
 
 -- ---- frames of archives that have this content together
 
-pub frames_of_join : {R S T : Type 0} (lines slices : Bool) (input : Reader R) (first : Reader S) (others : List (Reader T)) (bytes : List ℕ) (listed : List Frame) (o : Operations) (status : Status) (text : List ℕ)
-    → IsGiven input bytes → frames_of bytes ≡ Ok listed → IsGivenJoin first others o → MakesFramed lines slices input first others status text → TellsFramesWith lines slices o listed status text
+pub frames_of_join : {R S T : Type 0} (lines slices : Bool) (input : Reader R) (first : Reader S)
+    (others : List (Reader T)) (bytes : List ℕ) (listed : List Frame) (o : Operations) (status : Status) (text : List ℕ)
+    → IsGiven input bytes → frames_of bytes ≡ Ok listed → IsGivenJoin first others o
+    → MakesFramed lines slices input first others status text → TellsFramesWith lines slices o listed status text
 frames_of_join lines slices input first others bytes listed o status text is says given_join makes =
     let also = is_given input bytes (λ b. frames_of b ≡ Ok makes.listed) is makes.frames_are in
     let frames = one_value (frames_of bytes) makes.listed listed also says in
-    subst (λ (fs : List Frame). TellsFramesWith lines slices o fs status text) frames (told_of_join first others o given_join (λ p. TellsFramesWith lines slices p makes.listed status text) makes.tells)
+    subst (λ (fs : List Frame). TellsFramesWith lines slices o fs status text) frames
+    (told_of_join first others o given_join (λ p. TellsFramesWith lines slices p makes.listed status text)
+    makes.tells)
 
-pub each_is : {R S T : Type 0} (lines : Bool) (input : Reader R) (first : Reader S) (others : List (Reader T)) (bytes : List ℕ) (listed : List Frame) (o : Operations) (status : Status) (text : List ℕ)
-    → IsGiven input bytes → frames_of bytes ≡ Ok listed → IsGivenJoin first others o → MakesFramed lines false input first others status text ↔ SymbolicatesEach lines first others listed status text
+pub each_is : {R S T : Type 0} (lines : Bool) (input : Reader R) (first : Reader S) (others : List (Reader T))
+    (bytes : List ℕ) (listed : List Frame) (o : Operations) (status : Status) (text : List ℕ)
+    → IsGiven input bytes → frames_of bytes ≡ Ok listed → IsGivenJoin first others o
+    → MakesFramed lines false input first others status text
+    ↔ SymbolicatesEach lines first others listed status text
 each_is lines input first others bytes listed o status text is says given_join = (to, back)
   where
     to : MakesFramed lines false input first others status text → SymbolicatesEach lines first others listed status text
     to makes =
-        let tells : TellsFrames lines o listed status text = frames_of_join lines false input first others bytes listed o status text is says given_join makes in
+        let tells : TellsFrames lines o listed status text =
+        frames_of_join lines false input first others bytes listed o status text is says given_join makes in
         record {
           told = map alone_told tells.rows;
           alone = each_alone lines first others o listed tells.rows given_join tells.answered;
@@ -112,9 +123,13 @@ each_is lines input first others bytes listed o status text is says given_join =
 
 -- ---- one report
 
-module _ (one : (o : Operations) (key : SliceKey) (place : Where) (answer other : AnswerRecord) → IsAnswer o key place answer → IsAnswer o key place other → answer ≡ other)
-    (single : (image : List ℕ) (address : ℕ) (frames other : List FrameRecord) → AreFramesOf image address frames → AreFramesOf image address other → frames ≡ other) where
-  all_seen : (lines : Bool) (o : Operations) (frames : List Frame) (rows others : List Answered) → AllZip (IsFrameAnswered lines o) frames rows → AllZip (IsFrameAnswered lines o) frames others → map seen rows ≡ map seen others
+module _ (one : (o : Operations) (key : SliceKey) (place : Where) (answer other : AnswerRecord)
+    → IsAnswer o key place answer → IsAnswer o key place other → answer ≡ other)
+    (single : (image : List ℕ) (address : ℕ) (frames other : List FrameRecord) → AreFramesOf image address frames
+    → AreFramesOf image address other → frames ≡ other) where
+  all_seen : (lines : Bool) (o : Operations) (frames : List Frame) (rows others : List Answered)
+      → AllZip (IsFrameAnswered lines o) frames rows → AllZip (IsFrameAnswered lines o) frames others → map seen rows
+      ≡ map seen others
   all_seen lines o [] [] [] a b = refl
   all_seen lines o [] [] (y ∷ ys) a b = absurd b
   all_seen lines o (frame ∷ frames) (x ∷ xs) [] a b = absurd b
@@ -124,15 +139,22 @@ module _ (one : (o : Operations) (key : SliceKey) (place : Where) (answer other 
       λ i. head i ∷ tail i
   all_seen lines o _ _ ys a b = absurd a
 
-  pub one_told : (lines : Bool) (o : Operations) (frames : List Frame) (status other_status : Status) (text other_text : List ℕ) → TellsFrames lines o frames status text → TellsFrames lines o frames other_status other_text
+  pub one_told : (lines : Bool) (o : Operations) (frames : List Frame) (status other_status : Status)
+      (text other_text : List ℕ) → TellsFrames lines o frames status text
+      → TellsFrames lines o frames other_status other_text
       → (status ≡ other_status) × (text ≡ other_text)
   one_told lines o frames status other_status text other_text a b =
       let told = alike_told a.rows b.rows (all_seen lines o frames a.rows b.rows a.answered b.answered) in
       (a.status_is ∙ told.0 ∙ sym b.status_is, a.text_is ∙ told.1 ∙ sym b.text_is)
 
-  pub one_made : {Q R S T U V : Type 0} (lines slices : Bool) (input : Reader Q) (first : Reader R) (others : List (Reader S)) (also : Reader T) (other : Reader U) (more : List (Reader V)) (bytes : List ℕ) (o : Operations)
-      (status other_status : Status) (text other_text : List ℕ) → IsGiven input bytes → IsGiven also bytes → IsGivenJoin first others o → IsGivenJoin other more o
-      → MakesFramed lines slices input first others status text → MakesFramed lines slices also other more other_status other_text → (status ≡ other_status) × (text ≡ other_text)
+  pub one_made : {Q R S T U V : Type 0} (lines slices : Bool) (input : Reader Q) (first : Reader R)
+      (others : List (Reader S)) (also : Reader T) (other : Reader U) (more : List (Reader V)) (bytes : List ℕ)
+      (o : Operations)
+      (status other_status : Status) (text other_text : List ℕ) → IsGiven input bytes → IsGiven also bytes
+      → IsGivenJoin first others o → IsGivenJoin other more o
+      → MakesFramed lines slices input first others status text
+      → MakesFramed lines slices also other more other_status other_text → (status ≡ other_status)
+      × (text ≡ other_text)
   one_made lines slices input first others also other more bytes o status other_status text other_text is also_is first_given other_given makes other_makes =
       let says = is_given input bytes (λ b. frames_of b ≡ Ok makes.listed) is makes.frames_are in
       frames_once one_told lines slices o makes.listed status other_status text other_text

@@ -25,7 +25,8 @@ holds input o given = gives input given.0 (IsArchiveOf o) given.2 given.1
 pub one_given : {R : Type 0} (input : Reader R) (o p : Operations) → IsContent o → IsContent p → IsGivenArchive input o → HoldsArchive input p → p ≡ o
 one_given input o p c d given held = sym (one_content given.0 o p c d given.1 (is_given input given.0 (IsArchiveOf p) given.2 held))
 
-pub contents_given : {S : Type 0} (files : List (Reader S)) (contents held : List Operations) → AllByRecursion IsContent contents → AllByRecursion IsContent held
+pub contents_given : {S : Type 0} (files : List (Reader S)) (contents held : List Operations)
+    → AllByRecursion IsContent contents → AllByRecursion IsContent held
     → AllZip IsGivenArchive files contents → AllZip HoldsArchive files held → held ≡ contents
 contents_given [] [] [] are is given held = refl
 contents_given [] [] (h ∷ hs) are is given held = absurd held

@@ -62,7 +62,8 @@ module _ {R S : Type 0} (archive : Reader R) (others : List (Reader S)) (o : Ope
       (elim refused [ inl first ↦ inl first.0 | inr behind ↦ inr behind ])
 
   -- the file that `merge` of them writes is the text of their join
-  pub merge_given : {T : Type 0} (file : Reader T) (made told : List ℕ) → (merge archive others).Makes made told → IsGiven file made → IsGivenJoin {S = S} file [] o
+  pub merge_given : {T : Type 0} (file : Reader T) (made told : List ℕ) → (merge archive others).Makes made told
+      → IsGiven file made → IsGivenJoin {S = S} file [] o
   merge_given file made told makes is =
       let m = makes.makes in
       let first = one_given archive given.content m.before given.is_content m.is_content given.archive_is m.archive in
@@ -79,7 +80,8 @@ module _ {R S : Type 0} (archive : Reader R) (others : List (Reader S)) (o : Ope
       }
 
 -- the same of a file that holds the join
-pub as_merged : {R S T : Type 0} (archive : Reader R) (others : List (Reader S)) (file : Reader T) → IsMergedFile archive others file → (IsTrue : Operations → Type 0)
+pub as_merged : {R S T : Type 0} (archive : Reader R) (others : List (Reader S)) (file : Reader T)
+    → IsMergedFile archive others file → (IsTrue : Operations → Type 0)
     → HoldTogether archive others IsTrue ↔ HoldTogether {S = S} file [] IsTrue
 as_merged archive others file m IsTrue =
     let one = merge_given archive others m.join m.given file m.made m.told m.makes m.file_is in (
@@ -118,7 +120,8 @@ pub new_given : {R : Type 0} (input : Reader R) (o : Operations) → IsGiven inp
 new_given input o given = (written o, inl refl, given)
 
 -- two archives make the join of what they give
-pub merged_two : {R S : Type 0} (input : Reader R) (file : Reader S) (o q content : Operations) (lines : List ℕ) → IsContent o → IsContent q → IsGivenArchive input o → IsGivenArchive file q
+pub merged_two : {R S : Type 0} (input : Reader R) (file : Reader S) (o q content : Operations) (lines : List ℕ)
+    → IsContent o → IsContent q → IsGivenArchive input o → IsGivenArchive file q
     → MakesMerged input (file ∷ []) content lines → content ≡ joined o q
 merged_two input file o q content lines c d given other makes =
     let first = one_given input o makes.before c makes.is_content given makes.archive in

@@ -1,5 +1,6 @@
 -- A script has one report.
-use Rattle.std.proofs.Common.{◌≡◌, ℕ, ◌+◌, List, [], ◌∷◌, ◌++◌, length, map, codes, refl, sym, ap, ap₂, ◌∙◌, subst, Ok, true, if◌then◌else◌, slice_index_or, decimal}
+use Rattle.std.proofs.Common.{◌≡◌, ℕ, ◌+◌, List, [], ◌∷◌, ◌++◌, length, map, codes, refl, sym, ap, ap₂, ◌∙◌, subst, Ok}
+use Rattle.std.proofs.Common.{true, if◌then◌else◌, slice_index_or, decimal}
 use Rattle.std.specs.List.{AllZip}
 use Rattle.archive_core.specs.Record.{retirement_record}
 use Rattle.archive_exchange.specs.World as model
@@ -79,7 +80,8 @@ told_alike : (one : (events : List Event) (seen other : List ModelEvent) → Are
     (sites : ℕ) (es fs : List Event) (text other : List ℕ) → acts es ≡ acts fs → TellsEvents sites es text → TellsEvents sites fs other → text ≡ other
 told_alike one sites es fs text other same p q =
     let seen : p.seen ≡ q.seen = one fs p.seen q.seen (same_seen es fs p.seen same p.are_seen) q.are_seen in
-    let tells : AllZip OutcomeIs p.told (outcomes sites q.seen (length q.seen)) = subst (λ (s : List ModelEvent). AllZip OutcomeIs p.told (outcomes sites s (length s))) seen p.outcomes_are in
+    let tells : AllZip OutcomeIs p.told (outcomes sites q.seen (length q.seen)) =
+    subst (λ (s : List ModelEvent). AllZip OutcomeIs p.told (outcomes sites s (length s))) seen p.outcomes_are in
     let w = state sites q.seen (length q.seen) in
     p.text_is
     ∙ ap (λ (s : List ModelEvent). rehearsal_lines sites p.told (state sites s (length s))) seen

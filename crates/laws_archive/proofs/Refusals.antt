@@ -1,5 +1,6 @@
 -- Two calls whose inputs hold the same refuse one of them, for one reason.
-use Rattle.std.proofs.Common.{◌≡◌, ◌≢◌, ◌⊎◌, ℕ, zero, suc, List, [], ◌∷◌, take, Option, Some, None, Result, Ok, Err, refl, sym, ap, ◌∙◌, subst, inl, inr, IfSome, slice_get}
+use Rattle.std.proofs.Common.{◌≡◌, ◌≢◌, ◌⊎◌, ℕ, zero, suc, List, [], ◌∷◌, take, Option, Some, None, Result, Ok, Err}
+use Rattle.std.proofs.Common.{refl, sym, ap, ◌∙◌, subst, inl, inr, IfSome, slice_get}
 use Rattle.std.specs.List.{AllByRecursion}
 use Rattle.std.proofs.lemmas.Option.{IfSome_then}
 use Rattle.archive_records.specs.Fault.{IsFaultOf, IsOfText}
@@ -23,7 +24,9 @@ use Rattle.command_common.specs.declared.faults.InputName.{InputName}
 use Rattle.command_common.specs.declared.faults.InputName.TheVariants.{Archive}
 use Rattle.command_common.specs.declared.faults.Why.{Why}
 use Rattle.command_common.specs.declared.faults.Why.TheVariants.{Device as CannotRead, Record, Take, Script as Faulty, BadFrame}
-use Rattle.command_common.specs.Inputs.{Reader, reader, Gives, IsDeviceFault, IsGiven, IsArchive, IsAccepted, IsArchiveRefused, IsFileRefused, IsFirstRefused, IsFrames, IsFramesRefused, IsRefusedArchive, IsRefusedInTurn, IsScriptRefused, IsTextRefused}
+use Rattle.command_common.specs.Inputs.{Reader, reader, Gives, IsDeviceFault, IsGiven, IsArchive, IsAccepted}
+use Rattle.command_common.specs.Inputs.{IsArchiveRefused, IsFileRefused, IsFirstRefused, IsFrames, IsFramesRefused}
+use Rattle.command_common.specs.Inputs.{IsRefusedArchive, IsRefusedInTurn, IsScriptRefused, IsTextRefused}
 use Rattle.command_common.proofs.Readers.{by_device}
 use Rattle.laws_archive.specs.Refusals.{EachHoldAlike, HoldAlike, RefuseOne}
 use Rattle.laws_archive.proofs.Given.{gives_then, is_given}
@@ -41,7 +44,8 @@ each_swapped [] [] alike = tt
 each_swapped (x ∷ xs) (y ∷ ys) alike = (swapped x y alike.0, each_swapped xs ys alike.1)
 each_swapped _ _ alike = absurd alike
 
-pub carried : {R S : Type 0} (x : Reader R) (y : Reader S) (P : List ℕ → Type 0) → HoldAlike x y → Gives x P → (bytes : List ℕ) × IsGiven x bytes × IsGiven y bytes × P bytes
+pub carried : {R S : Type 0} (x : Reader R) (y : Reader S) (P : List ℕ → Type 0) → HoldAlike x y → Gives x P
+    → (bytes : List ℕ) × IsGiven x bytes × IsGiven y bytes × P bytes
 carried x y P alike gives = (alike.0, alike.1, alike.2, is_given x alike.0 P alike.1 gives)
 
 -- ---- why an input is refused
@@ -68,7 +72,8 @@ for_device IsBad IsGood x y why good alike is (inr bad) =
     let c = carried x y IsGood alike is in good c.0 c.3 (is_given y c.0 (IsBad why) c.2 bad)
 
 -- what is good in one call is refused in another for its device alone, and refusals are one
-pub record Agree {R S : Type 0} (Good : Reader R → Type 0) (Bad : Reader R → Why → Type 0) (Fine : Reader S → Type 0) (Ill : Reader S → Why → Type 0) : Type 0 where
+pub record Agree {R S : Type 0} (Good : Reader R → Type 0) (Bad : Reader R → Why → Type 0) (Fine : Reader S → Type 0)
+    (Ill : Reader S → Why → Type 0) : Type 0 where
   pub one : (x : Reader R) (y : Reader S) (why another : Why) → HoldAlike x y → Bad x why → Ill y another → NoDevice why → NoDevice another → why ≡ another
   pub left : (x : Reader R) (y : Reader S) (another : Why) → HoldAlike x y → Good x → Ill y another → IsDeviceFault another
   pub right : (x : Reader R) (y : Reader S) (why : Why) → HoldAlike x y → Bad x why → Fine y → IsDeviceFault why
@@ -102,7 +107,8 @@ one_text kind x y why another alike a b =
 abbrev pub Says : {S : Type 0} → TextKind → Reader S → Type 0
 Says kind input = (m : Meaning kind) × IsMeaning kind m × Gives input (IsTextOf kind m)
 
-pub text_accepted : {R S : Type 0} (kind : TextKind) (x : Reader R) (y : Reader S) (another : Why) → HoldAlike x y → Says kind x → IsTextRefused kind y another → IsDeviceFault another
+pub text_accepted : {R S : Type 0} (kind : TextKind) (x : Reader R) (y : Reader S) (another : Why) → HoldAlike x y
+    → Says kind x → IsTextRefused kind y another → IsDeviceFault another
 text_accepted kind x y another alike says refused =
     for_device (IsBadText kind) (IsTextOf kind says.0) x y another (λ bytes of bad. bad.3 says.0 says.1 of) alike says.2
     (text_form kind y.left y.failures y.old y.new another refused)
@@ -157,7 +163,8 @@ frames_form left failures old new (BadFrame line flaw) refused =
     (IsBadFrames (BadFrame line flaw)) (λ bytes bad. (line, ap (BadFrame line) bad.1, bad.0)) refused.1)
 frames_form left failures old new _ refused = absurd refused
 
-pub one_frames : {R S : Type 0} (x : Reader R) (y : Reader S) (why another : Why) → HoldAlike x y → IsFramesRefused x why → IsFramesRefused y another → NoDevice why → NoDevice another → why ≡ another
+pub one_frames : {R S : Type 0} (x : Reader R) (y : Reader S) (why another : Why) → HoldAlike x y
+    → IsFramesRefused x why → IsFramesRefused y another → NoDevice why → NoDevice another → why ≡ another
 one_frames x y why another alike a b =
     one_reason IsBadFrames
     (λ bytes v w f g _ _. f.1 ∙ ap (λ n. BadFrame n (frame_flaw (line_at bytes n))) (one_wrong (frames_of bytes) f.0 g.0 f.2 g.2) ∙ sym g.1)
@@ -180,10 +187,12 @@ script_form left failures old new (Faulty fault line flaw) refused =
     (IsBadScript (Faulty fault line flaw)) (λ bytes bad. ((fault, line), ap (Faulty fault line) bad.1, bad.0)) refused.1)
 script_form left failures old new _ refused = absurd refused
 
-pub one_script : {R S : Type 0} (x : Reader R) (y : Reader S) (why another : Why) → HoldAlike x y → IsScriptRefused x why → IsScriptRefused y another → NoDevice why → NoDevice another → why ≡ another
+pub one_script : {R S : Type 0} (x : Reader R) (y : Reader S) (why another : Why) → HoldAlike x y
+    → IsScriptRefused x why → IsScriptRefused y another → NoDevice why → NoDevice another → why ≡ another
 one_script x y why another alike a b =
     one_reason IsBadScript
-    (λ bytes v w f g _ _. f.1 ∙ ap (λ (e : Wrong). Faulty e.0 e.1 (script_flaw e.0 (line_at bytes e.1))) (one_wrong (script_of bytes) f.0 g.0 f.2 g.2) ∙ sym g.1)
+    (λ bytes v w f g _ _. f.1 ∙ ap (λ (e : Wrong). Faulty e.0 e.1 (script_flaw e.0 (line_at bytes e.1)))
+    (one_wrong (script_of bytes) f.0 g.0 f.2 g.2) ∙ sym g.1)
     x y why another alike (script_form x.left x.failures x.old x.new why a) (script_form y.left y.failures y.old y.new another b)
 
 pub script_accepted : {R S : Type 0} (x : Reader R) (y : Reader S) (listed : ℕ × List Act) (another : Why) → HoldAlike x y
@@ -194,9 +203,11 @@ script_accepted x y listed another alike good refused =
 
 -- ---- the first of a list
 
-module _ {R S : Type 0} (Good : Reader R → Type 0) (Bad : Reader R → Why → Type 0) (Fine : Reader S → Type 0) (Ill : Reader S → Why → Type 0) (agree : Agree Good Bad Fine Ill) where
+module _ {R S : Type 0} (Good : Reader R → Type 0) (Bad : Reader R → Why → Type 0) (Fine : Reader S → Type 0)
+    (Ill : Reader S → Why → Type 0) (agree : Agree Good Bad Fine Ill) where
   same_place : (xs : List (Reader R)) (ys : List (Reader S)) (n m : ℕ) (x : Reader R) (y : Reader S) (why another : Why) → EachHoldAlike xs ys
-      → AllByRecursion Good (take n xs) → AllByRecursion Fine (take m ys) → slice_get xs n ≡ Some x → slice_get ys m ≡ Some y → Bad x why → Ill y another → NoDevice why → NoDevice another
+      → AllByRecursion Good (take n xs) → AllByRecursion Fine (take m ys) → slice_get xs n ≡ Some x → slice_get ys m
+      ≡ Some y → Bad x why → Ill y another → NoDevice why → NoDevice another
       → (n ≡ m) × (why ≡ another)
   same_place [] ys n m x y why another alike good fine at at_too bad ill alone alone_too = cc
   same_place (a ∷ xs) [] n m x y why another alike good fine at at_too bad ill alone alone_too = absurd alike
@@ -210,19 +221,24 @@ module _ {R S : Type 0} (Good : Reader R → Type 0) (Bad : Reader R → Why →
   same_place (a ∷ xs) (b ∷ ys) (suc n) (suc m) x y why another alike good fine at at_too bad ill alone alone_too =
       let rest = same_place xs ys n m x y why another alike.1 good.1 fine.1 at at_too bad ill alone alone_too in (ap suc rest.0, rest.1)
 
-  pub one_first : (asked_of : ℕ → InputName) (xs : List (Reader R)) (ys : List (Reader S)) → EachHoldAlike xs ys → RefuseOne (IsFirstRefused asked_of Good Bad xs) (IsFirstRefused asked_of Fine Ill ys)
+  pub one_first : (asked_of : ℕ → InputName) (xs : List (Reader R)) (ys : List (Reader S)) → EachHoldAlike xs ys
+      → RefuseOne (IsFirstRefused asked_of Good Bad xs) (IsFirstRefused asked_of Fine Ill ys)
   one_first asked_of xs ys alike at other why another a b alone alone_too =
-      let same = same_place xs ys a.number b.number a.input b.input why another alike a.before b.before a.input_is b.input_is a.refused b.refused alone alone_too in
+      let same = same_place xs ys a.number b.number a.input b.input why another alike a.before b.before a.input_is
+      b.input_is a.refused b.refused alone alone_too in
       (a.at_is ∙ ap asked_of same.0 ∙ sym b.at_is, same.1)
 
   -- where all are good, one is refused for its device alone
-  at_place : (xs : List (Reader R)) (ys : List (Reader S)) (m : ℕ) (y : Reader S) (another : Why) → EachHoldAlike xs ys → AllByRecursion Good xs → slice_get ys m ≡ Some y → Ill y another → IsDeviceFault another
+  at_place : (xs : List (Reader R)) (ys : List (Reader S)) (m : ℕ) (y : Reader S) (another : Why) → EachHoldAlike xs ys
+      → AllByRecursion Good xs → slice_get ys m ≡ Some y → Ill y another → IsDeviceFault another
   at_place [] [] m y another alike good at ill = cc
-  at_place (a ∷ xs) (b ∷ ys) zero y another alike good at ill = let other : y ≡ b = cc in agree.left a b another alike.0 good.0 (subst (λ z. Ill z another) other ill)
+  at_place (a ∷ xs) (b ∷ ys) zero y another alike good at ill = let other : y ≡ b = cc
+      in agree.left a b another alike.0 good.0 (subst (λ z. Ill z another) other ill)
   at_place (a ∷ xs) (b ∷ ys) (suc m) y another alike good at ill = at_place xs ys m y another alike.1 good.1 at ill
   at_place _ _ m y another alike good at ill = absurd alike
 
-  pub all_good : (asked_of : ℕ → InputName) (xs : List (Reader R)) (ys : List (Reader S)) (at : InputName) (another : Why) → EachHoldAlike xs ys → AllByRecursion Good xs
+  pub all_good : (asked_of : ℕ → InputName) (xs : List (Reader R)) (ys : List (Reader S)) (at : InputName)
+      (another : Why) → EachHoldAlike xs ys → AllByRecursion Good xs
       → IsFirstRefused asked_of Fine Ill ys at another → IsDeviceFault another
   all_good asked_of xs ys at another alike good b = at_place xs ys b.number b.input another alike good b.input_is b.refused
 
@@ -243,6 +259,7 @@ module _ {R S : Type 0} (x : Reader R) (y : Reader S) (alike : HoldAlike x y) (B
   one_in_turn one at other why another (inr a) (inl b) alone alone_too = absurd (alone_too (archives_agree.left x y another alike a.0 b.1))
   one_in_turn one at other why another (inr a) (inr b) alone alone_too = one at other why another a.2 b.2 alone alone_too
 
-  pub good_in_turn : (at : InputName) (another : Why) → IsArchive x → (Others at another → IsDeviceFault another) → IsRefusedInTurn y Others at another → IsDeviceFault another
+  pub good_in_turn : (at : InputName) (another : Why) → IsArchive x → (Others at another → IsDeviceFault another)
+      → IsRefusedInTurn y Others at another → IsDeviceFault another
   good_in_turn at another good behind (inl b) = archives_agree.left x y another alike good b.1
   good_in_turn at another good behind (inr b) = behind b.2

@@ -34,7 +34,8 @@ good_text o c = good_formed Archive refl (written o) (listing o) (InOrder-listin
 pub good_old : (p : Operations) → AreOperations p → AreGoodRecords (old_written p) (listing p)
 good_old p are = good_formed OldArchive refl (old_written p) (listing p) (old_in_order [] (listing p) (InOrder-set p are)) tt (old_written_text p)
 
-by_text : (text : List ℕ) → ((o : Operations) × IsContent o × IsArchiveOf o text) ⊎ ((fault : RecordFault) × IsFault text fault) → (records : List (List ℕ)) × AreGoodRecords text records
+by_text : (text : List ℕ) → ((o : Operations) × IsContent o × IsArchiveOf o text)
+    ⊎ ((fault : RecordFault) × IsFault text fault) → (records : List (List ℕ)) × AreGoodRecords text records
 by_text text (inl c) =
     let s = formed c.0 text c.1 c.2 in
     (s.records, good_formed s.format s.archive text s.records s.ordered s.apart s.whole)

@@ -13,7 +13,8 @@ use Rattle.command_queries.specs.Slices.{IsAnsweringRow, WithSlices}
 use Rattle.command_queries.specs.Symbolicate.{TellsAddresses, TellsAddressesWith}
 use Rattle.laws_archive.specs.Joins.{TellOne}
 
-slices_once : (IsRow : FindRow → Type 0) (keys : List SliceKey) (text other : List ℕ) → TellsSlices IsRow keys text → TellsSlices IsRow keys other → text ≡ other
+slices_once : (IsRow : FindRow → Type 0) (keys : List SliceKey) (text other : List ℕ) → TellsSlices IsRow keys text
+    → TellsSlices IsRow keys other → text ≡ other
 slices_once IsRow keys text other a b =
     let rows = one_with_members rows_total a.rows b.rows a.ascending b.ascending
     (λ row there. (b.exactly row).1 ((a.exactly row).0 there)) (λ row there. (a.exactly row).1 ((b.exactly row).0 there)) in
@@ -29,8 +30,11 @@ with_slices_once true Tells IsRow keys one status other_status text other_text a
     let slices = slices_once IsRow keys a.slices b.slices a.tells_slices b.tells_slices in
     (told.0, a.text_is ∙ (λ i. told.1 i ++ slices i) ∙ sym b.text_is)
 
-pub addresses_once : ((o : Operations) (key : SliceKey) (load : Option ℕ) (lines : Bool) (addresses : List ℕ) → TellOne (TellsAddresses o key load lines addresses) (TellsAddresses o key load lines addresses))
-    → (o : Operations) (key : SliceKey) (load : Option ℕ) (lines slices : Bool) (addresses : List ℕ) → TellOne (TellsAddressesWith o key load lines slices addresses) (TellsAddressesWith o key load lines slices addresses)
+pub addresses_once : ((o : Operations) (key : SliceKey) (load : Option ℕ) (lines : Bool) (addresses : List ℕ)
+    → TellOne (TellsAddresses o key load lines addresses) (TellsAddresses o key load lines addresses))
+    → (o : Operations) (key : SliceKey) (load : Option ℕ) (lines slices : Bool) (addresses : List ℕ)
+    → TellOne (TellsAddressesWith o key load lines slices addresses)
+    (TellsAddressesWith o key load lines slices addresses)
 addresses_once one o key load lines slices addresses =
     with_slices_once slices (TellsAddresses o key load lines addresses) (IsAnsweringRow o (key ∷ [])) (key ∷ []) (one o key load lines addresses)
 

@@ -1,6 +1,7 @@
 -- What is told of addresses depends on the content alone: an answer's lines, and whether it is one symbol, do not depend on
 -- where its names lie.
-use Rattle.std.proofs.Common.{◌≡◌, ℕ, Bool, true, false, if◌then◌else◌, List, [], ◌∷◌, ◌++◌, map, length, codes, Option, Some, None, MatchOption, refl, sym, ap, ◌∙◌, subst, decimal}
+use Rattle.std.proofs.Common.{◌≡◌, ℕ, Bool, true, false, if◌then◌else◌, List, [], ◌∷◌, ◌++◌, map, length, codes, Option}
+use Rattle.std.proofs.Common.{Some, None, MatchOption, refl, sym, ap, ◌∙◌, subst, decimal}
 use Rattle.std.proofs.lemmas.List.{length-map}
 use Rattle.std.proofs.lemmas.List.Folds.{flat_map-map, list_all-map}
 use Rattle.std.specs.List.{AllByRecursion, flat_map, list_all}
@@ -69,7 +70,8 @@ rows_seen [] frames = refl
 rows_seen (row ∷ rows) [] = λ i. row_seen row i ++ rows_seen rows [] i
 rows_seen (row ∷ rows) (its ∷ frames) = λ i. row_seen row i ++ frame_lines its ++ rows_seen rows frames i
 
-lines_seen : (address : ℕ) (answer : Answer) (frames : List (List FrameRecord)) → answer_lines address answer frames ≡ seen_lines address (answer_view answer) frames
+lines_seen : (address : ℕ) (answer : Answer) (frames : List (List FrameRecord)) → answer_lines address answer frames
+    ≡ seen_lines address (answer_view answer) frames
 unfolding answer_lines found_text
 lines_seen address (Conflict rows) frames =
     λ i. line (address_text address ++ codes " !" ++ decimal (sym (length-map rows.items own_row) i)) ++ rows_seen rows.items frames i
@@ -96,7 +98,8 @@ symbols_seen : (rows : List Answered) → list_all (λ row. is_symbol row.answer
 symbols_seen rows = (λ i. list_all (λ (row : Answered). symbol_seen row.answer i) rows) ∙ sym (list_all-map (λ (s : Seen). seen_symbol s.answer) seen rows)
 
 -- answers that look alike are told alike
-pub alike_told : (rows others : List Answered) → map seen rows ≡ map seen others → (answers_status rows ≡ answers_status others) × (answers_text rows ≡ answers_text others)
+pub alike_told : (rows others : List Answered) → map seen rows ≡ map seen others
+    → (answers_status rows ≡ answers_status others) × (answers_text rows ≡ answers_text others)
 alike_told rows others same =
     let symbols = symbols_seen rows ∙ ap (list_all (λ (s : Seen). seen_symbol s.answer)) same ∙ sym (symbols_seen others) in
     let lines = text_seen rows ∙ ap (flat_map (λ (s : Seen). seen_lines s.address s.answer s.frames)) same ∙ sym (text_seen others) in
@@ -111,45 +114,59 @@ bare_addresses : (rows : List Answered) → map (λ (row : Answered). row.addres
 bare_addresses [] = refl
 bare_addresses (row ∷ rows) = ap (λ (addresses : List ℕ). row.address ∷ addresses) (bare_addresses rows)
 
-bare_answered : (content : Operations) (key : SliceKey) (load : Option ℕ) (rows : List Answered) → AllByRecursion (IsAnswered content key load true) rows → AllByRecursion (IsAnswered content key load false) (map bare rows)
+bare_answered : (content : Operations) (key : SliceKey) (load : Option ℕ) (rows : List Answered)
+    → AllByRecursion (IsAnswered content key load true) rows
+    → AllByRecursion (IsAnswered content key load false) (map bare rows)
 bare_answered content key load [] are = tt
 bare_answered content key load (row ∷ rows) are = (
   record { slices = are.0.slices; answering = are.0.answering; answer_is = are.0.answer_is; shown = refl },
   bare_answered content key load rows are.1,
 )
 
-pub without_lines : (content : Operations) (key : SliceKey) (load : Option ℕ) (addresses : List ℕ) (status : Status) (text : List ℕ) → (told : TellsAddresses content key load true addresses status text)
+pub without_lines : (content : Operations) (key : SliceKey) (load : Option ℕ) (addresses : List ℕ) (status : Status)
+    (text : List ℕ) → (told : TellsAddresses content key load true addresses status text)
     → TellsAddresses content key load false addresses status (flat_map (λ (row : Answered). answer_lines row.address row.answer []) told.rows)
 without_lines content key load addresses status text told = record {
   rows = map bare told.rows;
   addresses_are = bare_addresses told.rows ∙ told.addresses_are;
   answered = bare_answered content key load told.rows told.answered;
-  status_is = told.status_is ∙ ap (λ (all : Bool). if all then Done else Partial) (sym (list_all-map (λ (row : Answered). is_symbol row.answer) bare told.rows));
+  status_is = told.status_is ∙ ap (λ (all : Bool). if all then Done else Partial)
+      (sym (list_all-map (λ (row : Answered). is_symbol row.answer) bare told.rows));
   text_is = sym (flat_map-map (λ (row : Answered). answer_lines row.address row.answer row.frames) bare told.rows);
 }
 
 -- ---- one telling
 
-module _ (one : (o : Operations) (key : SliceKey) (place : Where) (answer other : AnswerRecord) → IsAnswer o key place answer → IsAnswer o key place other → answer ≡ other)
-    (single : (image : List ℕ) (address : ℕ) (frames other : List FrameRecord) → AreFramesOf image address frames → AreFramesOf image address other → frames ≡ other) where
+module _ (one : (o : Operations) (key : SliceKey) (place : Where) (answer other : AnswerRecord)
+    → IsAnswer o key place answer → IsAnswer o key place other → answer ≡ other)
+    (single : (image : List ℕ) (address : ℕ) (frames other : List FrameRecord) → AreFramesOf image address frames
+    → AreFramesOf image address other → frames ≡ other) where
   -- a slice has one list of frames of a place
   one_place : (slice : List ℕ) (at : Option ℕ) (frames other : List FrameRecord)
-      → MatchOption at (frames ≡ []) (λ address. AreFramesOf slice address frames) → MatchOption at (other ≡ []) (λ address. AreFramesOf slice address other) → frames ≡ other
+      → MatchOption at (frames ≡ []) (λ address. AreFramesOf slice address frames)
+      → MatchOption at (other ≡ []) (λ address. AreFramesOf slice address other) → frames ≡ other
   one_place slice None frames other a b = a ∙ sym b
   one_place slice (Some address) frames other a b = single slice address frames other a b
 
-  one_shown : (lines : Bool) (place : Where) (slices : List (List ℕ)) (frames others : List (List FrameRecord)) → AreShown lines place slices frames → AreShown lines place slices others → frames ≡ others
+  one_shown : (lines : Bool) (place : Where) (slices : List (List ℕ)) (frames others : List (List FrameRecord))
+      → AreShown lines place slices frames → AreShown lines place slices others → frames ≡ others
   one_shown true place slices frames others a b =
       one_zipped (AreFramesAt place) (AreFramesAt place) (λ slice. one_place slice (file_address slice place)) slices frames others a b
   one_shown false place slices frames others a b = a ∙ sym b
 
-  pub one_seen : (content : Operations) (key : SliceKey) (load : Option ℕ) (lines : Bool) (row other : Answered) → row.address ≡ other.address → IsAnswered content key load lines row → IsAnswered content key load lines other → seen row ≡ seen other
+  pub one_seen : (content : Operations) (key : SliceKey) (load : Option ℕ) (lines : Bool) (row other : Answered)
+      → row.address ≡ other.address → IsAnswered content key load lines row → IsAnswered content key load lines other
+      → seen row ≡ seen other
   one_seen content key load lines row other address a b =
       let place : Where = asked_of load other.address in
-      let moved : IsSourced content key lines place (answer_view row.answer) row.frames = subst (λ n. IsSourced content key lines (asked_of load n) (answer_view row.answer) row.frames) address a in
-      let answer = one content key place (answer_view row.answer) (answer_view other.answer) (answer_of content key lines place (answer_view row.answer) row.frames moved) (answer_of content key lines place (answer_view other.answer) other.frames b) in
+      let moved : IsSourced content key lines place (answer_view row.answer) row.frames =
+      subst (λ n. IsSourced content key lines (asked_of load n) (answer_view row.answer) row.frames) address a in
+      let answer = one content key place (answer_view row.answer) (answer_view other.answer)
+      (answer_of content key lines place (answer_view row.answer) row.frames moved)
+      (answer_of content key lines place (answer_view other.answer) other.frames b) in
       let same = one_answering content key moved.slices b.slices moved.answering b.answering in
-      let frames = one_shown lines place b.slices row.frames other.frames (subst (λ (ss : List (List ℕ)). AreShown lines place ss row.frames) same moved.shown) b.shown in
+      let frames = one_shown lines place b.slices row.frames other.frames
+      (subst (λ (ss : List (List ℕ)). AreShown lines place ss row.frames) same moved.shown) b.shown in
       λ i. record { address = address i; answer = answer i; frames = frames i }
 
   all_seen : (content : Operations) (key : SliceKey) (load : Option ℕ) (lines : Bool) (rows others : List Answered)
@@ -164,8 +181,11 @@ module _ (one : (o : Operations) (key : SliceKey) (place : Where) (answer other 
       λ i. head i ∷ tail i
   all_seen content key load lines rows others e a b = cc
 
-  pub one_told : (content : Operations) (key : SliceKey) (load : Option ℕ) (lines : Bool) (addresses : List ℕ) (status other_status : Status) (text other_text : List ℕ)
-      → TellsAddresses content key load lines addresses status text → TellsAddresses content key load lines addresses other_status other_text → (status ≡ other_status) × (text ≡ other_text)
+  pub one_told : (content : Operations) (key : SliceKey) (load : Option ℕ) (lines : Bool) (addresses : List ℕ)
+      (status other_status : Status) (text other_text : List ℕ)
+      → TellsAddresses content key load lines addresses status text
+      → TellsAddresses content key load lines addresses other_status other_text → (status ≡ other_status)
+      × (text ≡ other_text)
   one_told content key load lines addresses status other_status text other_text a b =
       let same = all_seen content key load lines a.rows b.rows (a.addresses_are ∙ sym b.addresses_are) a.answered b.answered in
       let told = alike_told a.rows b.rows same in

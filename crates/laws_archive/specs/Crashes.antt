@@ -1,5 +1,5 @@
--- What a crash leaves at the path of an output, after some of the calls that were made for it: a rename replaces what
--- is there in one step, and what was synced stays.
+-- The file at the path of an output after a crash, after some of the calls that were made for it: a rename replaces a
+-- file in one step, and bytes that were synced stay.
 use Rattle.std.specs.Prelude.{◌≡◌, ℕ, Bool, true, false, ◌||◌, List, [], ◌++◌, fold, Option, Some}
 use Rattle.std.specs.Str.{bytes_eq}
 use Rattle.cli_files.specs.FileCalls.{FileCall, Creates, Opens, Writes, Syncs, Renames, SyncsFolder, Removes}
@@ -32,7 +32,12 @@ behind target d (Gives path bytes) = d
 behind target d (Compares draft to lost) = d
 behind target d (WantsMemory path) = d
 behind target d (Refuses path) = d
-behind target d (Creates path mode) = record d { bytes = []; synced = false; touched = d.touched || bytes_eq path target }
+behind target d (Creates path mode) = record d {
+  bytes = [];
+  synced = false;
+  touched = d.touched
+      || bytes_eq path target;
+}
 behind target d (Opens path) = record d { touched = d.touched || bytes_eq path target }
 behind target d (Writes bytes) = record d { bytes = d.bytes ++ bytes; synced = false }
 behind target d Syncs = record d { synced = true }

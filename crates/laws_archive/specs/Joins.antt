@@ -1,4 +1,4 @@
--- Archives whose bytes are known, as their join, and what commands tell of them: the words of laws.
+-- Archives whose bytes are known, as their join, and the reports of commands over them: the words of laws.
 use Rattle.std.specs.Prelude.{◌≡◌, ◌↔◌, ℕ, List}
 use Rattle.std.specs.List.{AllByRecursion, AllZip}
 use Rattle.archive_core.specs.Content.{Operations, IsContent}

@@ -54,7 +54,8 @@ use Rattle.command_index_queries.specs.Several.{AreRefusedLater, AreRefusedToget
 
 module _ {X Y Z : Type 0} (R : X → Y → Z → Type 0) where
   -- what is at one place
-  pub three_at : (xs : List X) (ys : List Y) (zs : List Z) (n : ℕ) (x : X) (y : Y) → AllThree R xs ys zs → slice_get xs n ≡ Some x → slice_get ys n ≡ Some y → (z : Z) × R x y z
+  pub three_at : (xs : List X) (ys : List Y) (zs : List Z) (n : ℕ) (x : X) (y : Y) → AllThree R xs ys zs
+      → slice_get xs n ≡ Some x → slice_get ys n ≡ Some y → (z : Z) × R x y z
   three_at (a ∷ xs) (b ∷ ys) [] n x y all in_xs in_ys = absurd all
   three_at (a ∷ xs) (b ∷ ys) (c ∷ zs) zero x y all in_xs in_ys =
       (c, subst (λ (u : X). R u y c) (same_Some a x in_xs) (subst (λ (v : Y). R a v c) (same_Some b y in_ys) all.0))
@@ -62,13 +63,15 @@ module _ {X Y Z : Type 0} (R : X → Y → Z → Type 0) where
   three_at xs ys zs n x y all in_xs in_ys = absurd cc
 
   -- of the first and the third
-  pub first_third : (S : X → Z → Type 0) (xs : List X) (ys : List Y) (zs : List Z) → ((x : X) (y : Y) (z : Z) → R x y z → S x z) → AllThree R xs ys zs → AllZip S xs zs
+  pub first_third : (S : X → Z → Type 0) (xs : List X) (ys : List Y) (zs : List Z)
+      → ((x : X) (y : Y) (z : Z) → R x y z → S x z) → AllThree R xs ys zs → AllZip S xs zs
   first_third S [] [] [] f all = tt
   first_third S (x ∷ xs) (y ∷ ys) (z ∷ zs) f all = (f x y z all.0, first_third S xs ys zs f all.1)
   first_third S xs ys zs f all = absurd all
 
   -- with a fourth list
-  pub with_fourth : {W : Type 0} (S : X → Y → W → Type 0) (T : Y → W → Z → Type 0) (xs : List X) (ys : List Y) (zs : List Z) (ws : List W) → ((x : X) (y : Y) (z : Z) (w : W) → R x y z → S x y w → T y w z)
+  pub with_fourth : {W : Type 0} (S : X → Y → W → Type 0) (T : Y → W → Z → Type 0) (xs : List X) (ys : List Y)
+      (zs : List Z) (ws : List W) → ((x : X) (y : Y) (z : Z) (w : W) → R x y z → S x y w → T y w z)
       → AllThree R xs ys zs → AllThree S xs ys ws → AllThree T ys ws zs
   with_fourth S T [] [] [] [] f all also = tt
   with_fourth S T [] [] [] (_ ∷ _) f all also = absurd also
@@ -77,7 +80,8 @@ module _ {X Y Z : Type 0} (R : X → Y → Z → Type 0) where
   with_fourth S T xs ys zs ws f all also = absurd all
 
   -- with another one for the first
-  pub for_first : {W : Type 0} (L : X → W → Type 0) (T : W → Y → Z → Type 0) (xs : List X) (ys : List Y) (zs : List Z) (ws : List W) → ((x : X) (y : Y) (z : Z) (w : W) → R x y z → L x w → T w y z)
+  pub for_first : {W : Type 0} (L : X → W → Type 0) (T : W → Y → Z → Type 0) (xs : List X) (ys : List Y) (zs : List Z)
+      (ws : List W) → ((x : X) (y : Y) (z : Z) (w : W) → R x y z → L x w → T w y z)
       → AllThree R xs ys zs → AllZip L xs ws → AllThree T ws ys zs
   for_first L T [] [] [] [] f all also = tt
   for_first L T [] [] [] (_ ∷ _) f all also = absurd also
@@ -86,7 +90,8 @@ module _ {X Y Z : Type 0} (R : X → Y → Z → Type 0) where
   for_first L T xs ys zs ws f all also = absurd all
 
   -- of the third and a fourth
-  pub third_fourth : {W : Type 0} (S : X → Y → W → Type 0) (T : Z → W → Type 0) (xs : List X) (ys : List Y) (zs : List Z) (ws : List W) → ((x : X) (y : Y) (z : Z) (w : W) → R x y z → S x y w → T z w)
+  pub third_fourth : {W : Type 0} (S : X → Y → W → Type 0) (T : Z → W → Type 0) (xs : List X) (ys : List Y)
+      (zs : List Z) (ws : List W) → ((x : X) (y : Y) (z : Z) (w : W) → R x y z → S x y w → T z w)
       → AllThree R xs ys zs → AllThree S xs ys ws → AllZip T zs ws
   third_fourth S T [] [] [] [] f all also = tt
   third_fourth S T [] [] [] (_ ∷ _) f all also = absurd also
@@ -96,7 +101,9 @@ module _ {X Y Z : Type 0} (R : X → Y → Z → Type 0) where
 
 -- ---- bytes that an input has
 
-given_so : {S : Type 0} (left : S → Option (List ℕ)) (failures : S → ℕ) (old new : S) (bytes : List ℕ) (P : List ℕ → Type 0) → IsGiven (reader left failures old new) bytes → Gives (reader left failures old new) P → P bytes
+given_so : {S : Type 0} (left : S → Option (List ℕ)) (failures : S → ℕ) (old new : S) (bytes : List ℕ)
+    (P : List ℕ → Type 0) → IsGiven (reader left failures old new) bytes → Gives (reader left failures old new) P
+    → P bytes
 given_so left failures old new bytes P given gives = let held : IfSome (Some bytes) P = subst (λ (l : Option (List ℕ)). IfSome l P) given gives in held
 
 -- what is true of the bytes of an input, of these
@@ -108,14 +115,19 @@ of_given input bytes P given gives = given_so input.left input.failures input.ol
 front_is : (offset at : ℕ) (r t : List ℕ) → IsRecord r → take 74 (table_entry offset at r t) ≡ placed_entry offset r
 unfolding table_entry
 front_is offset at r t is =
-    ap (λ (n : ℕ). take n (placed_entry offset r ++ claim_bytes (claim_of at r t))) (sym (entry_long offset r is)) ∙ take-append_seam (placed_entry offset r) (claim_bytes (claim_of at r t))
+    ap (λ (n : ℕ). take n (placed_entry offset r ++ claim_bytes (claim_of at r t))) (sym (entry_long offset r is))
+    ∙ take-append_seam (placed_entry offset r) (claim_bytes (claim_of at r t))
 
-fronts_are : (offset at : ℕ) (rs ts : List (List ℕ)) → AllZip IsTableOf rs ts → AllByRecursion IsRecord rs → map (take 74) (table_entries offset at rs ts) ≡ placed_entries offset rs
+fronts_are : (offset at : ℕ) (rs ts : List (List ℕ)) → AllZip IsTableOf rs ts → AllByRecursion IsRecord rs
+    → map (take 74) (table_entries offset at rs ts) ≡ placed_entries offset rs
 fronts_are offset at [] ts each all = refl
 fronts_are offset at (r ∷ rs) [] each all = absurd each
-fronts_are offset at (r ∷ rs) (t ∷ ts) each all = λ i. front_is offset at r t all.0 i ∷ fronts_are (offset + length r) (at + length (stored t)) rs ts each.1 all.1 i
+fronts_are offset at (r ∷ rs) (t ∷ ts) each all = λ i. front_is offset at r t all.0 i
+    ∷ fronts_are (offset + length r) (at + length (stored t)) rs ts each.1 all.1 i
 
-placed_same : (es placed : List (List ℕ)) → map (take 74) es ≡ placed → set.from_list {R = order} (map (take 74) (listing (set.from_list {R = order} es))) ≡ set.from_list {R = order} placed
+placed_same : (es placed : List (List ℕ)) → map (take 74) es ≡ placed
+    → set.from_list {R = order} (map (take 74) (listing (set.from_list {R = order} es)))
+    ≡ set.from_list {R = order} placed
 placed_same es placed same =
     let sorted : List (List ℕ) = listing (set.from_list {R = order} es) in
     same_set nat_list_cmp_total bytes_same (set.from_list (map (take 74) sorted)) (set.from_list placed) (λ q. both_ways _ _
@@ -131,7 +143,8 @@ placed_same es placed same =
 records_of : (o : Operations) → IsContent o → AllByRecursion IsRecord (listing o)
 records_of o content = along IsRecord (listing o) (λ r h. content.records r (sym (any_listing nat_list_cmp_total o r) ∙ h))
 
-pub placed_index : (o : Operations) (tables : List (List ℕ)) → IsContent o → AllZip IsTableOf (listing o) tables → placed_of (entries_of (listing o) tables) ≡ index o
+pub placed_index : (o : Operations) (tables : List (List ℕ)) → IsContent o → AllZip IsTableOf (listing o) tables
+    → placed_of (entries_of (listing o) tables) ≡ index o
 unfolding entries_of index
 placed_index o tables content each =
     placed_same (table_entries 8 8 (listing o) tables) (placed_entries 8 (listing o)) (fronts_are 8 8 (listing o) tables each (records_of o content))
@@ -147,7 +160,8 @@ tables_are o text all file is =
 pub held_text : {S : Type 0} (input : Reader S) (text : List ℕ) (all : List (List ℕ)) → IsGiven input text → HoldsTables input all → IsIndexText text all
 held_text input text all given holds = of_given input text (λ t. IsIndexText t all) given holds
 
-pub held_tables : {S : Type 0} (input : Reader S) (o : Operations) (all : List (List ℕ)) → IsIndexGiven input o → HoldsTables input all → placed_of all ≡ index o
+pub held_tables : {S : Type 0} (input : Reader S) (o : Operations) (all : List (List ℕ)) → IsIndexGiven input o
+    → HoldsTables input all → placed_of all ≡ index o
 held_tables input o all (text, given, file) holds = tables_are o text all file (held_text input text all given holds)
 
 pub entries_are : {S : Type 0} (input : Reader S) (o : Operations) (entries : Entries) → IsIndexGiven input o → HoldsIndex input entries → entries ≡ index o
@@ -159,33 +173,44 @@ have_keys o text file slice there valid = is_key_of slice valid (file.slices sli
 
 -- ---- INDEX
 
-no_refusal : (o : Operations) (text : List ℕ) (fault : IndexFault) → IsIndexFile o text → IsRefused IsIndexFault text fault → fault.kind ≢ IndexOutOfMemory → (why : Why) → why ≡ IndexFaulty fault → IsDeviceFault why
+no_refusal : (o : Operations) (text : List ℕ) (fault : IndexFault) → IsIndexFile o text
+    → IsRefused IsIndexFault text fault → fault.kind ≢ IndexOutOfMemory → (why : Why) → why ≡ IndexFaulty fault
+    → IsDeviceFault why
 no_refusal o text fault file (inl (inl device, at)) other why is = subst IsDeviceFault (sym is) device
 no_refusal o text fault file (inl (inr memory, at)) other why is = absurd (other memory)
 no_refusal o text fault file (inr faulty) other why is =
     absurd (no_fault text (entries_of (listing o) file.index.tables) fault (accepted o text file.index file.content file.archive_fits file.index_fits) faulty)
 
-index_device : {S : Type 0} (left : S → Option (List ℕ)) (failures : S → ℕ) (old new : S) (o : Operations) (text : List ℕ) (why : Why) → IsIndexFile o text → IsGiven (reader left failures old new) text → IsUnreadIndex (reader left failures old new) why → IsDeviceFault why
+index_device : {S : Type 0} (left : S → Option (List ℕ)) (failures : S → ℕ) (old new : S) (o : Operations)
+    (text : List ℕ) (why : Why) → IsIndexFile o text → IsGiven (reader left failures old new) text
+    → IsUnreadIndex (reader left failures old new) why → IsDeviceFault why
 index_device left failures old new o text why file given (fault, is, other, reads) = no_refusal o text fault file (reads.says text given) other why is
 
 -- ---- its archive
 
 -- one that is not read by its index is refused for its device alone
-unread_at_device : {S : Type 0} (IsRead : ℕ → Type 0) (archive : Reader S) (text : List ℕ) (why : Why) → IsGiven archive text → IsUnreadAt IsRead archive why → IsDeviceFault why
+unread_at_device : {S : Type 0} (IsRead : ℕ → Type 0) (archive : Reader S) (text : List ℕ) (why : Why)
+    → IsGiven archive text → IsUnreadAt IsRead archive why → IsDeviceFault why
 unread_at_device IsRead archive text (Record fault) given r = r.0
 unread_at_device IsRead archive text why given r = absurd r
 
 -- it has the length that the index tells
-same_length : {P : Type 0} (archive : Reader P) (o : Operations) (text : List ℕ) → IsIndexFile o text → IsGiven archive (written o) → HasOtherLength archive (index o) → ⊥
+same_length : {P : Type 0} (archive : Reader P) (o : Operations) (text : List ℕ) → IsIndexFile o text
+    → IsGiven archive (written o) → HasOtherLength archive (index o) → ⊥
 same_length archive o text file known other =
     of_given archive (written o) (λ t. HasIndexedLength (index o) t → ⊥) known other (right_length o file.content file.archive_fits)
 
-other_length : {P : Type 0} (number : ℕ) (archive : Reader P) (entries : Entries) (o : Operations) (text : List ℕ) (at : InputName) (why : Why) → IsIndexFile o text → IsGiven archive (written o) → entries ≡ index o → IsOfOtherLength number archive entries at why → IsDeviceFault why
-other_length number archive entries o text at why file known is (inl (place, unread)) = unread_at_device (λ offset. offset ≡ 0) archive (written o) why known unread
+other_length : {P : Type 0} (number : ℕ) (archive : Reader P) (entries : Entries) (o : Operations) (text : List ℕ)
+    (at : InputName) (why : Why) → IsIndexFile o text → IsGiven archive (written o) → entries ≡ index o
+    → IsOfOtherLength number archive entries at why → IsDeviceFault why
+other_length number archive entries o text at why file known is (inl (place, unread)) =
+    unread_at_device (λ offset. offset ≡ 0) archive (written o) why known unread
 other_length number archive entries o text at why file known is (inr (place, unfailed, stale, other)) =
     absurd (same_length archive o text file known (subst (λ (s : Entries). HasOtherLength archive s) is other))
 
-pub by_device : {I P : Type 0} (number : ℕ) (input : Reader I) (archive : Reader P) (o : Operations) (at : InputName) (why : Why) → IsIndexGiven input o → IsGiven archive (written o) → IsRefusedByIndex number input archive at why → IsDeviceFault why
+pub by_device : {I P : Type 0} (number : ℕ) (input : Reader I) (archive : Reader P) (o : Operations) (at : InputName)
+    (why : Why) → IsIndexGiven input o → IsGiven archive (written o) → IsRefusedByIndex number input archive at why
+    → IsDeviceFault why
 by_device number input archive o at why (text, given, file) known (inl (place, unread, untouched)) =
     index_device input.left input.failures input.old input.new o text why file given unread
 by_device number input archive o at why (text, given, file) known (inr (entries, holds, unfailed, other)) =
@@ -208,15 +233,20 @@ module _ (o : Operations) (text : List ℕ) (file : IsIndexFile o text) where
   not_stale prefixes None stale = stale (right_length o file.content file.archive_fits)
   not_stale prefixes (Some k) stale = named_at prefixes k stale.1
 
-  pub at_places : {P : Type 0} (prefixes : List (List ℕ)) (number : ℕ) (archive : Reader P) (entries : List (List ℕ)) (at : InputName) (why : Why) → placed_of entries ≡ index o → IsGiven archive (written o) → IsRefusedAtPlaces prefixes number archive entries at why → IsDeviceFault why
-  at_places prefixes number archive entries at why is known (inl (place, unread)) = unread_at_device (IsReadFor prefixes (placed_of entries)) archive (written o) why known unread
+  pub at_places : {P : Type 0} (prefixes : List (List ℕ)) (number : ℕ) (archive : Reader P) (entries : List (List ℕ))
+      (at : InputName) (why : Why) → placed_of entries ≡ index o → IsGiven archive (written o)
+      → IsRefusedAtPlaces prefixes number archive entries at why → IsDeviceFault why
+  at_places prefixes number archive entries at why is known (inl (place, unread)) =
+      unread_at_device (IsReadFor prefixes (placed_of entries)) archive (written o) why known unread
   at_places prefixes number archive entries at why is known (inr (place, unfailed, (entry, why_is, stale))) =
       let here : IsStaleFor prefixes archive (index o) entry = subst (λ (s : Entries). IsStaleFor prefixes archive s entry) is stale in
       absurd (not_stale prefixes entry (of_given archive (written o) (λ t. IsStaleUnder prefixes (index o) t entry) known here))
 
 -- ---- an archive from a later state on
 
-kept_bytes : {S : Type 0} (left : S → Option (List ℕ)) (failures : S → ℕ) (old later new after : S) (bytes : List ℕ) → IsKept left failures old later → IsGiven (reader left failures old new) bytes → IsGiven (reader left failures later after) bytes
+kept_bytes : {S : Type 0} (left : S → Option (List ℕ)) (failures : S → ℕ) (old later new after : S) (bytes : List ℕ)
+    → IsKept left failures old later → IsGiven (reader left failures old new) bytes
+    → IsGiven (reader left failures later after) bytes
 kept_bytes left failures old later new after bytes kept given = kept.0 ∙ given
 
 pub still_given : {S : Type 0} (first later : Reader S) (bytes : List ℕ) → IsLater first later → IsGiven first bytes → IsGiven later bytes
@@ -233,13 +263,29 @@ pub record IsOwnRead {P : Type 0} (archive : Reader P) (all : List (List ℕ)) (
   pub entries : placed_of all ≡ index o
   pub known : IsGiven archive (written o)
 
-own_read : {I P : Type 0} (index : Reader I) (archive : Reader P) (o : Operations) (all : List (List ℕ)) → IsOwnIndex index archive o → IsReadWith index archive all → IsOwnRead archive all o
-own_read index archive o all ((text, given, file), known) read = record { text = text; file = file; entries = held_tables index o all (text, given, file) read.index_is; known = known }
+own_read : {I P : Type 0} (index : Reader I) (archive : Reader P) (o : Operations) (all : List (List ℕ))
+    → IsOwnIndex index archive o → IsReadWith index archive all → IsOwnRead archive all o
+own_read index archive o all ((text, given, file), known) read =
+    record {
+      text = text;
+      file = file;
+      entries = held_tables index o all (text, given, file) read.index_is;
+      known =
+          known;
+    }
 
-own_later : {P : Type 0} (archive : Reader P) (all : List (List ℕ)) (o : Operations) (later : Reader P) → IsOwnRead archive all o → IsLater archive later → IsOwnRead later all o
-own_later archive all o later own is = record { text = own.text; file = own.file; entries = own.entries; known = still_given archive later (written o) is own.known }
+own_later : {P : Type 0} (archive : Reader P) (all : List (List ℕ)) (o : Operations) (later : Reader P)
+    → IsOwnRead archive all o → IsLater archive later → IsOwnRead later all o
+own_later archive all o later own is = record {
+  text = own.text;
+  file = own.file;
+  entries = own.entries;
+  known =
+      still_given archive later (written o) is own.known;
+}
 
-module _ {I P : Type 0} (prefixes : List (List ℕ)) (inputs : List (Reader I)) (archives : List (Reader P)) (os : List Operations) (at : InputName) (why : Why) (are : AreOwnIndexes inputs archives os) where
+module _ {I P : Type 0} (prefixes : List (List ℕ)) (inputs : List (Reader I)) (archives : List (Reader P))
+    (os : List Operations) (at : InputName) (why : Why) (are : AreOwnIndexes inputs archives os) where
   pub first_by_device : IsFirstRefusedByIndex inputs archives at why → IsDeviceFault why
   first_by_device r =
       let found = three_at IsOwnIndex inputs archives os r.number r.index r.archive are r.index_is.is r.archive_is.is in
@@ -249,8 +295,10 @@ module _ {I P : Type 0} (prefixes : List (List ℕ)) (inputs : List (Reader I)) 
   later_by_device r =
       let own = with_fourth IsOwnIndex IsReadWith IsOwnRead inputs archives os r.all (λ x y z w is read. own_read x y z w is read) are r.read in
       let there = for_first IsOwnRead IsLater IsOwnRead archives r.all os r.later (λ x y z w is later. own_later x y z w is later) own r.are_later in
-      let found = three_at IsOwnRead r.later r.all os r.refused.number r.refused.archive r.refused.entries there r.refused.archive_is.is r.refused.entries_are in
-      at_places found.0 found.1.text found.1.file prefixes r.refused.number r.refused.archive r.refused.entries at why found.1.entries found.1.known r.refused.refused
+      let found = three_at IsOwnRead r.later r.all os r.refused.number r.refused.archive r.refused.entries there
+      r.refused.archive_is.is r.refused.entries_are in
+      at_places found.0 found.1.text found.1.file prefixes r.refused.number r.refused.archive r.refused.entries at why
+      found.1.entries found.1.known r.refused.refused
 
   pub together_by_device : AreRefusedTogether prefixes inputs archives at why → IsDeviceFault why
   together_by_device (inl first) = first_by_device first

@@ -1,5 +1,6 @@
 -- Entries of several indexes, and the slices that answer by them.
-use Rattle.std.proofs.Common.{◌≡◌, ◌↔◌, ℕ, zero, suc, ◌<◌, true, false, ◌||◌, ◌&&◌, not, eqb, List, [], ◌∷◌, ◌++◌, length, take, drop, get_or, refl, sym, ap, ◌∙◌}
+use Rattle.std.proofs.Common.{◌≡◌, ◌↔◌, ℕ, zero, suc, ◌<◌, true, false, ◌||◌, ◌&&◌, not, eqb, List, [], ◌∷◌, ◌++◌}
+use Rattle.std.proofs.Common.{length, take, drop, get_or, refl, sym, ap, ◌∙◌}
 use Rattle.std.proofs.Common.{subst, inl, inr, arith, Some, slice_get}
 use Rattle.std.specs.List.{AllByRecursion, AllZip, Contains, list_any}
 use Rattle.std.specs.Str.{bytes_eq}
@@ -39,14 +40,16 @@ under_key : (text slice e : List ℕ) → IsEntryOfSlice text slice e → (key :
 unfolding is_under
 under_key text slice e is key is_key =
     let front : take (length (key_bytes key)) (drop 1 e) ≡ key_bytes (key_of slice) =
-    ap (λ (n : ℕ). take n (drop 1 e)) (length_key_bytes key is_key.uuid) ∙ key_in e (key_bytes (key_of slice)) (sha256 slice) (length-key_of slice is.valid) is.prefix in
+    ap (λ (n : ℕ). take n (drop 1 e)) (length_key_bytes key is_key.uuid)
+    ∙ key_in e (key_bytes (key_of slice)) (sha256 slice) (length-key_of slice is.valid) is.prefix in
     let same = bytes_eq-Decides (key_bytes key) (take (length (key_bytes key)) (drop 1 e)) in
     (λ h. sym (same_key key (key_of slice) is_key is.is_key (same.0 h ∙ front)), λ under. same.1 (ap key_bytes (sym under) ∙ sym front))
 
 -- ---- contents, texts and entries at one place
 
 -- at this place stand a content, its index and the entries of that
-pub record IsFileAt (os : List Operations) (texts : List (List ℕ)) (indexes : List (List (List ℕ))) (i : ℕ) (o : Operations) (text : List ℕ) (entries : List (List ℕ)) : Type 0 where
+pub record IsFileAt (os : List Operations) (texts : List (List ℕ)) (indexes : List (List (List ℕ))) (i : ℕ)
+    (o : Operations) (text : List ℕ) (entries : List (List ℕ)) : Type 0 where
   pub content_at : slice_get os i ≡ Some o
   pub text_at : slice_get texts i ≡ Some text
   pub index_at : slice_get indexes i ≡ Some entries
@@ -120,7 +123,8 @@ module _ (os : List Operations) (texts : List (List ℕ)) (indexes : List (List 
 
   -- an entry is among all
   pub to_all : (x : EntryAt) → IsAmong indexes x → Contains (all_of indexes) x.entry
-  to_all x among = to_flat_map (λ (es : List (List ℕ)). es) indexes among.entries x.entry (listed_at indexes x.input among.entries among.index_is) (listed_at among.entries x.number x.entry among.entry_is)
+  to_all x among = to_flat_map (λ (es : List (List ℕ)). es) indexes among.entries x.entry
+      (listed_at indexes x.input among.entries among.index_is) (listed_at among.entries x.number x.entry among.entry_is)
 
   pub from_all : (e : List ℕ) → Contains (all_of indexes) e → (x : EntryAt) × IsAmong indexes x × (x.entry ≡ e)
   from_all e c =
@@ -170,7 +174,8 @@ module _ (os : List Operations) (texts : List (List ℕ)) (indexes : List (List 
     -- ---- retirements
 
     -- an entry covers that of a slice: it is of the retirement
-    retired_by : (text slice e f : List ℕ) → IsEntryOfSlice text slice e → Contains (all_of indexes) f → covers e f ≡ true → has_any os (retirement_record (key_of slice) (sha256 slice)) ≡ true
+    retired_by : (text slice e f : List ℕ) → IsEntryOfSlice text slice e → Contains (all_of indexes) f → covers e f
+        ≡ true → has_any os (retirement_record (key_of slice) (sha256 slice)) ≡ true
     retired_by text slice e f is c h =
         let parts = and_parts (eqb (get_or f 0 0) 1) (bytes_eq (take 56 (drop 1 f)) (take 56 (drop 1 e))) h in
         let y = from_all f c in
@@ -185,7 +190,9 @@ module _ (os : List Operations) (texts : List (List ℕ)) (indexes : List (List 
         let whole : s.0 ≡ 1 ∷ pair = b.is ∙ ap (λ (l : List ℕ). 1 ∷ l) (sym (ap (drop 1) b.is) ∙ rest) in
         ap (has_any os) (sym whole) ∙ has_held y.0 s.0 s.1
 
-    covered_by : (text slice e : List ℕ) → IsEntryOfSlice text slice e → has_any os (retirement_record (key_of slice) (sha256 slice)) ≡ true → list_any (covers e) (all_of indexes) ≡ true
+    covered_by : (text slice e : List ℕ) → IsEntryOfSlice text slice e
+        → has_any os (retirement_record (key_of slice) (sha256 slice)) ≡ true → list_any (covers e) (all_of indexes)
+        ≡ true
     covered_by text slice e is h =
         let r : List ℕ = retirement_record (key_of slice) (sha256 slice) in
         let y = entry_for r h in
@@ -204,28 +211,37 @@ module _ (os : List Operations) (texts : List (List ℕ)) (indexes : List (List 
 
       -- ---- what is live
 
-      pub lives_if : (x : EntryAt) (slice : List ℕ) → IsOfSlice os texts indexes x slice → lives_under prefix every x.entry ≡ true → IsLive (all_joined os) key slice
+      pub lives_if : (x : EntryAt) (slice : List ℕ) → IsOfSlice os texts indexes x slice
+          → lives_under prefix every x.entry ≡ true → IsLive (all_joined os) key slice
       lives_if x slice of h =
           let parts = and_parts (admits_under prefix x.entry) (not (list_any (covers x.entry) every)) h in
-          let under : key_of slice ≡ key = (under_key of.of.text slice x.entry of.is key is_key).0 (and_parts (is_admission x.entry) (is_under prefix x.entry) parts.0).1 in
+          let under : key_of slice ≡ key = (under_key of.of.text slice x.entry of.is key is_key).0
+          (and_parts (is_admission x.entry) (is_under prefix x.entry) parts.0).1 in
           let none : list_any (covers x.entry) every ≡ false = not-true (list_any (covers x.entry) every) parts.1 in
-          let free : has_any os (retirement_record (key_of slice) (sha256 slice)) ≡ false = false_from_ne_true (has_any os (retirement_record (key_of slice) (sha256 slice))) (λ there.
+          let free : has_any os (retirement_record (key_of slice) (sha256 slice))
+          ≡ false = false_from_ne_true (has_any os (retirement_record (key_of slice) (sha256 slice))) (λ there.
           true≢false (sym (covered_by of.of.text slice x.entry of.is there) ∙ none)) in
           live_in_all os key slice of.is.valid under (has_held x (admission_record slice) of.of)
           (ap (λ k. has_any os (retirement_record k (sha256 slice))) (sym under) ∙ free)
 
-      pub lives_then : (x : EntryAt) (slice : List ℕ) → IsOfSlice os texts indexes x slice → IsLive (all_joined os) key slice → lives_under prefix every x.entry ≡ true
+      pub lives_then : (x : EntryAt) (slice : List ℕ) → IsOfSlice os texts indexes x slice
+          → IsLive (all_joined os) key slice → lives_under prefix every x.entry ≡ true
       lives_then x slice of live =
           let tag : is_admission x.entry ≡ true = ap (λ (n : ℕ). eqb n 2) (tag_of x.entry (2 ∷ (key_bytes (key_of slice) ++ sha256 slice)) of.is.prefix) in
           let under : is_under prefix x.entry ≡ true = (under_key of.of.text slice x.entry of.is key is_key).1 live.under in
-          let free : has_any os (retirement_record (key_of slice) (sha256 slice)) ≡ false = ap (λ k. has_any os (retirement_record k (sha256 slice))) live.under ∙ free_if_live os key slice live in
+          let free : has_any os (retirement_record (key_of slice) (sha256 slice))
+          ≡ false = ap (λ k. has_any os (retirement_record k (sha256 slice))) live.under
+          ∙ free_if_live os key slice live in
           let none : list_any (covers x.entry) every ≡ false = false_from_ne_true (list_any (covers x.entry) every) (λ there.
           let f = any_of (covers x.entry) every there in
           true≢false (sym (retired_by of.of.text slice x.entry f.0 of.is f.1 f.2) ∙ free)) in
-          and_from (admits_under prefix x.entry) (not (list_any (covers x.entry) every)) (and_from (is_admission x.entry) (is_under prefix x.entry) tag under) (not_from_false (list_any (covers x.entry) every) none)
+          and_from (admits_under prefix x.entry) (not (list_any (covers x.entry) every))
+          (and_from (is_admission x.entry) (is_under prefix x.entry) tag under)
+          (not_from_false (list_any (covers x.entry) every) none)
 
       pub admission_if : (x : EntryAt) → lives_under prefix every x.entry ≡ true → is_admission x.entry ≡ true
-      admission_if x h = (and_parts (is_admission x.entry) (is_under prefix x.entry) (and_parts (admits_under prefix x.entry) (not (list_any (covers x.entry) every)) h).0).0
+      admission_if x h = (and_parts (is_admission x.entry) (is_under prefix x.entry)
+          (and_parts (admits_under prefix x.entry) (not (list_any (covers x.entry) every)) h).0).0
 
       -- a live slice has an entry
       pub entry_if_live : (slice : List ℕ) → IsLive (all_joined os) key slice → (x : EntryAt) × IsAmong indexes x × IsOfSlice os texts indexes x slice
@@ -239,7 +255,8 @@ module _ (os : List Operations) (texts : List (List ℕ)) (indexes : List (List 
       companion_if h =
           let f = any_of (λ (e : List ℕ). lives_under prefix every e && is_companion e) every h in
           let x = from_all f.0 f.1 in
-          let parts = and_parts (lives_under prefix every x.0.entry) (is_companion x.0.entry) (ap (λ (e : List ℕ). lives_under prefix every e && is_companion e) x.2 ∙ f.2) in
+          let parts = and_parts (lives_under prefix every x.0.entry) (is_companion x.0.entry)
+          (ap (λ (e : List ℕ). lives_under prefix every e && is_companion e) x.2 ∙ f.2) in
           let s = slice_of_entry x.0 x.1 (admission_if x.0 parts.0) in
           (s.0, lives_if x.0 s.0 s.1 parts.0, sym s.1.is.kind ∙ parts.1)
 
@@ -251,7 +268,8 @@ module _ (os : List Operations) (texts : List (List ℕ)) (indexes : List (List 
 
       -- ---- what answers
 
-      pub answers_if : (x : EntryAt) (slice : List ℕ) → IsOfSlice os texts indexes x slice → answers_among prefix every x.entry ≡ true → IsAnswering (all_joined os) key slice
+      pub answers_if : (x : EntryAt) (slice : List ℕ) → IsOfSlice os texts indexes x slice
+          → answers_among prefix every x.entry ≡ true → IsAnswering (all_joined os) key slice
       answers_if x slice of h =
           let parts = and_parts (lives_under prefix every x.entry) (not (has_live_companion prefix every) || is_companion x.entry) h in
           record {
@@ -262,7 +280,8 @@ module _ (os : List Operations) (texts : List (List ℕ)) (indexes : List (List 
             ];
           }
 
-      pub answers_then : (x : EntryAt) (slice : List ℕ) → IsOfSlice os texts indexes x slice → IsAnswering (all_joined os) key slice → answers_among prefix every x.entry ≡ true
+      pub answers_then : (x : EntryAt) (slice : List ℕ) → IsOfSlice os texts indexes x slice
+          → IsAnswering (all_joined os) key slice → answers_among prefix every x.entry ≡ true
       answers_then x slice of answers =
           let first : (not (has_live_companion prefix every) || is_companion x.entry) ≡ true = elim (cases_Bool (has_live_companion prefix every)) [
             | inl some ↦

@@ -1,5 +1,6 @@
 -- The rows of the entries that answer are those of the slices that answer.
-use Rattle.std.proofs.Common.{◌≡◌, ℕ, Bool, true, false, cond, not, ◌||◌, List, ◌∷◌, ◌++◌, length, take, drop, get_or, Contains, refl, sym, ap, ◌∙◌, subst, inl, inr, arith}
+use Rattle.std.proofs.Common.{◌≡◌, ℕ, Bool, true, false, cond, not, ◌||◌, List, ◌∷◌, ◌++◌, length, take, drop, get_or}
+use Rattle.std.proofs.Common.{Contains, refl, sym, ap, ◌∙◌, subst, inl, inr, arith}
 use Rattle.std.specs.Int.{w64, to_be_bytes}
 use Rattle.std.proofs.lemmas.Bool.{and_parts}
 use Rattle.sha2.specs.Sha256.{sha256}
@@ -24,7 +25,8 @@ use Rattle.command_queries.specs.Slices.{IsAnsweringRow, WithSlices}
 use Rattle.command_index_queries.specs.Rows.{IsEntryRow}
 use Rattle.command_index_frames.specs.Slices.{IsAnsweringEntryRow}
 use Rattle.laws_index.specs.Indexes.{AreIndexes, all_joined}
-use Rattle.laws_index.proofs.Among.{IsOfSlice, admission_if, answers_if, answers_then, content, entry_for, entry_of, from_all, of_record, slice_of_entry, to_all}
+use Rattle.laws_index.proofs.Among.{IsOfSlice, admission_if, answers_if, answers_then, content, entry_for, entry_of}
+use Rattle.laws_index.proofs.Among.{from_all, of_record, slice_of_entry, to_all}
 use Rattle.laws_index.proofs.Joined.{there_if_live}
 use Rattle.laws_index.proofs.OfContent.{IsEntryOf, key_in, tag_of}
 
@@ -51,8 +53,10 @@ valid_if_live o key slice content long_uuid live = elim (content.records (admiss
   | inl admits ↦
       let long : length (key_bytes (key_of slice)) ≡ 24 = length_key_bytes (key_of slice) (ap (λ k. length k.uuid) live.under ∙ long_uuid) in
       let same : admission slice ≡ admission admits.slice = cc (admits.is) in
-      let behind_key = (same_parts (key_bytes (key_of slice)) (key_bytes (key_of admits.slice)) _ _ (long ∙ sym (length-key_of admits.slice admits.valid)) same).1 in
-      subst IsValid (sym (same_parts (to_be_bytes w64 (length slice)) (to_be_bytes w64 (length admits.slice)) slice admits.slice refl behind_key).1) admits.valid
+      let behind_key = (same_parts (key_bytes (key_of slice)) (key_bytes (key_of admits.slice)) _ _
+      (long ∙ sym (length-key_of admits.slice admits.valid)) same).1 in
+      subst IsValid (sym (same_parts (to_be_bytes w64 (length slice)) (to_be_bytes w64 (length admits.slice)) slice
+      admits.slice refl behind_key).1) admits.valid
   | inr retires ↦ cc (retires.is)
 ]
 
@@ -61,17 +65,22 @@ module _ (os : List Operations) (texts : List (List ℕ)) (all : List (List (Lis
   to_slice : (row : FindRow) → IsAnsweringEntryRow all keys row → IsAnsweringRow (all_joined os) keys row
   to_slice row a =
       let x = from_all os texts all a.entry a.among in
-      let answers : answers_among (key_bytes row.key) (all_of all) x.0.entry ≡ true = subst (λ (e : List ℕ). answers_among (key_bytes row.key) (all_of all) e ≡ true) (sym x.2) a.answers in
+      let answers : answers_among (key_bytes row.key) (all_of all) x.0.entry
+      ≡ true = subst (λ (e : List ℕ). answers_among (key_bytes row.key) (all_of all) e ≡ true) (sym x.2) a.answers
+      in
       let told : IsEntryRow x.0.entry row = subst (λ (e : List ℕ). IsEntryRow e row) (sym x.2) a.is_row in
       let is_key = a.is_row.is_key in
-      let lives = (and_parts (lives_under (key_bytes row.key) (all_of all) x.0.entry) (not (has_live_companion (key_bytes row.key) (all_of all)) || is_companion x.0.entry) answers).0 in
+      let lives = (and_parts (lives_under (key_bytes row.key) (all_of all) x.0.entry)
+      (not (has_live_companion (key_bytes row.key) (all_of all)) || is_companion x.0.entry) answers).0 in
       let slice = slice_of_entry os texts all files x.0 x.1 (admission_if os texts all files row.key is_key x.0 lives) in
       let s = slice.0 in
       let of = slice.1.is in
       let key : row.key ≡ key_of s = same_key row.key (key_of s) is_key of.is_key
       (told.key_is ∙ key_in x.0.entry (key_bytes (key_of s)) (sha256 s) (length-key_of s of.valid) of.prefix) in
       let digest : row.digest.0 ≡ sha256 s = told.digest_is ∙ of.is.digest_is in
-      let state : row.state ≡ cond (is_dsym_image s) Dsym Image = admitted_state row.state (is_dsym_image s) (told.tag_is ∙ tag_of x.0.entry (2 ∷ (key_bytes (key_of s) ++ sha256 s)) of.prefix)
+      let state : row.state ≡ cond (is_dsym_image s) Dsym Image =
+      admitted_state row.state (is_dsym_image s) (told.tag_is
+      ∙ tag_of x.0.entry (2 ∷ (key_bytes (key_of s) ++ sha256 s)) of.prefix)
       (told.kind_is ∙ kind_number slice.1.of.text s x.0.entry of.valid (entry_of os texts all x.0 (admission_record s) slice.1.of)) in
       record {
         slice = s;
@@ -123,8 +132,11 @@ module _ (os : List Operations) (texts : List (List ℕ)) (all : List (List (Lis
   }
 
 -- answers with the lines of slices after them are the same
-pub with_slices_told : (os : List Operations) (texts : List (List ℕ)) (all : List (List (List ℕ))) → AreIndexes os texts all → (keys : List SliceKey) (slices : Bool) → (slices ≡ true → (key : SliceKey) → Contains keys key → length key.uuid ≡ 16)
-    → (Tells Others : Status → List ℕ → Type 0) → ((status : Status) (text : List ℕ) → Tells status text → Others status text) → (status : Status) (text : List ℕ)
+pub with_slices_told : (os : List Operations) (texts : List (List ℕ)) (all : List (List (List ℕ)))
+    → AreIndexes os texts all → (keys : List SliceKey) (slices : Bool)
+    → (slices ≡ true → (key : SliceKey) → Contains keys key → length key.uuid ≡ 16)
+    → (Tells Others : Status → List ℕ → Type 0) → ((status : Status) (text : List ℕ) → Tells status text
+    → Others status text) → (status : Status) (text : List ℕ)
     → WithSlices slices Tells (IsAnsweringEntryRow all keys) keys status text → WithSlices slices Others (IsAnsweringRow (all_joined os) keys) keys status text
 with_slices_told os texts all files keys false long Tells Others carried status text told = carried status text told
 with_slices_told os texts all files keys true long Tells Others carried status text told = record {

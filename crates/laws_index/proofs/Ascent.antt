@@ -1,5 +1,6 @@
 -- Lists that ascend strictly by a number: two with the same members are one.
-use Rattle.std.proofs.Common.{◌≡◌, ℕ, ◌+◌, ◌<◌, ◌≤◌, suc, Bool, true, false, cond, eqb, ◌||◌, ◌&&◌, List, [], ◌∷◌, get_or, refl, sym, ap, ◌∙◌, subst, inl, inr, ◌⊎◌, arith}
+use Rattle.std.proofs.Common.{◌≡◌, ℕ, ◌+◌, ◌<◌, ◌≤◌, suc, Bool, true, false, cond, eqb, ◌||◌, ◌&&◌, List, [], ◌∷◌}
+use Rattle.std.proofs.Common.{get_or, refl, sym, ap, ◌∙◌, subst, inl, inr, ◌⊎◌, arith}
 use Rattle.std.specs.Prelude.{filter}
 use Rattle.std.specs.List.{AllByRecursion, list_any, sum_by}
 use Rattle.std.specs.Ordering.{nat_cmp, eq_by_cmp, is_eq, is_lt}
@@ -133,14 +134,17 @@ module _ (n : List ℕ → ℕ) where
   less_not_equal x y e l = cc (ap (order x) e, l, tied_itself nat_list_cmp_total x)
 
   -- bytes that ascend strictly, of which the number tells which
-  others : (x : List ℕ) (ys : List (List ℕ)) → AllByRecursion (λ y. order x y ≡ Less) ys → ((y : List ℕ) → list_any (is_same y) ys ≡ true → n x ≡ n y → x ≡ y) → AllByRecursion (λ y. n y ≡ n x → ⊥) ys
+  others : (x : List ℕ) (ys : List (List ℕ)) → AllByRecursion (λ y. order x y ≡ Less) ys
+      → ((y : List ℕ) → list_any (is_same y) ys ≡ true → n x ≡ n y → x ≡ y) → AllByRecursion (λ y. n y ≡ n x → ⊥) ys
   others x [] low tells = tt
   others x (y ∷ ys) low tells = (
     λ same. less_not_equal x y (tells y (here y ys) (sym same)) low.0,
     others x ys low.1 (λ q h. tells q (later q y ys h)),
   )
 
-  pub once : (xs : List (List ℕ)) → IsStrictlySortedBy order xs → ((p q : List ℕ) → list_any (is_same p) xs ≡ true → list_any (is_same q) xs ≡ true → n p ≡ n q → p ≡ q) → (t : ℕ) → count t xs ≤ 1
+  pub once : (xs : List (List ℕ)) → IsStrictlySortedBy order xs
+      → ((p q : List ℕ) → list_any (is_same p) xs ≡ true → list_any (is_same q) xs ≡ true → n p ≡ n q → p ≡ q) → (t : ℕ)
+      → count t xs ≤ 1
   unfolding IsStrictlySortedBy
   once [] up tells t = omega arith
   once (x ∷ xs) up tells t =
@@ -150,7 +154,8 @@ module _ (n : List ℕ → ℕ) where
       by : (b : Bool) → eqb (n x) t ≡ b → count t xs ≤ 1 → count t (x ∷ xs) ≤ 1
       by true h rest =
           let e : n x ≡ t = eqb-true (n x) t h in
-          let none : count t xs ≡ 0 = count_none t xs (subst (λ (k : ℕ). AllByRecursion (λ y. n y ≡ k → ⊥) xs) e (others x xs up.0 (λ y m. tells x y (here x xs) (later y x xs m)))) in
+          let none : count t xs ≡ 0 = count_none t xs (subst (λ (k : ℕ). AllByRecursion (λ y. n y ≡ k → ⊥) xs) e
+          (others x xs up.0 (λ y m. tells x y (here x xs) (later y x xs m)))) in
           omega (arith, count_cons t x xs, one_here t x e, none)
       by false h rest = omega (arith, count_cons t x xs, none_here t x (eqb-false (n x) t h), rest)
 
@@ -181,13 +186,18 @@ module _ (n : List ℕ → ℕ) where
   not_below [] sorted = tt
   not_below (x ∷ xs) sorted = (
     recursion_from_All (λ y. n x ≤ n y) xs
-        (λ i d lt. ge_from_not_lt (n (get_or xs i d)) (n x) (sorted_far (λ a b. is_lt (nat_cmp (n a) (n b))) weak (x ∷ xs) sorted 0 (suc i) d (omega arith) (omega arith))),
-    not_below xs (λ k d low high. let next : suc k + 1 ≡ suc (k + 1) = omega arith in subst (λ (m : ℕ). is_lt (nat_cmp (n (get_or (x ∷ xs) m d)) (n (get_or (x ∷ xs) (suc k) d))) ≡ false) next (sorted (suc k) d (omega arith) (omega arith))),
+        (λ i d lt. ge_from_not_lt (n (get_or xs i d)) (n x)
+        (sorted_far (λ a b. is_lt (nat_cmp (n a) (n b))) weak (x ∷ xs) sorted 0 (suc i) d (omega arith)
+        (omega arith))),
+    not_below xs (λ k d low high. let next : suc k + 1 ≡ suc (k + 1) = omega arith
+        in subst (λ (m : ℕ). is_lt (nat_cmp (n (get_or (x ∷ xs) m d)) (n (get_or (x ∷ xs) (suc k) d))) ≡ false) next
+        (sorted (suc k) d (omega arith) (omega arith))),
   )
     where
       weak : IsStrictWeakOrder (λ a b. is_lt (nat_cmp (n a) (n b)))
       weak = ranks_by nat_cmp_total n
 
-  pub ascend_sorted : (gathered xs : List (List ℕ)) → IsPermutation gathered xs → IsSortedBy (λ a b. is_lt (nat_cmp (n a) (n b))) xs → ((t : ℕ) → count t gathered ≤ 1) → Ascend xs
+  pub ascend_sorted : (gathered xs : List (List ℕ)) → IsPermutation gathered xs
+      → IsSortedBy (λ a b. is_lt (nat_cmp (n a) (n b))) xs → ((t : ℕ) → count t gathered ≤ 1) → Ascend xs
   ascend_sorted gathered xs moved sorted most =
       strictly xs (not_below xs sorted) (λ t. omega (arith, most t, sum_by-IsPermutation (λ x. bit (eqb (n x) t)) gathered xs moved))

@@ -56,43 +56,55 @@ or_none a = grind arith
 
 module _ (o : Operations) (content : IsContent o) where
   part_same : (p q : List ℕ → Bool) → ((r : List ℕ) → p r ≡ q r) → part o p ≡ part o q
-  part_same p q same = same_set nat_list_cmp_total bytes_same (part o p) (part o q) (λ r. contains_part o p r ∙ ap (λ (b : Bool). set.contains o r && b) (same r) ∙ sym (contains_part o q r))
+  part_same p q same = same_set nat_list_cmp_total bytes_same (part o p) (part o q)
+      (λ r. contains_part o p r ∙ ap (λ (b : Bool). set.contains o r && b) (same r) ∙ sym (contains_part o q r))
 
   parts_joined : (p q : List ℕ → Bool) → joined (part o p) (part o q) ≡ part o (λ r. p r || q r)
   parts_joined p q =
       let picks : List ℕ → Bool = λ (r : List ℕ). p r || q r in
       let one : set.union (part o p) (part o q) ≡ part o picks = same_set nat_list_cmp_total bytes_same (set.union (part o p) (part o q)) (part o picks) (λ r.
-      contains-union nat_list_cmp_total (part o p) (part o q) r ∙ (λ i. contains_part o p r i || contains_part o q r i) ∙ both_and (set.contains o r) (p r) (q r) ∙ sym (contains_part o picks r)) in
+      contains-union nat_list_cmp_total (part o p) (part o q) r ∙ (λ i. contains_part o p r i || contains_part o q r i)
+      ∙ both_and (set.contains o r) (p r) (q r) ∙ sym (contains_part o picks r)) in
       ap content_of one ∙ (part_content o picks content).itself
 
 -- ---- what was named is what the content has
 
-found_tells : (o : Operations) (prefix bytes : List ℕ) (entries : Entries) (p : Operations) → DigestsTellOver o bytes → (n : AreNamed prefix entries bytes p) → TellsFound o n.records
+found_tells : (o : Operations) (prefix bytes : List ℕ) (entries : Entries) (p : Operations) → DigestsTellOver o bytes
+    → (n : AreNamed prefix entries bytes p) → TellsFound o n.records
 found_tells o prefix bytes entries p tells n = λ a b in_o found same.
     let named = zip_right (IsNamedBy bytes) _ n.records (admission_record b) n.named found in
     tells a b named.1.offset in_o (named.1.stands refl) same
 
 module _ (o : Operations) (content : IsContent o) where
-  zip_along : (P Q : List ℕ → Operations → Type 0) (prefixes : List (List ℕ)) (parts : List Operations) → AllByRecursion (λ (f : List ℕ). length f ≤ 24) prefixes → ((f : List ℕ) (q : Operations) → length f ≤ 24 → P f q → Q f q) → AllZip P prefixes parts → AllZip Q prefixes parts
+  zip_along : (P Q : List ℕ → Operations → Type 0) (prefixes : List (List ℕ)) (parts : List Operations)
+      → AllByRecursion (λ (f : List ℕ). length f ≤ 24) prefixes
+      → ((f : List ℕ) (q : Operations) → length f ≤ 24 → P f q → Q f q) → AllZip P prefixes parts
+      → AllZip Q prefixes parts
   zip_along P Q [] [] short more zip = tt
   zip_along P Q (f ∷ fs) (q ∷ qs) short more zip = (more f q short.0 zip.0, zip_along P Q fs qs short.1 more zip.1)
   zip_along P Q prefixes parts short more zip = absurd zip
 
   -- in the text that the index is of
-  pub parts_right : (prefixes : List (List ℕ)) (parts : List Operations) → length (written o) < 2 ^ 64 → AllByRecursion (λ (f : List ℕ). length f ≤ 24) prefixes → AreNamedUnder prefixes (index o) (written o) parts
+  pub parts_right : (prefixes : List (List ℕ)) (parts : List Operations) → length (written o) < 2 ^ 64
+      → AllByRecursion (λ (f : List ℕ). length f ≤ 24) prefixes → AreNamedUnder prefixes (index o) (written o) parts
       → AllZip (λ (f : List ℕ) (q : Operations). q ≡ part o (is_under f)) prefixes parts
-  parts_right prefixes parts fits short named = zip_along (λ f q. AreNamed f (index o) (written o) q) (λ f q. q ≡ part o (is_under f)) prefixes parts short (λ f q le n. right f o q le content fits n) named
+  parts_right prefixes parts fits short named = zip_along (λ f q. AreNamed f (index o) (written o) q)
+      (λ f q. q ≡ part o (is_under f)) prefixes parts short (λ f q le n. right f o q le content fits n) named
 
   -- in any bytes
-  pub parts_told : (prefixes : List (List ℕ)) (parts : List Operations) (bytes : List ℕ) → DigestsTellOver o bytes → AllByRecursion (λ (f : List ℕ). length f ≤ 24) prefixes → AreNamedUnder prefixes (index o) bytes parts
+  pub parts_told : (prefixes : List (List ℕ)) (parts : List Operations) (bytes : List ℕ) → DigestsTellOver o bytes
+      → AllByRecursion (λ (f : List ℕ). length f ≤ 24) prefixes → AreNamedUnder prefixes (index o) bytes parts
       → AllZip (λ (f : List ℕ) (q : Operations). q ≡ part o (is_under f)) prefixes parts
-  parts_told prefixes parts bytes tells short named = zip_along (λ f q. AreNamed f (index o) bytes q) (λ f q. q ≡ part o (is_under f)) prefixes parts short (λ f q le n. of_the_index f bytes o q le content n (found_tells o f bytes (index o) q tells n)) named
+  parts_told prefixes parts bytes tells short named = zip_along (λ f q. AreNamed f (index o) bytes q)
+      (λ f q. q ≡ part o (is_under f)) prefixes parts short
+      (λ f q le n. of_the_index f bytes o q le content n (found_tells o f bytes (index o) q tells n)) named
 
 -- ---- joined to others
 
 joined_assoc : (a b c : Operations) → joined (joined a b) c ≡ joined a (joined b c)
 joined_assoc a b c =
-    made_alike (set.union (content_of (set.union a b)) c) (set.union (set.union a b) c) (alike_union (content_of (set.union a b)) (set.union a b) c (made_is_alike (set.union a b)))
+    made_alike (set.union (content_of (set.union a b)) c) (set.union (set.union a b) c)
+    (alike_union (content_of (set.union a b)) (set.union a b) c (made_is_alike (set.union a b)))
     ∙ ap content_of (union_assoc a b c) ∙ sym (joined_made_right a (set.union b c))
 
 module _ (w : Operations) (content : IsContent w) where
@@ -100,21 +112,27 @@ module _ (w : Operations) (content : IsContent w) where
   IsPart f q = q ≡ part w (is_under f)
 
   merged_after : (few : Operations) (p picks : List ℕ → Bool) (prefixes : List (List ℕ)) (parts : List Operations) → AllZip IsPart prefixes parts
-      → ((r : List ℕ) → picks r ≡ (p r || list_any (λ (prefix : List ℕ). is_under prefix r) prefixes)) → merged (joined few (part w p)) parts ≡ joined few (part w picks)
+      → ((r : List ℕ) → picks r ≡ (p r || list_any (λ (prefix : List ℕ). is_under prefix r) prefixes))
+      → merged (joined few (part w p)) parts ≡ joined few (part w picks)
   merged_after few p picks [] [] are same = ap (joined few) (part_same w content p picks (λ r. sym (same r ∙ or_none (p r))))
   merged_after few p picks (f ∷ fs) (q ∷ qs) are same =
       let both : List ℕ → Bool = λ (r : List ℕ). p r || is_under f r in
-      ap (λ (m : Operations). merged m qs) (joined_assoc few (part w p) q ∙ ap (joined few) (ap (joined (part w p)) are.0 ∙ parts_joined w content p (is_under f)))
+      ap (λ (m : Operations). merged m qs) (joined_assoc few (part w p) q
+      ∙ ap (joined few) (ap (joined (part w p)) are.0 ∙ parts_joined w content p (is_under f)))
       ∙ merged_after few both picks fs qs are.1 (λ r. same r ∙ sym (or_assoc (p r) (is_under f r) (list_any (λ (prefix : List ℕ). is_under prefix r) fs)))
   merged_after few p picks prefixes parts are same = absurd are
 
-  merged_some : (few : Operations) (prefixes : List (List ℕ)) (parts : List Operations) (prefix : List ℕ) → Contains prefixes prefix → AllZip IsPart prefixes parts → merged few parts ≡ joined few (part w (is_under_any prefixes))
+  merged_some : (few : Operations) (prefixes : List (List ℕ)) (parts : List Operations) (prefix : List ℕ)
+      → Contains prefixes prefix → AllZip IsPart prefixes parts → merged few parts
+      ≡ joined few (part w (is_under_any prefixes))
   merged_some few [] parts prefix in_prefixes are = absurd (omega (arith, in_prefixes.1))
   merged_some few (f ∷ fs) [] prefix in_prefixes are = absurd are
   merged_some few (f ∷ fs) (q ∷ qs) prefix in_prefixes are =
       ap (λ (m : Operations). merged (joined few m) qs) are.0 ∙ merged_after few (is_under f) (is_under_any (f ∷ fs)) fs qs are.1 (λ r. refl)
 
-  group_alike : (prefix : List ℕ) (prefixes : List (List ℕ)) (few o : Operations) (parts : List Operations) → length prefix ≤ 24 → Contains prefixes prefix → IsContent o → AllZip IsPart prefixes parts → AreAlikeUnder prefix few o → AreAlikeUnder prefix (merged few parts) (joined o w)
+  group_alike : (prefix : List ℕ) (prefixes : List (List ℕ)) (few o : Operations) (parts : List Operations)
+      → length prefix ≤ 24 → Contains prefixes prefix → IsContent o → AllZip IsPart prefixes parts
+      → AreAlikeUnder prefix few o → AreAlikeUnder prefix (merged few parts) (joined o w)
   group_alike prefix prefixes few o parts short in_prefixes is are same =
       subst (λ (m : Operations). AreAlikeUnder prefix m (joined o w)) (sym (merged_some few prefixes parts prefix in_prefixes are))
       (joined_alike prefix short o w few (part w (is_under_any prefixes)) is content same
@@ -129,11 +147,20 @@ record IsHeldAs {P : Type 0} (archive : Reader P) (all : List (List ℕ)) (o : O
   entries : placed_of all ≡ index o
   known : IsGiven archive (written o) ⊎ ((bytes : List ℕ) × IsGiven archive bytes × DigestsTellOver o bytes)
 
-held_as : {I P : Type 0} (input : Reader I) (archive : Reader P) (o : Operations) (all : List (List ℕ)) → IsIndexed input archive o → IsReadWith input archive all → IsHeldAs archive all o
-held_as input archive o all ((text, given, file), known) read = record { text = text; file = file; entries = held_tables input o all (text, given, file) read.index_is; known = known }
+held_as : {I P : Type 0} (input : Reader I) (archive : Reader P) (o : Operations) (all : List (List ℕ))
+    → IsIndexed input archive o → IsReadWith input archive all → IsHeldAs archive all o
+held_as input archive o all ((text, given, file), known) read =
+    record {
+      text = text;
+      file = file;
+      entries = held_tables input o all (text, given, file) read.index_is;
+      known =
+          known;
+    }
 
 module _ {P : Type 0} (archive later : Reader P) (all : List (List ℕ)) (o : Operations) (is : IsLater archive later) where
-  still_known : IsGiven archive (written o) ⊎ ((bytes : List ℕ) × IsGiven archive bytes × DigestsTellOver o bytes) → IsGiven later (written o) ⊎ ((bytes : List ℕ) × IsGiven later bytes × DigestsTellOver o bytes)
+  still_known : IsGiven archive (written o) ⊎ ((bytes : List ℕ) × IsGiven archive bytes × DigestsTellOver o bytes)
+      → IsGiven later (written o) ⊎ ((bytes : List ℕ) × IsGiven later bytes × DigestsTellOver o bytes)
   still_known (inl own) = inl (still_given archive later (written o) is own)
   still_known (inr (bytes, given, tells)) = inr (bytes, still_given archive later bytes is given, tells)
 
@@ -146,8 +173,10 @@ record IsGroupOf (prefixes : List (List ℕ)) (w : Operations) (parts : List Ope
   parts_are : AllZip (λ (f : List ℕ) (q : Operations). q ≡ part w (is_under f)) prefixes parts
 
 module _ (prefixes : List (List ℕ)) (short : AllByRecursion (λ (f : List ℕ). length f ≤ 24) prefixes) where
-  named_in : {P : Type 0} (archive : Reader P) (w : Operations) (text : List ℕ) (parts : List Operations) → IsIndexFile w text → HoldsNamed prefixes archive (index w) parts
-      → IsGiven archive (written w) ⊎ ((bytes : List ℕ) × IsGiven archive bytes × DigestsTellOver w bytes) → AllZip (λ (f : List ℕ) (q : Operations). q ≡ part w (is_under f)) prefixes parts
+  named_in : {P : Type 0} (archive : Reader P) (w : Operations) (text : List ℕ) (parts : List Operations)
+      → IsIndexFile w text → HoldsNamed prefixes archive (index w) parts
+      → IsGiven archive (written w) ⊎ ((bytes : List ℕ) × IsGiven archive bytes × DigestsTellOver w bytes)
+      → AllZip (λ (f : List ℕ) (q : Operations). q ≡ part w (is_under f)) prefixes parts
   named_in archive w text parts file named (inl own) =
       let both = of_given archive (written w) (λ t. HasIndexedLength (index w) t × AreNamedUnder prefixes (index w) t parts) own named in
       parts_right w file.content prefixes parts file.archive_fits short both.1
@@ -155,7 +184,8 @@ module _ (prefixes : List (List ℕ)) (short : AllByRecursion (λ (f : List ℕ)
       let both = of_given archive bytes (λ t. HasIndexedLength (index w) t × AreNamedUnder prefixes (index w) t parts) given named in
       parts_told w file.content prefixes parts bytes tells short both.1
 
-  group_of : {P : Type 0} (archive : Reader P) (all : List (List ℕ)) (w : Operations) (parts : List Operations) → IsHeldAs archive all w → HoldsNamed prefixes archive (placed_of all) parts → IsGroupOf prefixes w parts
+  group_of : {P : Type 0} (archive : Reader P) (all : List (List ℕ)) (w : Operations) (parts : List Operations)
+      → IsHeldAs archive all w → HoldsNamed prefixes archive (placed_of all) parts → IsGroupOf prefixes w parts
   group_of archive all w parts held named = record {
     content = held.file.content;
     parts_are = named_in archive w held.text parts held.file (subst (λ (s : Entries). HoldsNamed prefixes archive s parts) held.entries named) held.known;
@@ -168,7 +198,9 @@ record AreAlikeAfter (prefix : List ℕ) (few o : Operations) : Type 0 where
   content : IsContent o
 
 module _ (prefix : List ℕ) (prefixes : List (List ℕ)) (le : length prefix ≤ 24) (in_prefixes : Contains prefixes prefix) where
-  groups_alike : (os : List Operations) (groups : List (List Operations)) (few o : Operations) → AllZip (IsGroupOf prefixes) os groups → AreAlikeAfter prefix few o → AreAlikeAfter prefix (merged_each few groups) (fold joined o os)
+  groups_alike : (os : List Operations) (groups : List (List Operations)) (few o : Operations)
+      → AllZip (IsGroupOf prefixes) os groups → AreAlikeAfter prefix few o
+      → AreAlikeAfter prefix (merged_each few groups) (fold joined o os)
   groups_alike [] [] few o are same = same
   groups_alike (w ∷ os) (parts ∷ groups) few o are same =
       groups_alike os groups (merged few parts) (joined o w) are.1 (record {
@@ -178,27 +210,40 @@ module _ (prefix : List ℕ) (prefixes : List (List ℕ)) (le : length prefix �
   groups_alike os groups few o are same = absurd are
 
 -- what is held together has what the join of the contents has, under each of the prefixes
-pub held_alike : {I P : Type 0} (prefixes : List (List ℕ)) (inputs : List (Reader I)) (archives : List (Reader P)) (os : List Operations) (p : Operations) → AllByRecursion (λ (f : List ℕ). length f ≤ 24) prefixes
-    → AreIndexed inputs archives os → HoldTogether prefixes inputs archives p → (prefix : List ℕ) → Contains prefixes prefix → AreAlikeUnder prefix p (all_joined os)
+pub held_alike : {I P : Type 0} (prefixes : List (List ℕ)) (inputs : List (Reader I)) (archives : List (Reader P))
+    (os : List Operations) (p : Operations) → AllByRecursion (λ (f : List ℕ). length f ≤ 24) prefixes
+    → AreIndexed inputs archives os → HoldTogether prefixes inputs archives p → (prefix : List ℕ)
+    → Contains prefixes prefix → AreAlikeUnder prefix p (all_joined os)
 held_alike prefixes inputs archives os p short are h prefix in_prefixes =
     let le = All-contains (λ (f : List ℕ). length f ≤ 24) prefixes prefix (All-from_recursion (λ (f : List ℕ). length f ≤ 24) prefixes short) in_prefixes in
     let held = with_fourth IsIndexed IsReadWith IsHeldAs inputs archives os h.all (λ x y z w is read. held_as x y z w is read) are h.read in
     let there = for_first IsHeldAs IsLater IsHeldAs archives h.all os h.later (λ x y z w is later. held_later x w y z later is) held h.are_later in
-    let groups = third_fourth IsHeldAs (λ archive entries parts. HoldsNamed prefixes archive (placed_of entries) parts) (IsGroupOf prefixes) h.later h.all os h.named.groups (λ x y z w is named. group_of prefixes short x y z w is named) there h.named.named in
-    let whole = groups_alike prefix prefixes le in_prefixes os h.named.groups set.empty set.empty groups (record { alike = λ r under. refl; content = empty_content }) in
+    let groups = third_fourth IsHeldAs (λ archive entries parts. HoldsNamed prefixes archive (placed_of entries) parts)
+    (IsGroupOf prefixes) h.later h.all os h.named.groups
+    (λ x y z w is named. group_of prefixes short x y z w is named) there h.named.named in
+    let whole = groups_alike prefix prefixes le in_prefixes os h.named.groups set.empty set.empty groups
+    (record { alike = λ r under. refl; content = empty_content }) in
     subst (λ (m : Operations). AreAlikeUnder prefix m (all_joined os)) (sym h.named.content_is) whole.alike
 
 -- ---- frames
 
-rows_told : (lines : Bool) (m o : Operations) (frames : List Frame) (rows : List Answered) → ((frame : Frame) → Contains (keys_of frames) (key_bytes frame.key) → AreAlikeUnder (key_bytes frame.key) m o) → AllZip (IsFrameAnswered lines m) frames rows → AllZip (IsFrameAnswered lines o) frames rows
+rows_told : (lines : Bool) (m o : Operations) (frames : List Frame) (rows : List Answered)
+    → ((frame : Frame) → Contains (keys_of frames) (key_bytes frame.key) → AreAlikeUnder (key_bytes frame.key) m o)
+    → AllZip (IsFrameAnswered lines m) frames rows → AllZip (IsFrameAnswered lines o) frames rows
 rows_told lines m o [] [] alike zip = tt
 rows_told lines m o (frame ∷ frames) (row ∷ rows) alike zip = (
-  (zip.0.0, sourced_as m o frame.key lines (asked_of frame.load row.address) (answer_view row.answer) row.frames (answers_alike m o frame.key (alike frame (0, omega arith, refl))) zip.0.1),
+  (
+    zip.0.0,
+    sourced_as m o frame.key lines (asked_of frame.load row.address) (answer_view row.answer) row.frames
+        (answers_alike m o frame.key (alike frame (0, omega arith, refl))) zip.0.1,
+  ),
   rows_told lines m o frames rows (λ f h. alike f (in_rest (key_bytes frame.key) (keys_of frames) (key_bytes f.key) h)) zip.1,
 )
 rows_told lines m o frames rows alike zip = absurd zip
 
-pub frames_told : (lines : Bool) (m o : Operations) (frames : List Frame) (status : Status) (text : List ℕ) → ((key : List ℕ) → Contains (keys_of frames) key → AreAlikeUnder key m o) → TellsFrames lines m frames status text → TellsFrames lines o frames status text
+pub frames_told : (lines : Bool) (m o : Operations) (frames : List Frame) (status : Status) (text : List ℕ)
+    → ((key : List ℕ) → Contains (keys_of frames) key → AreAlikeUnder key m o) → TellsFrames lines m frames status text
+    → TellsFrames lines o frames status text
 frames_told lines m o frames status text alike told = record {
   rows = told.rows;
   answered = rows_told lines m o frames told.rows (λ frame h. alike (key_bytes frame.key) h) told.answered;

@@ -55,11 +55,17 @@ module _ {I P : Type 0} (inputs : List (Reader I)) (archives : List (Reader P)) 
   -- ---- answers
 
   module _ (os : List Operations) (are : AreTextsOf inputs os) (tell : DigestsTell os) where
-    row_told : (key : SliceKey) (load : Option ℕ) (lines : Bool) (row : Answered) → IsKey key → IsAnsweredByTables (AreGiven inputs) all key load lines row → IsAnswered (all_joined os) key load lines row
+    row_told : (key : SliceKey) (load : Option ℕ) (lines : Bool) (row : Answered) → IsKey key
+        → IsAnsweredByTables (AreGiven inputs) all key load lines row → IsAnswered (all_joined os) key load lines row
     row_told key load lines row is_key answered =
-        told.right os are.texts all (indexes_are os are.texts are.given are.files) key is_key lines (asked_of load row.address) (answer_view row.answer) row.frames tell (answered.answer_is are.texts are.given)
+        told.right os are.texts all (indexes_are os are.texts are.given are.files) key is_key lines
+        (asked_of load row.address) (answer_view row.answer) row.frames tell
+        (answered.answer_is are.texts are.given)
 
-    frames_rows : (lines : Bool) (frames : List Frame) (rows : List Answered) → ((frame : Frame) → Contains frames frame → IsKey frame.key) → AllZip (IsFrameByTables (AreGiven inputs) all lines) frames rows → AllZip (IsFrameAnswered lines (all_joined os)) frames rows
+    frames_rows : (lines : Bool) (frames : List Frame) (rows : List Answered)
+        → ((frame : Frame) → Contains frames frame → IsKey frame.key)
+        → AllZip (IsFrameByTables (AreGiven inputs) all lines) frames rows
+        → AllZip (IsFrameAnswered lines (all_joined os)) frames rows
     frames_rows lines [] [] keys zip = tt
     frames_rows lines (frame ∷ frames) (row ∷ rows) keys (one, more) = (
       (one.0, row_told frame.key frame.load lines row (keys frame (in_front frame frames)) one.1),
@@ -74,29 +80,40 @@ one_long key other is_key there = elim (in_cons key [] other there) [
   | inr more ↦ absurd (omega (arith, more.1))
 ]
 
-keys_long : (listed : List Frame) → ((frame : Frame) → Contains listed frame → IsKey frame.key) → (key : SliceKey) → Contains (frame_keys listed) key → length key.uuid ≡ 16
+keys_long : (listed : List Frame) → ((frame : Frame) → Contains listed frame → IsKey frame.key) → (key : SliceKey)
+    → Contains (frame_keys listed) key → length key.uuid ≡ 16
 keys_long listed keys key there =
     let found = in_map (λ (frame : Frame). frame.key) listed key there in
     ap (λ (k : SliceKey). length k.uuid) found.2 ∙ (keys found.0 found.1).uuid
 
-module _ {I P : Type 0} (inputs : List (Reader I)) (archives : List (Reader P)) (os : List Operations) (are : AreIndexesGiven inputs os) (tell : DigestsTell os) where
-  pub told_by_tables : (key : SliceKey) (load : Option ℕ) (lines slices : Bool) (addresses : List ℕ) (status : Status) (text : List ℕ) → IsKey key → TellsByTables inputs archives key load lines slices addresses status text → TellsAddressesWith (all_joined os) key load lines slices addresses status text
+module _ {I P : Type 0} (inputs : List (Reader I)) (archives : List (Reader P)) (os : List Operations)
+    (are : AreIndexesGiven inputs os) (tell : DigestsTell os) where
+  pub told_by_tables : (key : SliceKey) (load : Option ℕ) (lines slices : Bool) (addresses : List ℕ) (status : Status)
+      (text : List ℕ) → IsKey key → TellsByTables inputs archives key load lines slices addresses status text
+      → TellsAddressesWith (all_joined os) key load lines slices addresses status text
   told_by_tables key load lines slices addresses status text is_key by =
       let its = texts_of inputs os are in
-      with_slices_told os its.texts by.all (indexes_are inputs archives by.all by.read os its.texts its.given its.files) (key ∷ []) slices (λ wanted other there. one_long key other is_key there)
+      with_slices_told os its.texts by.all (indexes_are inputs archives by.all by.read os its.texts its.given its.files)
+      (key ∷ []) slices (λ wanted other there. one_long key other is_key there)
       (TellTables (AreGiven inputs) by.all key load lines addresses) (TellsAddresses (all_joined os) key load lines addresses)
       (λ s t told. record {
         rows = told.rows;
         addresses_are = told.addresses_are;
-        answered = recursion_from_All _ _ (All-weaker _ _ (λ row answered. row_told inputs archives by.all by.read os its tell key load lines row is_key answered) told.rows told.answered);
+        answered = recursion_from_All _ _ (All-weaker _ _
+            (λ row answered. row_told inputs archives by.all by.read os its tell key load lines row is_key answered)
+            told.rows told.answered);
         status_is = told.status_is;
         text_is = told.text_is;
       }) status text by.tells
 
-  pub framed_by_tables : (lines slices : Bool) (listed : List Frame) (status : Status) (text : List ℕ) → ((frame : Frame) → Contains listed frame → IsKey frame.key) → TellsFramesByTables lines slices inputs archives listed status text → TellsFramesWith lines slices (all_joined os) listed status text
+  pub framed_by_tables : (lines slices : Bool) (listed : List Frame) (status : Status) (text : List ℕ)
+      → ((frame : Frame) → Contains listed frame → IsKey frame.key)
+      → TellsFramesByTables lines slices inputs archives listed status text
+      → TellsFramesWith lines slices (all_joined os) listed status text
   framed_by_tables lines slices listed status text keys by =
       let its = texts_of inputs os are in
-      with_slices_told os its.texts by.all (indexes_are inputs archives by.all by.read os its.texts its.given its.files) (frame_keys listed) slices (λ wanted key there. keys_long listed keys key there)
+      with_slices_told os its.texts by.all (indexes_are inputs archives by.all by.read os its.texts its.given its.files)
+      (frame_keys listed) slices (λ wanted key there. keys_long listed keys key there)
       (TellTablesOfFrames (AreGiven inputs) by.all lines listed) (TellsFrames lines (all_joined os) listed)
       (λ s t told. record {
         rows = told.rows;
@@ -111,12 +128,17 @@ module _ {I P : Type 0} (input : Reader I) (archive : Reader P) (o : Operations)
   joined_one : all_joined (o ∷ []) ≡ o
   joined_one = joined_alone o is.2.content.itself
 
-  pub told_alone : (key : SliceKey) (load : Option ℕ) (lines slices : Bool) (addresses : List ℕ) (status : Status) (text : List ℕ) → IsKey key → TellsByTables (input ∷ []) (archive ∷ []) key load lines slices addresses status text → TellsAddressesWith o key load lines slices addresses status text
+  pub told_alone : (key : SliceKey) (load : Option ℕ) (lines slices : Bool) (addresses : List ℕ) (status : Status)
+      (text : List ℕ) → IsKey key → TellsByTables (input ∷ []) (archive ∷ []) key load lines slices addresses status
+      text → TellsAddressesWith o key load lines slices addresses status text
   told_alone key load lines slices addresses status text is_key by =
       subst (λ (made : Operations). TellsAddressesWith made key load lines slices addresses status text) joined_one
       (told_by_tables (input ∷ []) (archive ∷ []) (o ∷ []) (is, tt) (tells_alone o) key load lines slices addresses status text is_key by)
 
-  pub framed_alone : (lines slices : Bool) (listed : List Frame) (status : Status) (text : List ℕ) → ((frame : Frame) → Contains listed frame → IsKey frame.key) → TellsFramesByTables lines slices (input ∷ []) (archive ∷ []) listed status text → TellsFramesWith lines slices o listed status text
+  pub framed_alone : (lines slices : Bool) (listed : List Frame) (status : Status) (text : List ℕ)
+      → ((frame : Frame) → Contains listed frame → IsKey frame.key)
+      → TellsFramesByTables lines slices (input ∷ []) (archive ∷ []) listed status text
+      → TellsFramesWith lines slices o listed status text
   framed_alone lines slices listed status text keys by =
       subst (λ (made : Operations). TellsFramesWith lines slices made listed status text) joined_one
       (framed_by_tables (input ∷ []) (archive ∷ []) (o ∷ []) (is, tt) (tells_alone o) lines slices listed status text keys by)
@@ -133,46 +155,64 @@ module _ {I P : Type 0} (inputs : List (Reader I)) (archives : List (Reader P)) 
       let its = texts_of inputs os given_indexes in
       subst (AreIndexes os its.texts) same (indexes_are inputs archives held read os its.texts its.given its.files)
 
-  pub told_by_slices : (key : SliceKey) (load : Option ℕ) (lines slices : Bool) (addresses : List ℕ) (status : Status) (text : List ℕ) → length (key_bytes key) ≤ 24 → (slices ≡ true → IsKey key)
-      → TellsBySlices inputs archives key load lines slices addresses status text → TellsAddressesWith (all_joined os) key load lines slices addresses status text
+  pub told_by_slices : (key : SliceKey) (load : Option ℕ) (lines slices : Bool) (addresses : List ℕ) (status : Status)
+      (text : List ℕ) → length (key_bytes key) ≤ 24 → (slices ≡ true → IsKey key)
+      → TellsBySlices inputs archives key load lines slices addresses status text
+      → TellsAddressesWith (all_joined os) key load lines slices addresses status text
   told_by_slices key load lines slices addresses status text short is_key by =
       let its = texts_of inputs os given_indexes in
-      with_slices_told os its.texts by.all (read_indexes by.makes.held.all by.all by.all_is by.makes.held.read) (key ∷ []) slices (λ wanted other there. one_long key other (is_key wanted) there)
+      with_slices_told os its.texts by.all (read_indexes by.makes.held.all by.all by.all_is by.makes.held.read)
+      (key ∷ []) slices (λ wanted other there. one_long key other (is_key wanted) there)
       (TellsAddresses by.makes.content key load lines addresses) (TellsAddresses (all_joined os) key load lines addresses)
       (λ s t told. told_alike by.makes.content (all_joined os) key load lines addresses s t
-      (held_alike (key_bytes key ∷ []) inputs archives os by.makes.content (short, tt) are by.makes.held (key_bytes key) (0, omega arith, refl)) told) status text by.makes.tells
+      (held_alike (key_bytes key ∷ []) inputs archives os by.makes.content (short, tt) are by.makes.held (key_bytes key)
+      (0, omega arith, refl)) told) status text by.makes.tells
 
-  pub framed_by_slices : (lines slices : Bool) (listed : List Frame) (status : Status) (text : List ℕ) → ((key : List ℕ) → Contains (keys_of listed) key → length key ≤ 24)
-      → (slices ≡ true → (frame : Frame) → Contains listed frame → IsKey frame.key) → TellsFramesBySlices lines slices inputs archives listed status text → TellsFramesWith lines slices (all_joined os) listed status text
+  pub framed_by_slices : (lines slices : Bool) (listed : List Frame) (status : Status) (text : List ℕ)
+      → ((key : List ℕ) → Contains (keys_of listed) key → length key ≤ 24)
+      → (slices ≡ true → (frame : Frame) → Contains listed frame → IsKey frame.key)
+      → TellsFramesBySlices lines slices inputs archives listed status text
+      → TellsFramesWith lines slices (all_joined os) listed status text
   framed_by_slices lines slices listed status text short keys by =
       let its = texts_of inputs os given_indexes in
       let few =
       recursion_from_All (λ (f : List ℕ). length f ≤ 24) by.keys
       (λ i d lt. short (get_or by.keys i d) ((by.are_keys (get_or by.keys i d)).0 (Contains-get_or by.keys i d lt))) in
-      with_slices_told os its.texts by.all (read_indexes by.makes.held.all by.all by.all_is by.makes.held.read) (frame_keys listed) slices (λ wanted key there. keys_long listed (keys wanted) key there)
+      with_slices_told os its.texts by.all (read_indexes by.makes.held.all by.all by.all_is by.makes.held.read)
+      (frame_keys listed) slices (λ wanted key there. keys_long listed (keys wanted) key there)
       (TellsFrames lines by.makes.content listed) (TellsFrames lines (all_joined os) listed)
       (λ s t told. frames_told lines by.makes.content (all_joined os) listed s t
-      (λ key there. held_alike by.keys inputs archives os by.makes.content few are by.makes.held key ((by.are_keys key).1 there)) told) status text by.makes.tells
+      (λ key there. held_alike by.keys inputs archives os by.makes.content few are by.makes.held key
+      ((by.are_keys key).1 there)) told) status text by.makes.tells
 
   -- ---- either way
 
   short_key : (key : SliceKey) → IsKey key → length (key_bytes key) ≤ 24
   short_key key is_key = omega (arith, length_key_bytes key is_key.uuid)
 
-  keys_short : (listed : List Frame) → ((frame : Frame) → Contains listed frame → IsKey frame.key) → (key : List ℕ) → Contains (keys_of listed) key → length key ≤ 24
+  keys_short : (listed : List Frame) → ((frame : Frame) → Contains listed frame → IsKey frame.key) → (key : List ℕ)
+      → Contains (keys_of listed) key → length key ≤ 24
   keys_short listed keys key there =
       let found = in_map (λ (frame : Frame). key_bytes frame.key) listed key there in
       subst (λ (k : List ℕ). length k ≤ 24) (sym found.2) (short_key found.0.key (keys found.0 found.1))
 
-  pub told_either : (key : SliceKey) (load : Option ℕ) (lines slices : Bool) (addresses : List ℕ) (status : Status) (text : List ℕ) → DigestsTell os → IsKey key → (symbolicate_at inputs archives key load lines slices addresses).Makes status text
+  pub told_either : (key : SliceKey) (load : Option ℕ) (lines slices : Bool) (addresses : List ℕ) (status : Status)
+      (text : List ℕ) → DigestsTell os → IsKey key → (symbolicate_at inputs archives key load lines slices
+      addresses).Makes status text
       → TellsAddressesWith (all_joined os) key load lines slices addresses status text
-  told_either key load lines slices addresses status text tell is_key (inl by) = told_by_tables inputs archives os given_indexes tell key load lines slices addresses status text is_key by
-  told_either key load lines slices addresses status text tell is_key (inr by) = told_by_slices key load lines slices addresses status text (short_key key is_key) (λ wanted. is_key) by
+  told_either key load lines slices addresses status text tell is_key (inl by) =
+      told_by_tables inputs archives os given_indexes tell key load lines slices addresses status text is_key by
+  told_either key load lines slices addresses status text tell is_key (inr by) =
+      told_by_slices key load lines slices addresses status text (short_key key is_key) (λ wanted. is_key) by
 
-  pub framed_either : (lines slices : Bool) (listed : List Frame) (status : Status) (text : List ℕ) → DigestsTell os → ((frame : Frame) → Contains listed frame → IsKey frame.key) → AreToldAt lines slices inputs archives listed status text
+  pub framed_either : (lines slices : Bool) (listed : List Frame) (status : Status) (text : List ℕ) → DigestsTell os
+      → ((frame : Frame) → Contains listed frame → IsKey frame.key)
+      → AreToldAt lines slices inputs archives listed status text
       → TellsFramesWith lines slices (all_joined os) listed status text
-  framed_either lines slices listed status text tell keys (inl by) = framed_by_tables inputs archives os given_indexes tell lines slices listed status text keys by
-  framed_either lines slices listed status text tell keys (inr by) = framed_by_slices lines slices listed status text (keys_short listed keys) (λ wanted. keys) by
+  framed_either lines slices listed status text tell keys (inl by) =
+      framed_by_tables inputs archives os given_indexes tell lines slices listed status text keys by
+  framed_either lines slices listed status text tell keys (inr by) =
+      framed_by_slices lines slices listed status text (keys_short listed keys) (λ wanted. keys) by
 
 -- ---- what is refused
 
@@ -180,22 +220,35 @@ module _ {I P : Type 0} (keys : List (List ℕ)) (inputs : List (Reader I)) (arc
   untold_table : (indexes : List (Reader I)) (answering : List EntryAt) → IsUnreadTable indexes answering at why → IsDeviceFault why
   untold_table indexes answering u = subst IsDeviceFault (sym u.why_is) refl
 
-  pub untold_by_device : (lines : Bool) (os : List Operations) → AreIndexesGiven inputs os → AreUntold lines keys inputs archives at why → IsDeviceFault why ⊎ IsForLines lines os keys why
+  pub untold_by_device : (lines : Bool) (os : List Operations) → AreIndexesGiven inputs os
+      → AreUntold lines keys inputs archives at why → IsDeviceFault why ⊎ IsForLines lines os keys why
   untold_by_device lines os are u =
       let t = texts_of inputs os are in
       let indexes = indexes_are inputs archives u.all u.read os t.texts t.given t.files in
       elim u.untold.untold [
-        | inl changed ↦ absurd (told.none_damaged os t.texts u.all indexes u.untold.key u.untold.answering changed.input changed.number u.untold.are (changed.changed t.texts t.given))
+        | inl changed ↦ absurd (told.none_damaged os t.texts u.all indexes u.untold.key u.untold.answering changed.input
+            changed.number u.untold.are (changed.changed t.texts t.given))
         | inr (inl lacking) ↦
-            let slice = told.lineless os t.texts u.all indexes u.untold.key u.untold.answering lacking.input lacking.number u.untold.are (lacking.lacks t.texts t.given) in
-            inr (record { wanted = lacking.wanted; number = lacking.number; why_is = lacking.why_is; key = u.untold.key; key_is = u.untold.key_is; slice = slice.0; answers = slice.1; lacks = slice.2 })
+            let slice = told.lineless os t.texts u.all indexes u.untold.key u.untold.answering lacking.input
+            lacking.number u.untold.are (lacking.lacks t.texts t.given) in
+            inr (record {
+              wanted = lacking.wanted;
+              number = lacking.number;
+              why_is = lacking.why_is;
+              key = u.untold.key;
+              key_is = u.untold.key_is;
+              slice = slice.0;
+              answers = slice.1;
+              lacks = slice.2;
+            })
         | inr (inr unread) ↦ inl (untold_table inputs u.untold.answering unread)
       ]
 
   own_given : (os : List Operations) → AreOwnIndexes inputs archives os → AreIndexesGiven inputs os
   own_given os are = first_third IsOwnIndex IsIndexGiven inputs archives os (λ x y z is. is.0) are
 
-  pub asked_by_device : (lines : Bool) (os : List Operations) → AreOwnIndexes inputs archives os → AreRefusedAsking lines keys inputs archives at why → IsDeviceFault why ⊎ IsForLines lines os keys why
+  pub asked_by_device : (lines : Bool) (os : List Operations) → AreOwnIndexes inputs archives os
+      → AreRefusedAsking lines keys inputs archives at why → IsDeviceFault why ⊎ IsForLines lines os keys why
   asked_by_device lines os are (inl first) = inl (first_by_device keys inputs archives os at why are first)
   asked_by_device lines os are (inr (inl (later, tied))) = inl (later_by_device keys inputs archives os at why are later)
   asked_by_device lines os are (inr (inr untold)) = untold_by_device lines os (own_given os are) untold

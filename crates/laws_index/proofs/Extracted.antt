@@ -50,7 +50,8 @@ use Rattle.laws_index.specs.Undecided.{IsRowOfSlice, TellsUndecided}
 -- ---- a slice in the text of its content
 
 -- a record, and what stands after it
-behind_concat : (rs : List (List ℕ)) (i : ℕ) (rest : List ℕ) → i < length rs → drop (length (concat (take i rs))) (concat rs ++ rest) ≡ get_or rs i [] ++ (concat (drop (suc i) rs) ++ rest)
+behind_concat : (rs : List (List ℕ)) (i : ℕ) (rest : List ℕ) → i < length rs
+    → drop (length (concat (take i rs))) (concat rs ++ rest) ≡ get_or rs i [] ++ (concat (drop (suc i) rs) ++ rest)
 behind_concat [] i rest lt = absurd (omega (arith, lt))
 behind_concat (r ∷ rs) zero rest lt = append_assoc r (concat rs) rest
 behind_concat (r ∷ rs) (suc i) rest lt =
@@ -73,45 +74,55 @@ slice_there o slice i valid within is =
     let text : List ℕ = magic ++ (concat rs ++ last) in (
       behind,
       sym (drop-drop 33 (8 + k) text)
-          ∙ ap (drop 33) (sym (drop-drop k 8 text) ∙ ap (drop k) (drop-append_seam magic (concat rs ++ last)) ∙ behind_concat rs i last within ∙ ap (λ (r : List ℕ). r ++ behind) is)
+          ∙ ap (drop 33) (sym (drop-drop k 8 text) ∙ ap (drop k) (drop-append_seam magic (concat rs ++ last))
+          ∙ behind_concat rs i last within ∙ ap (λ (r : List ℕ). r ++ behind) is)
           ∙ drop-append-le 33 (admission_record slice) behind (omega (arith, length-admission_record slice valid))
           ∙ ap (λ (s : List ℕ). s ++ behind) (slice_of slice valid),
     )
 
 -- as many bytes from there on are the slice
-same_bytes : (text slice sent rest : List ℕ) (k : ℕ) → drop k text ≡ slice ++ rest → length sent ≡ length slice → take (length sent) (drop k text) ≡ sent → sent ≡ slice
+same_bytes : (text slice sent rest : List ℕ) (k : ℕ) → drop k text ≡ slice ++ rest → length sent ≡ length slice
+    → take (length sent) (drop k text) ≡ sent → sent ≡ slice
 same_bytes text slice sent rest k behind long stands =
     sym stands ∙ ap (take (length sent)) behind ∙ ap (λ (n : ℕ). take n (slice ++ rest)) long ∙ take-append_seam slice rest
 
 -- ---- the archive of an entry
 
 -- one of the archives, later, has the text of the content at its place
-own_at : {I P : Type 0} (inputs : List (Reader I)) (archives : List (Reader P)) (os : List Operations) (later : List (Reader P)) (n : ℕ) (archive : Reader P) (o : Operations) → AreOwnIndexes inputs archives os → AreLater archives later
+own_at : {I P : Type 0} (inputs : List (Reader I)) (archives : List (Reader P)) (os : List Operations)
+    (later : List (Reader P)) (n : ℕ) (archive : Reader P) (o : Operations) → AreOwnIndexes inputs archives os
+    → AreLater archives later
     → slice_get later n ≡ Some archive → slice_get os n ≡ Some o → IsGiven archive (written o)
 own_at inputs [] (w ∷ os) (l ∷ later) n archive o own are in_later in_os = absurd are
 own_at [] (a ∷ archives) (w ∷ os) (l ∷ later) n archive o own are in_later in_os = absurd own
 own_at (i ∷ inputs) (a ∷ archives) (w ∷ os) (l ∷ later) zero archive o own are in_later in_os =
     let given : IsGiven l (written w) = still_given a l (written w) are.0 own.0.1 in
-    subst (λ (v : Reader _). IsGiven v (written o)) (same_Some l archive in_later) (subst (λ (u : Operations). IsGiven l (written u)) (same_Some w o in_os) given)
-own_at (i ∷ inputs) (a ∷ archives) (w ∷ os) (l ∷ later) (suc n) archive o own are in_later in_os = own_at inputs archives os later n archive o own.1 are.1 in_later in_os
+    subst (λ (v : Reader _). IsGiven v (written o)) (same_Some l archive in_later)
+    (subst (λ (u : Operations). IsGiven l (written u)) (same_Some w o in_os) given)
+own_at (i ∷ inputs) (a ∷ archives) (w ∷ os) (l ∷ later) (suc n) archive o own are in_later in_os =
+    own_at inputs archives os later n archive o own.1 are.1 in_later in_os
 own_at inputs archives os later n archive o own are in_later in_os = absurd cc
 
 -- the indexes of these very archives are the indexes of their contents
-pub indexed_own : {I P : Type 0} (inputs : List (Reader I)) (archives : List (Reader P)) (os : List Operations) → AreOwnIndexes inputs archives os → AreIndexed inputs archives os
+pub indexed_own : {I P : Type 0} (inputs : List (Reader I)) (archives : List (Reader P)) (os : List Operations)
+    → AreOwnIndexes inputs archives os → AreIndexed inputs archives os
 indexed_own [] [] [] own = tt
 indexed_own (input ∷ inputs) (archive ∷ archives) (o ∷ os) own = ((own.0.0, inl own.0.1), indexed_own inputs archives os own.1)
 indexed_own inputs archives os own = absurd own
 
 -- ---- the slice of an entry
 
-only_slice : (os : List Operations) (texts : List (List ℕ)) (all : List (List (List ℕ))) (key : SliceKey) (x : EntryAt) (ss : List (List ℕ)) → AllZip (IsAnsweringSlice os texts all key) (x ∷ []) ss → AreAnswering (all_joined os) key ss
+only_slice : (os : List Operations) (texts : List (List ℕ)) (all : List (List (List ℕ))) (key : SliceKey) (x : EntryAt)
+    (ss : List (List ℕ)) → AllZip (IsAnsweringSlice os texts all key) (x ∷ []) ss → AreAnswering (all_joined os) key ss
     → (slice : List ℕ) × IsOfSlice os texts all x slice × AreAnswering (all_joined os) key (slice ∷ [])
 only_slice os texts all key x [] zip are = absurd zip
 only_slice os texts all key x (s ∷ []) zip are = (s, zip.0.of, are)
 only_slice os texts all key x (s ∷ (r ∷ ss)) zip are = absurd zip.1
 
 -- the entry that is chosen is that of the wanted slice
-wanted_of : (os : List Operations) (texts : List (List ℕ)) (all : List (List (List ℕ))) (key : SliceKey) (digest : Option Digest) (x : EntryAt) → AreIndexes os texts all → IsKey key → DigestsTell os → IsChosen key digest all x
+wanted_of : (os : List Operations) (texts : List (List ℕ)) (all : List (List (List ℕ))) (key : SliceKey)
+    (digest : Option Digest) (x : EntryAt) → AreIndexes os texts all → IsKey key → DigestsTell os
+    → IsChosen key digest all x
     → (slice : List ℕ) × IsOfSlice os texts all x slice × IsWanted (all_joined os) key digest slice
 wanted_of os texts all key None x files is_key tell chosen =
     let right = slices_right os texts all files key is_key (x ∷ []) tell chosen in
@@ -130,15 +141,21 @@ module _ {I P : Type 0} (inputs : List (Reader I)) (archives : List (Reader P)) 
   own_texts = texts_of inputs os (first_third IsOwnIndex IsIndexGiven inputs archives os (λ x y z is. is.0) own)
 
   -- what its archive has at its place is the slice of the entry
-  sent_is : (all : List (List (List ℕ))) (later : List (Reader P)) (x : EntryAt) (archive : Reader P) (slice sent : List ℕ) → AreLater archives later → IsOneOf later x.input archive → IsOfSlice os own_texts.texts all x slice → HoldsSlice archive x sent
+  sent_is : (all : List (List (List ℕ))) (later : List (Reader P)) (x : EntryAt) (archive : Reader P)
+      (slice sent : List ℕ) → AreLater archives later → IsOneOf later x.input archive
+      → IsOfSlice os own_texts.texts all x slice → HoldsSlice archive x sent
       → sent ≡ slice
   sent_is all later x archive slice sent are one of holds =
       let given : IsGiven archive (written of.of.o) = own_at inputs archives os later x.input archive of.of.o own are one.is of.of.file.content_at in
       let there = slice_there of.of.o slice of.of.place of.is.valid of.of.is.within of.of.record_is in
-      same_bytes (written of.of.o) slice sent there.0 (offset_in x.entry + 33) (ap (λ (n : ℕ). drop (n + 33) (written of.of.o)) of.of.is.place ∙ there.1) (omega (arith, holds.of.long, of.is.length_is))
+      same_bytes (written of.of.o) slice sent there.0 (offset_in x.entry + 33)
+      (ap (λ (n : ℕ). drop (n + 33) (written of.of.o)) of.of.is.place ∙ there.1)
+      (omega (arith, holds.of.long, of.is.length_is))
       (of_given archive (written of.of.o) (StandFor x sent) given holds.stands)
 
-  pub extracted_by_entry : (key : SliceKey) (digest : Option Digest) (slice told : List ℕ) → DigestsTell os → IsKey key → MakesEntry inputs archives key digest slice told → IsWanted (all_joined os) key digest slice × (told ≡ slice_line slice)
+  pub extracted_by_entry : (key : SliceKey) (digest : Option Digest) (slice told : List ℕ) → DigestsTell os → IsKey key
+      → MakesEntry inputs archives key digest slice told → IsWanted (all_joined os) key digest slice
+      × (told ≡ slice_line slice)
   extracted_by_entry key digest slice told tell is_key makes =
       let from = makes.from in
       let files = indexes_are inputs archives from.all from.read os own_texts.texts own_texts.given own_texts.files in
@@ -148,18 +165,23 @@ module _ {I P : Type 0} (inputs : List (Reader I)) (archives : List (Reader P)) 
       (is, makes.told_is ∙ ap (λ (k : SliceKey). written_line k slice) (sym (under_key (all_joined os) key digest slice is)))
 
   -- also where entries are tied
-  pub extracted_either : (key : SliceKey) (digest : Option Digest) (draft : Writer) (slice told : List ℕ) → DigestsTell os → IsKey key → (extract_at inputs archives key digest draft).writes.Makes slice told
+  pub extracted_either : (key : SliceKey) (digest : Option Digest) (draft : Writer) (slice told : List ℕ)
+      → DigestsTell os → IsKey key → (extract_at inputs archives key digest draft).writes.Makes slice told
       → IsWanted (all_joined os) key digest slice × (told ≡ slice_line slice)
   extracted_either key digest draft slice told tell is_key (inl makes) = extracted_by_entry key digest slice told tell is_key makes
   extracted_either key digest draft slice told tell is_key (inr (none, (held, told_is))) =
       let indexed = indexed_own inputs archives os own in
       let short : length (key_bytes key) ≤ 24 = omega (arith, length_key_bytes key is_key.uuid) in
-      let alike = held_alike (key_bytes key ∷ []) inputs archives os held.0 (short, tt) indexed held.1 (key_bytes key) (0, omega arith, refl) in
-      (subst (λ (d : Option Digest). IsWanted (all_joined os) key d slice) (sym none) (wanted_alike held.0 (all_joined os) key alike None slice held.3), told_is)
+      let alike = held_alike (key_bytes key ∷ []) inputs archives os held.0 (short, tt) indexed held.1 (key_bytes key) (0, omega arith, refl) in (
+        subst (λ (d : Option Digest). IsWanted (all_joined os) key d slice) (sym none)
+            (wanted_alike held.0 (all_joined os) key alike None slice held.3),
+        told_is,
+      )
 
 -- ---- one index
 
-pub extracted_alone : {I P : Type 0} (input : Reader I) (archive : Reader P) (o : Operations) (key : SliceKey) (digest : Option Digest) (slice told : List ℕ) → IsOwnIndex input archive o → IsKey key
+pub extracted_alone : {I P : Type 0} (input : Reader I) (archive : Reader P) (o : Operations) (key : SliceKey)
+    (digest : Option Digest) (slice told : List ℕ) → IsOwnIndex input archive o → IsKey key
     → MakesEntry (input ∷ []) (archive ∷ []) key digest slice told → IsWanted o key digest slice × (told ≡ slice_line slice)
 extracted_alone input archive o key digest slice told own is_key makes =
     let is = extracted_by_entry (input ∷ []) (archive ∷ []) (o ∷ []) (own, tt) key digest slice told (tells_alone o) is_key makes in
@@ -189,7 +211,9 @@ none_live os texts all key digest files is_key none slice live same =
     let x = entry_if_live os texts all files key is_key slice live in
     none x.0 (record { among = x.1; lives = lives_then os texts all files key is_key x.0 slice x.2 live; digest_is = x.2.is.is.digest_is ∙ same })
 
-undecided_of : (os : List Operations) (texts : List (List ℕ)) (all : List (List (List ℕ))) (key : SliceKey) (digest : Option Digest) (xs : List EntryAt) (rows : List FindRow) (told : List ℕ) → AreIndexes os texts all → IsKey key → DigestsTell os
+undecided_of : (os : List Operations) (texts : List (List ℕ)) (all : List (List (List ℕ))) (key : SliceKey)
+    (digest : Option Digest) (xs : List EntryAt) (rows : List FindRow) (told : List ℕ) → AreIndexes os texts all
+    → IsKey key → DigestsTell os
     → AreUnchosen key digest all xs → AllZip IsRowAt xs rows → told ≡ find_lines rows → TellsUndecided (all_joined os) key digest told
 undecided_of os texts all key None xs rows told files is_key tell are rows_are told_is =
     let right = slices_right os texts all files key is_key xs tell are.0 in
@@ -209,13 +233,16 @@ undecided_of os texts all key (Some digest) xs rows told files is_key tell are r
 }
 
 module _ {I P : Type 0} (inputs : List (Reader I)) (archives : List (Reader P)) (os : List Operations) (given : AreIndexesGiven inputs os) where
-  pub undecided_by_entries : (key : SliceKey) (digest : Option Digest) (told : List ℕ) → DigestsTell os → IsKey key → LacksEntry inputs archives key digest told → TellsUndecided (all_joined os) key digest told
+  pub undecided_by_entries : (key : SliceKey) (digest : Option Digest) (told : List ℕ) → DigestsTell os → IsKey key
+      → LacksEntry inputs archives key digest told → TellsUndecided (all_joined os) key digest told
   undecided_by_entries key digest told tell is_key lacks =
       let its_texts = texts_of inputs os given in
       let files = indexes_are inputs archives lacks.all lacks.read os its_texts.texts its_texts.given its_texts.files in
       undecided_of os its_texts.texts lacks.all key digest lacks.answering lacks.rows told files is_key tell lacks.are lacks.rows_are lacks.told_is
 
-  pub undecided_with_digest : (key : SliceKey) (digest : Digest) (told : List ℕ) → IsKey key → LacksEntry inputs archives key (Some digest) told → AreUndecided (all_joined os) key (Some digest) [] × (told ≡ slices_text [])
+  pub undecided_with_digest : (key : SliceKey) (digest : Digest) (told : List ℕ) → IsKey key
+      → LacksEntry inputs archives key (Some digest) told → AreUndecided (all_joined os) key (Some digest) []
+      × (told ≡ slices_text [])
   undecided_with_digest key digest told is_key lacks =
       let its_texts = texts_of inputs os given in
       let files = indexes_are inputs archives lacks.all lacks.read os its_texts.texts its_texts.given its_texts.files in
@@ -223,7 +250,9 @@ module _ {I P : Type 0} (inputs : List (Reader I)) (archives : List (Reader P)) 
       ((refl, none_live os its_texts.texts lacks.all key digest files is_key lacks.are.1), lacks.told_is ∙ ap find_lines no_rows)
 
 -- also where entries are tied
-pub undecided_either : {I P : Type 0} (inputs : List (Reader I)) (archives : List (Reader P)) (os : List Operations) (key : SliceKey) (digest : Option Digest) (draft : Writer) (told : List ℕ) → AreOwnIndexes inputs archives os → DigestsTell os → IsKey key
+pub undecided_either : {I P : Type 0} (inputs : List (Reader I)) (archives : List (Reader P)) (os : List Operations)
+    (key : SliceKey) (digest : Option Digest) (draft : Writer) (told : List ℕ) → AreOwnIndexes inputs archives os
+    → DigestsTell os → IsKey key
     → (extract_at inputs archives key digest draft).Lacks told → TellsUndecided (all_joined os) key digest told
 undecided_either inputs archives os key digest draft told own tell is_key (inl lacks) =
     undecided_by_entries inputs archives os (first_third IsOwnIndex IsIndexGiven inputs archives os (λ x y z is. is.0) own) key digest told tell is_key lacks
@@ -233,7 +262,8 @@ undecided_either inputs archives os key digest draft told own tell is_key (inr (
     let alike = held_alike (key_bytes key ∷ []) inputs archives os held.0 (short, tt) indexed held.1 (key_bytes key) (0, omega arith, refl) in
     record {
       slices = slices;
-      undecided = subst (λ (d : Option Digest). AreUndecided (all_joined os) key d slices) (sym none) (undecided_alike held.0 (all_joined os) key alike None slices held.3);
+      undecided = subst (λ (d : Option Digest). AreUndecided (all_joined os) key d slices) (sym none)
+          (undecided_alike held.0 (all_joined os) key alike None slices held.3);
       rows = map slice_row slices;
       rows_are = rows_of_slices slices;
       told_is = told_is;
@@ -241,7 +271,8 @@ undecided_either inputs archives os key digest draft told own tell is_key (inr (
 
 -- ---- one index
 
-pub undecided_alone : {I P : Type 0} (input : Reader I) (archive : Reader P) (o : Operations) (key : SliceKey) (digest : Option Digest) (told : List ℕ) → IsIndexGiven input o → IsKey key
+pub undecided_alone : {I P : Type 0} (input : Reader I) (archive : Reader P) (o : Operations) (key : SliceKey)
+    (digest : Option Digest) (told : List ℕ) → IsIndexGiven input o → IsKey key
     → LacksEntry (input ∷ []) (archive ∷ []) key digest told → TellsUndecided o key digest told
 undecided_alone input archive o key digest told given is_key lacks =
     subst (λ (made : Operations). TellsUndecided made key digest told) (joined_alone o given.2.content.itself)
@@ -256,7 +287,9 @@ row_is slice row is row_key slice_key =
     let state = is.state_is in
     λ i. record { key = key i; digest = record { 0 = digest i }; state = state i }
 
-rows_same : (ss : List (List ℕ)) (rows : List FindRow) → AllZip IsRowOfSlice ss rows → ((row : FindRow) → Contains rows row → IsKey row.key) → ((s : List ℕ) → Contains ss s → IsKey (key_of s)) → rows ≡ map slice_row ss
+rows_same : (ss : List (List ℕ)) (rows : List FindRow) → AllZip IsRowOfSlice ss rows
+    → ((row : FindRow) → Contains rows row → IsKey row.key) → ((s : List ℕ) → Contains ss s → IsKey (key_of s)) → rows
+    ≡ map slice_row ss
 rows_same [] [] all keyed keys = refl
 rows_same (s ∷ ss) (row ∷ rows) all keyed keys =
     let first : row ≡ slice_row s = row_is s row all.0 (keyed row (in_front row rows)) (keys s (in_front s ss)) in
@@ -265,12 +298,14 @@ rows_same (s ∷ ss) (row ∷ rows) all keyed keys =
 rows_same ss rows all keyed keys = absurd all
 
 -- slices of which none is wanted, and that answer, are under the key
-keys_so : (o : Operations) (key : SliceKey) (digest : Option Digest) (slices : List (List ℕ)) → IsKey key → AreUndecided o key digest slices → (s : List ℕ) → Contains slices s → IsKey (key_of s)
+keys_so : (o : Operations) (key : SliceKey) (digest : Option Digest) (slices : List (List ℕ)) → IsKey key
+    → AreUndecided o key digest slices → (s : List ℕ) → Contains slices s → IsKey (key_of s)
 keys_so o key None slices is_key are s there = subst IsKey (sym ((are.0.exactly s).0 there).live.under) is_key
 keys_so o key (Some digest) [] is_key are s there = absurd (omega (arith, there.1))
 keys_so o key (Some digest) (t ∷ ts) is_key are s there = cc (are.0)
 
-pub lines_of : (o : Operations) (key : SliceKey) (digest : Option Digest) (told : List ℕ) (tells : TellsUndecided o key digest told) → IsKey key → ((row : FindRow) → Contains tells.rows row → IsKey row.key)
+pub lines_of : (o : Operations) (key : SliceKey) (digest : Option Digest) (told : List ℕ)
+    (tells : TellsUndecided o key digest told) → IsKey key → ((row : FindRow) → Contains tells.rows row → IsKey row.key)
     → told ≡ slices_text tells.slices
 lines_of o key digest told tells is_key keyed =
     tells.told_is ∙ ap find_lines (rows_same tells.slices tells.rows tells.rows_are keyed (keys_so o key digest tells.slices is_key tells.undecided))

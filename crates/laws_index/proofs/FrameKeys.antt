@@ -1,5 +1,7 @@
 -- The key of a frame that is read has parts of their widths.
-use Rattle.std.proofs.Common.{◌≡◌, ℕ, ◌<◌, ◌≤◌, ◌^◌, ◌==◌, ◌&&◌, zero, suc, Bool, true, false, cond, List, [], ◌∷◌, length, Contains, Option, Some, None, Result, Ok, Err, refl, sym, ap, ◌∙◌, ◌⊎◌, subst, inl, inr, arith, length-append}
+use Rattle.std.proofs.Common.{◌≡◌, ℕ, ◌<◌, ◌≤◌, ◌^◌, ◌==◌, ◌&&◌, zero, suc, Bool, true, false, cond, List, [], ◌∷◌}
+use Rattle.std.proofs.Common.{length, Contains, Option, Some, None, Result, Ok, Err, refl, sym, ap, ◌∙◌, ◌⊎◌, subst}
+use Rattle.std.proofs.Common.{inl, inr, arith, length-append}
 use Rattle.std.specs.Char.{digit_value, is_digit}
 use Rattle.std.specs.List.{AllByRecursion, find, list_all, slice_range}
 use Rattle.std.specs.Option.{option_or}
@@ -43,8 +45,10 @@ short_number text n short h =
     let most : 16 ^ length text ≤ 16 ^ 8 = pow-le-pow_right {n = 16} (omega arith) {i = length text} {j = 8} short in
     omega (arith, below, most, found.1)
 
-two_numbers : (a b : Option ℕ) (arch : ArchKey) → ((n : ℕ) → a ≡ Some n → n < 2 ^ 32) → ((n : ℕ) → b ≡ Some n → n < 2 ^ 32) → arch_key_of a b ≡ Some arch → IsArch arch
-two_numbers (Some m) (Some n) arch first second h = subst IsArch (same_Some (arch_key m n) arch h) (record { cputype = first m refl; cpusubtype = second n refl })
+two_numbers : (a b : Option ℕ) (arch : ArchKey) → ((n : ℕ) → a ≡ Some n → n < 2 ^ 32)
+    → ((n : ℕ) → b ≡ Some n → n < 2 ^ 32) → arch_key_of a b ≡ Some arch → IsArch arch
+two_numbers (Some m) (Some n) arch first second h = subst IsArch (same_Some (arch_key m n) arch h)
+    (record { cputype = first m refl; cpusubtype = second n refl })
 two_numbers a b arch first second h = absurd cc
 
 eight : (text : List ℕ) → length (take 8 text) ≤ 8
@@ -61,13 +65,17 @@ either false x z y h = inr h
 
 numbered : (text : List ℕ) (arch : ArchKey) → cpu_of text ≡ Some arch → IsArch arch
 numbered text arch h =
-    two_numbers (number_of (slice_range text 4 12)) (number_of (slice_range text 13 21)) arch (λ n is. short_number (slice_range text 4 12) n (eight (drop 4 text)) is) (λ n is. short_number (slice_range text 13 21) n (eight (drop 13 text)) is) (passed _ _ arch h)
+    two_numbers (number_of (slice_range text 4 12)) (number_of (slice_range text 13 21)) arch
+    (λ n is. short_number (slice_range text 4 12) n (eight (drop 4 text)) is)
+    (λ n is. short_number (slice_range text 13 21) n (eight (drop 13 text)) is) (passed _ _ arch h)
 
-found_arch : (test : NamedArch → Bool) (xs : List NamedArch) (arch : ArchKey) → AllByRecursion (λ n. IsArch n.arch) xs → option_map (λ n. n.arch) (find test xs) ≡ Some arch → IsArch arch
+found_arch : (test : NamedArch → Bool) (xs : List NamedArch) (arch : ArchKey) → AllByRecursion (λ n. IsArch n.arch) xs
+    → option_map (λ n. n.arch) (find test xs) ≡ Some arch → IsArch arch
 found_arch test [] arch all h = absurd cc
 found_arch test (x ∷ xs) arch all h = by (test x) (found_arch test xs arch all.1) h
   where
-    by : (b : Bool) → (option_map (λ n. n.arch) (find test xs) ≡ Some arch → IsArch arch) → option_map (λ n. n.arch) (cond b (Some x) (find test xs)) ≡ Some arch → IsArch arch
+    by : (b : Bool) → (option_map (λ n. n.arch) (find test xs) ≡ Some arch → IsArch arch)
+        → option_map (λ n. n.arch) (cond b (Some x) (find test xs)) ≡ Some arch → IsArch arch
     by true later is = subst IsArch (same_Some x.arch arch is) all.0
     by false later is = later is
 
@@ -108,15 +116,20 @@ uuid_read s uuid h = elim (either (length s == 32) _ _ uuid h) [
   | inr first ↦ elim (either (length s == 36) _ _ uuid first) [
     | inl hyphenated ↦ hyphenated_long s uuid hyphenated
     | inr second ↦ elim (either (length s == 38) _ _ uuid second) [
-      | inl braced ↦ hyphenated_long (take 36 (drop 1 s)) uuid (passed ((length s == 38) && (slice_index s 0 == open_brace) && (slice_index s 37 == close_brace)) (parsed_hyphenated (take 36 (drop 1 s))) uuid braced)
-      | inr third ↦ hyphenated_long (drop 9 s) uuid (passed ((length s == 45) && has_urn_prefix s) (parsed_hyphenated (drop 9 s)) uuid (passed (length s == 45) (parsed_urn s) uuid third))
+      | inl braced ↦ hyphenated_long (take 36 (drop 1 s)) uuid
+          (passed ((length s == 38) && (slice_index s 0 == open_brace) && (slice_index s 37 == close_brace))
+          (parsed_hyphenated (take 36 (drop 1 s))) uuid braced)
+      | inr third ↦ hyphenated_long (drop 9 s) uuid (passed ((length s == 45) && has_urn_prefix s)
+          (parsed_hyphenated (drop 9 s)) uuid (passed (length s == 45) (parsed_urn s) uuid third))
     ]
   ]
 ]
 
 -- ---- frames
 
-frame_read : (u : Option (List ℕ)) (a : Option ArchKey) (l : Option (Option ℕ)) (d : Option ℕ) (frame : Frame) → ((x : List ℕ) → u ≡ Some x → length x ≡ 16) → ((x : ArchKey) → a ≡ Some x → IsArch x) → frame_with u a l d ≡ Some frame → IsKey frame.key
+frame_read : (u : Option (List ℕ)) (a : Option ArchKey) (l : Option (Option ℕ)) (d : Option ℕ) (frame : Frame)
+    → ((x : List ℕ) → u ≡ Some x → length x ≡ 16) → ((x : ArchKey) → a ≡ Some x → IsArch x) → frame_with u a l d
+    ≡ Some frame → IsKey frame.key
 frame_read (Some u) (Some a) (Some l) (Some d) frame f g h =
     subst (λ (fr : Frame). IsKey fr.key) (same_Some (record { key = record { uuid = u; arch = a }; load = l; address = d }) frame h)
     (record { uuid = f u refl; cputype = (g a refl).cputype; cpusubtype = (g a refl).cpusubtype })
@@ -130,9 +143,12 @@ frames_read : (lines : List (ℕ × Line)) (listed : List Frame) (frame : Frame)
 frames_read [] listed frame h there =
     let none : [] ≡ listed = cc in
     absurd (omega (arith, there.1, ap length none))
-frames_read (line ∷ lines) listed frame h there = by (line_frame line.1) (frames_in lines) (fields_read (fields line.1)) (λ rest is fr among. frames_read lines rest fr is among) h
+frames_read (line ∷ lines) listed frame h there = by (line_frame line.1) (frames_in lines) (fields_read (fields line.1))
+    (λ rest is fr among. frames_read lines rest fr is among) h
   where
-    by : (o : Option Frame) (r : Result (List Frame) ℕ) → ((fr : Frame) → o ≡ Some fr → IsKey fr.key) → ((rest : List Frame) → r ≡ Ok rest → (fr : Frame) → Contains rest fr → IsKey fr.key) → frame_then line.0 o r ≡ Ok listed → IsKey frame.key
+    by : (o : Option Frame) (r : Result (List Frame) ℕ) → ((fr : Frame) → o ≡ Some fr → IsKey fr.key)
+        → ((rest : List Frame) → r ≡ Ok rest → (fr : Frame) → Contains rest fr → IsKey fr.key) → frame_then line.0 o r
+        ≡ Ok listed → IsKey frame.key
     by (Some first) (Ok rest) f g is =
         let same : first ∷ rest ≡ listed = cc in
         elim (in_cons first rest frame (subst (λ (fs : List Frame). Contains fs frame) (sym same) there)) [

@@ -1,5 +1,7 @@
 -- The rows of the index of a content are those of the content.
-use Rattle.std.proofs.Common.{◌≡◌, ℕ, ◌+◌, ◌<◌, ◌≤◌, ◌^◌, Bool, true, false, cond, ◌&&◌, List, [], ◌∷◌, ◌++◌, length, take, drop, get_or, refl, sym, ap, ◌∙◌, subst, inl, inr, arith, length-append, append_assoc}
+use Rattle.std.proofs.Common.{◌≡◌, ℕ, ◌+◌, ◌<◌, ◌≤◌, ◌^◌, Bool, true, false, cond, ◌&&◌, List, [], ◌∷◌, ◌++◌, length}
+use Rattle.std.proofs.Common.{take, drop, get_or, refl, sym, ap, ◌∙◌, subst, inl, inr, arith, length-append}
+use Rattle.std.proofs.Common.{append_assoc}
 use Rattle.std.specs.Prelude.{filter}
 use Rattle.std.specs.Int.{w32, w64, to_be_bytes}
 use Rattle.std.specs.List.{AllByRecursion, AllZip, concat, list_any}
@@ -68,7 +70,9 @@ retired_state s t = grind arith
 row_told : (row : FindRow) (a : Operation) → row.key ≡ key_in a → row.digest.0 ≡ (row_of a).digest.0 → row.state ≡ (row_of a).state → row ≡ row_of a
 row_told row a key digest state = λ i. record { key = key i; digest = record { 0 = digest i }; state = state i }
 
-pub row_of_entry : (offset : ℕ) (r : List ℕ) (row : FindRow) → IsRecord r → ((slice : List ℕ) → r ≡ admission_record slice → IsValid slice → IsKey (key_of slice)) → IsEntryRow (placed_entry offset r) row → IsRowOf r row
+pub row_of_entry : (offset : ℕ) (r : List ℕ) (row : FindRow) → IsRecord r
+    → ((slice : List ℕ) → r ≡ admission_record slice → IsValid slice → IsKey (key_of slice))
+    → IsEntryRow (placed_entry offset r) row → IsRowOf r row
 unfolding placed_entry
 row_of_entry offset r row (inl a) keyed told =
     let s = a.slice in
@@ -76,10 +80,14 @@ row_of_entry offset r row (inl a) keyed told =
     let tail : List ℕ = kind_byte r ∷ (to_be_bytes w64 offset ++ to_be_bytes w64 (length r)) in
     let whole : placed_entry offset r ≡ (2 ∷ (key_bytes (key_of s) ++ sha256 s)) ++ tail = ap (λ (t : List ℕ). t ++ tail) e in
     let key_long = length-key_of s a.valid in
-    let key : row.key ≡ key_of s = same_key row.key (key_of s) told.is_key (keyed s a.is a.valid) (told.key_is ∙ ap (λ (t : List ℕ). take 24 (drop 1 t)) whole ∙ key_there 2 (key_bytes (key_of s)) (sha256 s) tail key_long (length-sha256 s)) in
-    let digest : row.digest.0 ≡ sha256 s = told.digest_is ∙ ap (λ (t : List ℕ). take 32 (drop 25 t)) whole ∙ digest_there 2 (key_bytes (key_of s)) (sha256 s) tail key_long (length-sha256 s) in
+    let key : row.key ≡ key_of s = same_key row.key (key_of s) told.is_key (keyed s a.is a.valid)
+    (told.key_is ∙ ap (λ (t : List ℕ). take 24 (drop 1 t)) whole
+    ∙ key_there 2 (key_bytes (key_of s)) (sha256 s) tail key_long (length-sha256 s)) in
+    let digest : row.digest.0 ≡ sha256 s = told.digest_is ∙ ap (λ (t : List ℕ). take 32 (drop 25 t)) whole
+    ∙ digest_there 2 (key_bytes (key_of s)) (sha256 s) tail key_long (length-sha256 s) in
     let tag : tag_byte row.state ≡ 2 = told.tag_is ∙ ap (λ (t : List ℕ). get_or t 0 0) whole in
-    let kind : dsym_byte row.state ≡ cond (is_dsym_image s) 1 0 = told.kind_is ∙ kind_of offset r (inl a) ∙ ap kind_byte a.is ∙ ap (λ (t : List ℕ). cond (is_dsym_image t) 1 0) (slice_of s a.valid) in
+    let kind : dsym_byte row.state ≡ cond (is_dsym_image s) 1 0 = told.kind_is ∙ kind_of offset r (inl a)
+    ∙ ap kind_byte a.is ∙ ap (λ (t : List ℕ). cond (is_dsym_image t) 1 0) (slice_of s a.valid) in
     record {
       operation = Admit s;
       is_operation = a.valid;
@@ -92,8 +100,11 @@ row_of_entry offset r row (inr b) keyed told =
     let tail : List ℕ = kind_byte r ∷ (to_be_bytes w64 offset ++ to_be_bytes w64 (length r)) in
     let whole : placed_entry offset r ≡ (1 ∷ (key_bytes b.key ++ b.digest)) ++ tail = ap (λ (t : List ℕ). t ++ tail) e in
     let key_long = length_key_bytes b.key b.is_key.uuid in
-    let key : row.key ≡ b.key = same_key row.key b.key told.is_key b.is_key (told.key_is ∙ ap (λ (t : List ℕ). take 24 (drop 1 t)) whole ∙ key_there 1 (key_bytes b.key) b.digest tail key_long b.long) in
-    let digest : row.digest.0 ≡ b.digest = told.digest_is ∙ ap (λ (t : List ℕ). take 32 (drop 25 t)) whole ∙ digest_there 1 (key_bytes b.key) b.digest tail key_long b.long in
+    let key : row.key ≡ b.key = same_key row.key b.key told.is_key b.is_key
+    (told.key_is ∙ ap (λ (t : List ℕ). take 24 (drop 1 t)) whole
+    ∙ key_there 1 (key_bytes b.key) b.digest tail key_long b.long) in
+    let digest : row.digest.0 ≡ b.digest = told.digest_is ∙ ap (λ (t : List ℕ). take 32 (drop 25 t)) whole
+    ∙ digest_there 1 (key_bytes b.key) b.digest tail key_long b.long in
     let tag : tag_byte row.state ≡ 1 = told.tag_is ∙ ap (λ (t : List ℕ). get_or t 0 0) whole in
     record {
       operation = Retire b.key (record { 0 = b.digest });
@@ -122,39 +133,58 @@ rows_one r row rs rows one all = record {
 }
 
 rows_of_entries : (es rs : List (List ℕ)) (rows : List FindRow) → AllZip IsEntryOf es rs → AllZip IsEntryRow es rows → AreRowsOf rs rows
-rows_of_entries [] [] [] of told = record { operations = []; are = λ i d lt. absurd (omega arith); keys_are = λ i d lt. absurd (omega arith); records_are = refl; rows_are = refl }
+rows_of_entries [] [] [] of told = record {
+  operations = [];
+  are = λ i d lt. absurd (omega arith);
+  keys_are =
+      λ i d lt. absurd (omega arith);
+  records_are = refl;
+  rows_are = refl;
+}
 rows_of_entries [] (r ∷ rs) rows of told = absurd of
 rows_of_entries (e ∷ es) [] rows of told = absurd of
 rows_of_entries (e ∷ es) (r ∷ rs) (row ∷ rows) of told =
-    rows_one r row rs rows (row_of_entry of.0.offset r row of.0.is of.0.keyed (subst (λ (x : List ℕ). IsEntryRow x row) of.0.entry_is told.0)) (rows_of_entries es rs rows of.1 told.1)
+    rows_one r row rs rows (row_of_entry of.0.offset r row of.0.is of.0.keyed
+    (subst (λ (x : List ℕ). IsEntryRow x row) of.0.entry_is told.0)) (rows_of_entries es rs rows of.1 told.1)
 rows_of_entries es rs rows of told = absurd told
 
 module _ (prefix : List ℕ) (short : length prefix ≤ 24) where
   -- those under a prefix
-  of_under : (k : ℕ) (rs : List (List ℕ)) → AllByRecursion (λ r. IsRecord r × ((slice : List ℕ) → r ≡ admission_record slice → IsValid slice → IsKey (key_of slice))) rs → AllZip IsEntryOf (filter (is_under prefix) (placed_entries k rs)) (filter (is_under prefix) rs)
+  of_under : (k : ℕ) (rs : List (List ℕ)) → AllByRecursion
+      (λ r. IsRecord r × ((slice : List ℕ) → r ≡ admission_record slice → IsValid slice → IsKey (key_of slice))) rs
+      → AllZip IsEntryOf (filter (is_under prefix) (placed_entries k rs)) (filter (is_under prefix) rs)
   of_under k [] all = tt
   of_under k (r ∷ rs) all =
       let rest = of_under (k + length r) rs all.1 in
-      subst (λ (b : Bool). AllZip IsEntryOf (cond b (placed_entry k r ∷ filter (is_under prefix) (placed_entries (k + length r) rs)) (filter (is_under prefix) (placed_entries (k + length r) rs))) (filter (is_under prefix) (r ∷ rs))) (sym (under_same prefix k r short all.0.0))
+      subst (λ (b : Bool). AllZip IsEntryOf (cond b (placed_entry k r
+      ∷ filter (is_under prefix) (placed_entries (k + length r) rs))
+      (filter (is_under prefix) (placed_entries (k + length r) rs))) (filter (is_under prefix) (r ∷ rs)))
+      (sym (under_same prefix k r short all.0.0))
       (by (is_under prefix r) rest)
     where
       by : (b : Bool) → AllZip IsEntryOf (filter (is_under prefix) (placed_entries (k + length r) rs)) (filter (is_under prefix) rs)
-          → AllZip IsEntryOf (cond b (placed_entry k r ∷ filter (is_under prefix) (placed_entries (k + length r) rs)) (filter (is_under prefix) (placed_entries (k + length r) rs))) (cond b (r ∷ filter (is_under prefix) rs) (filter (is_under prefix) rs))
+          → AllZip IsEntryOf (cond b (placed_entry k r ∷ filter (is_under prefix) (placed_entries (k + length r) rs))
+          (filter (is_under prefix) (placed_entries (k + length r) rs)))
+          (cond b (r ∷ filter (is_under prefix) rs) (filter (is_under prefix) rs))
       by true rest = (record { is = all.0.0; keyed = all.0.1; offset = k; entry_is = refl }, rest)
       by false rest = rest
 
 -- what comes after a place stands there or later
-later : (low : ℕ) (k : ℕ) (rs : List (List ℕ)) (p : List ℕ → Bool) → AllByRecursion IsRecord rs → low < k → k + length (concat rs) < 2 ^ 64 → AllByRecursion (λ e. low < offset_in e) (filter p (placed_entries k rs))
+later : (low : ℕ) (k : ℕ) (rs : List (List ℕ)) (p : List ℕ → Bool) → AllByRecursion IsRecord rs → low < k
+    → k + length (concat rs) < 2 ^ 64 → AllByRecursion (λ e. low < offset_in e) (filter p (placed_entries k rs))
 later low k [] p all lt fits = tt
 later low k (r ∷ rs) p all lt fits =
     by (p (placed_entry k r)) (later low (k + length r) rs p all.1 (omega arith) (omega (arith, fits, length-append r (concat rs))))
   where
-    by : (b : Bool) → AllByRecursion (λ e. low < offset_in e) (filter p (placed_entries (k + length r) rs)) → AllByRecursion (λ e. low < offset_in e) (cond b (placed_entry k r ∷ filter p (placed_entries (k + length r) rs)) (filter p (placed_entries (k + length r) rs)))
+    by : (b : Bool) → AllByRecursion (λ e. low < offset_in e) (filter p (placed_entries (k + length r) rs))
+        → AllByRecursion (λ e. low < offset_in e) (cond b
+        (placed_entry k r ∷ filter p (placed_entries (k + length r) rs)) (filter p (placed_entries (k + length r) rs)))
     by true rest = (omega (arith, lt, offset_is k r all.0 (omega (arith, fits))), rest)
     by false rest = rest
 
 -- those that are picked ascend by their places
-ascend_placed : (k : ℕ) (rs : List (List ℕ)) (p : List ℕ → Bool) → AllByRecursion IsRecord rs → k + length (concat rs) < 2 ^ 64 → Ascend offset_in (filter p (placed_entries k rs))
+ascend_placed : (k : ℕ) (rs : List (List ℕ)) (p : List ℕ → Bool) → AllByRecursion IsRecord rs
+    → k + length (concat rs) < 2 ^ 64 → Ascend offset_in (filter p (placed_entries k rs))
 ascend_placed k [] p all fits = tt
 ascend_placed k (r ∷ rs) p all fits =
     by (p (placed_entry k r)) (ascend_placed (k + length r) rs p all.1 (omega (arith, fits, length-append r (concat rs))))
@@ -163,9 +193,13 @@ ascend_placed k (r ∷ rs) p all fits =
     at = offset_is k r all.0 (omega (arith, fits))
 
     over : AllByRecursion (λ e. offset_in (placed_entry k r) < offset_in e) (filter p (placed_entries (k + length r) rs))
-    over = subst (λ (n : ℕ). AllByRecursion (λ e. n < offset_in e) (filter p (placed_entries (k + length r) rs))) (sym at) (later k (k + length r) rs p all.1 (omega (arith, nonempty r all.0)) (omega (arith, fits, length-append r (concat rs))))
+    over = subst (λ (n : ℕ). AllByRecursion (λ e. n < offset_in e) (filter p (placed_entries (k + length r) rs)))
+        (sym at) (later k (k + length r) rs p all.1 (omega (arith, nonempty r all.0))
+        (omega (arith, fits, length-append r (concat rs))))
 
-    by : (b : Bool) → Ascend offset_in (filter p (placed_entries (k + length r) rs)) → Ascend offset_in (cond b (placed_entry k r ∷ filter p (placed_entries (k + length r) rs)) (filter p (placed_entries (k + length r) rs)))
+    by : (b : Bool) → Ascend offset_in (filter p (placed_entries (k + length r) rs))
+        → Ascend offset_in (cond b (placed_entry k r ∷ filter p (placed_entries (k + length r) rs))
+        (filter p (placed_entries (k + length r) rs)))
     by true rest = (over, rest)
     by false rest = rest
 
@@ -199,7 +233,8 @@ module _ (prefix : List ℕ) (o : Operations) (short : length prefix ≤ 24) (co
 
   at_most_once : (t : ℕ) → count offset_in t (entries_under prefix (index o)) ≤ 1
   at_most_once = once offset_in (entries_under prefix (index o))
-      (subst (IsStrictlySortedBy order) (listing_retain nat_list_cmp_total bytes_same (is_under prefix) (index o)) (listed nat_list_cmp_total bytes_same (set.retain (index o) (is_under prefix))).ascending)
+      (subst (IsStrictlySortedBy order) (listing_retain nat_list_cmp_total bytes_same (is_under prefix) (index o))
+      (listed nat_list_cmp_total bytes_same (set.retain (index o) (is_under prefix))).ascending)
       (λ p q in_p in_q same. one_of_number offset_in placed_under p q up (sym (members p) ∙ in_p) (sym (members q) ∙ in_q) same)
 
   pub rows_of_index : (rows : List FindRow) → AreIndexRows prefix (index o) rows → IsList (part o (is_under prefix)) rows
@@ -208,7 +243,9 @@ module _ (prefix : List ℕ) (o : Operations) (short : length prefix ≤ 24) (co
       let same : is.placed ≡ placed_under = one_ascent offset_in is.placed placed_under sorted up (λ q.
       sym (list_any-IsPermutation (is_same q) (entries_under prefix (index o)) is.placed is.moved) ∙ members q) in
       let told : AllZip IsEntryRow placed_under is.told = subst (λ (es : List (List ℕ)). AllZip IsEntryRow es is.told) same is.each in
-      let of : AreRowsOf (filter (is_under prefix) rs) is.told = rows_of_entries placed_under (filter (is_under prefix) rs) is.told (of_under prefix short 8 rs keyed_are) told in
+      let of : AreRowsOf (filter (is_under prefix) rs) is.told =
+      rows_of_entries placed_under (filter (is_under prefix) rs) is.told (of_under prefix short 8 rs keyed_are) told
+      in
       list_of (part o (is_under prefix)) is.told rows (part_content o (is_under prefix) content)
       (subst (λ (ss : List (List ℕ)). AreRowsOf ss is.told) (sym (listing_retain nat_list_cmp_total bytes_same (is_under prefix) o)) of) is.by_key is.stable
 
@@ -222,18 +259,24 @@ and_true : (a b : Bool) → b ≡ true → (a && b) ≡ a
 and_true a b h = grind arith
 
 whole_part : (o : Operations) → part o (is_under []) ≡ o
-whole_part o = same_set nat_list_cmp_total bytes_same (part o (is_under [])) o (λ q. contains_part o (is_under []) q ∙ and_true (set.contains o q) (is_under [] q) (all_under q))
+whole_part o = same_set nat_list_cmp_total bytes_same (part o (is_under [])) o
+    (λ q. contains_part o (is_under []) q ∙ and_true (set.contains o q) (is_under [] q) (all_under q))
 
-pub list_of_index : (o : Operations) (rows : List FindRow) → IsContent o → HaveKeys o → length (written o) < 2 ^ 64 → AreIndexRows [] (index o) rows → IsList o rows
-list_of_index o rows content keys fits is = subst (λ (p : Operations). IsList p rows) (whole_part o) (rows_of_index [] o (omega arith) content keys fits rows is)
+pub list_of_index : (o : Operations) (rows : List FindRow) → IsContent o → HaveKeys o → length (written o) < 2 ^ 64
+    → AreIndexRows [] (index o) rows → IsList o rows
+list_of_index o rows content keys fits is = subst (λ (p : Operations). IsList p rows) (whole_part o)
+    (rows_of_index [] o (omega arith) content keys fits rows is)
 
 -- the UUID of a record under a UUID
-uuid_there : (uuid rest : List ℕ) (t : ℕ) (key : SliceKey) → length uuid ≡ 16 → length key.uuid ≡ 16 → is_under uuid (t ∷ (key_bytes key ++ rest)) ≡ true → key.uuid ≡ uuid
+uuid_there : (uuid rest : List ℕ) (t : ℕ) (key : SliceKey) → length uuid ≡ 16 → length key.uuid ≡ 16
+    → is_under uuid (t ∷ (key_bytes key ++ rest)) ≡ true → key.uuid ≡ uuid
 unfolding is_under key_bytes
 uuid_there uuid rest t key long key_long under =
     let more : List ℕ = to_be_bytes w32 key.arch.cputype ++ to_be_bytes w32 key.arch.cpusubtype in
     let same : uuid ≡ take (length uuid) ((key.uuid ++ more) ++ rest) = (bytes_eq-Decides uuid (take (length uuid) ((key.uuid ++ more) ++ rest))).0 under in
-    sym (same ∙ ap (take (length uuid)) (append_assoc key.uuid more rest) ∙ ap (λ (n : ℕ). take n (key.uuid ++ (more ++ rest))) (long ∙ sym key_long) ∙ take-append_seam key.uuid (more ++ rest))
+    sym (same ∙ ap (take (length uuid)) (append_assoc key.uuid more rest)
+    ∙ ap (λ (n : ℕ). take n (key.uuid ++ (more ++ rest))) (long ∙ sym key_long)
+    ∙ take-append_seam key.uuid (more ++ rest))
 
 module _ (o : Operations) (uuid : List ℕ) (long : length uuid ≡ 16) where
   abbrev p : Operations
@@ -261,7 +304,9 @@ module _ (o : Operations) (uuid : List ℕ) (long : length uuid ≡ 16) where
   less_found x y ux uy less =
       then_less (order (key_in x).uuid (key_in y).uuid) (find_cmp x y) ((λ i. order (ux i) (uy i)) ∙ tied_itself nat_list_cmp_total uuid) less
 
-  each_less : (x : Operation) (xs : List Operation) → (key_in x).uuid ≡ uuid → AllByRecursion (λ y. (key_in y).uuid ≡ uuid) xs → AllByRecursion (λ y. list_cmp x y ≡ Less) xs → AllByRecursion (λ y. find_cmp x y ≡ Less) xs
+  each_less : (x : Operation) (xs : List Operation) → (key_in x).uuid ≡ uuid
+      → AllByRecursion (λ y. (key_in y).uuid ≡ uuid) xs → AllByRecursion (λ y. list_cmp x y ≡ Less) xs
+      → AllByRecursion (λ y. find_cmp x y ≡ Less) xs
   each_less x [] ux us less = tt
   each_less x (y ∷ xs) ux us less = (less_found x y ux us.0 less.0, each_less x xs ux us.1 less.1)
 
@@ -282,5 +327,6 @@ module _ (o : Operations) (uuid : List ℕ) (long : length uuid ≡ 16) where
     rows_are = l.rows_are;
   })
 
-pub found_of_index : (o : Operations) (uuid : List ℕ) (rows : List FindRow) → length uuid ≡ 16 → IsContent o → HaveKeys o → length (written o) < 2 ^ 64 → AreIndexRows uuid (index o) rows → IsFinds o uuid rows
+pub found_of_index : (o : Operations) (uuid : List ℕ) (rows : List FindRow) → length uuid ≡ 16 → IsContent o
+    → HaveKeys o → length (written o) < 2 ^ 64 → AreIndexRows uuid (index o) rows → IsFinds o uuid rows
 found_of_index o uuid rows long content keys fits is = found_of_list o uuid long rows (rows_of_index uuid o (omega arith) content keys fits rows is)

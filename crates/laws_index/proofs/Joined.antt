@@ -49,8 +49,10 @@ next_step : (a b m c d x y : Bool) → ((((a || b) && not (m && (c || d))) || x)
 next_step a b true c d x y = next_admission a b c d x y
 next_step a b false c d x y = next_retirement a b x
 
-made_of : (o p : Operations) (r : List ℕ) → contains (joined o p) r ≡ ((contains o r || contains p r) && not (is_admission r && (contains o (covering r) || contains p (covering r))))
-made_of o p r = contains_made (union o p) r ∙ (λ i. contains-union nat_list_cmp_total o p r i && not (is_admission r && contains-union nat_list_cmp_total o p (covering r) i))
+made_of : (o p : Operations) (r : List ℕ) → contains (joined o p) r
+    ≡ ((contains o r || contains p r) && not (is_admission r && (contains o (covering r) || contains p (covering r))))
+made_of o p r = contains_made (union o p) r ∙ (λ i. contains-union nat_list_cmp_total o p r i
+    && not (is_admission r && contains-union nat_list_cmp_total o p (covering r) i))
 
 covers_of : (o p : Operations) (r : List ℕ) → contains (joined o p) (covering r) ≡ (contains o (covering r) || contains p (covering r))
 covers_of o p r = kept (union o p) (covering r) refl ∙ contains-union nat_list_cmp_total o p (covering r)
@@ -67,13 +69,15 @@ joined_has z (o ∷ os) r made =
 pub all_has : (os : List Operations) (r : List ℕ) → contains (all_joined os) r ≡ (has_any os r && not (is_admission r && has_any os (covering r)))
 all_has os r =
     joined_has set.empty os r made_empty
-    ∙ (λ i. (contains-empty (slice_cmp nat_cmp) r i || has_any os r) && not (is_admission r && (contains-empty (slice_cmp nat_cmp) (covering r) i || has_any os (covering r))))
+    ∙ (λ i. (contains-empty (slice_cmp nat_cmp) r i || has_any os r)
+    && not (is_admission r && (contains-empty (slice_cmp nat_cmp) (covering r) i || has_any os (covering r))))
 
 -- one content makes itself
 pub joined_alone : (o : Operations) → IsMade o → all_joined (o ∷ []) ≡ o
 joined_alone o made = same_set nat_list_cmp_total bytes_same (joined set.empty o) o (λ r.
     made_of set.empty o r
-    ∙ (λ i. (contains-empty (slice_cmp nat_cmp) r i || contains o r) && not (is_admission r && (contains-empty (slice_cmp nat_cmp) (covering r) i || contains o (covering r))))
+    ∙ (λ i. (contains-empty (slice_cmp nat_cmp) r i || contains o r)
+    && not (is_admission r && (contains-empty (slice_cmp nat_cmp) (covering r) i || contains o (covering r))))
     ∙ sym (contains_made o r)
     ∙ ap (λ s. contains s r) made)
 
@@ -98,18 +102,26 @@ all_content os all = joined_contents set.empty os empty_content all
 and_false_left : (a b : Bool) → (a && true) ≡ b → a ≡ b
 and_false_left a b h = grind arith
 
-pub live_in_all : (os : List Operations) (key : SliceKey) (slice : List ℕ) → IsValid slice → key_of slice ≡ key → has_any os (admission_record slice) ≡ true → has_any os (retirement_record key (sha256 slice)) ≡ false
+pub live_in_all : (os : List Operations) (key : SliceKey) (slice : List ℕ) → IsValid slice → key_of slice ≡ key
+    → has_any os (admission_record slice) ≡ true → has_any os (retirement_record key (sha256 slice)) ≡ false
     → IsLive (all_joined os) key slice
 live_in_all os key slice valid under there free =
-    let covers : covering (admission_record slice) ≡ retirement_record key (sha256 slice) = covering_admission slice valid ∙ ap (λ k. retirement_record k (sha256 slice)) under in
+    let covers : covering (admission_record slice) ≡ retirement_record key (sha256 slice) =
+    covering_admission slice valid ∙ ap (λ k. retirement_record k (sha256 slice)) under in
     record {
-      admitted = all_has os (admission_record slice) ∙ and_from (has_any os (admission_record slice)) (not (has_any os (covering (admission_record slice)))) there (not_from_false (has_any os (covering (admission_record slice))) (ap (has_any os) covers ∙ free));
+      admitted = all_has os (admission_record slice) ∙ and_from (has_any os (admission_record slice))
+          (not (has_any os (covering (admission_record slice)))) there
+          (not_from_false (has_any os (covering (admission_record slice))) (ap (has_any os) covers ∙ free));
       under = under;
       kept = all_has os (retirement_record key (sha256 slice)) ∙ and_left (has_any os (retirement_record key (sha256 slice))) true free;
     }
 
 pub there_if_live : (os : List Operations) (key : SliceKey) (slice : List ℕ) → IsLive (all_joined os) key slice → has_any os (admission_record slice) ≡ true
-there_if_live os key slice live = (and_parts (has_any os (admission_record slice)) (not (has_any os (covering (admission_record slice)))) (sym (all_has os (admission_record slice)) ∙ live.admitted)).0
+there_if_live os key slice live = (and_parts (has_any os (admission_record slice))
+    (not (has_any os (covering (admission_record slice))))
+    (sym (all_has os (admission_record slice)) ∙ live.admitted)).0
 
-pub free_if_live : (os : List Operations) (key : SliceKey) (slice : List ℕ) → IsLive (all_joined os) key slice → has_any os (retirement_record key (sha256 slice)) ≡ false
-free_if_live os key slice live = and_false_left (has_any os (retirement_record key (sha256 slice))) false (sym (all_has os (retirement_record key (sha256 slice))) ∙ live.kept)
+pub free_if_live : (os : List Operations) (key : SliceKey) (slice : List ℕ) → IsLive (all_joined os) key slice
+    → has_any os (retirement_record key (sha256 slice)) ≡ false
+free_if_live os key slice live = and_false_left (has_any os (retirement_record key (sha256 slice))) false
+    (sym (all_has os (retirement_record key (sha256 slice))) ∙ live.kept)

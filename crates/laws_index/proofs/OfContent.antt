@@ -64,7 +64,8 @@ is_key_of slice valid bytes = record {
 -- ---- records in their order
 
 -- of two slices under one key the record of the shorter one comes first
-pub shorter_first : (a b : List ℕ) → IsValid a → IsValid b → key_bytes (key_of a) ≡ key_bytes (key_of b) → length a < length b → slice_cmp nat_cmp (admission_record a) (admission_record b) ≡ Less
+pub shorter_first : (a b : List ℕ) → IsValid a → IsValid b → key_bytes (key_of a) ≡ key_bytes (key_of b)
+    → length a < length b → slice_cmp nat_cmp (admission_record a) (admission_record b) ≡ Less
 unfolding admission
 shorter_first a b valid_a valid_b same shorter =
     let heads : slice_cmp nat_cmp (2 ∷ key_bytes (key_of a)) (2 ∷ key_bytes (key_of b)) ≡ Equal =
@@ -73,7 +74,8 @@ shorter_first a b valid_a valid_b same shorter =
     let short_b : length b < 2 ^ 32 = length-image b valid_b.image in
     let lengths : slice_cmp nat_cmp (to_be_bytes w64 (length a)) (to_be_bytes w64 (length b)) ≡ Less =
     sym (cmp_eight (length a) (length b) (omega arith) (omega arith)) ∙ sym (nat_cmp_is (length a) (length b) Less shorter) in
-    three_parts (2 ∷ key_bytes (key_of a)) (to_be_bytes w64 (length a)) a (2 ∷ key_bytes (key_of b)) (to_be_bytes w64 (length b)) b (omega (arith, length-key_of a valid_a, length-key_of b valid_b)) refl
+    three_parts (2 ∷ key_bytes (key_of a)) (to_be_bytes w64 (length a)) a (2 ∷ key_bytes (key_of b))
+    (to_be_bytes w64 (length b)) b (omega (arith, length-key_of a valid_a, length-key_of b valid_b)) refl
     ∙ (λ i. ordering_then (ordering_then (heads i) (lengths i)) (slice_cmp nat_cmp a b))
 
 -- ---- an entry
@@ -123,7 +125,8 @@ module _ (text r e : List ℕ) (of : IsEntryOf text r e) where
   admits_by_tag (inr b) h = absurd (true≢false (sym h ∙ ap (λ (n : ℕ). eqb n 2) (tag_of e (retirement_record b.key b.digest) (front_retired b))))
 
   pub retires_by_tag : IsRecord r → eqb (get_or e 0 0) 1 ≡ true → Retires r
-  retires_by_tag (inl a) h = absurd (true≢false (sym h ∙ ap (λ (n : ℕ). eqb n 1) (tag_of e (2 ∷ (key_bytes (key_of a.slice) ++ sha256 a.slice)) (front_admitted a))))
+  retires_by_tag (inl a) h = absurd (true≢false (sym h
+      ∙ ap (λ (n : ℕ). eqb n 1) (tag_of e (2 ∷ (key_bytes (key_of a.slice) ++ sha256 a.slice)) (front_admitted a))))
   retires_by_tag (inr b) h = b
 
   pub front_of_retirement : (b : Retires r) → take 57 e ≡ r
@@ -151,12 +154,19 @@ record_again r a = ap (drop 33) a.is ∙ slice_of a.slice a.valid
 -- ---- where records stand
 
 -- a record that comes before another begins before it
-less_before : (rs : List (List ℕ)) (i j : ℕ) → ((k : ℕ) → k < length rs → 0 < length (get_or rs k [])) → i < j → j < length rs → length (concat (take i rs)) < length (concat (take j rs))
+less_before : (rs : List (List ℕ)) (i j : ℕ) → ((k : ℕ) → k < length rs → 0 < length (get_or rs k [])) → i < j
+    → j < length rs → length (concat (take i rs)) < length (concat (take j rs))
 less_before [] i j some lt within = absurd (omega (arith, within))
 less_before (r ∷ rs) i zero some lt within = absurd (omega (arith, lt))
 less_before (r ∷ rs) zero (suc j) some lt within = omega (arith, some 0 (omega arith), length-append r (concat (take j rs)))
 less_before (r ∷ rs) (suc i) (suc j) some lt within =
-    omega (arith, less_before rs i j (λ k h. some (suc k) (omega (arith, h))) (omega (arith, lt)) (omega (arith, within)), length-append r (concat (take i rs)), length-append r (concat (take j rs)))
+    omega (
+      arith,
+      less_before rs i j (λ k h. some (suc k) (omega (arith, h))) (omega (arith, lt))
+          (omega (arith, within)),
+      length-append r (concat (take i rs)),
+      length-append r (concat (take j rs)),
+    )
 
 below_all : (rs : List (List ℕ)) (i : ℕ) → length (concat (take i rs)) ≤ length (concat rs)
 below_all rs zero = omega arith
@@ -203,7 +213,8 @@ module _ (o : Operations) (content : IsContent o) where
   some_there at within = nonempty (get_or (listing o) at []) (record_there at within)
 
   -- entries stand in the order of their records
-  pub in_turn : (text e f : List ℕ) (i j : ℕ) → IsAt o text e i → IsAt o text f j → offset_in e ≤ offset_in f → (i ≡ j) ⊎ (order (get_or (listing o) i []) (get_or (listing o) j []) ≡ Less)
+  pub in_turn : (text e f : List ℕ) (i j : ℕ) → IsAt o text e i → IsAt o text f j → offset_in e ≤ offset_in f → (i ≡ j)
+      ⊎ (order (get_or (listing o) i []) (get_or (listing o) j []) ≡ Less)
   in_turn text e f i j is_e is_f le = elim (cases_order i j) [
     | inl same ↦ inl same
     | inr apart ↦ elim apart [

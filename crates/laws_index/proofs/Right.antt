@@ -1,5 +1,6 @@
 -- What several indexes tell together is right of the content that their archives make together.
-use Rattle.std.proofs.Common.{◌≡◌, ◌≢◌, ℕ, suc, ◌<◌, ◌≤◌, Bool, true, false, List, [], ◌∷◌, ◌++◌, length, drop, get_or, refl, sym, ap, ◌∙◌, subst, inl, inr, arith, Option, Some, slice_get, ◌^◌}
+use Rattle.std.proofs.Common.{◌≡◌, ◌≢◌, ℕ, suc, ◌<◌, ◌≤◌, Bool, true, false, List, [], ◌∷◌, ◌++◌, length, drop, get_or}
+use Rattle.std.proofs.Common.{refl, sym, ap, ◌∙◌, subst, inl, inr, arith, Option, Some, slice_get, ◌^◌}
 use Rattle.std.specs.List.{AllByRecursion, AllZip, Contains}
 use Rattle.std.specs.List.Sorted.{IsStrictlySortedBy}
 use Rattle.std.specs.Ordering.{nat_cmp, on}
@@ -94,7 +95,8 @@ module _ (os : List Operations) (texts : List (List ℕ)) (indexes : List (List 
       sym a.record_is ∙ ap (λ (k : ℕ). get_or (listing a.o) k []) (one_place a.o a.file.are.content a.text x.entry a.place b.place a.is t.1) ∙ t.2
 
   -- entries of one index at different numbers stand in the order of their records
-  in_one_index : (x y : EntryAt) (r s : List ℕ) → IsRecordOf os texts indexes x r → IsRecordOf os texts indexes y s → x.input ≡ y.input → x.number ≢ y.number → offset_in x.entry ≤ offset_in y.entry → order r s ≡ Less
+  in_one_index : (x y : EntryAt) (r s : List ℕ) → IsRecordOf os texts indexes x r → IsRecordOf os texts indexes y s
+      → x.input ≡ y.input → x.number ≢ y.number → offset_in x.entry ≤ offset_in y.entry → order r s ≡ Less
   in_one_index x y r s a b same apart le =
       let t = together x y r s a b same in
       elim (in_turn a.o a.file.are.content a.text x.entry y.entry a.place b.place a.is t.1 le) [
@@ -115,21 +117,27 @@ module _ (os : List Operations) (texts : List (List ℕ)) (indexes : List (List 
     pub of : IsOfSlice os texts indexes x slice
     pub answers : IsAnswering (all_joined os) key slice
 
-  before : (key : SliceKey) (x y : EntryAt) (a b : List ℕ) → IsAnsweringSlice key x a → IsAnsweringSlice key y b → StandsBefore x y → order (admission_record a) (admission_record b) ≡ Less
+  before : (key : SliceKey) (x y : EntryAt) (a b : List ℕ) → IsAnsweringSlice key x a → IsAnsweringSlice key y b
+      → StandsBefore x y → order (admission_record a) (admission_record b) ≡ Less
   before key x y a b is_x is_y (inl shorter) =
-      shorter_first a b is_x.of.is.valid is_y.of.is.valid (ap key_bytes (is_x.answers.live.under ∙ sym is_y.answers.live.under)) (omega (arith, shorter, is_x.of.is.length_is, is_y.of.is.length_is))
+      shorter_first a b is_x.of.is.valid is_y.of.is.valid
+      (ap key_bytes (is_x.answers.live.under ∙ sym is_y.answers.live.under))
+      (omega (arith, shorter, is_x.of.is.length_is, is_y.of.is.length_is))
   before key x y a b is_x is_y (inr rest) =
       in_one_index x y (admission_record a) (admission_record b) is_x.of.of is_y.of.of rest.1 rest.2 rest.3
 
   -- slices of entries that stand in order are strictly ascending
-  all_before : (key : SliceKey) (x : EntryAt) (a : List ℕ) (xs : List EntryAt) (ss : List (List ℕ)) → IsAnsweringSlice key x a → AllZip (IsAnsweringSlice key) xs ss → ((k : ℕ) → k < length xs → StandsBefore x (get_or xs k x))
+  all_before : (key : SliceKey) (x : EntryAt) (a : List ℕ) (xs : List EntryAt) (ss : List (List ℕ))
+      → IsAnsweringSlice key x a → AllZip (IsAnsweringSlice key) xs ss
+      → ((k : ℕ) → k < length xs → StandsBefore x (get_or xs k x))
       → AllByRecursion (λ s. on admission_record (slice_cmp nat_cmp) a s ≡ Less) ss
   all_before key x a [] [] is all stands = tt
   all_before key x a (y ∷ xs) (s ∷ ss) is all stands =
       (before key x y a s is all.0 (stands 0 (omega arith)), all_before key x a xs ss is all.1 (λ k lt. stands (suc k) (omega (arith, lt))))
   all_before key x a xs ss is all stands = absurd all
 
-  ascending : (key : SliceKey) (xs : List EntryAt) (ss : List (List ℕ)) → AllZip (IsAnsweringSlice key) xs ss → ((i j : ℕ) (none : EntryAt) → i < j → j < length xs → StandsBefore (get_or xs i none) (get_or xs j none))
+  ascending : (key : SliceKey) (xs : List EntryAt) (ss : List (List ℕ)) → AllZip (IsAnsweringSlice key) xs ss
+      → ((i j : ℕ) (none : EntryAt) → i < j → j < length xs → StandsBefore (get_or xs i none) (get_or xs j none))
       → IsStrictlySortedBy (on admission_record (slice_cmp nat_cmp)) ss
   unfolding IsStrictlySortedBy
   ascending key [] [] all stands = tt
@@ -141,7 +149,8 @@ module _ (os : List Operations) (texts : List (List ℕ)) (indexes : List (List 
 
   -- ---- what is told of them
 
-  row_right : (key : SliceKey) (asked : Where) (x : EntryAt) (slice : List ℕ) (row : OwnRow) → IsAnsweringSlice key x slice → IsToldRowAt texts asked x row → IsOwnRow asked slice row
+  row_right : (key : SliceKey) (asked : Where) (x : EntryAt) (slice : List ℕ) (row : OwnRow)
+      → IsAnsweringSlice key x slice → IsToldRowAt texts asked x row → IsOwnRow asked slice row
   row_right key asked x slice row is told = record {
     digest_is = told.digest_is ∙ is.of.is.is.digest_is;
     own_is =
@@ -149,13 +158,15 @@ module _ (os : List Operations) (texts : List (List ℕ)) (indexes : List (List 
         told.own_is is.of.of.text is.of.of.file.text_at slice its.table its.bytes its.is_table (may_be is.of.of.text its.table (claim_in x.entry) its.stored);
   }
 
-  one_slice : (key : SliceKey) (asked : Where) (x : EntryAt) (row : OwnRow) (own : Option FoundRecord) (ss : List (List ℕ)) → AllZip (IsAnsweringSlice key) (x ∷ []) ss → row.own ≡ own → IsToldRowAt texts asked x row
+  one_slice : (key : SliceKey) (asked : Where) (x : EntryAt) (row : OwnRow) (own : Option FoundRecord)
+      (ss : List (List ℕ)) → AllZip (IsAnsweringSlice key) (x ∷ []) ss → row.own ≡ own → IsToldRowAt texts asked x row
       → (slice : List ℕ) × (ss ≡ slice ∷ []) × IsOwn slice asked own
   one_slice key asked x row own [] all is told = absurd all
   one_slice key asked x row own (s ∷ []) all is told = (s, refl, subst (IsOwn s asked) is (row_right key asked x s row all.0 told).own_is)
   one_slice key asked x row own (s ∷ (r ∷ ss)) all is told = absurd all.1
 
-  told_right : (key : SliceKey) (asked : Where) (xs : List EntryAt) (ss : List (List ℕ)) (answer : AnswerRecord) → AllZip (IsAnsweringSlice key) xs ss → IsToldOfAmong texts asked xs answer → IsAnswerOf asked ss answer
+  told_right : (key : SliceKey) (asked : Where) (xs : List EntryAt) (ss : List (List ℕ)) (answer : AnswerRecord)
+      → AllZip (IsAnsweringSlice key) xs ss → IsToldOfAmong texts asked xs answer → IsAnswerOf asked ss answer
   told_right key asked xs ss Unanswered all is = zip_empty (IsAnsweringSlice key) xs ss is all
   told_right key asked xs ss (Alone own) all is =
       one_slice key asked is.0 is.1 own ss (subst (λ (ys : List EntryAt). AllZip (IsAnsweringSlice key) ys ss) is.2 all) is.3 is.4
@@ -165,12 +176,15 @@ module _ (os : List Operations) (texts : List (List ℕ)) (indexes : List (List 
 
   -- ---- the frames that are shown of them
 
-  frames_right : (key : SliceKey) (asked : Where) (x : EntryAt) (slice : List ℕ) (frames : List FrameRecord) → IsAnsweringSlice key x slice → AreFramesToldAt texts asked x frames → AreFramesAt asked slice frames
+  frames_right : (key : SliceKey) (asked : Where) (x : EntryAt) (slice : List ℕ) (frames : List FrameRecord)
+      → IsAnsweringSlice key x slice → AreFramesToldAt texts asked x frames → AreFramesAt asked slice frames
   frames_right key asked x slice frames is told =
       let its = is.of.is.is in
       told is.of.of.text is.of.of.file.text_at slice its.table its.bytes its.is_table (may_be is.of.of.text its.table (claim_in x.entry) its.stored)
 
-  shown_right : (key : SliceKey) (lines : Bool) (asked : Where) (xs : List EntryAt) (ss : List (List ℕ)) (lists : List (List FrameRecord)) → AllZip (IsAnsweringSlice key) xs ss → AreShownAmong texts lines asked xs lists → AreShown lines asked ss lists
+  shown_right : (key : SliceKey) (lines : Bool) (asked : Where) (xs : List EntryAt) (ss : List (List ℕ))
+      (lists : List (List FrameRecord)) → AllZip (IsAnsweringSlice key) xs ss → AreShownAmong texts lines asked xs lists
+      → AreShown lines asked ss lists
   shown_right key true asked xs ss lists all shown =
       zip_through (IsAnsweringSlice key) (AreFramesToldAt texts asked) (AreFramesAt asked) xs ss lists (frames_right key asked) all shown
   shown_right key false asked xs ss lists all shown = shown
@@ -183,32 +197,42 @@ module _ (os : List Operations) (texts : List (List ℕ)) (indexes : List (List 
         let lives = (and_parts (lives_under prefix (all_of indexes) x.entry) _ h).0 in
         (and_parts (is_admission x.entry) _ (and_parts _ _ lives).0).0
 
-    pub undamaged : (prefix text : List ℕ) (x : EntryAt) → IsAmong indexes x → answers_among prefix (all_of indexes) x.entry ≡ true → slice_get texts x.input ≡ Some text → HasNoTable text x.entry → ⊥
+    pub undamaged : (prefix text : List ℕ) (x : EntryAt) → IsAmong indexes x
+        → answers_among prefix (all_of indexes) x.entry ≡ true → slice_get texts x.input ≡ Some text
+        → HasNoTable text x.entry → ⊥
     undamaged prefix text x among h here none =
         let s = slice_of_entry os texts indexes all x among (tagged prefix x h) in
         let same : s.1.of.text ≡ text = cc (s.1.of.file.text_at, here) in
         let is : IsSliceOf text s.0 x.entry = subst (λ (t : List ℕ). IsSliceOf t s.0 x.entry) same s.1.is.is in
         none (subst (λ (t : List ℕ). length t < 2 ^ 64) same s.1.of.file.are.short) s.0 is.table is.is_table is.stored
 
-    pub none_damaged : (prefix : List ℕ) (answering : List EntryAt) (input number : ℕ) → AreAnsweringAmong prefix indexes answering → IsDamagedAt texts answering input number → ⊥
+    pub none_damaged : (prefix : List ℕ) (answering : List EntryAt) (input number : ℕ)
+        → AreAnsweringAmong prefix indexes answering → IsDamagedAt texts answering input number → ⊥
     none_damaged prefix answering input number are damaged =
         let x : EntryAt = record { input = input; number = number; entry = damaged.entry } in
-        let answers : answers_among prefix (all_of indexes) x.entry ≡ true = All-contains (λ y. answers_among prefix (all_of indexes) y.entry ≡ true) answering x are.each damaged.answers in
+        let answers : answers_among prefix (all_of indexes) x.entry
+        ≡ true = All-contains (λ y. answers_among prefix (all_of indexes) y.entry ≡ true) answering x are.each
+        damaged.answers in
         undamaged prefix damaged.text x (All-contains (IsAmong indexes) answering x are.among damaged.answers) answers damaged.text_is damaged.absent
 
     -- ---- where there are no lines
 
-    pub lineless : (prefix : List ℕ) (answering : List EntryAt) (input number : ℕ) → AreAnsweringAmong prefix indexes answering → IsLinelessAt texts answering input number → (slice : List ℕ) × AnswersUnder os prefix slice × HasNoLines slice
+    pub lineless : (prefix : List ℕ) (answering : List EntryAt) (input number : ℕ)
+        → AreAnsweringAmong prefix indexes answering → IsLinelessAt texts answering input number → (slice : List ℕ)
+        × AnswersUnder os prefix slice × HasNoLines slice
     lineless prefix answering input number are lacking =
         let x : EntryAt = record { input = input; number = number; entry = lacking.entry } in
-        let answers : answers_among prefix (all_of indexes) x.entry ≡ true = All-contains (λ y. answers_among prefix (all_of indexes) y.entry ≡ true) answering x are.each lacking.answers in
+        let answers : answers_among prefix (all_of indexes) x.entry
+        ≡ true = All-contains (λ y. answers_among prefix (all_of indexes) y.entry ≡ true) answering x are.each
+        lacking.answers in
         let s = slice_of_entry os texts indexes all x (All-contains (IsAmong indexes) answering x are.among lacking.answers) (tagged prefix x answers) in
         let same : s.1.of.text ≡ lacking.text = cc (s.1.of.file.text_at, lacking.text_is) in
         let is : IsSliceOf lacking.text s.0 x.entry = subst (λ (t : List ℕ). IsSliceOf t s.0 x.entry) same s.1.is.is in (
           s.0,
           record {
             is_held = is_held os texts indexes x s.0 s.1;
-            answers = λ key is_key is. answers_if os texts indexes all key is_key x s.0 s.1 (subst (λ (f : List ℕ). answers_among f (all_of indexes) x.entry ≡ true) (sym is) answers);
+            answers = λ key is_key is. answers_if os texts indexes all key is_key x s.0 s.1
+                (subst (λ (f : List ℕ). answers_among f (all_of indexes) x.entry ≡ true) (sym is) answers);
           },
           lacking.lacks s.0 is.table is.bytes is.is_table (may_be lacking.text is.table (claim_in x.entry) is.stored),
         )
@@ -223,7 +247,9 @@ module _ (os : List Operations) (texts : List (List ℕ)) (indexes : List (List 
           let s = slice_of_entry os texts indexes all x among (tagged (key_bytes key) x h) in
           (s.0, record { of = s.1; answers = answers_if os texts indexes all key is_key x s.0 s.1 h })
 
-      slices_at : (xs : List EntryAt) → AllByRecursion (IsAmong indexes) xs → AllByRecursion (λ x. answers_among (key_bytes key) every x.entry ≡ true) xs → (ss : List (List ℕ)) × AllZip (IsAnsweringSlice key) xs ss
+      slices_at : (xs : List EntryAt) → AllByRecursion (IsAmong indexes) xs
+          → AllByRecursion (λ x. answers_among (key_bytes key) every x.entry ≡ true) xs → (ss : List (List ℕ))
+          × AllZip (IsAnsweringSlice key) xs ss
       slices_at [] among answers = ([], tt)
       slices_at (x ∷ xs) among answers =
           let s = slice_at x among.0 answers.0 in
@@ -241,8 +267,20 @@ module _ (os : List Operations) (texts : List (List ℕ)) (indexes : List (List 
             other = b.0;
             number = t.one.input;
             other_number = t.other.input;
-            one_is = record { o = a.1.of.of.o; there = a.1.of.of.file.content_at; has = held os texts indexes t.one (admission_record a.0) a.1.of.of; answers = a.1.answers };
-            other_is = record { o = b.1.of.of.o; there = b.1.of.of.file.content_at; has = held os texts indexes t.other (admission_record b.0) b.1.of.of; answers = b.1.answers };
+            one_is = record {
+              o = a.1.of.of.o;
+              there = a.1.of.of.file.content_at;
+              has =
+                  held os texts indexes t.one (admission_record a.0) a.1.of.of;
+              answers = a.1.answers;
+            };
+            other_is = record {
+              o = b.1.of.of.o;
+              there = b.1.of.of.file.content_at;
+              has =
+                  held os texts indexes t.other (admission_record b.0) b.1.of.of;
+              answers = b.1.answers;
+            };
             numbers = t.unordered.inputs;
             lengths = omega (arith, a.1.of.is.length_is, b.1.of.is.length_is, t.unordered.same_length);
             differ = λ same. t.unordered.slices (a.1.of.is.prefix ∙ ap (λ (s : List ℕ). 2 ∷ (key_bytes (key_of s) ++ sha256 s)) same ∙ sym b.1.of.is.prefix);
@@ -253,12 +291,16 @@ module _ (os : List Operations) (texts : List (List ℕ)) (indexes : List (List 
       -- two entries of one slice of different indexes are of the same slice, as far as digests tell
       one_of_two : (x y : EntryAt) (a b : List ℕ) → DigestsTell os → IsOfSlice os texts indexes x a → IsOfSlice os texts indexes y b → IsRepeatOf y x → a ≡ b
       one_of_two x y a b tell of_x of_y repeat =
-          let fronts : key_bytes (key_of a) ++ sha256 a ≡ key_bytes (key_of b) ++ sha256 b = ap (drop 1) (sym of_x.is.prefix ∙ sym repeat.slices ∙ of_y.is.prefix) in
-          let digests = (same_parts (key_bytes (key_of a)) (key_bytes (key_of b)) (sha256 a) (sha256 b) (length-key_of a of_x.is.valid ∙ sym (length-key_of b of_y.is.valid)) fronts).1 in
+          let fronts : key_bytes (key_of a) ++ sha256 a ≡ key_bytes (key_of b)
+          ++ sha256 b = ap (drop 1) (sym of_x.is.prefix ∙ sym repeat.slices ∙ of_y.is.prefix) in
+          let digests = (same_parts (key_bytes (key_of a)) (key_bytes (key_of b)) (sha256 a) (sha256 b)
+          (length-key_of a of_x.is.valid ∙ sym (length-key_of b of_y.is.valid)) fronts).1 in
           let lt_x : x.input < length os = slice_get_within os x.input of_x.of.o of_x.of.file.content_at in
           tell (omega (arith, lt_x, repeat.earlier)) a b (is_held os texts indexes x a of_x) (is_held os texts indexes y b of_y) digests
 
-      module _ (tell : DigestsTell os) (answering : List EntryAt) (are : AreAnsweringAmong (key_bytes key) indexes answering) (ss : List (List ℕ)) (zip : AllZip (IsAnsweringSlice key) answering ss) where
+      module _ (tell : DigestsTell os) (answering : List EntryAt)
+          (are : AreAnsweringAmong (key_bytes key) indexes answering) (ss : List (List ℕ))
+          (zip : AllZip (IsAnsweringSlice key) answering ss) where
         -- each slice that answers is there
         to_slices : (slice : List ℕ) → IsAnswering (all_joined os) key slice → Contains ss slice
         to_slices slice answers =
@@ -281,12 +323,17 @@ module _ (os : List Operations) (texts : List (List ℕ)) (indexes : List (List 
         }
 
       -- the slices of the entries that answer are those that do
-      pub slices_right : (answering : List EntryAt) → DigestsTell os → AreAnsweringAmong (key_bytes key) indexes answering → (ss : List (List ℕ)) × AllZip (IsAnsweringSlice key) answering ss × AreAnswering (all_joined os) key ss
+      pub slices_right : (answering : List EntryAt) → DigestsTell os
+          → AreAnsweringAmong (key_bytes key) indexes answering → (ss : List (List ℕ))
+          × AllZip (IsAnsweringSlice key) answering ss × AreAnswering (all_joined os) key ss
       slices_right answering tell are =
-          let ss = slices_at answering (recursion_from_All (IsAmong indexes) answering are.among) (recursion_from_All (λ x. answers_among (key_bytes key) every x.entry ≡ true) answering are.each) in
+          let ss = slices_at answering (recursion_from_All (IsAmong indexes) answering are.among)
+          (recursion_from_All (λ x. answers_among (key_bytes key) every x.entry ≡ true) answering are.each) in
           (ss.0, ss.1, are_slices tell answering are ss.0 ss.1)
 
-      pub right : (lines : Bool) (asked : Where) (answer : AnswerRecord) (frames : List (List FrameRecord)) → DigestsTell os → IsAnswerAmong texts indexes (key_bytes key) lines asked answer frames → IsSourced (all_joined os) key lines asked answer frames
+      pub right : (lines : Bool) (asked : Where) (answer : AnswerRecord) (frames : List (List FrameRecord))
+          → DigestsTell os → IsAnswerAmong texts indexes (key_bytes key) lines asked answer frames
+          → IsSourced (all_joined os) key lines asked answer frames
       right lines asked answer frames tell is =
           let ss = slices_right is.answering tell is.are in
           record {
@@ -298,7 +345,9 @@ module _ (os : List Operations) (texts : List (List ℕ)) (indexes : List (List 
 
 -- ---- one index
 
-pub right_alone : (o : Operations) (text : List ℕ) (entries : List (List ℕ)) (key : SliceKey) (lines : Bool) (asked : Where) (answer : AnswerRecord) (frames : List (List FrameRecord)) → IsIndexFile o text → IsIndexText text entries → IsKey key
+pub right_alone : (o : Operations) (text : List ℕ) (entries : List (List ℕ)) (key : SliceKey) (lines : Bool)
+    (asked : Where) (answer : AnswerRecord) (frames : List (List FrameRecord)) → IsIndexFile o text
+    → IsIndexText text entries → IsKey key
     → IsAnswerAmong (text ∷ []) (entries ∷ []) (key_bytes key) lines asked answer frames → IsSourced o key lines asked answer frames
 right_alone o text entries key lines asked answer frames file read is_key is =
     let all : AreIndexes (o ∷ []) (text ∷ []) (entries ∷ []) = record { files = (file, tt); read = (read, tt) } in

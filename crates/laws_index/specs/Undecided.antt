@@ -1,4 +1,4 @@
--- What is told where no slice of a content is wanted.
+-- The report if no slice of a content is wanted.
 use Rattle.std.specs.Prelude.{◌≡◌, ℕ, List, Option}
 use Rattle.std.specs.List.{AllZip}
 use Rattle.sha2.specs.Sha256.{sha256}

@@ -102,8 +102,9 @@ pub fn found_by_indexes<I: Placed, P: Placed>()
         → TellsFound (all_joined os) uuid status text }
 {}
 
-/// So does `symbolicate`, with lines and without, and with the lines of the slices that answer: by tables whatever bytes
-/// the archives have, if no two different slices of several contents have one SHA-256; and by slices, where two are tied.
+/// So does `symbolicate`, with lines and without, and with the lines of the slices that answer: by tables whatever
+/// bytes the archives have, if no two different slices of several contents have one SHA-256; and by slices, where two
+/// are tied.
 pub fn answered_by_indexes<I: Placed, P: Placed>()
     ensures tables { (inputs : List (Reader I)) (archives : List (Reader P)) (os : List Operations) (key : SliceKey)
         (load : Option ℕ) (lines slices : Bool) (addresses : List ℕ) (status : Status) (text : List ℕ)
@@ -128,7 +129,8 @@ pub fn answered_by_indexes<I: Placed, P: Placed>()
 
 /// So does `frames`. The frames that a text says have such keys as this asks.
 pub fn framed_by_indexes<I: Placed, P: Placed>()
-    ensures tables { (inputs : List (Reader I)) (archives : List (Reader P)) (os : List Operations) (lines slices : Bool)
+    ensures tables { (inputs : List (Reader I)) (archives : List (Reader P)) (os : List Operations)
+        (lines slices : Bool)
         (listed : List Frame) (status : Status) (text : List ℕ) → AreIndexesGiven inputs os → DigestsTell os
         → ((frame : Frame) → Contains listed frame → IsKey frame.key)
         → TellsFramesByTables lines slices inputs archives listed status text
@@ -138,13 +140,15 @@ pub fn framed_by_indexes<I: Placed, P: Placed>()
         → ((frame : Frame) → Contains listed frame → IsKey frame.key)
         → TellsFramesByTables lines slices (input ∷ []) (archive ∷ []) listed status text
         → TellsFramesWith lines slices o listed status text }
-    ensures slices { (inputs : List (Reader I)) (archives : List (Reader P)) (os : List Operations) (lines slices : Bool)
+    ensures slices { (inputs : List (Reader I)) (archives : List (Reader P)) (os : List Operations)
+        (lines slices : Bool)
         (listed : List Frame) (status : Status) (text : List ℕ)
         → ((key : List ℕ) → Contains (keys_of listed) key → length key ≤ 24)
         → (slices ≡ true → (frame : Frame) → Contains listed frame → IsKey frame.key) → AreIndexed inputs archives os
         → TellsFramesBySlices lines slices inputs archives listed status text
         → TellsFramesWith lines slices (all_joined os) listed status text }
-    ensures either { (inputs : List (Reader I)) (archives : List (Reader P)) (os : List Operations) (lines slices : Bool)
+    ensures either { (inputs : List (Reader I)) (archives : List (Reader P)) (os : List Operations)
+        (lines slices : Bool)
         (listed : List Frame) (status : Status) (text : List ℕ) → AreIndexed inputs archives os → DigestsTell os
         → ((frame : Frame) → Contains listed frame → IsKey frame.key)
         → AreToldAt lines slices inputs archives listed status text

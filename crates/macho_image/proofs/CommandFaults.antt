@@ -12,7 +12,8 @@ pub record PassesTests (has_uuid has_symtab : Bool) (command : List ℕ) : Type 
   pub symtab : (is_symtab command && nat_lt (length command) 24) ≡ false
   pub one_symtab : (is_symtab command && has_symtab) ≡ false
 
-pub passes_tests : (index : ℕ) (has_uuid has_symtab : Bool) (command : List ℕ) → command_fault index has_uuid has_symtab command ≡ None → PassesTests has_uuid has_symtab command
+pub passes_tests : (index : ℕ) (has_uuid has_symtab : Bool) (command : List ℕ)
+    → command_fault index has_uuid has_symtab command ≡ None → PassesTests has_uuid has_symtab command
 passes_tests index has_uuid has_symtab command fine = grind arith
 
 -- there is no fault or one
@@ -21,7 +22,8 @@ none_or_some None = inl refl
 none_or_some (Some x) = inr (x, refl)
 
 -- a command without a fault has room for what its kind holds
-pub room_of : (index : ℕ) (has_uuid has_symtab : Bool) (command : List ℕ) → 8 ≤ length command → command_fault index has_uuid has_symtab command ≡ None → HasRoom command
+pub room_of : (index : ℕ) (has_uuid has_symtab : Bool) (command : List ℕ) → 8 ≤ length command
+    → command_fault index has_uuid has_symtab command ≡ None → HasRoom command
 room_of index has_uuid has_symtab command long fine =
     let passes = passes_tests index has_uuid has_symtab command fine in
     record {

@@ -45,7 +45,8 @@ cut_or_none bytes = elim (cases_lt (length bytes) 8) [
 abbrev Ends : List ℕ → ℕ → Type 0
 Ends area count = ((fault : ImageFault) × IsFirstFault area count fault) ⊎ ((commands : List (List ℕ)) × AreCommands area count commands)
 
-walk_on : (steps : ℕ) (area : List ℕ) (index count : ℕ) (rest : List ℕ) (uuid : Option (List ℕ)) (symtab : Option Symtab) → index + steps ≡ count → Reached area index rest uuid symtab → Ends area count
+walk_on : (steps : ℕ) (area : List ℕ) (index count : ℕ) (rest : List ℕ) (uuid : Option (List ℕ))
+    (symtab : Option Symtab) → index + steps ≡ count → Reached area index rest uuid symtab → Ends area count
 walk_on zero area index count rest uuid symtab e reached =
     let all = reached_all area index count rest uuid symtab reached (omega arith) in
     inr (all.commands, all.sound)
@@ -53,7 +54,8 @@ walk_on (suc steps) area index count rest uuid symtab e reached = elim (cut_or_n
   | inr none ↦ inl (BadCommand index, reached_end area index rest uuid symtab reached count (omega arith) none)
   | inl cut ↦ elim (none_or_some (command_fault index (is_some uuid) (is_some symtab) cut.command)) [
     | inl fine ↦
-        walk_on steps area (index + 1) count cut.after (option_or uuid (uuid_among (cut.command ∷ []))) (option_or symtab (symtab_among (cut.command ∷ []))) (omega arith)
+        walk_on steps area (index + 1) count cut.after (option_or uuid (uuid_among (cut.command ∷ [])))
+        (option_or symtab (symtab_among (cut.command ∷ []))) (omega arith)
         (reached_next area index rest uuid symtab reached cut.command cut.after cut.whole cut.begins fine)
     | inr faulty ↦
         inl (faulty.0, reached_fault area index rest uuid symtab reached cut.command cut.after cut.whole cut.begins count faulty.0 (omega arith) faulty.1)
@@ -62,12 +64,13 @@ walk_on (suc steps) area index count rest uuid symtab e reached = elim (cut_or_n
 
 pub image_or_fault : (bytes : List ℕ) → IsImage bytes ⊎ ((fault : ImageFault) × IsImageFault bytes fault)
 image_or_fault bytes = elim (none_or_some (header_fault bytes)) [
-  | inl fine ↦ elim (walk_on (ncmds bytes) (command_bytes bytes) 0 (ncmds bytes) (command_bytes bytes) None None (omega arith) (reached_start (command_bytes bytes))) [
-    | inl first ↦ inr (first.0, inr (inl (fine, first.1)))
-    | inr all ↦ elim (cases_Bool (list_any is_uuid all.0)) [
-      | inl h ↦ inl (record { header = fine; commands = all.0; sound = all.1; has_uuid = h })
-      | inr h ↦ inr (NoUuid, inr (inr (fine, refl, all.0, all.1, h)))
-    ]
-  ]
+  | inl fine ↦ elim (walk_on (ncmds bytes) (command_bytes bytes) 0 (ncmds bytes) (command_bytes bytes) None None
+      (omega arith) (reached_start (command_bytes bytes))) [
+        | inl first ↦ inr (first.0, inr (inl (fine, first.1)))
+        | inr all ↦ elim (cases_Bool (list_any is_uuid all.0)) [
+          | inl h ↦ inl (record { header = fine; commands = all.0; sound = all.1; has_uuid = h })
+          | inr h ↦ inr (NoUuid, inr (inr (fine, refl, all.0, all.1, h)))
+        ]
+      ]
   | inr faulty ↦ inr (faulty.0, inl faulty.1)
 ]

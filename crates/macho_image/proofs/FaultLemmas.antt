@@ -53,16 +53,20 @@ no_image_fault bytes f image (inr (inr p)) =
 pub front_of-first_commands : (count : ℕ) (area : List ℕ) → length (first_commands count area) ≡ count → AreFirst area count (first_commands count area)
 unfolding first_commands
 front_of-first_commands zero area h = record { number = refl; each = tt; rest = area; begins = refl }
-front_of-first_commands (suc count) area h = elim (cases_Bool (nat_le 8 (u32_le_at area 4) && nat_le 8 (length area) && nat_le (u32_le_at area 4) (length area))) [
-  | inl e ↦
-      let fits = fits_of (u32_le_at area 4) (length area) e in
-      let all : length (take (u32_le_at area 4) area ∷ first_commands count (drop (u32_le_at area 4) area)) ≡ suc count = rw e at h in
-      let more = front_of-first_commands count (drop (u32_le_at area 4) area) (omega (arith, all)) in
-      rw e (record {
-        number = all;
-        each = (command_of_size area (u32_le_at area 4) refl fits.0 fits.1, more.each);
-        rest = more.rest;
-        begins = sym (take-append-drop (u32_le_at area 4) area) ∙ ap (λ s. take (u32_le_at area 4) area ++ s) more.begins ∙ sym (append_assoc (take (u32_le_at area 4) area) (concat (first_commands count (drop (u32_le_at area 4) area))) more.rest);
-      })
-  | inr e ↦ let none : zero ≡ suc count = rw e at h in absurd (omega (arith, none))
-]
+front_of-first_commands (suc count) area h = elim (cases_Bool
+    (nat_le 8 (u32_le_at area 4) && nat_le 8 (length area) && nat_le (u32_le_at area 4) (length area))) [
+      | inl e ↦
+          let fits = fits_of (u32_le_at area 4) (length area) e in
+          let all : length (take (u32_le_at area 4) area ∷ first_commands count (drop (u32_le_at area 4) area)) ≡ suc count = rw e at h in
+          let more = front_of-first_commands count (drop (u32_le_at area 4) area) (omega (arith, all)) in
+          rw e (record {
+            number = all;
+            each = (command_of_size area (u32_le_at area 4) refl fits.0 fits.1, more.each);
+            rest = more.rest;
+            begins = sym (take-append-drop (u32_le_at area 4) area)
+                ∙ ap (λ s. take (u32_le_at area 4) area ++ s) more.begins
+                ∙ sym (append_assoc (take (u32_le_at area 4) area)
+                (concat (first_commands count (drop (u32_le_at area 4) area))) more.rest);
+          })
+      | inr e ↦ let none : zero ≡ suc count = rw e at h in absurd (omega (arith, none))
+    ]

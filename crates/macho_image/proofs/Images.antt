@@ -1,5 +1,7 @@
 -- What the walk over the commands shows of the whole image.
-use Rattle.std.proofs.Common.{◌≡◌, ℕ, zero, suc, ◌<◌, ◌≤◌, true, nat_le, ◌&&◌, List, [], ◌∷◌, ◌++◌, length, take, drop, Option, Some, None, refl, sym, ap, ◌∙◌, inl, inr, arith, append_assoc, length-append, unwrap_or, sub-one, ◌-◌}
+use Rattle.std.proofs.Common.{◌≡◌, ℕ, zero, suc, ◌<◌, ◌≤◌, true, nat_le, ◌&&◌, List, [], ◌∷◌, ◌++◌, length, take, drop}
+use Rattle.std.proofs.Common.{Option, Some, None, refl, sym, ap, ◌∙◌, inl, inr, arith, append_assoc, length-append}
+use Rattle.std.proofs.Common.{unwrap_or, sub-one, ◌-◌}
 use Rattle.std.specs.List.{concat, AllByRecursion}
 use Rattle.std.specs.Option.{is_some}
 use Rattle.std.proofs.lemmas.List.{take-append-drop}
@@ -34,7 +36,8 @@ front_command count area c after p e =
     let behind : drop (length c) area ≡ after = ap (drop (length c)) e ∙ drop-append_seam c after in
     rw (size, test, front, behind) refl
 
-cut_front : (count : ℕ) (cs : List (List ℕ)) (rest area : List ℕ) → length cs ≡ count → AllByRecursion IsCommand cs → area ≡ concat cs ++ rest → first_commands count area ≡ cs
+cut_front : (count : ℕ) (cs : List (List ℕ)) (rest area : List ℕ) → length cs ≡ count → AllByRecursion IsCommand cs
+    → area ≡ concat cs ++ rest → first_commands count area ≡ cs
 unfolding first_commands
 cut_front zero [] rest area h p e = refl
 cut_front zero (c ∷ cs) rest area h p e = absurd (omega arith)
@@ -44,7 +47,8 @@ cut_front (suc count) (c ∷ cs) rest area h p e =
     ∙ ap (λ commands. c ∷ commands) (cut_front count cs rest (concat cs ++ rest) (omega arith) p.1 refl)
 
 -- the first of the commands that are left
-pub one_command : (count : ℕ) (area command after : List ℕ) → IsCommand command → area ≡ command ++ after → 0 < count → first_commands count area ≡ command ∷ first_commands (count - 1) after
+pub one_command : (count : ℕ) (area command after : List ℕ) → IsCommand command → area ≡ command ++ after → 0 < count
+    → first_commands count area ≡ command ∷ first_commands (count - 1) after
 one_command zero area c after p e h = absurd (omega arith)
 one_command (suc count) area c after p e h = rw sub-one (front_command count area c after p e)
 
@@ -60,7 +64,8 @@ not_a_command zero area none = refl
 not_a_command (suc count) area none = elim (cases_Bool (nat_le 8 (u32_le_at area 4) && nat_le 8 (length area) && nat_le (u32_le_at area 4) (length area))) [
   | inl h ↦
       let fits = fits_of (u32_le_at area 4) (length area) h in
-      absurd (none (take (u32_le_at area 4) area) (drop (u32_le_at area 4) area) (command_of_size area (u32_le_at area 4) refl fits.0 fits.1) (sym (take-append-drop (u32_le_at area 4) area)))
+      absurd (none (take (u32_le_at area 4) area) (drop (u32_le_at area 4) area)
+      (command_of_size area (u32_le_at area 4) refl fits.0 fits.1) (sym (take-append-drop (u32_le_at area 4) area)))
   | inr h ↦ rw h refl
 ]
 
@@ -90,7 +95,13 @@ module _ (bytes area : List ℕ) (count : ℕ) (header : header_fault bytes ≡ 
         let all : commands bytes ≡ read.commands = first_commands-front (ncmds bytes) (command_bytes bytes) read.commands here.1 in
         let first : Some found ≡ uuid_among read.commands = sym u ∙ read.uuid_is in
         record {
-          sound = record { header = header; commands = read.commands; sound = here; has_uuid = sym (is_some-found uuid_bytes is_uuid read.commands) ∙ ap is_some (sym first) };
+          sound = record {
+            header = header;
+            commands = read.commands;
+            sound = here;
+            has_uuid =
+                sym (is_some-found uuid_bytes is_uuid read.commands) ∙ ap is_some (sym first);
+          };
           room = rw all read.room;
           uuid_is = ap (λ o. unwrap_or o []) first ∙ ap (λ xs. unwrap_or (uuid_among xs) []) (sym all);
           symtab_is = read.symtab_is ∙ ap symtab_among (sym all);

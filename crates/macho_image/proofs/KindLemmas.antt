@@ -9,12 +9,15 @@ use Rattle.macho_image.specs.declared.load_command.LoadCommand.TheVariants.{Uuid
 -- the segments among commands, one command more
 pub segments-cons : (offset : ℕ) (command : List ℕ) (commands : List (List ℕ))
     → filter_map segment_of (load_commands_from offset (command ∷ commands))
-    ≡ cond (is_segment command) (record { offset = offset; bytes = command } ∷ filter_map segment_of (load_commands_from (offset + length command) commands)) (filter_map segment_of (load_commands_from (offset + length command) commands))
+    ≡ cond (is_segment command) (record { offset = offset; bytes = command }
+    ∷ filter_map segment_of (load_commands_from (offset + length command) commands))
+    (filter_map segment_of (load_commands_from (offset + length command) commands))
 unfolding load_commands_from load_command
 segments-cons offset command commands =
     by_kind (is_segment command) (is_uuid command) (is_symtab command) (filter_map segment_of (load_commands_from (offset + length command) commands))
   where
     by_kind : (s u t : Bool) (rest : List SegmentRecord)
-        → cons_option (segment_of (cond s (Segment (record { offset = offset; bytes = command })) (cond u (Uuid (uuid_bytes command)) (cond t (Symtab (symtab_fields command)) Other)))) rest
+        → cons_option (segment_of (cond s (Segment (record { offset = offset; bytes = command }))
+        (cond u (Uuid (uuid_bytes command)) (cond t (Symtab (symtab_fields command)) Other)))) rest
         ≡ cond s (record { offset = offset; bytes = command } ∷ rest) rest
     by_kind s u t rest = grind arith

@@ -17,7 +17,8 @@ nul_some bytes k h =
 pub nul_none : (bytes : List ℕ) → IsFirstByte (is_byte 0) bytes None → bytes ≡ before_first (λ b. b == 0) bytes
 nul_none bytes h =
     let first : position_or_len (λ b. b == 0) bytes ≡ length bytes =
-    position_or_len_is (λ b. b == 0) bytes (length bytes) 0 (omega arith) (λ j l. false_from_ne_true _ (h j (omega arith) l)) (λ l. absurd (omega (arith, l))) in
+    position_or_len_is (λ b. b == 0) bytes (length bytes) 0 (omega arith)
+    (λ j l. false_from_ne_true _ (h j (omega arith) l)) (λ l. absurd (omega (arith, l))) in
     sym (take_all (position_or_len (λ b. b == 0) bytes) bytes (omega (arith, first)))
 
 pub ruleset parts_at_nul = (nul_some, nul_none)

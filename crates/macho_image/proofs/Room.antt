@@ -1,5 +1,6 @@
 -- Commands and sections have room in an image, so there are not too many of them.
-use Rattle.std.proofs.Common.{ℕ, zero, suc, ◌+◌, ◌*◌, ◌≤◌, nat_le, ◌&&◌, List, [], ◌∷◌, ◌++◌, length, take, drop, arith, length-append, length-drop, length-take}
+use Rattle.std.proofs.Common.{ℕ, zero, suc, ◌+◌, ◌*◌, ◌≤◌, nat_le, ◌&&◌, List, [], ◌∷◌, ◌++◌, length, take, drop, arith}
+use Rattle.std.proofs.Common.{length-append, length-drop, length-take}
 use Rattle.std.specs.List.{concat, AllByRecursion, filter_map, flat_map}
 use Rattle.std.proofs.lemmas.Bool.{cond_both}
 use Rattle.macho_image.specs.Layout.{u32_le_at, command_bytes, ncmds}
@@ -17,11 +18,19 @@ length-first_commands zero area = omega arith
 length-first_commands (suc count) area =
     cond_both (nat_le 8 (u32_le_at area 4) && nat_le 8 (length area) && nat_le (u32_le_at area 4) (length area))
     (take (u32_le_at area 4) area ∷ first_commands count (drop (u32_le_at area 4) area)) [] (λ cs. length (concat cs) ≤ length area)
-    (λ e. omega (arith, fits_of (u32_le_at area 4) (length area) e, length-first_commands count (drop (u32_le_at area 4) area), length-append (take (u32_le_at area 4) area) (concat (first_commands count (drop (u32_le_at area 4) area))), length-take (u32_le_at area 4) area, length-drop (u32_le_at area 4) area))
+    (λ e. omega (
+      arith,
+      fits_of (u32_le_at area 4) (length area) e,
+      length-first_commands count (drop (u32_le_at area 4) area),
+      length-append (take (u32_le_at area 4) area) (concat (first_commands count (drop (u32_le_at area 4) area))),
+      length-take (u32_le_at area 4) area,
+      length-drop (u32_le_at area 4) area,
+    ))
     (λ e. omega arith)
 
 -- sections have room in their commands
-sections_fit : (offset : ℕ) (cs : List (List ℕ)) → AllByRecursion HasRoom cs → 80 * length (flat_map sections_in (filter_map segment_of (load_commands_from offset cs))) ≤ length (concat cs)
+sections_fit : (offset : ℕ) (cs : List (List ℕ)) → AllByRecursion HasRoom cs
+    → 80 * length (flat_map sections_in (filter_map segment_of (load_commands_from offset cs))) ≤ length (concat cs)
 unfolding load_commands_from
 sections_fit offset [] h = omega arith
 sections_fit offset (c ∷ cs) h =

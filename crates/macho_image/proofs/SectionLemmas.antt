@@ -3,7 +3,8 @@ use Rattle.std.proofs.Common.{◌≡◌, ℕ, zero, suc, ◌+◌, ◌-◌, ◌<�
 use Rattle.macho_image.specs.Sections.{section_record, section_records, sections, section_of}
 
 -- the first section of those that are left
-pub one_section : (count offset : ℕ) (bytes : List ℕ) → 0 < count → section_records count offset bytes ≡ section_record offset bytes ∷ section_records (count - 1) (offset + 80) (drop 80 bytes)
+pub one_section : (count offset : ℕ) (bytes : List ℕ) → 0 < count → section_records count offset bytes
+    ≡ section_record offset bytes ∷ section_records (count - 1) (offset + 80) (drop 80 bytes)
 unfolding section_records
 one_section zero offset bytes h = absurd (omega arith)
 one_section (suc count) offset bytes h = rw sub-one refl

@@ -13,12 +13,15 @@ unfolding section_records
 length-section_records zero offset bytes = refl
 length-section_records (suc count) offset bytes = omega (arith, length-section_records count (offset + 80) (drop 80 bytes))
 
-record_at : (count offset : ℕ) (bytes : List ℕ) (i : ℕ) → i < count → slice_get (section_records count offset bytes) i ≡ Some (section_record (offset + 80 * i) (drop (80 * i) bytes))
+record_at : (count offset : ℕ) (bytes : List ℕ) (i : ℕ) → i < count → slice_get (section_records count offset bytes) i
+    ≡ Some (section_record (offset + 80 * i) (drop (80 * i) bytes))
 unfolding section_records
 record_at zero offset bytes i h = absurd (omega arith)
 record_at (suc count) offset bytes zero h = ap (λ k. Some (section_record k bytes)) (omega arith)
 record_at (suc count) offset bytes (suc i) h =
-    record_at count (offset + 80) (drop 80 bytes) i (omega arith) ∙ ap (λ s. Some (section_record (offset + 80 + 80 * i) s)) (drop-drop (80 * i) 80 bytes ∙ ap (λ n. drop n bytes) (omega arith))
+    record_at count (offset + 80) (drop 80 bytes) i (omega arith)
+    ∙ ap (λ s. Some (section_record (offset + 80 + 80 * i) s))
+    (drop-drop (80 * i) 80 bytes ∙ ap (λ n. drop n bytes) (omega arith))
     ∙ ap (λ k. Some (section_record k (drop (80 * suc i) bytes))) (omega arith)
 
 -- a segment has as many sections as it says
@@ -48,4 +51,9 @@ name_at-append xs ys offset h =
 pub section_record-append : (offset : ℕ) (xs ys : List ℕ) → 80 ≤ length xs → section_record offset (xs ++ ys) ≡ section_record offset xs
 unfolding section_record
 section_record-append offset xs ys h =
-    rw (name_at-append xs ys 16 (omega arith), name_at-append xs ys 0 (omega arith), u64_le_at-append xs ys 32 (omega arith), u64_le_at-append xs ys 40 (omega arith)) refl
+    rw (
+      name_at-append xs ys 16 (omega arith),
+      name_at-append xs ys 0 (omega arith),
+      u64_le_at-append xs ys 32 (omega arith),
+      u64_le_at-append xs ys 40 (omega arith),
+    ) refl

@@ -1,5 +1,6 @@
 -- The segments and the sections of an image stand there at their places.
-use Rattle.std.proofs.Common.{◌≡◌, ℕ, zero, suc, ◌+◌, ◌*◌, ◌≤◌, ◌&&◌, nat_le, List, [], ◌∷◌, ◌++◌, length, take, drop, refl, sym, ap, ◌∙◌, arith, append_assoc, length-append, length-drop}
+use Rattle.std.proofs.Common.{◌≡◌, ℕ, zero, suc, ◌+◌, ◌*◌, ◌≤◌, ◌&&◌, nat_le, List, [], ◌∷◌, ◌++◌, length, take, drop}
+use Rattle.std.proofs.Common.{refl, sym, ap, ◌∙◌, arith, append_assoc, length-append, length-drop}
 use Rattle.std.specs.Prelude.{Contains}
 use Rattle.std.specs.List.{concat, AllByRecursion, filter_map, flat_map}
 use Rattle.std.proofs.lemmas.List.{drop-drop, drop-append-le, take-append-drop, take_at, drop_at}
@@ -57,7 +58,8 @@ sections_in-stand image segment is =
     (sym (drop-drop 72 segment.offset image) ∙ ap (drop 72) is.stands ∙ drop-append-le 72 segment.bytes is.rest (omega (arith, is.room)))
 
 -- and of several
-all_stand : (image : List ℕ) (segments : List SegmentRecord) → AllByRecursion (IsSegmentOf image) segments → AllByRecursion (IsSectionOf image) (flat_map sections_in segments)
+all_stand : (image : List ℕ) (segments : List SegmentRecord) → AllByRecursion (IsSegmentOf image) segments
+    → AllByRecursion (IsSectionOf image) (flat_map sections_in segments)
 all_stand image [] h = tt
 all_stand image (segment ∷ segments) h =
     recursion_from_All _ _ (All-append (IsSectionOf image) (sections_in segment) (flat_map sections_in segments)
@@ -72,7 +74,11 @@ front_of (suc count) area =
     let below = front_of count (drop size area) in
     cond_both (nat_le 8 size && nat_le 8 (length area) && nat_le size (length area)) (take size area ∷ first_commands count (drop size area)) []
     (λ cs. (rest : List ℕ) × (area ≡ concat cs ++ rest))
-    (λ e. (below.0, sym (take-append-drop size area) ∙ ap (λ bytes. take size area ++ bytes) below.1 ∙ sym (append_assoc (take size area) (concat (first_commands count (drop size area))) below.0)))
+    (λ e. (
+      below.0,
+      sym (take-append-drop size area) ∙ ap (λ bytes. take size area ++ bytes) below.1
+          ∙ sym (append_assoc (take size area) (concat (first_commands count (drop size area))) below.0),
+    ))
     (λ e. (area, refl))
 
 module _ (image : List ℕ) (room : AllByRecursion HasRoom (commands image)) where
@@ -87,7 +93,8 @@ module _ (image : List ℕ) (room : AllByRecursion HasRoom (commands image)) whe
   unfolding sections
   each_section = all_stand image (segments image) each_segment
 
-pub segment_stands : (image : List ℕ) (segment : SegmentRecord) → IsImage image → Contains (segments image) segment → take (length segment.bytes) (drop segment.offset image) ≡ segment.bytes
+pub segment_stands : (image : List ℕ) (segment : SegmentRecord) → IsImage image → Contains (segments image) segment
+    → take (length segment.bytes) (drop segment.offset image) ≡ segment.bytes
 segment_stands image segment sound member =
     let is = All-contains (IsSegmentOf image) (segments image) segment (All-from_recursion _ _ (each_segment image (commands-room image sound))) member in
     ap (take (length segment.bytes)) is.stands ∙ take_at segment.bytes is.rest (length segment.bytes) refl

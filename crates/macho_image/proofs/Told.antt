@@ -1,5 +1,7 @@
 -- What is known of each image: how long it is, that its commands have no fault, and that its UUID has sixteen bytes.
-use Rattle.std.proofs.Common.{◌≡◌, ℕ, ◌+◌, ◌^◌, ◌<◌, ◌≤◌, Bool, true, false, List, [], ◌∷◌, ◌++◌, length, Some, None, refl, sym, ap, ◌∙◌, inl, inr, arith, append_assoc, length-append, length-take, length-drop, unwrap_or, take, drop, ◌&&◌}
+use Rattle.std.proofs.Common.{◌≡◌, ℕ, ◌+◌, ◌^◌, ◌<◌, ◌≤◌, Bool, true, false, List, [], ◌∷◌, ◌++◌, length, Some, None}
+use Rattle.std.proofs.Common.{refl, sym, ap, ◌∙◌, inl, inr, arith, append_assoc, length-append, length-take}
+use Rattle.std.proofs.Common.{length-drop, unwrap_or, take, drop, ◌&&◌}
 use Rattle.std.specs.List.{concat, AllByRecursion, list_any, find}
 use Rattle.std.specs.Option.{option_map}
 use Rattle.std.specs.Prelude.{Contains, slice_index_or}
@@ -27,7 +29,8 @@ pub length-image : (image : List ℕ) → IsImage image → length image < 2 ^ 3
 length-image image sound = (has_header image sound.header).small
 
 -- a front ends after each of its commands
-front_to : (area : List ℕ) (count : ℕ) (before after : List (List ℕ)) (command : List ℕ) → AreFirst area count (before ++ command ∷ after) → AreFirst area (length before + 1) (before ++ command ∷ [])
+front_to : (area : List ℕ) (count : ℕ) (before after : List (List ℕ)) (command : List ℕ)
+    → AreFirst area count (before ++ command ∷ after) → AreFirst area (length before + 1) (before ++ command ∷ [])
 front_to area count before after command front = record {
   number = length-append before (command ∷ []);
   each = each_to before front.each;
@@ -43,12 +46,14 @@ front_to area count before after command front = record {
 pub command_fault-image : (image : List ℕ) → IsImage image → (before after : List (List ℕ)) (command : List ℕ) → commands image ≡ before ++ command ∷ after
     → command_fault (length before) (list_any is_uuid before) (list_any is_symtab before) command ≡ None
 command_fault-image image sound before after command split =
-    let same : sound.commands ≡ before ++ command ∷ after = sym (first_commands-front (ncmds image) (command_bytes image) sound.commands sound.sound.1) ∙ split in
+    let same : sound.commands ≡ before ++ command ∷ after =
+    sym (first_commands-front (ncmds image) (command_bytes image) sound.commands sound.sound.1) ∙ split in
     let front : AreFirst (command_bytes image) (ncmds image) (before ++ command ∷ after) = rw same at sound.sound.1 in
     let below : length before < ncmds image = omega (arith, front.number, length-append before (command ∷ after)) in
     elim (none_or_some (command_fault (length before) (list_any is_uuid before) (list_any is_symtab before) command)) [
       | inl fine ↦ fine
-      | inr e ↦ absurd (sound.sound.0 (length before) below e.0 (inr (before, command, front_to (command_bytes image) (ncmds image) before after command front, e.1)))
+      | inr e ↦ absurd (sound.sound.0 (length before) below e.0
+          (inr (before, command, front_to (command_bytes image) (ncmds image) before after command front, e.1)))
     ]
 
 -- what passes first stands between others
@@ -66,7 +71,14 @@ first_between p (y ∷ ys) h = elim (cases_Bool (p y)) [
   | inl e ↦ record { before = []; command = y; after = ys; split = refl; passes = e; found = rw e refl }
   | inr e ↦
       let more = first_between p ys (rw e at h) in
-      record { before = y ∷ more.before; command = more.command; after = more.after; split = ap (λ s. y ∷ s) more.split; passes = more.passes; found = rw e more.found }
+      record {
+        before = y ∷ more.before;
+        command = more.command;
+        after = more.after;
+        split = ap (λ s. y ∷ s) more.split;
+        passes = more.passes;
+        found = rw e more.found;
+      }
 ]
 
 -- the UUID of an image has sixteen bytes
@@ -79,7 +91,8 @@ uuid_of-length image sound =
     rw first.found (simp (length-take, length-drop) (omega arith))
 
 -- what a list contains stands between others
-split_contained : (xs : List (List ℕ)) (x : List ℕ) (k : ℕ) → k < length xs → slice_index_or xs k x ≡ x → (before : List (List ℕ)) × (after : List (List ℕ)) × (xs ≡ before ++ x ∷ after)
+split_contained : (xs : List (List ℕ)) (x : List ℕ) (k : ℕ) → k < length xs → slice_index_or xs k x ≡ x
+    → (before : List (List ℕ)) × (after : List (List ℕ)) × (xs ≡ before ++ x ∷ after)
 split_contained xs x k h e =
     (take k xs, drop (k + 1) xs, sym (take-append-drop k xs) ∙ ap (λ s. take k xs ++ s) (drop_more xs k x h ∙ ap (λ y. y ∷ drop (k + 1) xs) e))
 
@@ -104,7 +117,8 @@ uuid_of-any image command sound contained uuid =
     (found_alone is_uuid (commands image) command contained uuid
     (λ before after split. (passes_tests _ _ _ command (command_fault-image image sound before after command split)).one_uuid))
 
-pub symtab_of-any : (image command : List ℕ) → IsImage image → Contains (commands image) command → is_symtab command ≡ true → symtab_of image ≡ Some (symtab_fields command)
+pub symtab_of-any : (image command : List ℕ) → IsImage image → Contains (commands image) command → is_symtab command
+    ≡ true → symtab_of image ≡ Some (symtab_fields command)
 symtab_of-any image command sound contained symtab =
     ap (option_map symtab_fields)
     (found_alone is_symtab (commands image) command contained symtab

@@ -1,5 +1,6 @@
 -- How far a walk over the load commands has come, and what it shows where it ends.
-use Rattle.std.proofs.Common.{◌≡◌, ℕ, ◌+◌, ◌<◌, Bool, List, [], ◌∷◌, ◌++◌, length, Option, Some, None, refl, sym, ap, ◌∙◌, inl, inr, arith, append_assoc, length-append, below_more, subst}
+use Rattle.std.proofs.Common.{◌≡◌, ℕ, ◌+◌, ◌<◌, Bool, List, [], ◌∷◌, ◌++◌, length, Option, Some, None, refl, sym, ap}
+use Rattle.std.proofs.Common.{◌∙◌, inl, inr, arith, append_assoc, length-append, below_more, subst}
 use Rattle.std.specs.List.{concat, AllByRecursion, list_any, find}
 use Rattle.std.specs.Option.{option_map, option_or, is_some}
 use Rattle.std.proofs.lemmas.List.{append-nil, same_from_push}
@@ -31,7 +32,8 @@ is_some-found f p [] = refl
 is_some-found f p (x ∷ xs) = grind (arith, is_some-found f p xs)
 
 -- what two lists say, the first one first
-found-append : {X : Type 0} (f : List ℕ → X) (p : List ℕ → Bool) (xs ys : List (List ℕ)) → option_map f (find p (xs ++ ys)) ≡ option_or (option_map f (find p xs)) (option_map f (find p ys))
+found-append : {X : Type 0} (f : List ℕ → X) (p : List ℕ → Bool) (xs ys : List (List ℕ))
+    → option_map f (find p (xs ++ ys)) ≡ option_or (option_map f (find p xs)) (option_map f (find p ys))
 found-append f p xs ys = ap (option_map f) (find-append p xs ys) ∙ grind arith
 
 -- one more command
@@ -55,8 +57,15 @@ module _ (area : List ℕ) (index : ℕ) (rest : List ℕ) (uuid : Option (List 
     reached.fine,
     inl (
       (λ front.
-          let found = fronts_agree reached.before front.0 rest front.1.rest reached.each front.1.each (sym reached.begins ∙ front.1.begins) (omega (arith, reached.number, front.1.number)) in
-          no_more found.0 front.1.rest (omega (arith, reached.number, front.1.number, ap length found.1, length-append reached.before found.0)) found.2 found.3),
+          let found = fronts_agree reached.before front.0 rest front.1.rest reached.each front.1.each
+          (sym reached.begins ∙ front.1.begins) (omega (arith, reached.number, front.1.number)) in
+          no_more found.0 front.1.rest (omega (
+            arith,
+            reached.number,
+            front.1.number,
+            ap length found.1,
+            length-append reached.before found.0,
+          )) found.2 found.3),
       refl,
     ),
   )
@@ -76,7 +85,8 @@ module _ (area : List ℕ) (index : ℕ) (rest : List ℕ) (uuid : Option (List 
     }
 
     -- the fault of this command is the first
-    pub reached_fault : (count : ℕ) (fault : ImageFault) → index < count → command_fault index (is_some uuid) (is_some symtab) command ≡ Some fault → IsFirstFault area count fault
+    pub reached_fault : (count : ℕ) (fault : ImageFault) → index < count
+        → command_fault index (is_some uuid) (is_some symtab) command ≡ Some fault → IsFirstFault area count fault
     reached_fault count fault h e = (
       index,
       h,
@@ -112,15 +122,27 @@ module _ (area : List ℕ) (index : ℕ) (rest : List ℕ) (uuid : Option (List 
       ]);
       room = each_more HasRoom reached.before command reached.room (room_of index (is_some uuid) (is_some symtab) command whole.long fine);
       uuid_is = ap (λ o. option_or o (uuid_among (command ∷ []))) reached.uuid_is ∙ sym (found-append uuid_bytes is_uuid reached.before (command ∷ []));
-      symtab_is = ap (λ o. option_or o (symtab_among (command ∷ []))) reached.symtab_is ∙ sym (found-append symtab_fields is_symtab reached.before (command ∷ []));
+      symtab_is = ap (λ o. option_or o (symtab_among (command ∷ []))) reached.symtab_is
+          ∙ sym (found-append symtab_fields is_symtab reached.before (command ∷ []));
     }
 
 -- nothing is read at the start
 pub reached_start : (area : List ℕ) → Reached area 0 area None None
-reached_start area = record { before = []; number = refl; each = tt; room = tt; begins = refl; fine = λ j h. absurd (omega arith); uuid_is = refl; symtab_is = refl }
+reached_start area = record {
+  before = [];
+  number = refl;
+  each = tt;
+  room = tt;
+  begins = refl;
+  fine =
+      λ j h. absurd (omega arith);
+  uuid_is = refl;
+  symtab_is = refl;
+}
 
 -- at the end, these are all commands
-pub reached_all : (area : List ℕ) (index count : ℕ) (rest : List ℕ) (uuid : Option (List ℕ)) (symtab : Option Symtab) → Reached area index rest uuid symtab → index ≡ count → AreContents area count uuid symtab
+pub reached_all : (area : List ℕ) (index count : ℕ) (rest : List ℕ) (uuid : Option (List ℕ)) (symtab : Option Symtab)
+    → Reached area index rest uuid symtab → index ≡ count → AreContents area count uuid symtab
 reached_all area index count rest uuid symtab reached e =
     let all : Reached area count rest uuid symtab = subst (λ n. Reached area n rest uuid symtab) e reached in
     record {

@@ -1,4 +1,4 @@
--- What an image says of itself (mach-o/loader.h).
+-- The statements of an image about itself (mach-o/loader.h).
 use Rattle.std.specs.Prelude.{◌≡◌, ℕ, Bool, List, [], ◌==◌, ◌%◌, ◌^◌, take, drop, Option, unwrap_or}
 use Rattle.std.specs.List.{find, AllByRecursion}
 use Rattle.std.specs.Option.{option_map}

@@ -1,4 +1,4 @@
--- What a section of the code is in the definitions.
+-- A section of the code, as the definitions have it.
 use Rattle.macho_image.specs.Sections.{SectionRecord}
 use Rattle.macho_image.specs.declared.section.Section.{Section}
 

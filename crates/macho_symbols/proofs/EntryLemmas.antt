@@ -1,5 +1,6 @@
 -- Steps over the entries of a symbol table.
-use Rattle.std.proofs.Common.{◌≡◌, ◌≤◌, ℕ, zero, suc, ◌-◌, ◌<◌, List, [], ◌∷◌, take, drop, Some, refl, ap, ◌∙◌, ◌*◌, length, slice_get, arith, sub-one, length-take, length-drop}
+use Rattle.std.proofs.Common.{◌≡◌, ◌≤◌, ℕ, zero, suc, ◌-◌, ◌<◌, List, [], ◌∷◌, take, drop, Some, refl, ap, ◌∙◌, ◌*◌}
+use Rattle.std.proofs.Common.{length, slice_get, arith, sub-one, length-take, length-drop}
 use Rattle.std.proofs.lemmas.List.{drop-drop}
 use Rattle.std.specs.List.{AllByRecursion, filter_map}
 use Rattle.macho_symbols.specs.Nlist.{IsEntry}

@@ -50,10 +50,15 @@ unfolding candidates
 candidate_from image c h =
     let es = entries (table_of image).nsyms (drop (table_of image).symoff image) in
     let g = member_from (candidate_in image) es c h in
-    let within : g.0 < (table_of image).nsyms = omega (arith, slice_get_within es g.0 g.1 g.2, length-entries (table_of image).nsyms (drop (table_of image).symoff image)) in
+    let within : g.0 < (table_of image).nsyms = omega (
+      arith,
+      slice_get_within es g.0 g.1 g.2,
+      length-entries (table_of image).nsyms (drop (table_of image).symoff image),
+    ) in
     (g.0, within, ap (candidate_in image) (cc (entry_is image g.0 within, g.2)) ∙ g.3)
 
-pub candidate_to : (image : List ℕ) (i : ℕ) (c : Tuple) → i < (table_of image).nsyms → candidate_in image (entry_of image i) ≡ Some c → Contains (candidates image) c
+pub candidate_to : (image : List ℕ) (i : ℕ) (c : Tuple) → i < (table_of image).nsyms
+    → candidate_in image (entry_of image i) ≡ Some c → Contains (candidates image) c
 unfolding candidates
 candidate_to image i c h e =
     member_to (candidate_in image) (entries (table_of image).nsyms (drop (table_of image).symoff image)) i (entry_of image i) c (entry_is image i h) e

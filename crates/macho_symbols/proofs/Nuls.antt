@@ -1,5 +1,6 @@
 -- The first NUL at or after a place of a string table, and the name that it ends.
-use Rattle.std.proofs.Common.{◌≡◌, ◌+◌, ◌-◌, ◌*◌, ◌<◌, ◌≤◌, inl, inr, ℕ, List, [], ◌∷◌, ◌++◌, length, take, drop, slice_index, sym, ap, ◌∙◌, arith, length-append, length-take, length-drop}
+use Rattle.std.proofs.Common.{◌≡◌, ◌+◌, ◌-◌, ◌*◌, ◌<◌, ◌≤◌, inl, inr, ℕ, List, [], ◌∷◌, ◌++◌, length, take, drop}
+use Rattle.std.proofs.Common.{slice_index, sym, ap, ◌∙◌, arith, length-append, length-take, length-drop}
 use Rattle.std.proofs.lemmas.Bool.{cases_lt}
 use Rattle.std.proofs.lemmas.List.{drop-drop, take_all, get_or_append_left, get_or_push}
 use Rattle.macho_symbols.specs.NulPlaces.{nul_from}
@@ -25,7 +26,13 @@ nul_within strings index size h =
 pub nul_behind : (strings : List ℕ) (index size : ℕ) → size ≤ length (before (take size (drop index strings)))
     → nul_from strings (index + size) ≡ nul_from strings index
 nul_behind strings index size h =
-    same_nul strings index (index + size) (omega arith) (omega (arith, h, ap length (before_take size (drop index strings)), length-take size (before (drop index strings))))
+    same_nul strings index (index + size) (omega arith)
+    (omega (
+      arith,
+      h,
+      ap length (before_take size (drop index strings)),
+      length-take size (before (drop index strings)),
+    ))
 
 -- the places of the blocks before a place, and that of the first NUL at or after an earlier one
 pub record NulPlacesTo (strings places : List ℕ) (index known : ℕ) : Type 0 where

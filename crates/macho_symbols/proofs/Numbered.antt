@@ -1,11 +1,13 @@
 -- Entries that are candidates, and what counts of them.
-use Rattle.std.proofs.Common.{◌≡◌, ◌==◌, bit_and, ℕ, ◌+◌, ◌*◌, ◌<◌, inl, inr, true, cond, List, [], ◌∷◌, ◌++◌, take, drop, sym, ap, ◌∙◌, subst, arith, Some, None, Contains, slice_get}
+use Rattle.std.proofs.Common.{◌≡◌, ◌==◌, bit_and, ℕ, ◌+◌, ◌*◌, ◌<◌, inl, inr, true, cond, List, [], ◌∷◌, ◌++◌, take}
+use Rattle.std.proofs.Common.{drop, sym, ap, ◌∙◌, subst, arith, Some, None, Contains, slice_get}
 use Rattle.std.proofs.lemmas.Bool.{cases_lt}
 use Rattle.std.proofs.lemmas.Option.{cond_some, slice_get_within, get_or_from_slice_get}
 use Rattle.std.proofs.lemmas.List.{drop-drop}
 use Rattle.std.proofs.lemmas.List.Elements.{Contains-push, Contains-push_cases, Contains-append_left}
 use Rattle.macho_symbols.specs.Nlist.{n_strx, n_type, n_sect, n_value}
-use Rattle.macho_symbols.specs.Symbols.{Tuple, table_of, strings_of, name_in, is_in_section, is_candidate, tuple_in, candidate_in, entry_of, entries_of, candidates}
+use Rattle.macho_symbols.specs.Symbols.{Tuple, table_of, strings_of, name_in, is_in_section, is_candidate, tuple_in}
+use Rattle.macho_symbols.specs.Symbols.{candidate_in, entry_of, entries_of, candidates}
 use Rattle.macho_symbols.proofs.EntryLemmas.{entry_at, length-entries}
 use Rattle.macho_symbols.proofs.Members.{candidate_from, candidate_to}
 use Rattle.macho_symbols.specs.InnerCandidates.{AreCandidatesBelow, AreCandidates, numbered_in}
@@ -20,7 +22,8 @@ tupled image e k h =
     ap (λ b. cond b (Some (tuple_in image e)) None) parts.0 ∙ ap (λ x. Some (tuple_of (strings_of image) x)) parts.1
 
 -- an entry that counts has a candidate
-pub numbered : (image e : List ℕ) (c : Tuple) → candidate_in image e ≡ Some c → (k : Candidate) × (numbered_in image e ≡ Some k) × (tuple_of (strings_of image) k ≡ c)
+pub numbered : (image e : List ℕ) (c : Tuple) → candidate_in image e ≡ Some c → (k : Candidate)
+    × (numbered_in image e ≡ Some k) × (tuple_of (strings_of image) k ≡ c)
 unfolding numbered_in candidate_in tuple_in tuple_of name_in
 numbered image e c h =
     let parts = cond_some (is_candidate image e) (tuple_in image e) c h in
@@ -75,7 +78,8 @@ module _ (image : List ℕ) (cs : List Candidate) (are : AreCandidates image cs)
 
 -- ---- one entry more
 
-pub one_more : (image : List ℕ) (n : ℕ) (cs more : List Candidate) (k : Candidate) → numbered_in image (entry_of image n) ≡ Some k → k.sect < 256 → more ≡ cs ++ k ∷ []
+pub one_more : (image : List ℕ) (n : ℕ) (cs more : List Candidate) (k : Candidate)
+    → numbered_in image (entry_of image n) ≡ Some k → k.sect < 256 → more ≡ cs ++ k ∷ []
     → AreCandidatesBelow image n cs → AreCandidatesBelow image (n + 1) more
 one_more image n cs more k is byte new are = subst (AreCandidatesBelow image (n + 1)) (sym new) (record { from = from; each = each; small = small })
   where

@@ -1,5 +1,7 @@
 -- Numbers of sections, one after another.
-use Rattle.std.proofs.Common.{◌≡◌, ℕ, zero, suc, ◌+◌, ◌-◌, ◌<◌, List, [], ◌∷◌, length, drop, inl, inr, subst, refl, ap, ◌∙◌, Some, None, Option, MatchOption, arith, slice_get, slice_index_or, slice_set, get_or-set_same, get_or-set_other}
+use Rattle.std.proofs.Common.{◌≡◌, ℕ, zero, suc, ◌+◌, ◌-◌, ◌<◌, List, [], ◌∷◌, length, drop, inl, inr, subst, refl, ap}
+use Rattle.std.proofs.Common.{◌∙◌, Some, None, Option, MatchOption, arith, slice_get, slice_index_or, slice_set}
+use Rattle.std.proofs.Common.{get_or-set_same, get_or-set_other}
 use Rattle.std.proofs.lemmas.Bool.{cases_lt}
 use Rattle.std.specs.Option.{option_map}
 use Rattle.macho_image.specs.Sections.{SectionRecord, sections, section_of}

@@ -1,5 +1,6 @@
 -- Sections by number, out of their places.
-use Rattle.std.proofs.Common.{◌≡◌, ℕ, zero, suc, ◌+◌, ◌-◌, ◌<◌, ◌≤◌, List, [], ◌∷◌, ◌++◌, length, map, take, refl, sym, ap, ◌∙◌, subst, arith, append_assoc, Option, Some, None, slice_index_or, slice_get}
+use Rattle.std.proofs.Common.{◌≡◌, ℕ, zero, suc, ◌+◌, ◌-◌, ◌<◌, ◌≤◌, List, [], ◌∷◌, ◌++◌, length, map, take, refl, sym}
+use Rattle.std.proofs.Common.{ap, ◌∙◌, subst, arith, append_assoc, Option, Some, None, slice_index_or, slice_get}
 use Rattle.std.specs.List.{AllByRecursion}
 use Rattle.std.specs.Option.{option_map}
 use Rattle.std.proofs.lemmas.Option.{none-some, slice_get-map, slice_get-get_or, slice_get_past, same_Some, slice_get_within, get_or_from_slice_get}
@@ -23,7 +24,8 @@ module _ (image : List ℕ) (places : List ℕ) (are : ArePlaces image places) w
   -- a section stands at its number less one
   place_at : (i : ℕ) → i < 255 → option_map place_of (section_of image (suc i)) ≡ slice_get places i
   place_at i l =
-      sym (ap (λ xs. slice_get xs i) are.all ∙ slice_get-map place_of (take 255 (sections image)) i ∙ ap (option_map place_of) (get-take 255 (sections image) i l))
+      sym (ap (λ xs. slice_get xs i) are.all ∙ slice_get-map place_of (take 255 (sections image)) i
+      ∙ ap (option_map place_of) (get-take 255 (sections image) i l))
 
   -- there are at most so many
   few : length places ≤ 255

@@ -11,4 +11,6 @@ all_four a b c n = grind arith
 pub candidate_parts : (image entry : List ℕ) (placed named : Bool) → placed ≡ is_placed image entry → named ≡ nat_lt 0 (length (name_in image entry))
     → (placed && named) ≡ is_candidate image entry
 unfolding is_candidate is_placed
-candidate_parts image entry placed named p n = ap (λ b. b && named) p ∙ ap (λ b. is_placed image entry && b) n ∙ all_four (bit_and (n_type entry) 0xe0 == 0) (bit_and (n_type entry) 0x0e == 0x0e) (is_in_section image (n_sect entry) (n_value entry)) (nat_lt 0 (length (name_in image entry)))
+candidate_parts image entry placed named p n = ap (λ b. b && named) p ∙ ap (λ b. is_placed image entry && b) n
+    ∙ all_four (bit_and (n_type entry) 0xe0 == 0) (bit_and (n_type entry) 0x0e == 0x0e)
+    (is_in_section image (n_sect entry) (n_value entry)) (nat_lt 0 (length (name_in image entry)))

@@ -26,7 +26,9 @@ partitioned rows address are i j d l m h = elim (cases_lt i j) [
       subst (λ n. nat_le (slice_index_or rows n d).start address ≡ true) same h
 ]
 
-pub last_before : (rows : List Row) (address end : ℕ) → IsPartitionPoint (λ r. nat_le r.start address ≡ true) (λ r. nat_le r.start address ≡ false) rows end → end ≤ length rows → 0 < end → (d : Row) → IsLastNotAbove rows address (slice_index_or rows (end - 1) d)
+pub last_before : (rows : List Row) (address end : ℕ) → IsPartitionPoint (λ r. nat_le r.start address ≡ true)
+    (λ r. nat_le r.start address ≡ false) rows end → end ≤ length rows → 0 < end → (d : Row)
+    → IsLastNotAbove rows address (slice_index_or rows (end - 1) d)
 last_before rows address end point within some d = record {
   at = end - 1;
   stands = slice_get-get_or rows (end - 1) d (omega arith);
@@ -34,5 +36,6 @@ last_before rows address end point within some d = record {
   others = λ j e k l. is_above address (slice_index_or rows j e).start (point.1 j e (omega arith) l);
 }
 
-pub none_before : (rows : List Row) (address end : ℕ) → IsPartitionPoint (λ r. nat_le r.start address ≡ true) (λ r. nat_le r.start address ≡ false) rows end → end ≡ 0 → AreAbove rows address
+pub none_before : (rows : List Row) (address end : ℕ) → IsPartitionPoint (λ r. nat_le r.start address ≡ true)
+    (λ r. nat_le r.start address ≡ false) rows end → end ≡ 0 → AreAbove rows address
 none_before rows address end point none j e l = is_above address (slice_index_or rows j e).start (point.1 j e (omega (arith, none)) l)

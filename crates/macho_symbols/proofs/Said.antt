@@ -22,7 +22,8 @@ named : (image entry : List ℕ) → is_candidate image entry ≡ true → 0 < l
 unfolding is_candidate
 named image entry h = grind (arith, nat_tests)
 
-name_of_entry : (image entry : List ℕ) → 0 < length (name_in image entry) → name_in image entry ≡ before_first (λ b. b == 0) (drop (n_strx entry) (strings_of image))
+name_of_entry : (image entry : List ℕ) → 0 < length (name_in image entry) → name_in image entry
+    ≡ before_first (λ b. b == 0) (drop (n_strx entry) (strings_of image))
 unfolding name_in
 name_of_entry image entry h = name_there (strings_of image) (n_strx entry) h
 
@@ -64,7 +65,8 @@ some_said image address row name says ne is_name = by_nearest says.0 says.1 says
     by_nearest (Some c) is s = (c, is, s.0, s.2, is_name ∙ place_named image c row.n_strx s.1)
 
 -- what is found of a row that says a candidate
-pub found_said : (image : List ℕ) (address : ℕ) (row : Row) (f : FoundRecord) → SaysNearest image address row → row.sect ≢ 0 → f.name ≡ name_of (strings_of image) row.n_strx
+pub found_said : (image : List ℕ) (address : ℕ) (row : Row) (f : FoundRecord) → SaysNearest image address row
+    → row.sect ≢ 0 → f.name ≡ name_of (strings_of image) row.n_strx
     → f.address ≡ row.value → f.offset ≡ address - row.value → f.sect ≡ row.sect → f.segment ≡ option_map_or (λ s. s.segment) (section_of image row.sect) []
     → f.section ≡ option_map_or (λ s. s.section) (section_of image row.sect) [] → FindsNearest image address (Some f)
 unfolding found_of

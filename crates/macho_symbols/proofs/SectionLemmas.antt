@@ -1,5 +1,6 @@
 -- The sections of an image by the numbers of n_sect.
-use Rattle.std.proofs.Common.{◌≡◌, ℕ, zero, suc, ◌+◌, ◌-◌, ◌<◌, ◌≤◌, false, List, [], ◌∷◌, ◌++◌, length, map, take, refl, sym, ap, ◌∙◌, arith, append_assoc, slice_index_or, slice_get}
+use Rattle.std.proofs.Common.{◌≡◌, ℕ, zero, suc, ◌+◌, ◌-◌, ◌<◌, ◌≤◌, false, List, [], ◌∷◌, ◌++◌, length, map, take}
+use Rattle.std.proofs.Common.{refl, sym, ap, ◌∙◌, arith, append_assoc, slice_index_or, slice_get}
 use Rattle.std.specs.Option.{option_map, option_map_or}
 use Rattle.std.proofs.lemmas.Option.{slice_get-map, slice_get-get_or, slice_get_past}
 use Rattle.std.proofs.lemmas.List.{append-nil, length-map, length-take, map-append}
@@ -21,7 +22,8 @@ section_added all so_far more section n m before after is counted step new =
     ∙ append_assoc (map section_view so_far) (section_view section ∷ []) (take m after) ∙ ap (λ ss. map section_view so_far ++ ss) (sym front) ∙ is
 
 -- none is left
-pub sections_all : (all : List SectionRecord) (so_far : List Section) (n : ℕ) (left : List SectionRecord) → map section_view so_far ++ take n left ≡ all → (0 < n → left ≡ [])
+pub sections_all : (all : List SectionRecord) (so_far : List Section) (n : ℕ) (left : List SectionRecord)
+    → map section_view so_far ++ take n left ≡ all → (0 < n → left ≡ [])
     → map section_view so_far ≡ all
 sections_all all so_far zero left is none = sym (append-nil (map section_view so_far)) ∙ is
 sections_all all so_far (suc n) left is none =
@@ -35,12 +37,14 @@ module _ (image : List ℕ) (all : List Section) (are : AreSectionsOf image all)
   same_at i l = sym (get-take 255 (sections image) i l) ∙ ap (λ xs. slice_get xs i) (sym are) ∙ slice_get-map section_view all i
 
   -- an address lies in the section of a number where it lies in the one at that place
-  pub inside_at : (number address : ℕ) (d : Section) → 0 < number → number ≤ length all → is_in_section image number address ≡ is_inside address (section_view (slice_index_or all (number - 1) d))
+  pub inside_at : (number address : ℕ) (d : Section) → 0 < number → number ≤ length all
+      → is_in_section image number address ≡ is_inside address (section_view (slice_index_or all (number - 1) d))
   unfolding is_in_section
   inside_at zero address d h l = absurd (omega arith)
   inside_at (suc i) address d h l =
       let back : suc i - 1 ≡ i = omega arith in
-      ap (λ o. option_map_or (is_inside address) o false) (same_at i (omega (arith, few)) ∙ ap (option_map section_view) (slice_get-get_or all i d (omega arith)))
+      ap (λ o. option_map_or (is_inside address) o false)
+      (same_at i (omega (arith, few)) ∙ ap (option_map section_view) (slice_get-get_or all i d (omega arith)))
       ∙ ap (λ k. is_inside address (section_view (slice_index_or all k d))) (sym back)
 
   -- no address lies in a section that there is not

@@ -33,14 +33,16 @@ module _ (strings : List ℕ) (at : ℕ → Option Candidate) where
   own_least (Some k) =
       least_same strings (λ c. k ≡ c) (λ c. Some k ≡ Some c) (Some k) (λ c e. ap Some e) (λ c e. cc e) (least_alone strings k)
 
-  pub least_next : (n : ℕ) (best : Option Candidate) → IsLeastOrNone strings (IsBelow at n) best → IsLeastOrNone strings (IsBelow at (n + 1)) (first_of strings best (at n))
+  pub least_next : (n : ℕ) (best : Option Candidate) → IsLeastOrNone strings (IsBelow at n) best
+      → IsLeastOrNone strings (IsBelow at (n + 1)) (first_of strings best (at n))
   least_next n best h =
       least_same strings (λ c. IsBelow at n c ⊎ (at n ≡ Some c)) (IsBelow at (n + 1)) (first_of strings best (at n))
       (λ c q. elim q [ inl k ↦ (k.0, omega (arith, k.1), k.2) | inr e ↦ (n, omega arith, e) ])
       (λ c k. elim (cases_lt k.0 n) [ inl l ↦ inl (k.0, l, k.2) | inr l ↦ inr (ap at (omega (arith, k.1, l)) ∙ k.2) ])
       (least_of_both strings (IsBelow at n) (λ c. at n ≡ Some c) best (at n) h (own_least (at n)))
 
-  pub least_at_end : (n : ℕ) (best : Option Candidate) → ((i : ℕ) → n ≤ i → at i ≡ None) → IsLeastOrNone strings (IsBelow at n) best → IsLeastOrNone strings (IsAt at) best
+  pub least_at_end : (n : ℕ) (best : Option Candidate) → ((i : ℕ) → n ≤ i → at i ≡ None)
+      → IsLeastOrNone strings (IsBelow at n) best → IsLeastOrNone strings (IsAt at) best
   least_at_end n best none h =
       least_same strings (IsBelow at n) (IsAt at) best (λ c k. (k.0, k.2))
       (λ c k. elim (cases_lt k.0 n) [ inl l ↦ (k.0, l, k.1) | inr l ↦ absurd (cc (none k.0 l, k.1)) ]) h
@@ -51,7 +53,8 @@ module _ (image : List ℕ) (address : ℕ) where
   abbrev standing : Option Candidate → Option Candidate
   standing o = option_map_or (λ c. cond (can_stand_for image address (tuple_of (strings_of image) c)) (Some c) None) o None
 
-  standing_parts : (o : Option Candidate) (r : Candidate) → standing o ≡ Some r → (o ≡ Some r) × (can_stand_for image address (tuple_of (strings_of image) r) ≡ true)
+  standing_parts : (o : Option Candidate) (r : Candidate) → standing o ≡ Some r → (o ≡ Some r)
+      × (can_stand_for image address (tuple_of (strings_of image) r) ≡ true)
   standing_parts o r h =
       let w = chosen (λ c. cond (can_stand_for image address (tuple_of (strings_of image) c)) (Some c) None) o r h in
       let p = cond_some (can_stand_for image address (tuple_of (strings_of image) w.0)) w.0 r w.2 in

@@ -9,7 +9,8 @@ use Rattle.macho_symbols.specs.Nearest.{can_stand_for, StandsFor}
 use Rattle.macho_symbols.proofs.Members.{candidate_from}
 
 -- what it takes to stand for an address
-stands_in : (image : List ℕ) (address : ℕ) (c : Tuple) → can_stand_for image address c ≡ true → (c.value ≤ address) × (is_in_section image c.sect address ≡ true)
+stands_in : (image : List ℕ) (address : ℕ) (c : Tuple) → can_stand_for image address c ≡ true → (c.value ≤ address)
+    × (is_in_section image c.sect address ≡ true)
 unfolding can_stand_for
 stands_in image address c h = grind (arith, nat_tests)
 

@@ -1,5 +1,7 @@
 -- Between two turns of an image the nearest candidate stays.
-use Rattle.std.proofs.Common.{◌≡◌, ℕ, zero, suc, ◌+◌, ◌<◌, ◌≤◌, ◌^◌, false, nat_lt, nat_le, ◌&&◌, List, [], ◌∷◌, length, map, take, get_or, refl, sym, ap, ◌∙◌, subst, inl, inr, arith, Contains, Option, Some, None, slice_get, length-take, lit<}
+use Rattle.std.proofs.Common.{◌≡◌, ℕ, zero, suc, ◌+◌, ◌<◌, ◌≤◌, ◌^◌, false, nat_lt, nat_le, ◌&&◌, List, [], ◌∷◌, length}
+use Rattle.std.proofs.Common.{map, take, get_or, refl, sym, ap, ◌∙◌, subst, inl, inr, arith, Contains, Option, Some}
+use Rattle.std.proofs.Common.{None, slice_get, length-take, lit<}
 use Rattle.std.specs.Prelude.{flat_map, MatchOption}
 use Rattle.std.specs.Option.{option_map_or}
 use Rattle.std.proofs.lemmas.Bool.{cases_lt}
@@ -28,10 +30,12 @@ in_flat_at f (y ∷ ys) x n zero l e h = Contains-append_left (f y) (flat_map f 
 in_flat_at f (y ∷ ys) x n (suc k) l e h = Contains-append_right (f y) (flat_map f ys) n (in_flat_at f ys x n k (omega arith) e h)
 
 value_turns : (image : List ℕ) (c : Tuple) → Contains (candidates image) c → Contains (turns image) c.value
-value_turns image c h = Contains-append_left (map (λ c. c.value) (candidates image)) (flat_map ends_of (take 255 (sections image))) c.value (mapped (λ c. c.value) (candidates image) c h)
+value_turns image c h = Contains-append_left (map (λ c. c.value) (candidates image))
+    (flat_map ends_of (take 255 (sections image))) c.value (mapped (λ c. c.value) (candidates image) c h)
 
 section_turns : (image : List ℕ) (s : SectionRecord) (n : ℕ) → Contains (take 255 (sections image)) s → Contains (ends_of s) n → Contains (turns image) n
-section_turns image s n h k = Contains-append_right (map (λ c. c.value) (candidates image)) (flat_map ends_of (take 255 (sections image))) n (in_flat_at ends_of (take 255 (sections image)) s n h.0 h.1 h.2 k)
+section_turns image s n h k = Contains-append_right (map (λ c. c.value) (candidates image))
+    (flat_map ends_of (take 255 (sections image))) n (in_flat_at ends_of (take 255 (sections image)) s n h.0 h.1 h.2 k)
 
 -- ---- what stays
 
@@ -59,11 +63,17 @@ module _ (image : List ℕ) (b a : ℕ) (l : b ≤ a) (none : (t : ℕ) → Cont
   section_same zero h = refl
   section_same (suc i) h = by_section (slice_get (sections image) i) refl
     where
-      by_section : (o : Option SectionRecord) → slice_get (sections image) i ≡ o → option_map_or (is_inside b) (slice_get (sections image) i) false ≡ option_map_or (is_inside a) (slice_get (sections image) i) false
+      by_section : (o : Option SectionRecord) → slice_get (sections image) i ≡ o
+          → option_map_or (is_inside b) (slice_get (sections image) i) false
+          ≡ option_map_or (is_inside a) (slice_get (sections image) i) false
       by_section None e = ap (λ o. option_map_or (is_inside b) o false) e ∙ sym (ap (λ o. option_map_or (is_inside a) o false) e)
       by_section (Some s) e =
           let within = slice_get_within (sections image) i s e in
-          let stands : Contains (take 255 (sections image)) s = (i, omega (arith, within, length-take 255 (sections image)), get_or-take 255 (sections image) i s (omega arith) ∙ get_or_from_slice_get (sections image) i s s e) in
+          let stands : Contains (take 255 (sections image)) s = (
+            i,
+            omega (arith, within, length-take 255 (sections image)),
+            get_or-take 255 (sections image) i s (omega arith) ∙ get_or_from_slice_get (sections image) i s s e,
+          ) in
           ap (λ o. option_map_or (is_inside b) o false) e ∙ inside_same s stands ∙ sym (ap (λ o. option_map_or (is_inside a) o false) e)
 
   stands_same : (c : Tuple) → c.sect < 256 → Contains (candidates image) c → can_stand_for image b c ≡ can_stand_for image a c
@@ -86,13 +96,15 @@ no_row : Row
 no_row = record { start = 0; value = 0; n_strx = 0; sect = 0 }
 
 -- a turn has its row
-row_of : (image : List ℕ) (rows : List Row) → AreSteps image rows → (t : ℕ) → t < 2 ^ 64 → Contains (turns image) t → (k : ℕ) × (k < length rows) × ((d : Row) → (get_or rows k d).start ≡ t)
+row_of : (image : List ℕ) (rows : List Row) → AreSteps image rows → (t : ℕ) → t < 2 ^ 64 → Contains (turns image) t
+    → (k : ℕ) × (k < length rows) × ((d : Row) → (get_or rows k d).start ≡ t)
 row_of image rows are t fits h =
     let there = (are.exactly t).1 (h, fits) in
     let within : there.0 < length rows = omega (arith, there.1, length-map rows (λ r. r.start)) in
     (there.0, within, λ d. sym (get_or-map (λ r. r.start) rows there.0 d t within) ∙ there.2)
 
-pub by_step : (image : List ℕ) (rows : List Row) (address : ℕ) (found : Option Row) → ((i : ℕ) → get_or image i 0 < 256) → address < 2 ^ 64 → AreSteps image rows → IsRowFor rows address found
+pub by_step : (image : List ℕ) (rows : List Row) (address : ℕ) (found : Option Row) → ((i : ℕ) → get_or image i 0 < 256)
+    → address < 2 ^ 64 → AreSteps image rows → IsRowFor rows address found
     → MatchOption found (IsNearest image address None) (SaysNearest image address)
 by_step image rows address None bytes fits are above = λ c h.
     let below : c.value ≤ address = stands_below image address c h in

@@ -1,5 +1,7 @@
 -- The first candidates of sections, and the first of all that can stand for an address.
-use Rattle.std.proofs.Common.{◌≡◌, ◌≢◌, Fits, w64, replicate, ℕ, ◌+◌, ◌-◌, ◌<◌, ◌≤◌, ◌⊎◌, inl, inr, true, false, cond, List, length, map, get_or, set, refl, sym, ap, ◌∙◌, subst, arith, Option, Some, None, Contains, slice_get, get_or-set_same, get_or-set_other, length-set}
+use Rattle.std.proofs.Common.{◌≡◌, ◌≢◌, Fits, w64, replicate, ℕ, ◌+◌, ◌-◌, ◌<◌, ◌≤◌, ◌⊎◌, inl, inr, true, false, cond}
+use Rattle.std.proofs.Common.{List, length, map, get_or, set, refl, sym, ap, ◌∙◌, subst, arith, Option, Some, None}
+use Rattle.std.proofs.Common.{Contains, slice_get, get_or-set_same, get_or-set_other, length-set}
 use Rattle.std.specs.Prelude.{All, IfSome}
 use Rattle.std.specs.Ordering.{ordering_then, nat_cmp, is_lt}
 use Rattle.std.specs.Cmp.{IsTotalOrder}
@@ -19,7 +21,9 @@ use Rattle.macho_symbols.specs.Symbols.{strings_of, is_in_section, entry_of}
 use Rattle.macho_symbols.specs.Nearest.{can_stand_for, tuple_cmp}
 use Rattle.macho_symbols.proofs.Order.{upto_other, not_before, not_itself, earlier, tuples_total}
 use Rattle.macho_symbols.specs.Steps.{AreSteps, SaysNearest}
-use Rattle.macho_symbols.specs.InnerCandidates.{AreAbove, AreByValue, AreCandidates, AreFirstsOf, AreNumbered, AreTurns, AreUpTo, IsLeast, IsLeastOrNone, IsNoted, StandsAt, entry_cmp, first_of, is_before, numbered_in, row_saying}
+use Rattle.macho_symbols.specs.InnerCandidates.{AreAbove, AreByValue, AreCandidates, AreFirstsOf, AreNumbered, AreTurns}
+use Rattle.macho_symbols.specs.InnerCandidates.{AreUpTo, IsLeast, IsLeastOrNone, IsNoted, StandsAt, entry_cmp, first_of}
+use Rattle.macho_symbols.specs.InnerCandidates.{is_before, numbered_in, row_saying}
 use Rattle.macho_symbols.specs.Views.{tuple_of}
 use Rattle.macho_symbols.specs.SectionNumbers.{AreSectionsOf}
 use Rattle.macho_symbols.specs.declared.candidate.Candidate.{Candidate}
@@ -32,7 +36,8 @@ use Rattle.macho_symbols.proofs.Numbered.{contained_at, counted, counted_from, e
 pub entries_total : (strings : List ℕ) → IsTotalOrder (entry_cmp strings)
 entries_total strings = then_total (on_total (tuple_of strings) tuples_total) (on_total (λ c. c.n_strx) nat_cmp_total)
 
-pub least_same : (s : List ℕ) (P Q : Candidate → Type 0) (r : Option Candidate) → ((c : Candidate) → P c → Q c) → ((c : Candidate) → Q c → P c) → IsLeastOrNone s P r → IsLeastOrNone s Q r
+pub least_same : (s : List ℕ) (P Q : Candidate → Type 0) (r : Option Candidate) → ((c : Candidate) → P c → Q c)
+    → ((c : Candidate) → Q c → P c) → IsLeastOrNone s P r → IsLeastOrNone s Q r
 least_same s P Q None there back h = λ c q. h c (back c q)
 least_same s P Q (Some f) there back h = record { member = there f h.member; least = λ c q. h.least c (back c q) }
 
@@ -40,7 +45,8 @@ pub least_alone : (s : List ℕ) (k : Candidate) → IsLeastOrNone s (λ c. k �
 least_alone s k = record { member = refl; least = λ c e. subst (λ x. is_before s x k ≡ false) e (not_itself (entry_cmp s) (entries_total s) k) }
 
 -- the first of the first ones of two kinds is the first of both
-pub least_of_both : (s : List ℕ) (P Q : Candidate → Type 0) (p q : Option Candidate) → IsLeastOrNone s P p → IsLeastOrNone s Q q → IsLeastOrNone s (λ c. P c ⊎ Q c) (first_of s p q)
+pub least_of_both : (s : List ℕ) (P Q : Candidate → Type 0) (p q : Option Candidate) → IsLeastOrNone s P p
+    → IsLeastOrNone s Q q → IsLeastOrNone s (λ c. P c ⊎ Q c) (first_of s p q)
 least_of_both s P Q None None h k = λ c e. elim e [ inl i ↦ h c i | inr j ↦ k c j ]
 least_of_both s P Q (Some f) None h k =
     least_same s P (λ c. P c ⊎ Q c) (Some f) (λ c i. inl i) (λ c e. elim e [ inl i ↦ i | inr j ↦ absurd (k c j) ]) h
@@ -83,7 +89,8 @@ noted_or_new cs n k c e h = elim (cases_lt h.0 n) [
   | inr l ↦ let same : h.0 ≡ n = omega (arith, h.1, l) in inr (cc (e, h.2, ap (slice_get cs) same))
 ]
 
-pub firsts_noted : (s : List ℕ) (cs : List Candidate) (n : ℕ) (firsts : List (Option Candidate)) (k : Candidate) → slice_get cs n ≡ Some k → 0 < k.sect → k.sect ≤ length firsts
+pub firsts_noted : (s : List ℕ) (cs : List Candidate) (n : ℕ) (firsts : List (Option Candidate)) (k : Candidate)
+    → slice_get cs n ≡ Some k → 0 < k.sect → k.sect ≤ length firsts
     → AreFirstsOf s cs n firsts → AreFirstsOf s cs (n + 1) (set firsts (k.sect - 1) (first_of s (get_or firsts (k.sect - 1) None) (Some k)))
 firsts_noted s cs n firsts k e some within are j l =
     let inside : j < length firsts = omega (arith, l, length-set firsts (k.sect - 1) (first_of s (get_or firsts (k.sect - 1) None) (Some k))) in
@@ -95,13 +102,18 @@ firsts_noted s cs n firsts k e some within are j l =
       | inr m ↦ elim (cases_lt b a) [ inl o ↦ inr (λ q. omega (arith, o, q)) | inr o ↦ inl (omega arith) ]
     ]
 
-    at_place : (j : ℕ) → j < length firsts → (j ≡ k.sect - 1) ⊎ (j ≢ k.sect - 1) → IsLeastOrNone s (λ c. IsNoted cs (n + 1) c × (c.sect ≡ j + 1)) (get_or (set firsts (k.sect - 1) (first_of s (get_or firsts (k.sect - 1) None) (Some k))) j None)
+    at_place : (j : ℕ) → j < length firsts → (j ≡ k.sect - 1) ⊎ (j ≢ k.sect - 1)
+        → IsLeastOrNone s (λ c. IsNoted cs (n + 1) c × (c.sect ≡ j + 1))
+        (get_or (set firsts (k.sect - 1) (first_of s (get_or firsts (k.sect - 1) None) (Some k))) j None)
     at_place j inside (inl here) =
         let own : k.sect ≡ j + 1 = omega (arith, here, some) in
-        let found : get_or (set firsts (k.sect - 1) (first_of s (get_or firsts (k.sect - 1) None) (Some k))) j None ≡ first_of s (get_or firsts j None) (Some k) =
-        ap (λ p. get_or (set firsts p (first_of s (get_or firsts p None) (Some k))) j None) (sym here) ∙ get_or-set_same firsts j (first_of s (get_or firsts j None) (Some k)) None inside in
+        let found : get_or (set firsts (k.sect - 1) (first_of s (get_or firsts (k.sect - 1) None) (Some k))) j None
+        ≡ first_of s (get_or firsts j None) (Some k) =
+        ap (λ p. get_or (set firsts p (first_of s (get_or firsts p None) (Some k))) j None) (sym here)
+        ∙ get_or-set_same firsts j (first_of s (get_or firsts j None) (Some k)) None inside in
         subst (IsLeastOrNone s (λ c. IsNoted cs (n + 1) c × (c.sect ≡ j + 1))) (sym found)
-        (least_same s (λ c. (IsNoted cs n c × (c.sect ≡ j + 1)) ⊎ (k ≡ c)) (λ c. IsNoted cs (n + 1) c × (c.sect ≡ j + 1)) (first_of s (get_or firsts j None) (Some k))
+        (least_same s (λ c. (IsNoted cs n c × (c.sect ≡ j + 1)) ⊎ (k ≡ c))
+        (λ c. IsNoted cs (n + 1) c × (c.sect ≡ j + 1)) (first_of s (get_or firsts j None) (Some k))
         (λ c h. elim h [
           | inl m ↦ ((m.0.0, omega (arith, m.0.1), m.0.2), m.1)
           | inr q ↦ ((n, omega arith, e ∙ ap Some q), sym (ap (λ (x : Candidate). x.sect) q) ∙ own)
@@ -120,7 +132,8 @@ firsts_noted s cs n firsts k e some within are j l =
         ])
         (are j inside))
 
-pub up_to_noted : (cs : List Candidate) (n address : ℕ) (k : Candidate) → slice_get cs n ≡ Some k → k.value ≤ address → AreUpTo cs n address → AreUpTo cs (n + 1) address
+pub up_to_noted : (cs : List Candidate) (n address : ℕ) (k : Candidate) → slice_get cs n ≡ Some k → k.value ≤ address
+    → AreUpTo cs n address → AreUpTo cs (n + 1) address
 up_to_noted cs n address k e l up i c m at = elim (cases_lt i n) [
   | inl o ↦ up i c o at
   | inr o ↦
@@ -140,7 +153,8 @@ above_from cs n address sorted first i c l at = elim (cases_lt n i) [
 ]
 
 -- candidates name sections that there are
-pub names_sections : (image : List ℕ) (all : List Section) (cs : List Candidate) → AreCandidates image cs → AreSectionsOf image all → AreNumbered cs (length all)
+pub names_sections : (image : List ℕ) (all : List Section) (cs : List Candidate) → AreCandidates image cs
+    → AreSectionsOf image all → AreNumbered cs (length all)
 names_sections image all cs are of k h =
     let inside = member_inside image cs are k h in (
       elim (cases_lt 0 k.sect) [ inl l ↦ l | inr l ↦ absurd (cc (inside, in_no_section image k.sect k.value (omega (arith, l)))) ],
@@ -149,11 +163,13 @@ names_sections image all cs are of k h =
 
 -- ---- the first of all that can stand for an address
 
-can_stand : (image : List ℕ) (address : ℕ) (c : Candidate) → c.value ≤ address → is_in_section image c.sect address ≡ true → can_stand_for image address (tuple_of (strings_of image) c) ≡ true
+can_stand : (image : List ℕ) (address : ℕ) (c : Candidate) → c.value ≤ address → is_in_section image c.sect address
+    ≡ true → can_stand_for image address (tuple_of (strings_of image) c) ≡ true
 unfolding can_stand_for tuple_of
 can_stand image address c l h = grind (arith, nat_tests)
 
-stands_in : (image : List ℕ) (address : ℕ) (c : Candidate) → can_stand_for image address (tuple_of (strings_of image) c) ≡ true → (c.value ≤ address) × (is_in_section image c.sect address ≡ true)
+stands_in : (image : List ℕ) (address : ℕ) (c : Candidate) → can_stand_for image address (tuple_of (strings_of image) c)
+    ≡ true → (c.value ≤ address) × (is_in_section image c.sect address ≡ true)
 unfolding can_stand_for tuple_of
 stands_in image address c h = grind (arith, nat_tests)
 
@@ -177,12 +193,16 @@ module _ (image : List ℕ) (all : List Section) (cs : List Candidate) (address 
     );
     least = λ c seen. elim seen.1 [
       | inl l ↦ absurd (omega (arith, l, (named c seen.0.0).0))
-      | inr e ↦ let same : b ≡ c = cc e in subst (λ x. is_before (strings_of image) x b ≡ false) same (not_itself (entry_cmp (strings_of image)) (entries_total (strings_of image)) b)
+      | inr e ↦ let same : b ≡ c = cc e in subst (λ x. is_before (strings_of image) x b ≡ false) same
+          (not_itself (entry_cmp (strings_of image)) (entries_total (strings_of image)) b)
     ];
   }
 
-  pub seen_all : (first best : Option Candidate) (k : ℕ) → length all ≤ k → IsLeastOrNone (strings_of image) (Seen first k) best → IsLeastOrNone (strings_of image) (StandsAt image cs address) best
-  seen_all first best k end h = least_same (strings_of image) (Seen first k) (StandsAt image cs address) best (λ c s. s.0) (λ c s. (s, inl (omega (arith, (named c s.0).1, end)))) h
+  pub seen_all : (first best : Option Candidate) (k : ℕ) → length all ≤ k
+      → IsLeastOrNone (strings_of image) (Seen first k) best
+      → IsLeastOrNone (strings_of image) (StandsAt image cs address) best
+  seen_all first best k end h = least_same (strings_of image) (Seen first k) (StandsAt image cs address) best
+      (λ c s. s.0) (λ c s. (s, inl (omega (arith, (named c s.0).1, end)))) h
 
   at_number : (k : ℕ) (d : Section) → k < length all → is_in_section image (k + 1) address ≡ is_inside address (section_view (get_or all k d))
   at_number k d l =
@@ -208,9 +228,12 @@ module _ (image : List ℕ) (all : List Section) (cs : List Candidate) (address 
       ))
       h
 
-  pub seen_inside : (first best : Option Candidate) (firsts : List (Option Candidate)) (k n : ℕ) (d : Section) → k < length all → length firsts ≡ length all → is_inside address (section_view (get_or all k d)) ≡ true
+  pub seen_inside : (first best : Option Candidate) (firsts : List (Option Candidate)) (k n : ℕ) (d : Section)
+      → k < length all → length firsts ≡ length all → is_inside address (section_view (get_or all k d)) ≡ true
       → AreFirstsOf (strings_of image) cs n firsts → AreUpTo cs n address → AreAbove cs n address
-      → IsLeastOrNone (strings_of image) (Seen first k) best → IsLeastOrNone (strings_of image) (Seen first (k + 1)) (first_of (strings_of image) best (get_or firsts k None))
+      → IsLeastOrNone (strings_of image) (Seen first k) best
+      → IsLeastOrNone (strings_of image) (Seen first (k + 1))
+      (first_of (strings_of image) best (get_or firsts k None))
   seen_inside first best firsts k n d l long in_it firsts_of up above h =
       let here : is_in_section image (k + 1) address ≡ true = at_number k d l ∙ in_it in
       let own : IsLeastOrNone (strings_of image) (λ c. StandsAt image cs address c × (c.sect ≡ k + 1)) (get_or firsts k None) =
@@ -218,7 +241,8 @@ module _ (image : List ℕ) (all : List Section) (cs : List Candidate) (address 
       (λ c m. ((noted_member cs n c m.0, can_stand image address c (up m.0.0 c m.0.1 m.0.2) (ap (λ j. is_in_section image j address) m.1 ∙ here)), m.1))
       (λ c s. (noted c s.0, s.1))
       (firsts_of k (omega (arith, l, long))) in
-      least_same (strings_of image) (λ c. Seen first k c ⊎ (StandsAt image cs address c × (c.sect ≡ k + 1))) (Seen first (k + 1)) (first_of (strings_of image) best (get_or firsts k None))
+      least_same (strings_of image) (λ c. Seen first k c ⊎ (StandsAt image cs address c × (c.sect ≡ k + 1)))
+      (Seen first (k + 1)) (first_of (strings_of image) best (get_or firsts k None))
       (λ c e. elim e [
         | inl s ↦ (s.0, elim s.1 [ inl m ↦ inl (omega (arith, m)) | inr q ↦ inr q ])
         | inr s ↦ (s.0, inl (omega (arith, s.1)))
@@ -248,7 +272,8 @@ same_tuple s c d e h =
     let places : is_lt (nat_cmp c.n_strx d.n_strx) ≡ false = sym (ap (λ o. is_lt (ordering_then o (nat_cmp c.n_strx d.n_strx))) tied) ∙ h in
     grind (arith, nat_tests)
 
-pub row_says : (image : List ℕ) (cs : List Candidate) (address : ℕ) (found : Option Candidate) → AreCandidates image cs → IsLeastOrNone (strings_of image) (StandsAt image cs address) found
+pub row_says : (image : List ℕ) (cs : List Candidate) (address : ℕ) (found : Option Candidate) → AreCandidates image cs
+    → IsLeastOrNone (strings_of image) (StandsAt image cs address) found
     → SaysNearest image address (row_saying address found)
 unfolding tuple_of
 row_says image cs address None are h = (
@@ -271,8 +296,12 @@ row_says image cs address (Some k) are h = (
     refl,
     record {
       some =
-          let from = are.from k h.member.0 in
-          (entry_of image from.0, entry_contained image from.0 from.1, tupled image (entry_of image from.0) k from.2, place_in image (entry_of image from.0) k from.2);
+          let from = are.from k h.member.0 in (
+            entry_of image from.0,
+            entry_contained image from.0 from.1,
+            tupled image (entry_of image from.0) k from.2,
+            place_in image (entry_of image from.0) k from.2,
+          );
       least = λ e m is.
           let at = contained_at image e m in
           let own = numbered image e (tuple_of (strings_of image) k) is in
@@ -306,7 +335,8 @@ start_said address None = refl
 start_said address (Some k) = refl
 
 -- the row of a turn says the nearest candidate there
-pub turn_says : (image : List ℕ) (cs : List Candidate) (address : ℕ) (found : Option Candidate) (row : Row) → AreCandidates image cs → IsLeastOrNone (strings_of image) (StandsAt image cs address) found
+pub turn_says : (image : List ℕ) (cs : List Candidate) (address : ℕ) (found : Option Candidate) (row : Row)
+    → AreCandidates image cs → IsLeastOrNone (strings_of image) (StandsAt image cs address) found
     → row ≡ row_saying address found → SaysNearest image row.start row
 turn_says image cs address found row are h is =
     subst (λ (r : Row). SaysNearest image r.start r) (sym is)
@@ -316,7 +346,8 @@ pub up_to_later : (cs : List Candidate) (n a b : ℕ) → a ≤ b → AreUpTo cs
 up_to_later cs n a b l up i c m e = omega (arith, l, up i c m e)
 
 -- the rows of all turns
-pub are_steps : (image turned : List ℕ) (rows : List Row) → AreTurns image turned → ((i : ℕ) → Fits w64 (get_or turned i 0)) → map (λ (r : Row). r.start) rows ≡ turned
+pub are_steps : (image turned : List ℕ) (rows : List Row) → AreTurns image turned
+    → ((i : ℕ) → Fits w64 (get_or turned i 0)) → map (λ (r : Row). r.start) rows ≡ turned
     → All (λ (r : Row). SaysNearest image r.start r) rows → AreSteps image rows
 are_steps image turned rows are fits is each = record {
   rising = λ i j d l m.

@@ -1,5 +1,6 @@
 -- The turns of an image, out of its candidates and its sections.
-use Rattle.std.proofs.Common.{◌≡◌, ℕ, zero, suc, ◌+◌, ◌<◌, ◌^◌, inl, inr, true, cond, nat_lt, nat_cmp, List, [], ◌∷◌, ◌++◌, length, map, take, get_or, refl, sym, ap, ◌∙◌, subst, arith, Contains}
+use Rattle.std.proofs.Common.{◌≡◌, ℕ, zero, suc, ◌+◌, ◌<◌, ◌^◌, inl, inr, true, cond, nat_lt, nat_cmp, List, [], ◌∷◌}
+use Rattle.std.proofs.Common.{◌++◌, length, map, take, get_or, refl, sym, ap, ◌∙◌, subst, arith, Contains}
 use Rattle.std.specs.Prelude.{flat_map, eqb}
 use Rattle.std.specs.List.{dedup}
 use Rattle.std.specs.List.Sorted.{IsPermutation, IsSorted}
@@ -74,14 +75,16 @@ ends_back (s ∷ ss) a fits h = elim (Contains-append_cases (ends_of s) (flat_ma
 
 -- ---- values
 
-values_there : (image : List ℕ) (cs : List Candidate) → AreCandidates image cs → (a : ℕ) → Contains (map (λ (c : Candidate). c.value) cs) a → Contains (map (λ (c : Tuple). c.value) (candidates image)) a
+values_there : (image : List ℕ) (cs : List Candidate) → AreCandidates image cs → (a : ℕ)
+    → Contains (map (λ (c : Candidate). c.value) cs) a → Contains (map (λ (c : Tuple). c.value) (candidates image)) a
 unfolding tuple_of
 values_there image cs are a h =
     let from = mapped_from (λ (c : Candidate). c.value) cs a h in
     subst (Contains (map (λ (c : Tuple). c.value) (candidates image))) from.2
     (mapped (λ (c : Tuple). c.value) (candidates image) (tuple_of (strings_of image) from.0) (counted image cs are from.0 from.1))
 
-values_back : (image : List ℕ) (cs : List Candidate) → AreCandidates image cs → (a : ℕ) → Contains (map (λ (c : Tuple). c.value) (candidates image)) a → Contains (map (λ (c : Candidate). c.value) cs) a
+values_back : (image : List ℕ) (cs : List Candidate) → AreCandidates image cs → (a : ℕ)
+    → Contains (map (λ (c : Tuple). c.value) (candidates image)) a → Contains (map (λ (c : Candidate). c.value) cs) a
 unfolding tuple_of
 values_back image cs are a h =
     let from = mapped_from (λ (c : Tuple). c.value) (candidates image) a h in
@@ -113,7 +116,8 @@ are_turns image cs ss pushed sorted all are of came moved order is = record { ri
         let in_sorted = Contains-from_dedup eqb sorted a (subst (λ xs. Contains xs a) is h) in
         let in_pushed = subst (λ xs. Contains xs a) came (Contains-permutation sorted pushed a (IsPermutation-sym pushed sorted moved) in_sorted) in
         elim (Contains-append_cases (map (λ (c : Candidate). c.value) cs) (flat_map (λ s. ends_below (section_view s)) ss) a in_pushed) [
-          | inl m ↦ Contains-append_left (map (λ (c : Tuple). c.value) (candidates image)) (flat_map ends_of (take 255 (sections image))) a (values_there image cs are a m)
+          | inl m ↦ Contains-append_left (map (λ (c : Tuple). c.value) (candidates image))
+              (flat_map ends_of (take 255 (sections image))) a (values_there image cs are a m)
           | inr m ↦ Contains-append_right (map (λ (c : Tuple). c.value) (candidates image)) (flat_map ends_of (take 255 (sections image))) a
               (ends_there (take 255 (sections image)) a (subst (λ xs. Contains xs a) ends_are m))
         ]

@@ -1,4 +1,4 @@
--- What a search for symbols answers.
+-- The answer of a search for symbols.
 use Rattle.std.specs.Prelude.{ℕ, Bool, List, [], ◌-◌, ◌≡◌, Option, map, filter, nat_eq}
 use Rattle.std.specs.Option.{option_map, option_map_or}
 use Rattle.std.specs.Cmp.Lexicographic.{pointwise}

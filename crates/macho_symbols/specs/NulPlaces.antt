@@ -1,4 +1,4 @@
--- Where the NULs of a string table stand.
+-- The places of the NULs of a string table.
 use Rattle.std.specs.Prelude.{ℕ, List, ◌≡◌, ◌+◌, ◌*◌, ◌<◌, ◌≤◌, ◌==◌, length, drop, slice_index}
 use Rattle.std.specs.List.{before_first}
 

@@ -1,4 +1,4 @@
--- Where the sections of an image stand in it, by number.
+-- The places of the sections of an image, by number.
 use Rattle.std.specs.Prelude.{ℕ, List, map, ◌≡◌, take}
 use Rattle.std.specs.List.{AllByRecursion}
 use Rattle.macho_image.specs.Sections.{SectionRecord, IsSectionOf, sections}

@@ -1,4 +1,4 @@
--- What candidates, finds and symbols of the code are in the definitions.
+-- Candidates, finds and symbols of the code, as the definitions have them.
 use Rattle.std.specs.Prelude.{ℕ, List, ◌≡◌, ◌==◌}
 use Rattle.std.specs.List.{before_first}
 use Rattle.macho_image.specs.declared.symtab_command.Symtab.{Symtab}

@@ -31,7 +31,8 @@ impl<'a> Model for ComparedNames<'a> {
 
 /// Whether the names of candidates that have the value of the one before them, and a name at another place, have more
 /// bytes than the strings, as only names that overlap can. It reads no more than twice the bytes of the strings. No
-/// contract says which it is: names compare alike by their order and piece by piece, and the one or the other is quicker.
+/// contract says which it is: names compare alike by their order and piece by piece, and the one or the other is
+/// quicker.
 fn is_long(strings: &[u8], candidates: &[Candidate]) -> bool {
     let mut left = strings.len();
     'candidates: for index in 1..candidates.len() {

@@ -19,13 +19,13 @@
 //! - `section_places`, `nul_places`, `table`: [`AddressTable`], these rows in memory;
 //! - [`laws`]: what the definitions say of each other.
 //!
-//! The order of the names that begin at any two places of strings, where one name may be the end of another, which costs
-//! at most 1,024 bytes and two ranks each time:
+//! The order of the names that begin at any two places of strings, where one name may be the end of another, which
+//! costs at most 1,024 bytes and two ranks each time:
 //!
 //! - `name_order`: compares the names from two places;
-//! - `name_ranks`: the ranks of samples, a sixteenth of the places: by the first 1,024 bytes of their names, and then by
-//!   four times as many each round, by the ranks of three samples after them (after Karp, Miller and Rosenberg, 1972,
-//!   who double);
+//! - `name_ranks`: the ranks of samples, a sixteenth of the places: by the first 1,024 bytes of their names, and then
+//!   by four times as many each round, by the ranks of three samples after them (after Karp, Miller and Rosenberg,
+//!   1972, who double);
 //! - `samples`: which places are samples, such that from any two places on two samples are equally far, and less than
 //!   1,024 bytes away: a difference cover (Burkhardt and Kärkkäinen, 2003);
 //! - `ranking`, `keys`: ranks out of keys that are sorted; `spans`, `bytes`: names, their lengths and first bytes.
@@ -38,8 +38,8 @@
 //! - Names are compared piece by piece. Where those of candidates of one value have more bytes than the strings, they
 //!   overlap, and are compared by their order.
 //! - The order of candidates goes on with `n_strx`, so the first one has the least place of its name.
-//! - A key of a sample has its first bytes as a number beside it, so keys of names that differ early are sorted without a
-//!   look at the strings, which do not fit into the cache.
+//! - A key of a sample has its first bytes as a number beside it, so keys of names that differ early are sorted without
+//!   a look at the strings, which do not fit into the cache.
 //! - Keys of equal bytes mostly point at the same ones, by a table of a sixteenth as many slots: where names repeat
 //!   themselves, few bytes are compared again and again, and these are in the cache. What the table holds changes no
 //!   rank, since bytes are taken from it only if they are equal.

@@ -147,10 +147,9 @@ fn rows_of(
     Ok(rows)
 }
 
-/// The rows of an image: one at each turn, which says the nearest candidate there. It takes 24 bytes for each entry that
-/// is a candidate and 24 for each row, or 16 for each turn while these are put in order; where names that are compared
-/// overlap, up to two bytes for each of the strings.
-/// `NoMemory` where a growth was refused.
+/// The rows of an image: one at each turn, which says the nearest candidate there. It takes 24 bytes for each entry
+/// that is a candidate and 24 for each row, or 16 for each turn while these are put in order; where names that are
+/// compared overlap, up to two bytes for each of the strings. `NoMemory` where a growth was refused.
 pub fn steps(heap: Heap, symbols: &Symbols<'_>) -> Result<Vec<Row, Heap>, NoMemory>
     ensures { IfOk result (λ rows. AreSteps symbols.now rows.items) }
 {

@@ -9,7 +9,8 @@ use prog.Memory.{Memory}
 use prog.Routine.{Routine}
 use types.Logic.{Logic, sem}
 use contract.Monad.{Fun}
-use types.Kit.{‵, raw, ◌⊛◌, some, later, ◌$◌, ◌∵◌, !, qed, move, keep, use1, split, join, pick, fjoin, feq_i, feq_l, flt_i, check, show, await, updating, now as at_once, done}
+use types.Kit.{‵, raw, ◌⊛◌, some, later, ◌$◌, ◌∵◌, !, qed, move, keep, use1, split, join, pick, fjoin, feq_i, feq_l}
+use types.Kit.{flt_i, check, show, await, updating, now as at_once, done}
 use denote.RattleType.{RattleType}
 use denote.Memory.{hidden_shr}
 use denote.Builtin.{bool}
@@ -28,13 +29,24 @@ module _ {M : Type 1} {𝓤 : Ura M} (𝓛 : Logic 𝓤) (at_mem : Memory → SP
   Grows = triple_of 𝓛 TK.signature (TK.spec 𝓛 at_mem run)
 
   abbrev pub at_grows : Lft → Share → ℕ × ℕ → Left.Denot → ℕ → ℕ → Grows.Ghost
-  at_grows κ q p left n s = (((κ, tt), (q, tt), tt, (record { ref_ptr = p; now = left }, (n, (s, tt))), (vptr p.0 p.1 ∷ [], (vint w64 n ∷ [], (vint w64 s ∷ [], tt)))), tt)
+  at_grows κ q p left n s = (
+    (
+      (κ, tt),
+      (q, tt),
+      tt,
+      (record { ref_ptr = p; now = left }, (n, (s, tt))),
+      (vptr p.0 p.1 ∷ [], (vint w64 n ∷ [], (vint w64 s ∷ [], tt))),
+    ),
+    tt,
+  )
 
 -- the `&` to the field at p, a token of its lifetime, and the two numbers that a growth asks for
-module _ {M : Type 1} {𝓤 : Ura M} (𝓛 : Logic 𝓤) (at_mem : Memory → SProp 𝓤) (run : Routine → Fun 𝓤) (κ : Lft) (q : Share) (p : ℕ × ℕ) (left : Left.Denot) (n s : ℕ) where
+module _ {M : Type 1} {𝓤 : Ura M} (𝓛 : Logic 𝓤) (at_mem : Memory → SProp 𝓤) (run : Routine → Fun 𝓤) (κ : Lft)
+    (q : Share) (p : ℕ × ℕ) (left : Left.Denot) (n s : ℕ) where
   open 𝓛 use {H, A}
 
-  pub Grows-goes : n < 2 ^ 64 → s < 2 ^ 64 → ent 𝓤 (sep 𝓤 (sem 𝓛 (hidden_shr Left κ left p.0 p.1)) (A.lft κ q)) ((Grows 𝓛 at_mem run).pre (at_grows 𝓛 at_mem run κ q p left n s))
+  pub Grows-goes : n < 2 ^ 64 → s < 2 ^ 64 → ent 𝓤 (sep 𝓤 (sem 𝓛 (hidden_shr Left κ left p.0 p.1)) (A.lft κ q))
+      ((Grows 𝓛 at_mem run).pre (at_grows 𝓛 at_mem run κ q p left n s))
   Grows-goes fn fs =
       qed 𝓛 (‵ (hidden_shr Left κ left p.0 p.1) ∷ ‵ (flft κ q) ∷ []) ∵
       nothing ! $ flt_i ! s (2 ^ 64) fs $ feq_i ! (List Val) (vint w64 s ∷ []) (vint w64 s ∷ []) refl $ fjoin ! $ fjoin ! $
@@ -48,6 +60,8 @@ module _ {M : Type 1} {𝓤 : Ura M} (𝓛 : Logic 𝓤) (at_mem : Memory → SP
   pub Grows-gives : (v : Val) → ent 𝓤 ((Grows 𝓛 at_mem run).post (at_grows 𝓛 at_mem run κ q p left n s) v) (H.⇛ (Granted v))
   Grows-gives v =
       qed 𝓛 (raw ((Grows 𝓛 at_mem run).post (at_grows 𝓛 at_mem run κ q p left n s) v) ∷ []) ∵ updating ! $
-      use1 𝓛 (later (some (λ (r : Bool). ((‵ (flft κ q) ⊛ ‵ ftrue) ⊛ ‵ (bool.own_val r (v ∷ []))) ⊛ some (λ (ws : Unit {0} × (Unit {0} × (Unit {0} × Unit {0}))). ‵ (fsep ftrue (fsep ftrue (fsep ftrue ftrue))) ⊛ ‵ ftrue)))) (id⊢ 𝓤 _) $ await ! tt $ pick ! (λ r.
+      use1 𝓛 (later (some (λ (r : Bool). ((‵ (flft κ q) ⊛ ‵ ftrue) ⊛ ‵ (bool.own_val r (v ∷ []))) ⊛ some
+      (λ (ws : Unit {0} × (Unit {0} × (Unit {0} × Unit {0}))). ‵ (fsep ftrue (fsep ftrue (fsep ftrue ftrue))) ⊛ ‵
+      ftrue)))) (id⊢ 𝓤 _) $ await ! tt $ pick ! (λ r.
       split ! $ split ! $ move ! (1 ∷ []) $ feq_l ! (λ e. split ! $ at_once ! $
       show ! (λ (granted : Bool). guard 𝓤 (v ≡ vbool granted) (A.lft κ q)) r $ check ! (ap only e) $ keep ! (0 ∷ []) $ done !))

@@ -1,6 +1,7 @@
 //! `symarch`: an archive of Mach-O images and their dSYM companions, kept on several sites.
 //!
-//! `cli_run` reads the command line by `cli_arguments`, carries it out over files of the system, and reports how it ended.
+//! `cli_run` reads the command line by `cli_arguments`, carries it out over files of the system, and reports how it
+//! ended.
 #![tactic(auto)]
 
 use byte_device::Writing;

@@ -1,25 +1,34 @@
 -- Pages of bytes that are stored in a text.
-use Rattle.std.proofs.Common.{◌≡◌, ℕ, ◌+◌, ◌-◌, ◌*◌, ◌<◌, ◌≤◌, List, length, take, drop, ◌++◌, refl, sym, ap, ◌∙◌, subst, arith, length-take, length-append, min, inl, inr, zero, suc, [], ◌∷◌, ◌≢◌, set}
+use Rattle.std.proofs.Common.{◌≡◌, ℕ, ◌+◌, ◌-◌, ◌*◌, ◌<◌, ◌≤◌, List, length, take, drop, ◌++◌, refl, sym, ap, ◌∙◌}
+use Rattle.std.proofs.Common.{subst, arith, length-take, length-append, min, inl, inr, zero, suc, [], ◌∷◌, ◌≢◌, set}
 use Rattle.std.specs.Prelude.{slice_index_or}
 use Rattle.std.proofs.lemmas.List.{append-nil, append_assoc, get_or-set_other, get_or-set_same, drop-drop, drop-take, take-take, take_all, take_at, drop_at}
 use Rattle.std.proofs.lemmas.Bool.{cases_lt}
 use Rattle.std.proofs.Math.Seq.{take-add}
 use Rattle.sha2.specs.Sha256.{sha256}
 use Rattle.sha2.proofs.Facts256.{length-sha256}
-use Rattle.table_checked_pages.specs.Pages.{AreKept, AreStored, Claim, MayBeStored, digests_from, digests_in, first_of, page_digests, page_in, page_of, pages_in, stored}
+use Rattle.table_checked_pages.specs.Pages.{AreKept, AreStored, Claim, MayBeStored, digests_from, digests_in, first_of}
+use Rattle.table_checked_pages.specs.Pages.{page_digests, page_in, page_of, pages_in, stored}
 
 -- ---- page digests
 
 pub length-digests : (count i : ℕ) (all : List ℕ) → length (digests_from count i all) ≡ 32 * count
 unfolding digests_from
 length-digests zero i all = refl
-length-digests (suc count) i all = omega (arith, length-append (sha256 (page_of all i)) (digests_from count (i + 1) all), length-sha256 (page_of all i), length-digests count (i + 1) all)
+length-digests (suc count) i all = omega (
+  arith,
+  length-append (sha256 (page_of all i))
+      (digests_from count (i + 1) all),
+  length-sha256 (page_of all i),
+  length-digests count (i + 1) all,
+)
 
 -- the digest of a page stands at its offset
 digest_from : (count i k : ℕ) (all : List ℕ) → k < count → take 32 (drop (32 * k) (digests_from count i all)) ≡ sha256 (page_of all (i + k))
 unfolding digests_from
 digest_from zero i k all h = absurd (omega arith)
-digest_from (suc count) i zero all h = take_at (sha256 (page_of all i)) (digests_from count (i + 1) all) 32 (length-sha256 (page_of all i)) ∙ ap (λ n. sha256 (page_of all n)) (omega arith)
+digest_from (suc count) i zero all h = take_at (sha256 (page_of all i)) (digests_from count (i + 1) all) 32
+    (length-sha256 (page_of all i)) ∙ ap (λ n. sha256 (page_of all n)) (omega arith)
 digest_from (suc count) i (suc k) all h =
     let rest : List ℕ = digests_from count (i + 1) all in
     let first : List ℕ = sha256 (page_of all i) in
@@ -70,12 +79,14 @@ second_stands text a b at n is stands =
 pub digests_stand : (text all : List ℕ) (claim : Claim) → AreStored text claim all → digests_in text claim ≡ page_digests all
 digests_stand text all claim are =
     let pages : ℕ = pages_in claim.size in
-    first_stands text (page_digests all) all claim.offset (32 * pages) (length-digests (pages_in (length all)) 0 all ∙ ap (λ n. 32 * pages_in n) are.size) are.bytes
+    first_stands text (page_digests all) all claim.offset (32 * pages)
+    (length-digests (pages_in (length all)) 0 all ∙ ap (λ n. 32 * pages_in n) are.size) are.bytes
 
 pub page_stands : (text all : List ℕ) (claim : Claim) → AreStored text claim all → (i : ℕ) → 16384 * i < claim.size → page_in text claim i ≡ page_of all i
 page_stands text all claim are i h =
     let stands : take (length all) (drop (first_of claim) text) ≡ all =
-    second_stands text (page_digests all) all claim.offset (32 * pages_in claim.size) (length-digests (pages_in (length all)) 0 all ∙ ap (λ n. 32 * pages_in n) are.size) are.bytes in
+    second_stands text (page_digests all) all claim.offset (32 * pages_in claim.size)
+    (length-digests (pages_in (length all)) 0 all ∙ ap (λ n. 32 * pages_in n) are.size) are.bytes in
     part_stands text all (first_of claim) claim.size (16384 * i) 16384 are.size stands (omega arith)
 
 pub may_be : (text all : List ℕ) (claim : Claim) → AreStored text claim all → MayBeStored text claim all
@@ -89,23 +100,35 @@ may_be text all claim are = record {
 -- what is stored lies within the text
 pub lies_within : (text all : List ℕ) (claim : Claim) → AreStored text claim all → claim.offset + 32 * pages_in claim.size + claim.size ≤ length text
 lies_within text all claim are =
-    let is : length (stored all) ≡ 32 * pages_in claim.size + claim.size = omega (arith, length-append (page_digests all) all, length-digests (pages_in (length all)) 0 all ∙ ap (λ n. 32 * pages_in n) are.size, are.size) in
+    let is : length (stored all) ≡ 32 * pages_in claim.size + claim.size =
+    omega (
+      arith,
+      length-append (page_digests all) all,
+      length-digests (pages_in (length all)) 0 all
+          ∙ ap (λ n. 32 * pages_in n) are.size,
+      are.size,
+    ) in
     omega (arith, is, are.within)
 
 -- what stands there and has the digest of a page is that page
-pub page_is : (text all digests bytes digest : List ℕ) (claim : Claim) (i offset n : ℕ) → MayBeStored text claim all → digests ≡ page_digests all → 16384 * i < claim.size
-    → offset ≡ first_of claim + 16384 * i → n ≡ min 16384 (claim.size - 16384 * i) → bytes ≡ take n (drop offset text) → sha256 bytes ≡ digest → digest ≡ take 32 (drop (32 * i) digests) → bytes ≡ page_of all i
+pub page_is : (text all digests bytes digest : List ℕ) (claim : Claim) (i offset n : ℕ) → MayBeStored text claim all
+    → digests ≡ page_digests all → 16384 * i < claim.size
+    → offset ≡ first_of claim + 16384 * i → n ≡ min 16384 (claim.size - 16384 * i) → bytes ≡ take n (drop offset text)
+    → sha256 bytes ≡ digest → digest ≡ take 32 (drop (32 * i) digests) → bytes ≡ page_of all i
 page_is text all digests bytes digest claim i offset n may are h at long stands has is =
-    let here : bytes ≡ page_in text claim i = stands ∙ ap (λ k. take k (drop offset text)) long ∙ ap (λ o. take (min 16384 (claim.size - 16384 * i)) (drop o text)) at in
+    let here : bytes ≡ page_in text claim i = stands ∙ ap (λ k. take k (drop offset text)) long
+    ∙ ap (λ o. take (min 16384 (claim.size - 16384 * i)) (drop o text)) at in
     let page : digest ≡ sha256 (page_of all i) = is ∙ ap (λ d. take 32 (drop (32 * i) d)) are ∙ digest_of_page all i (omega (arith, h, may.size)) in
     here ∙ may.pages i h (ap sha256 (sym here) ∙ has ∙ page)
 
 -- a page that is stored is there, and has its digest
-pub page_is_there : (text all digests digest : List ℕ) (claim : Claim) (i offset n : ℕ) → AreStored text claim all → digests ≡ page_digests all → 16384 * i < claim.size
+pub page_is_there : (text all digests digest : List ℕ) (claim : Claim) (i offset n : ℕ) → AreStored text claim all
+    → digests ≡ page_digests all → 16384 * i < claim.size
     → offset ≡ first_of claim + 16384 * i → n ≡ min 16384 (claim.size - 16384 * i) → digest ≡ take 32 (drop (32 * i) digests)
     → (offset + n ≤ length text → sha256 (take n (drop offset text)) ≡ digest → ⊥) → ⊥
 page_is_there text all digests digest claim i offset n is_stored are h at long is absent =
-    let here : take n (drop offset text) ≡ page_in text claim i = ap (λ k. take k (drop offset text)) long ∙ ap (λ o. take (min 16384 (claim.size - 16384 * i)) (drop o text)) at in
+    let here : take n (drop offset text) ≡ page_in text claim i = ap (λ k. take k (drop offset text)) long
+    ∙ ap (λ o. take (min 16384 (claim.size - 16384 * i)) (drop o text)) at in
     let page : digest ≡ sha256 (page_of all i) = is ∙ ap (λ d. take 32 (drop (32 * i) d)) are ∙ digest_of_page all i (omega (arith, h, is_stored.size)) in
     absent (omega (arith, at, long, h, lies_within text all claim is_stored)) (ap sha256 (here ∙ page_stands text all claim is_stored i h) ∙ sym page)
 
@@ -155,7 +178,8 @@ part_of_page all i skip n within =
     ap (take n) here ∙ take-take n rest (drop (16384 * i + skip) all) (omega arith)
 
 -- one part more
-pub more_came : (all before part : List ℕ) (offset next done n : ℕ) → next ≡ offset + done → before ≡ take done (drop offset all) → part ≡ take n (drop next all)
+pub more_came : (all before part : List ℕ) (offset next done n : ℕ) → next ≡ offset + done → before
+    ≡ take done (drop offset all) → part ≡ take n (drop next all)
     → before ++ part ≡ take (done + n) (drop offset all)
 more_came all before part offset next done n there e p =
     let moved : drop next all ≡ drop done (drop offset all) = ap (λ k. drop k all) there ∙ sym (drop-drop done offset all) in

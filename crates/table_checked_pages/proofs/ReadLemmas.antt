@@ -11,31 +11,48 @@ refused_as A B Changed to h = to h
 refused_as A B Device to h = h
 refused_as A B OutOfMemory to h = h
 
-said_as : {T : Type 0} (r : Result T CheckFault) (A A' : T → Type 0) (B B' : Type 0) → ((value : T) → A value → A' value) → (B → B') → MatchResult r A (IsRefused B) → MatchResult r A' (IsRefused B')
+said_as : {T : Type 0} (r : Result T CheckFault) (A A' : T → Type 0) (B B' : Type 0)
+    → ((value : T) → A value → A' value) → (B → B') → MatchResult r A (IsRefused B) → MatchResult r A' (IsRefused B')
 said_as (Ok value) A A' B B' of to h = of value h
 said_as (Err f) A A' B B' of to h = refused_as B B' f to h
 
 -- what is read is read
 pub read_as : {D T : Type 0} (whole : D → Option (List ℕ)) (failures : D → ℕ) (old new : D) (r : Result T CheckFault)
     (A : List ℕ → T → Type 0) (B : List ℕ → Type 0) (A' : List ℕ → T → Type 0) (B' : List ℕ → Type 0)
-    → ((text : List ℕ) → whole old ≡ Some text → (value : T) → A text value → A' text value) → ((text : List ℕ) → whole old ≡ Some text → B text → B' text) → ReadsStored whole failures old new r A B → ReadsStored whole failures old new r A' B'
-read_as whole failures old new r A B A' B' of to h = record { says = λ text is. said_as r (A text) (A' text) (B text) (B' text) (of text is) (to text is) (h.says text is); keeps = h.keeps; counts = h.counts }
+    → ((text : List ℕ) → whole old ≡ Some text → (value : T) → A text value → A' text value)
+    → ((text : List ℕ) → whole old ≡ Some text → B text → B' text) → ReadsStored whole failures old new r A B
+    → ReadsStored whole failures old new r A' B'
+read_as whole failures old new r A B A' B' of to h = record {
+  says = λ text is. said_as r (A text) (A' text) (B text) (B' text) (of text is) (to text is) (h.says text is);
+  keeps = h.keeps;
+  counts = h.counts;
+}
 
 err_as : {D T U : Type 0} (whole : D → Option (List ℕ)) (failures : D → ℕ) (old new : D) (f : CheckFault)
     (A : List ℕ → T → Type 0) (B : List ℕ → Type 0) (A' : List ℕ → U → Type 0) (B' : List ℕ → Type 0)
-    → ((text : List ℕ) → whole old ≡ Some text → B text → B' text) → ReadsStored whole failures old new (Err f) A B → ReadsStored whole failures old new (Err f) A' B'
-err_as whole failures old new f A B A' B' to h = record { says = λ text is. refused_as (B text) (B' text) f (to text is) (h.says text is); keeps = h.keeps; counts = h.counts }
+    → ((text : List ℕ) → whole old ≡ Some text → B text → B' text) → ReadsStored whole failures old new (Err f) A B
+    → ReadsStored whole failures old new (Err f) A' B'
+err_as whole failures old new f A B A' B' to h = record {
+  says = λ text is. refused_as (B text) (B' text) f (to text is) (h.says text is);
+  keeps = h.keeps;
+  counts =
+      h.counts;
+}
 
 -- a refusal is passed on by `?`
-pub passed_on : {D T U : Type 0} (whole : D → Option (List ℕ)) (failures : D → ℕ) (old new : D) (f : CheckFault) (r : Result T CheckFault) (s : Result U CheckFault)
+pub passed_on : {D T U : Type 0} (whole : D → Option (List ℕ)) (failures : D → ℕ) (old new : D) (f : CheckFault)
+    (r : Result T CheckFault) (s : Result U CheckFault)
     (A : List ℕ → T → Type 0) (B : List ℕ → Type 0) (A' : List ℕ → U → Type 0) (B' : List ℕ → Type 0)
-    → r ≡ Err f → IsErrAnd s (λ g. g ≡ f) → ((text : List ℕ) → whole old ≡ Some text → B text → B' text) → ReadsStored whole failures old new r A B → ReadsStored whole failures old new s A' B'
+    → r ≡ Err f → IsErrAnd s (λ g. g ≡ f) → ((text : List ℕ) → whole old ≡ Some text → B text → B' text)
+    → ReadsStored whole failures old new r A B → ReadsStored whole failures old new s A' B'
 passed_on whole failures old new f r s A B A' B' was is to h =
     let p = err_from_is_err_and s is in
-    subst (λ t. ReadsStored whole failures old new t A' B') (sym (p.1 ∙ ap Err p.2)) (err_as whole failures old new f A B A' B' to (subst (λ t. ReadsStored whole failures old new t A B) was h))
+    subst (λ t. ReadsStored whole failures old new t A' B') (sym (p.1 ∙ ap Err p.2))
+    (err_as whole failures old new f A B A' B' to (subst (λ t. ReadsStored whole failures old new t A B) was h))
 
 -- what is read after a call that did not fail
-pub after_ok : {D T : Type 0} (whole : D → Option (List ℕ)) (failures : D → ℕ) (old mid new : D) (r : Result T CheckFault) (A : List ℕ → T → Type 0) (B : List ℕ → Type 0)
+pub after_ok : {D T : Type 0} (whole : D → Option (List ℕ)) (failures : D → ℕ) (old mid new : D)
+    (r : Result T CheckFault) (A : List ℕ → T → Type 0) (B : List ℕ → Type 0)
     → whole mid ≡ whole old → failures mid ≡ failures old → ReadsStored whole failures mid new r A B → ReadsStored whole failures old new r A B
 after_ok whole failures old mid new r A B same unfailed h = record {
   says = λ text is. h.says text (same ∙ is);

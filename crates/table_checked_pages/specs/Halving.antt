@@ -1,4 +1,4 @@
--- Where rows end to be below what is sought.
+-- The end of the rows that are below the one that is sought.
 use Rattle.std.specs.Prelude.{◌<◌, ◌≤◌, ◌-◌, ℕ}
 
 -- A place from `from` to `to`: the row before it is below, if there is one from `from` on, and the row at it is not, if

@@ -1,5 +1,6 @@
--- Bytes that are stored with the digests of their pages, and what these vouch for.
-use Rattle.std.specs.Prelude.{◌≡◌, ◌<◌, ◌≤◌, ◌+◌, ◌-◌, ◌*◌, ◌/◌, ◌++◌, ℕ, zero, suc, List, [], length, take, drop, min, slice_index_or}
+-- Bytes that are stored with the digests of their pages, and the bytes that these digests vouch for.
+use Rattle.std.specs.Prelude.{◌≡◌, ◌<◌, ◌≤◌, ◌+◌, ◌-◌, ◌*◌, ◌/◌, ◌++◌, ℕ, zero, suc, List, [], length, take, drop, min}
+use Rattle.std.specs.Prelude.{slice_index_or}
 use Rattle.sha2.specs.Sha256.{sha256}
 
 -- a page of some bytes: 16384 of them, the last one what is left

@@ -1,4 +1,4 @@
--- What a call says that reads stored bytes.
+-- The answers of calls that read stored bytes.
 use Rattle.std.specs.Prelude.{◌≡◌, ℕ, List, Option, Some, Result, MatchResult}
 use Rattle.byte_device.specs.Devices.{FailedIn}
 use Rattle.table_checked_pages.specs.declared.fault.CheckFault.{CheckFault}

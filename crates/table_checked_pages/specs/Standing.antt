@@ -1,4 +1,4 @@
--- Where bytes stand among stored ones.
+-- The offsets of bytes within stored ones.
 use Rattle.std.specs.Prelude.{◌≡◌, ◌+◌, ◌≤◌, ℕ, List, length, take, drop}
 
 -- these bytes stand among others from an offset on

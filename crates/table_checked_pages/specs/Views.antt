@@ -1,4 +1,4 @@
--- What the types of the code are in the definitions.
+-- The types of the code, as the definitions have them.
 use Rattle.std.specs.Prelude.{◌≡◌, List, ℕ, Option, Some, map}
 use Rattle.table_checked_pages.specs.Pages.{AreKept, Claim, MayBeStored, page_digests}
 use Rattle.table_checked_pages.specs.declared.claim.Claim.{Claim as ClaimFields}

@@ -36,7 +36,8 @@ fn digests_len(claim: &Claim) -> Option<u64>
 }
 
 impl Pages {
-    /// The bytes that a claim names. Their page digests are read and compared with the SHA-256 that the claim has of them.
+    /// The bytes that a claim names. Their page digests are read and compared with the SHA-256 that the claim has of
+    /// them.
     pub fn open<P: Placed>(heap: Heap, device: &mut P, claim: Claim) -> Result<Pages, CheckFault>
         ensures claim { IfOk result (λ pages. pages.claim ≡ claim) }
         ensures read { ReadsStored P.whole P.failures device.old device.new result

@@ -1,6 +1,7 @@
 //! Stored bytes, read page by page.
 
-ghost use Rattle.std.specs.Prelude.{◌≡◌, ◌+◌, ◌-◌, ◌*◌, ◌<◌, ◌≤◌, ℕ, List, [], OnOk, IfOk, Some, length, take, drop, map, min, slice_index_or};
+ghost use Rattle.std.specs.Prelude.{◌≡◌, ◌+◌, ◌-◌, ◌*◌, ◌<◌, ◌≤◌, ℕ, List, [], OnOk, IfOk, Some, length, take, drop};
+ghost use Rattle.std.specs.Prelude.{map, min, slice_index_or};
 ghost use Rattle.table_checked_pages.specs.Pages.{AreKept, AreStored, page_of};
 ghost use Rattle.table_checked_pages.specs.Views.{ArePagesOf, KeepsPages, claim_view};
 ghost use Rattle.table_checked_pages.specs.Reading.{ReadsStored};
@@ -63,7 +64,8 @@ impl Pages {
         ensures long { IfOk result (λ page. length page.items ≡ min 16384 (self.now.claim.size - 16384 * index)) }
         ensures read { ReadsStored P.whole P.failures device.old device.new result
             (λ text page. (all : List ℕ) → ArePagesOf self.now text all → page.items ≡ page_of all index)
-            (λ text. (all : List ℕ) → AreStored text (claim_view self.now.claim) all → ArePagesOf self.now text all → ⊥) }
+            (λ text. (all : List ℕ) → AreStored text (claim_view self.now.claim) all → ArePagesOf self.now text all
+            → ⊥) }
     {
         read_checked(
             heap,
@@ -98,7 +100,8 @@ impl Pages {
         ensures keeps { KeepsPages P.whole device.old self.old self.new }
         ensures read { ReadsStored P.whole P.failures device.old device.new result
             (λ _ _. Unit {0})
-            (λ text. (all : List ℕ) → AreStored text (claim_view self.old.claim) all → ArePagesOf self.old text all → ⊥) }
+            (λ text. (all : List ℕ) → AreStored text (claim_view self.old.claim) all → ArePagesOf self.old text all
+            → ⊥) }
     {
         if let Err(NoMemory) = self.make_room(index) {
             return Err(CheckFault::OutOfMemory);
@@ -127,7 +130,8 @@ impl Pages {
         ensures read { ReadsStored P.whole P.failures device.old device.new result
             (λ text _. (all : List ℕ) → ArePagesOf self.old text all
             → buf.new ≡ take (length buf.new) (drop (16384 * index + skip) all))
-            (λ text. (all : List ℕ) → AreStored text (claim_view self.old.claim) all → ArePagesOf self.old text all → ⊥) }
+            (λ text. (all : List ℕ) → AreStored text (claim_view self.old.claim) all → ArePagesOf self.old text all
+            → ⊥) }
     {
         self.bring(device, index)?;
         let page = &self.kept[index as usize];

@@ -10,7 +10,10 @@ use Rattle.table_source_frames.specs.Numbering.{same_chain, same_path, same_text
 use Rattle.table_source_frames.specs.LineText.{chains_of, chains_in, files_in, texts_in, innermost_name, innermost_path, path_texts}
 use Rattle.table_source_frames.specs.LineTable.{HaveFewLines}
 use Rattle.table_source_frames.specs.Steps.{StepRecord}
-use Rattle.table_source_frames.proofs.NumberingLemmas.{Has, has_left, has_right, has_filter_map, has_flat_map, number_within, number-push, number-push_other, number-append, with_cases, with_has, after_each, after_has, after_keeps, after-append, has_flat_map_cases, has_push_cases}
+use Rattle.table_source_frames.proofs.NumberingLemmas.{Has, has_left, has_right, has_filter_map, has_flat_map}
+use Rattle.table_source_frames.proofs.NumberingLemmas.{number_within, number-push, number-push_other, number-append}
+use Rattle.table_source_frames.proofs.NumberingLemmas.{with_cases, with_has, after_each, after_has, after_keeps}
+use Rattle.table_source_frames.proofs.NumberingLemmas.{after-append, has_flat_map_cases, has_push_cases}
 use Rattle.table_source_frames.proofs.SameLemmas.{chain_decides, path_decides, text_decides}
 
 abbrev Chain : Type 0
@@ -47,7 +50,8 @@ push_nil : (chains : List Chain) (f : FrameRecord) (fs : Chain) → number chain
 push_nil chains f fs none = number-push_other same_chain chain_decides chains (f ∷ fs) [] (nil_not_cons f fs) ∙ none
 
 -- one that has a number, or no frames, keeps its number
-push_keeps : (chains : List Chain) (f : FrameRecord) (fs gs : Chain) → number chains [] ≡ 0 → HasNumber chains gs → number (chains ++ (f ∷ fs) ∷ []) gs ≡ number chains gs
+push_keeps : (chains : List Chain) (f : FrameRecord) (fs gs : Chain) → number chains [] ≡ 0 → HasNumber chains gs
+    → number (chains ++ (f ∷ fs) ∷ []) gs ≡ number chains gs
 push_keeps chains f fs [] none has = push_nil chains f fs none ∙ sym none
 push_keeps chains f fs (g ∷ gs) none has = number-append same_chain chain_decides chains ((f ∷ fs) ∷ []) (g ∷ gs) has
 
@@ -56,7 +60,8 @@ push_has chains f fs [] has = tt
 push_has chains f fs (g ∷ gs) has = omega (arith, has, number-append same_chain chain_decides chains ((f ∷ fs) ∷ []) (g ∷ gs) has)
 
 -- of a chain that is not numbered, whose callers are
-push_chain : (chains : List Chain) (f : FrameRecord) (fs : Chain) → AreChains chains → HasNumber chains fs → number chains (f ∷ fs) ≡ 0 → AreChains (chains ++ (f ∷ fs) ∷ [])
+push_chain : (chains : List Chain) (f : FrameRecord) (fs : Chain) → AreChains chains → HasNumber chains fs
+    → number chains (f ∷ fs) ≡ 0 → AreChains (chains ++ (f ∷ fs) ∷ [])
 push_chain chains f fs are has new = record {
   none = push_nil chains f fs are.none;
   callers = λ g gs some. elim (cases_Bool (same_chain (g ∷ gs) (f ∷ fs))) [
@@ -69,7 +74,15 @@ push_chain chains f fs are has new = record {
     more = chains ++ (f ∷ fs) ∷ []
 
     here : HasNumber more fs × (number more fs < number more (f ∷ fs))
-    here = (push_has chains f fs fs has, omega (arith, push_keeps chains f fs fs are.none has, number_within same_chain chain_decides chains fs, number-push same_chain chain_decides chains (f ∷ fs) new))
+    here = (
+      push_has chains f fs fs has,
+      omega (
+        arith,
+        push_keeps chains f fs fs are.none has,
+        number_within same_chain chain_decides chains fs,
+        number-push same_chain chain_decides chains (f ∷ fs) new,
+      ),
+    )
 
     it_is : (g : FrameRecord) (gs : Chain) → g ∷ gs ≡ f ∷ fs → HasNumber more gs × (number more gs < number more (g ∷ gs))
     it_is g gs e = subst (λ (c : Chain). HasNumber more (callers_of c) × (number more (callers_of c) < number more c)) (sym e) here
@@ -80,7 +93,8 @@ push_chain chains f fs are has new = record {
         let below = are.callers g gs (omega (arith, some, same)) in
         (push_has chains f fs gs below.0, omega (arith, below.1, same, push_keeps chains f fs gs are.none below.0))
 
-with_chain : (chains : List Chain) (f : FrameRecord) (fs : Chain) → AreChains chains → HasNumber chains fs → AreChains (numbered_with same_chain chains (f ∷ fs))
+with_chain : (chains : List Chain) (f : FrameRecord) (fs : Chain) → AreChains chains → HasNumber chains fs
+    → AreChains (numbered_with same_chain chains (f ∷ fs))
 with_chain chains f fs are has = elim (with_cases same_chain chain_decides chains (f ∷ fs)) [
   | inl h ↦ subst AreChains (sym h.1) are
   | inr h ↦ subst AreChains (sym h.1) (push_chain chains f fs are has h.0)
@@ -94,8 +108,13 @@ after_frames chains [] are = (are, tt)
 after_frames chains (f ∷ fs) are =
     let rest = after_frames chains fs are in
     let before : List Chain = numbered_after same_chain chains (chains_of fs) in
-    let same : numbered_after same_chain chains (chains_of fs ++ (f ∷ fs) ∷ []) ≡ numbered_with same_chain before (f ∷ fs) = after-append same_chain chain_decides chains (chains_of fs) ((f ∷ fs) ∷ []) in
-    (subst AreChains (sym same) (with_chain before f fs rest.0 rest.1), subst (λ (cs : List Chain). 0 < number cs (f ∷ fs)) (sym same) (with_has same_chain chain_decides before (f ∷ fs)))
+    let same : numbered_after same_chain chains (chains_of fs ++ (f ∷ fs) ∷ [])
+    ≡ numbered_with same_chain before (f ∷ fs) = after-append same_chain chain_decides chains (chains_of fs)
+    ((f ∷ fs) ∷ []) in (
+      subst AreChains (sym same) (with_chain before f fs rest.0 rest.1),
+      subst (λ (cs : List Chain). 0 < number cs (f ∷ fs)) (sym same)
+          (with_has same_chain chain_decides before (f ∷ fs)),
+    )
 
 after_has_still : (chains more : List Chain) (frames : Chain) → HasNumber chains frames → HasNumber (numbered_after same_chain chains more) frames
 after_has_still chains more [] has = tt
@@ -111,12 +130,14 @@ after_steps chains (s ∷ steps) are =
     subst AreChains (sym (after-append same_chain chain_decides chains (chains_of s.frames) (all_chains steps)))
     (after_steps (numbered_after same_chain chains (chains_of s.frames)) steps (after_frames chains s.frames are).0)
 
-after_steps_has : (chains : List Chain) (steps : List StepRecord) (k : ℕ) (s : StepRecord) → AreChains chains → slice_get steps k ≡ Some s → HasNumber (numbered_after same_chain chains (all_chains steps)) s.frames
+after_steps_has : (chains : List Chain) (steps : List StepRecord) (k : ℕ) (s : StepRecord) → AreChains chains
+    → slice_get steps k ≡ Some s → HasNumber (numbered_after same_chain chains (all_chains steps)) s.frames
 after_steps_has chains [] k s are is = absurd (none-some s is)
 after_steps_has chains (t ∷ steps) zero s are is =
     let first : List Chain = numbered_after same_chain chains (chains_of t.frames) in
     subst (λ (cs : List Chain). HasNumber cs s.frames) (sym (after-append same_chain chain_decides chains (chains_of t.frames) (all_chains steps)))
-    (after_has_still first (all_chains steps) s.frames (subst (λ (r : StepRecord). HasNumber first r.frames) (same_Some t s is) (after_frames chains t.frames are).1))
+    (after_has_still first (all_chains steps) s.frames
+    (subst (λ (r : StepRecord). HasNumber first r.frames) (same_Some t s is) (after_frames chains t.frames are).1))
 after_steps_has chains (t ∷ steps) (suc k) s are is =
     subst (λ (cs : List Chain). HasNumber cs s.frames) (sym (after-append same_chain chain_decides chains (chains_of t.frames) (all_chains steps)))
     (after_steps_has (numbered_after same_chain chains (chains_of t.frames)) steps k s (after_frames chains t.frames are).0 is)
@@ -134,7 +155,8 @@ step_has steps k s is = after_steps_has [] steps k s no_chains is
 -- ---- the texts and files of chains
 
 -- the name of a chain has a number
-pub name_has : (chains : List Chain) (files : List PathRecord) (k : ℕ) (f : FrameRecord) (fs : Chain) (text : List ℕ) → slice_get chains k ≡ Some (f ∷ fs) → f.name ≡ Some text
+pub name_has : (chains : List Chain) (files : List PathRecord) (k : ℕ) (f : FrameRecord) (fs : Chain) (text : List ℕ)
+    → slice_get chains k ≡ Some (f ∷ fs) → f.name ≡ Some text
     → 0 < number_in same_text (texts_in chains files) text
 unfolding texts_in
 name_has chains files k f fs text is e =
@@ -149,7 +171,8 @@ path_has chains k f fs path is e =
     after_has same_path path_decides [] (filter_map innermost_path chains) path there.0 there.1
 
 -- each text of a path has a number
-pub text_has : (chains : List Chain) (files : List PathRecord) (k : ℕ) (path : PathRecord) (text : List ℕ) → slice_get files k ≡ Some path → Has (path_texts path) text
+pub text_has : (chains : List Chain) (files : List PathRecord) (k : ℕ) (path : PathRecord) (text : List ℕ)
+    → slice_get files k ≡ Some path → Has (path_texts path) text
     → 0 < number_in same_text (texts_in chains files) text
 unfolding texts_in
 text_has chains files k path text is h =
@@ -170,7 +193,8 @@ fit_chain (f ∷ fs) fit chain h = elim (has_push_cases (chains_of fs) (f ∷ fs
 ]
 
 -- the lines and columns of a chain are those of steps
-pub chain_fits : (steps : List StepRecord) → HaveFewLines steps → (k : ℕ) (f : FrameRecord) (fs : Chain) → slice_get (chains_in steps) k ≡ Some (f ∷ fs) → (f.line < 2 ^ 32) × (f.column < 2 ^ 32)
+pub chain_fits : (steps : List StepRecord) → HaveFewLines steps → (k : ℕ) (f : FrameRecord) (fs : Chain)
+    → slice_get (chains_in steps) k ≡ Some (f ∷ fs) → (f.line < 2 ^ 32) × (f.column < 2 ^ 32)
 unfolding chains_in
 chain_fits steps few k f fs is =
     All-head Fits f fs (after_each same_chain chain_decides (All Fits) [] (all_chains steps) (λ x h. absurd (none-some x h.1)) each (f ∷ fs) (k, is))

@@ -1,5 +1,6 @@
 -- Numbers of things, in the order in which they first come.
-use Rattle.std.proofs.Common.{◌≡◌, ℕ, zero, suc, ◌+◌, ◌-◌, ◌<◌, ◌≤◌, Bool, true, false, List, [], ◌∷◌, ◌++◌, length, refl, sym, ap, ◌∙◌, subst, inl, inr, arith, Option, Some, None, ◌⊎◌, slice_get}
+use Rattle.std.proofs.Common.{◌≡◌, ℕ, zero, suc, ◌+◌, ◌-◌, ◌<◌, ◌≤◌, Bool, true, false, List, [], ◌∷◌, ◌++◌, length}
+use Rattle.std.proofs.Common.{refl, sym, ap, ◌∙◌, subst, inl, inr, arith, Option, Some, None, ◌⊎◌, slice_get}
 use Rattle.std.specs.Prelude.{filter_map, flat_map, unwrap_or}
 use Rattle.std.specs.List.{cons_option, list_any, position_from}
 use Rattle.std.proofs.lemmas.Bool.{cases_Bool, cond-true, cond-false, or_cases, or_parts, false≢true}
@@ -223,7 +224,8 @@ module _ {A : Type 0} (same : A → A → Bool) (decides : IsExact same) where
   unfolding numbered_after
   after_has xs [] y k is = absurd (none-some y is)
   after_has xs (z ∷ ys) y zero is =
-      let some : 0 < number_in same (numbered_with same xs z) y = subst (λ w. 0 < number_in same (numbered_with same xs z) w) (same_Some z y is) (with_has xs z) in
+      let some : 0 < number_in same (numbered_with same xs z) y =
+      subst (λ w. 0 < number_in same (numbered_with same xs z) w) (same_Some z y is) (with_has xs z) in
       omega (arith, some, after_keeps (numbered_with same xs z) ys y some)
   after_has xs (z ∷ ys) y (suc k) is = after_has (numbered_with same xs z) ys y k is
 
@@ -233,7 +235,9 @@ module _ {A : Type 0} (same : A → A → Bool) (decides : IsExact same) where
   after-append xs (y ∷ ys) zs = after-append (numbered_with same xs y) ys zs
 
   -- what holds of those that have a number, and of some more, holds of all that have one then
-  pub after_each : (P : A → Type 0) (xs ys : List A) → ((x : A) → Has xs x → P x) → ((y : A) → Has ys y → P y) → (z : A) → Has (numbered_after same xs ys) z → P z
+  pub after_each : (P : A → Type 0) (xs ys : List A) → ((x : A) → Has xs x → P x) → ((y : A) → Has ys y → P y) → (z : A)
+      → Has (numbered_after same xs ys) z → P z
   unfolding numbered_after
   after_each P xs [] of also z h = of z h
-  after_each P xs (y ∷ ys) of also z h = after_each P (numbered_with same xs y) ys (with_each P xs y of (also y (0, refl))) (λ w k. also w (has_rest y ys w k)) z h
+  after_each P xs (y ∷ ys) of also z h = after_each P (numbered_with same xs y) ys
+      (with_each P xs y of (also y (0, refl))) (λ w k. also w (has_rest y ys w k)) z h

@@ -40,7 +40,8 @@ pub record IsHead (head : Head) (bytes : List ℕ) : Type 0 where
   pub bytes_of : head.bytes ≡ from_be_bytes w64 (take 8 (drop 48 bytes))
 
 -- what was read from where a table stands is its head
-pub head_read : (all bytes buf : List ℕ) (n offset : ℕ) (head : Head) → IsRestFrom all offset bytes → n ≡ 56 → buf ≡ take n (drop offset all) → IsHead head buf → IsHead head (take 56 bytes)
+pub head_read : (all bytes buf : List ℕ) (n offset : ℕ) (head : Head) → IsRestFrom all offset bytes → n ≡ 56 → buf
+    ≡ take n (drop offset all) → IsHead head buf → IsHead head (take 56 bytes)
 head_read all bytes buf n offset head stands long came is =
     subst (IsHead head) (came ∙ ap (λ k. take k (drop offset all)) long ∙ ap (take 56) stands.1) is
 
@@ -94,7 +95,8 @@ record SaysParts (head : Head) (parts : LineParts) : Type 0 where
   texts : head.texts ≡ length parts.texts
   bytes : head.bytes ≡ length (concat parts.texts)
 
-says_parts : (head : Head) (steps : List StepRecord) (bytes : List ℕ) → AreFew (parts_of steps) → bytes ≡ line_text steps → IsHead head (take 56 bytes) → SaysParts head (parts_of steps)
+says_parts : (head : Head) (steps : List StepRecord) (bytes : List ℕ) → AreFew (parts_of steps) → bytes
+    ≡ line_text steps → IsHead head (take 56 bytes) → SaysParts head (parts_of steps)
 says_parts head steps bytes few e is =
     let parts : LineParts = parts_of steps in
     let there : take 56 bytes ≡ head_bytes parts = ap (take 56) e ∙ head_there steps in
@@ -127,7 +129,8 @@ opens_none image bytes head is has none = by_text is.is_text
     by_text (inl h) = absurd (omega (arith, none, (says_parts head is.steps bytes h.0.few h.1 has).lines))
     by_text (inr h) = h.1
 
-pub opens_some : (image all bytes text : List ℕ) (pages : Pages) (offset : ℕ) (head : Head) (table : LineTable) → ArePagesOf pages text all → IsRestFrom all offset bytes → IsLineTable image bytes → IsHead head (take 56 bytes)
+pub opens_some : (image all bytes text : List ℕ) (pages : Pages) (offset : ℕ) (head : Head) (table : LineTable)
+    → ArePagesOf pages text all → IsRestFrom all offset bytes → IsLineTable image bytes → IsHead head (take 56 bytes)
     → (head.lines ≡ 0 → ⊥) → HasHead table offset head → (steps : List StepRecord) × AreFrameSteps image steps × IsOpened table pages text all steps
 opens_some image all bytes text pages offset head table are stands is has some made = by_text is.is_text
   where
@@ -160,7 +163,21 @@ opens_not image all bytes offset size head stands is has some long none = by_tex
     by_text : IsLineTextWithin (room_of image) is.steps bytes → ⊥
     by_text (inl h) =
         let says = says_parts head is.steps bytes h.0.few h.1 has in
-        none (omega (arith, stands.0, ap length stands.1, length-drop offset all, ap length h.1, length-line_text is.steps, long, says.runs, says.steps, says.locations, says.files, says.texts, says.bytes))
+        none (omega (
+          arith,
+          stands.0,
+          ap length stands.1,
+          length-drop offset all,
+          ap length h.1,
+          length-line_text is.steps,
+          long,
+          says.runs,
+          says.steps,
+          says.locations,
+          says.files,
+          says.texts,
+          says.bytes,
+        ))
     by_text (inr h) = some (no_lines_read head bytes h.1 has)
 
 -- ---- what was opened

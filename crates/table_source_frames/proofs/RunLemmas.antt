@@ -116,9 +116,16 @@ are_runs n (x ∷ y ∷ ys) =
 -- ---- of starts that ascend
 
 none_rise : (n : ℕ) → AreRising n [] []
-none_rise n = record { each = λ j l. absurd (omega arith); least = λ k l. absurd (omega arith); uppers = λ i j l m. absurd (omega arith); steps = λ i j l m. absurd (omega arith) }
+none_rise n = record {
+  each = λ j l. absurd (omega arith);
+  least = λ k l. absurd (omega arith);
+  uppers =
+      λ i j l m. absurd (omega arith);
+  steps = λ i j l m. absurd (omega arith);
+}
 
-joined_rise : (n x y : ℕ) (ys : List ℕ) (runs : List RunRecord) → upper_half y ≡ upper_half x → AreRuns (n + 1) (y ∷ ys) runs → AreRising (n + 1) (y ∷ ys) runs → AreRising n (x ∷ y ∷ ys) runs
+joined_rise : (n x y : ℕ) (ys : List ℕ) (runs : List RunRecord) → upper_half y ≡ upper_half x
+    → AreRuns (n + 1) (y ∷ ys) runs → AreRising (n + 1) (y ∷ ys) runs → AreRising n (x ∷ y ∷ ys) runs
 joined_rise n x y ys runs same are rise = record {
   each = each;
   least = λ k l. omega (arith, same, rise.least k l);
@@ -139,7 +146,8 @@ joined_rise n x y ys runs same are rise = record {
     each zero l = let h = rise.each 0 (omega arith) in (h.0, first h.0 h.1)
     each (suc j) l = let h = rise.each j (omega arith) in (h.0, behind j h.0 h.1)
 
-ended_rise : (n x : ℕ) (xs : List ℕ) (runs : List RunRecord) → (0 < length xs → upper_half x < upper_half (get_or xs 0 0)) → AreRuns (n + 1) xs runs → AreRising (n + 1) xs runs
+ended_rise : (n x : ℕ) (xs : List ℕ) (runs : List RunRecord)
+    → (0 < length xs → upper_half x < upper_half (get_or xs 0 0)) → AreRuns (n + 1) xs runs → AreRising (n + 1) xs runs
     → AreRising n (x ∷ xs) (ended n x runs)
 ended_rise n x xs runs above are rise = record { each = each; least = least; uppers = uppers; steps = steps }
   where
@@ -170,7 +178,8 @@ ended_rise n x xs runs above are rise = record { each = each; least = least; upp
 
 are_rising : (n : ℕ) (starts : List ℕ) → AreAscending starts → AreRising n starts (runs_after n starts)
 are_rising n [] rising = subst (AreRising n []) (sym (no_runs n)) (none_rise n)
-are_rising n (x ∷ []) rising = subst (AreRising n (x ∷ [])) (sym (ends_last n x)) (ended_rise n x [] [] (λ l. absurd (omega (arith, l))) (none_are (n + 1)) (none_rise (n + 1)))
+are_rising n (x ∷ []) rising = subst (AreRising n (x ∷ [])) (sym (ends_last n x))
+    (ended_rise n x [] [] (λ l. absurd (omega (arith, l))) (none_are (n + 1)) (none_rise (n + 1)))
 are_rising n (x ∷ y ∷ ys) rising =
     let rest : AreRising (n + 1) (y ∷ ys) (runs_after (n + 1) (y ∷ ys)) = are_rising (n + 1) (y ∷ ys) (rising_rest x (y ∷ ys) rising) in
     let are : AreRuns (n + 1) (y ∷ ys) (runs_after (n + 1) (y ∷ ys)) = are_runs (n + 1) (y ∷ ys) in
@@ -178,23 +187,32 @@ are_rising n (x ∷ y ∷ ys) rising =
       | inl same ↦ subst (AreRising n (x ∷ y ∷ ys)) (sym (goes_on n x y ys same)) (joined_rise n x y ys (runs_after (n + 1) (y ∷ ys)) same are rest)
       | inr other ↦
           subst (AreRising n (x ∷ y ∷ ys)) (sym (ends_here n x y ys other))
-          (ended_rise n x (y ∷ ys) (runs_after (n + 1) (y ∷ ys)) (λ l. omega (arith, other, upper_rises x y (omega (arith, rising 0 1 (omega arith) (omega arith))))) are rest)
+          (ended_rise n x (y ∷ ys) (runs_after (n + 1) (y ∷ ys))
+          (λ l. omega (arith, other, upper_rises x y (omega (arith, rising 0 1 (omega arith) (omega arith))))) are
+          rest)
     ]
 
 -- ---- the upper halves of runs are those of starts
 
-one_fits : (limit n x : ℕ) (runs : List RunRecord) → upper_half x < limit → ((k : ℕ) → k < length runs → (get_or runs k no_run).upper < limit) → (k : ℕ) → k < length (ended n x runs) → (get_or (ended n x runs) k no_run).upper < limit
+one_fits : (limit n x : ℕ) (runs : List RunRecord) → upper_half x < limit
+    → ((k : ℕ) → k < length runs → (get_or runs k no_run).upper < limit) → (k : ℕ) → k < length (ended n x runs)
+    → (get_or (ended n x runs) k no_run).upper < limit
 one_fits limit n x runs one rest zero l = one
 one_fits limit n x runs one rest (suc k) l = rest k (omega (arith, l))
 
-uppers_fit : (limit n : ℕ) (starts : List ℕ) → ((j : ℕ) → j < length starts → upper_half (get_or starts j 0) < limit) → (k : ℕ) → k < length (runs_after n starts) → (get_or (runs_after n starts) k no_run).upper < limit
+uppers_fit : (limit n : ℕ) (starts : List ℕ) → ((j : ℕ) → j < length starts → upper_half (get_or starts j 0) < limit)
+    → (k : ℕ) → k < length (runs_after n starts) → (get_or (runs_after n starts) k no_run).upper < limit
 uppers_fit limit n [] fit = λ k l. absurd (omega (arith, l, ap length (no_runs n)))
-uppers_fit limit n (x ∷ []) fit = subst (λ rs. (k : ℕ) → k < length rs → (get_or rs k no_run).upper < limit) (sym (ends_last n x)) (one_fits limit n x [] (fit 0 (omega arith)) (λ k l. absurd (omega (arith, l))))
+uppers_fit limit n (x ∷ []) fit = subst (λ rs. (k : ℕ) → k < length rs → (get_or rs k no_run).upper < limit)
+    (sym (ends_last n x)) (one_fits limit n x [] (fit 0 (omega arith)) (λ k l. absurd (omega (arith, l))))
 uppers_fit limit n (x ∷ y ∷ ys) fit =
-    let rest : (k : ℕ) → k < length (runs_after (n + 1) (y ∷ ys)) → (get_or (runs_after (n + 1) (y ∷ ys)) k no_run).upper < limit = uppers_fit limit (n + 1) (y ∷ ys) (λ j l. fit (suc j) (omega (arith, l))) in
+    let rest : (k : ℕ) → k < length (runs_after (n + 1) (y ∷ ys))
+    → (get_or (runs_after (n + 1) (y ∷ ys)) k no_run).upper < limit =
+    uppers_fit limit (n + 1) (y ∷ ys) (λ j l. fit (suc j) (omega (arith, l))) in
     elim (cases_eq (upper_half y) (upper_half x)) [
       | inl same ↦ subst (λ rs. (k : ℕ) → k < length rs → (get_or rs k no_run).upper < limit) (sym (goes_on n x y ys same)) rest
-      | inr other ↦ subst (λ rs. (k : ℕ) → k < length rs → (get_or rs k no_run).upper < limit) (sym (ends_here n x y ys other)) (one_fits limit n x (runs_after (n + 1) (y ∷ ys)) (fit 0 (omega arith)) rest)
+      | inr other ↦ subst (λ rs. (k : ℕ) → k < length rs → (get_or rs k no_run).upper < limit)
+          (sym (ends_here n x y ys other)) (one_fits limit n x (runs_after (n + 1) (y ∷ ys)) (fit 0 (omega arith)) rest)
     ]
 
 -- ---- of steps
@@ -208,7 +226,8 @@ run_steps steps k l = omega (arith, ((are_runs 0 (starts_of steps)).counts k l).
 pub run_steps_at : (steps : List StepRecord) (k : ℕ) (d : RunRecord) → k < length (runs_of steps) → (get_or (runs_of steps) k d).steps ≤ length steps
 run_steps_at steps k d l = omega (arith, run_steps steps k l, ap (λ (r : RunRecord). r.steps) (get_or_default (runs_of steps) k d no_run l))
 
-pub run_upper_fits : (steps : List StepRecord) → All (λ s. s.start < 2 ^ 64) steps → (k : ℕ) (d : RunRecord) → k < length (runs_of steps) → (get_or (runs_of steps) k d).upper < 2 ^ 32
+pub run_upper_fits : (steps : List StepRecord) → All (λ s. s.start < 2 ^ 64) steps → (k : ℕ) (d : RunRecord)
+    → k < length (runs_of steps) → (get_or (runs_of steps) k d).upper < 2 ^ 32
 run_upper_fits steps below k d l =
     let fit : (get_or (runs_of steps) k no_run).upper < 2 ^ 32 = uppers_fit (2 ^ 32) 0 (starts_of steps) each k l in
     omega (arith, fit, ap (λ (r : RunRecord). r.upper) (get_or_default (runs_of steps) k d no_run l))
@@ -236,14 +255,21 @@ uppers_rise steps rising i j l m =
     omega (arith, upper_at steps i (omega (arith, l, within)), upper_at steps j within, (are_rising 0 (starts_of steps) rising).uppers i j l within)
 
 -- where no run is below a limit no step is
-pub none_below : (steps : List StepRecord) (limit count : ℕ) → AreAscending (starts_of steps) → AreBelow (run_halves steps) limit count → count ≡ 0 → AreBelow (step_halves steps) limit 0
+pub none_below : (steps : List StepRecord) (limit count : ℕ) → AreAscending (starts_of steps)
+    → AreBelow (run_halves steps) limit count → count ≡ 0 → AreBelow (step_halves steps) limit 0
 none_below steps limit count rising are none = record {
   within = omega arith;
   below = λ j l. absurd (omega (arith, l));
   others = λ j low l.
       let within : j < length steps = omega (arith, l, halves_long steps) in
       let of = (are_rising 0 (starts_of steps) rising).each j (omega (arith, within, starts_long steps)) in
-      omega (arith, half_at steps j within, of.1.upper, upper_at steps of.0 of.1.within, are.others of.0 (omega (arith, none)) (omega (arith, of.1.within, uppers_long steps)));
+      omega (
+        arith,
+        half_at steps j within,
+        of.1.upper,
+        upper_at steps of.0 of.1.within,
+        are.others of.0 (omega (arith, none)) (omega (arith, of.1.within, uppers_long steps)),
+      );
 }
 
 -- and else those up to the last run that is
@@ -254,12 +280,24 @@ some_below steps limit count last rising are next = record {
   below = λ j l.
       let of = rise.each j (omega (arith, l, run_steps steps last there, starts_long steps)) in
       let before : of.0 ≤ last = not_behind of.0 j l of.1 in
-      omega (arith, half_at steps j (omega (arith, l, run_steps steps last there)), of.1.upper, upper_at steps of.0 of.1.within, are.below of.0 (omega (arith, before, next)));
+      omega (
+        arith,
+        half_at steps j (omega (arith, l, run_steps steps last there)),
+        of.1.upper,
+        upper_at steps of.0 of.1.within,
+        are.below of.0 (omega (arith, before, next)),
+      );
   others = λ j low l.
       let within : j < length steps = omega (arith, l, halves_long steps) in
       let of = rise.each j (omega (arith, within, starts_long steps)) in
       let behind : last < of.0 = not_before of.0 j low of.1 in
-      omega (arith, half_at steps j within, of.1.upper, upper_at steps of.0 of.1.within, are.others of.0 (omega (arith, behind, next)) (omega (arith, of.1.within, uppers_long steps)));
+      omega (
+        arith,
+        half_at steps j within,
+        of.1.upper,
+        upper_at steps of.0 of.1.within,
+        are.others of.0 (omega (arith, behind, next)) (omega (arith, of.1.within, uppers_long steps)),
+      );
 }
   where
     rise : AreRising 0 (starts_of steps) (runs_of steps)

@@ -34,7 +34,9 @@ path_decides x y = (to, from)
     from : x ≡ y → same_path x y ≡ true
     from e =
         and_from (same_text x.base y.base && same_text x.directory y.directory) (same_text x.name y.name)
-        (and_from (same_text x.base y.base) (same_text x.directory y.directory) ((text_decides x.base y.base).1 (ap (λ (p : PathRecord). p.base) e)) ((text_decides x.directory y.directory).1 (ap (λ (p : PathRecord). p.directory) e)))
+        (and_from (same_text x.base y.base) (same_text x.directory y.directory)
+        ((text_decides x.base y.base).1 (ap (λ (p : PathRecord). p.base) e))
+        ((text_decides x.directory y.directory).1 (ap (λ (p : PathRecord). p.directory) e)))
         ((text_decides x.name y.name).1 (ap (λ (p : PathRecord). p.name) e))
 
 number_decides : IsExact ◌==◌

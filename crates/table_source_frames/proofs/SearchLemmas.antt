@@ -1,5 +1,6 @@
 -- The halvings over the runs and steps of a table.
-use Rattle.std.proofs.Common.{◌≡◌, ℕ, ◌+◌, ◌-◌, ◌<◌, ◌≤◌, List, [], ◌∷◌, ◌++◌, length, get_or, refl, sym, ap, ◌∙◌, subst, inl, inr, nat_lt, nat_le, arith, length-append, Option, Some, None}
+use Rattle.std.proofs.Common.{◌≡◌, ℕ, ◌+◌, ◌-◌, ◌<◌, ◌≤◌, List, [], ◌∷◌, ◌++◌, length, get_or, refl, sym, ap, ◌∙◌}
+use Rattle.std.proofs.Common.{subst, inl, inr, nat_lt, nat_le, arith, length-append, Option, Some, None}
 use Rattle.std.specs.Prelude.{Decides}
 use Rattle.std.proofs.lemmas.Bool.{cases_lt}
 use Rattle.std.proofs.lemmas.Bool.Decides.{nat_tests}
@@ -49,7 +50,8 @@ others_from all limit middle rising other j low l = elim (cases_lt middle j) [
 
 -- the places of numbers that ascend, from one before which all are below to one from which on none is: where those that
 -- are below end
-pub below_edge : (all : List ℕ) (limit from to place : ℕ) → AreAscending all → to ≤ length all → from ≤ to → AreBelowTo all limit from → AreOthersFrom all limit to
+pub below_edge : (all : List ℕ) (limit from to place : ℕ) → AreAscending all → to ≤ length all → from ≤ to
+    → AreBelowTo all limit from → AreOthersFrom all limit to
     → IsEdge (λ i. get_or all i 0 < limit) from to place → AreBelow all limit place
 below_edge all limit from to place rising within in_order below others edge = record {
   within = omega (arith, edge.most in_order, within);
@@ -88,7 +90,8 @@ up_to_decides value limit n m same also = (
 )
 
 -- the table that a search is among is opened
-pub opened_of : (table : LineTable) (pages : Pages) (text all : List ℕ) (steps : List StepRecord) → ArePagesOf pages text all → IsTextOf table all steps → IsOpened table pages text all steps
+pub opened_of : (table : LineTable) (pages : Pages) (text all : List ℕ) (steps : List StepRecord)
+    → ArePagesOf pages text all → IsTextOf table all steps → IsOpened table pages text all steps
 opened_of table pages text all steps pages_of is = record { are_pages = pages_of; stands = is.stands; widths = is.widths; head = is.head }
 
 pub text_of : (table : LineTable) (pages : Pages) (text all : List ℕ) (steps : List StepRecord) → IsOpened table pages text all steps → IsTextOf table all steps
@@ -97,7 +100,8 @@ text_of table pages text all steps opened = record { stands = opened.stands; wid
 -- ---- runs
 
 -- the upper half of the run of an index, by its row
-pub upper_of_row : (steps : List StepRecord) (index : ℕ) (row : Run) → IsRunRow steps index row → index < length (runs_of steps) → row.upper ≡ get_or (run_halves steps) index 0
+pub upper_of_row : (steps : List StepRecord) (index : ℕ) (row : Run) → IsRunRow steps index row
+    → index < length (runs_of steps) → row.upper ≡ get_or (run_halves steps) index 0
 upper_of_row steps index row is within = is.upper no_run ∙ sym (upper_at steps index within)
 
 -- ---- the steps of the upper half of an address
@@ -107,8 +111,15 @@ pub record AreBounds (steps : List StepRecord) (address low high : ℕ) : Type 0
   pub lower : AreBelow (step_halves steps) (upper_half address) low
   pub higher : AreBelow (step_halves steps) (upper_half address + 1) high
 
-pub bounds_are : (steps : List StepRecord) (address upper low high : ℕ) → upper ≡ upper_half address → AreBelow (step_halves steps) upper low → AreBelow (step_halves steps) (upper + 1) high → AreBounds steps address low high
-bounds_are steps address upper low high is lower higher = record { lower = subst (λ n. AreBelow (step_halves steps) n low) is lower; higher = subst (λ n. AreBelow (step_halves steps) (n + 1) high) is higher }
+pub bounds_are : (steps : List StepRecord) (address upper low high : ℕ) → upper ≡ upper_half address
+    → AreBelow (step_halves steps) upper low → AreBelow (step_halves steps) (upper + 1) high
+    → AreBounds steps address low high
+bounds_are steps address upper low high is lower higher =
+    record {
+      lower = subst (λ n. AreBelow (step_halves steps) n low) is lower;
+      higher =
+          subst (λ n. AreBelow (step_halves steps) (n + 1) high) is higher;
+    }
 
 module _ (steps : List StepRecord) (address first end : ℕ) (bounds : AreBounds steps address first end) where
   half : (j : ℕ) → j < length (starts_of steps) → get_or (step_halves steps) j 0 ≡ upper_half (get_or (starts_of steps) j 0)
@@ -145,17 +156,21 @@ module _ (steps : List StepRecord) (address first end : ℕ) (bounds : AreBounds
       omega (arith, half j there, bounds.lower.others j from (omega (arith, there, long)), bounds.higher.below j to)
 
   -- in the bounds the lower halves decide
-  pub lower_below : (place : ℕ) → first ≤ place → place < end → lower_half (get_or (starts_of steps) place 0) ≤ lower_half address → get_or (starts_of steps) place 0 < address + 1
+  pub lower_below : (place : ℕ) → first ≤ place → place < end
+      → lower_half (get_or (starts_of steps) place 0) ≤ lower_half address
+      → get_or (starts_of steps) place 0 < address + 1
   lower_below place from to not_above = omega (arith, within_by_lower (get_or (starts_of steps) place 0) address (same_half place from to) not_above)
 
-  pub below_lower : (place : ℕ) → first ≤ place → place < end → get_or (starts_of steps) place 0 < address + 1 → lower_half (get_or (starts_of steps) place 0) ≤ lower_half address
+  pub below_lower : (place : ℕ) → first ≤ place → place < end → get_or (starts_of steps) place 0 < address + 1
+      → lower_half (get_or (starts_of steps) place 0) ≤ lower_half address
   below_lower place from to less = elim (cases_lt (lower_half address) (lower_half (get_or (starts_of steps) place 0))) [
     | inl above ↦ omega (arith, less, below_by_lower address (get_or (starts_of steps) place 0) (sym (same_half place from to)) above)
     | inr not_above ↦ not_above
   ]
 
   -- where the lower halves in the bounds end to be below
-  pub bounds_edge : (place : ℕ) → IsEdge (λ i. lower_half (get_or (starts_of steps) i 0) ≤ lower_half address) first end place → IsEdge (λ i. get_or (starts_of steps) i 0 < address + 1) first end place
+  pub bounds_edge : (place : ℕ) → IsEdge (λ i. lower_half (get_or (starts_of steps) i 0) ≤ lower_half address) first end
+      place → IsEdge (λ i. get_or (starts_of steps) i 0 < address + 1) first end place
   bounds_edge place edge = record {
     least = edge.least;
     most = edge.most;
@@ -164,7 +179,8 @@ module _ (steps : List StepRecord) (address first end : ℕ) (bounds : AreBounds
   }
 
 -- the lower half of the step of a place, by its row
-pub lower_of_row : (steps : List StepRecord) (place : ℕ) (row : Step) → IsStepRow steps place row → place < length steps → row.lower ≡ lower_half (get_or (starts_of steps) place 0)
+pub lower_of_row : (steps : List StepRecord) (place : ℕ) (row : Step) → IsStepRow steps place row → place < length steps
+    → row.lower ≡ lower_half (get_or (starts_of steps) place 0)
 lower_of_row steps place row is within = is.lower no_step ∙ sym (ap lower_half (start_at steps place no_step 0 within))
 
 -- ---- the step of an address
@@ -173,7 +189,8 @@ pub no_step_for : (steps : List StepRecord) (address count : ℕ) → count ≡ 
     → (found : Option ℕ) × IsStepFor (starts_of steps) address found × IsMaybeChain (parts_of steps) 0 (frames_at steps found)
 no_step_for steps address count none are = (None, λ j l. omega (arith, are.others j (omega (arith, none)) l), refl)
 
-pub last_step_for : (steps : List StepRecord) (address count index : ℕ) (row : Step) → index + 1 ≡ count → AreBelow (starts_of steps) (address + 1) count → IsStepRow steps index row
+pub last_step_for : (steps : List StepRecord) (address count index : ℕ) (row : Step) → index + 1 ≡ count
+    → AreBelow (starts_of steps) (address + 1) count → IsStepRow steps index row
     → (found : Option ℕ) × IsStepFor (starts_of steps) address found × IsMaybeChain (parts_of steps) row.location (frames_at steps found)
 last_step_for steps address count index row next are is =
     let within : index < length steps = omega (arith, are.within, next, starts_long steps) in (
@@ -188,7 +205,9 @@ last_step_for steps address count index row next are is =
 
 -- ---- the chain of a location
 
-pub maybe_cons : (parts : LineParts) (number : ℕ) (chain : List FrameRecord) → (number ≡ 0 → ⊥) → IsMaybeChain parts number chain → (f : FrameRecord) × (fs : List FrameRecord) × (chain ≡ f ∷ fs) × IsChainNumber parts number (f ∷ fs)
+pub maybe_cons : (parts : LineParts) (number : ℕ) (chain : List FrameRecord) → (number ≡ 0 → ⊥)
+    → IsMaybeChain parts number chain → (f : FrameRecord) × (fs : List FrameRecord) × (chain ≡ f ∷ fs)
+    × IsChainNumber parts number (f ∷ fs)
 maybe_cons parts number [] some is = absurd (some is)
 maybe_cons parts number (f ∷ fs) some is = (f, fs, refl, is)
 
@@ -197,7 +216,8 @@ maybe_nil parts number [] none is = refl
 maybe_nil parts number (f ∷ fs) none is = absurd (omega (arith, none, is.some))
 
 -- one more frame was read
-pub pushed : (items more : List OwnedFrame) (frame : OwnedFrame) (f : FrameRecord) (fs rest chain : List FrameRecord) → more ≡ items ++ frame ∷ [] → owned_frame_view frame ≡ f → rest ≡ f ∷ fs → owned_frames items ++ rest ≡ chain
+pub pushed : (items more : List OwnedFrame) (frame : OwnedFrame) (f : FrameRecord) (fs rest chain : List FrameRecord)
+    → more ≡ items ++ frame ∷ [] → owned_frame_view frame ≡ f → rest ≡ f ∷ fs → owned_frames items ++ rest ≡ chain
     → owned_frames more ++ fs ≡ chain
 pushed items more frame f fs rest chain is view next e =
     ap (λ xs. owned_frames xs ++ fs) is ∙ ap (λ xs. xs ++ fs) (map-append owned_frame_view items (frame ∷ []))
@@ -207,7 +227,8 @@ pushed items more frame f fs rest chain is view next e =
 pub none_yet : (items : List OwnedFrame) (chain : List FrameRecord) → items ≡ [] → owned_frames items ++ chain ≡ chain
 none_yet items chain none = ap (λ (xs : List OwnedFrame). owned_frames xs ++ chain) none
 
-pub too_long : (items : List OwnedFrame) (f : FrameRecord) (fs rest chain : List FrameRecord) → length items ≡ 256 → rest ≡ f ∷ fs → owned_frames items ++ rest ≡ chain → length chain ≤ 256 → ⊥
+pub too_long : (items : List OwnedFrame) (f : FrameRecord) (fs rest chain : List FrameRecord) → length items ≡ 256
+    → rest ≡ f ∷ fs → owned_frames items ++ rest ≡ chain → length chain ≤ 256 → ⊥
 too_long items f fs rest chain long next e few =
     omega (arith, long, few, ap length next, ap length e, length-append (owned_frames items) rest, length-map items owned_frame_view)
 

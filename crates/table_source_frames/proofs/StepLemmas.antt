@@ -1,5 +1,6 @@
 -- The frames of an address by the steps of its image, and that these are one list.
-use Rattle.std.proofs.Common.{◌≡◌, ℕ, zero, suc, ◌<◌, ◌^◌, List, [], ◌∷◌, length, get_or, sym, ap, ◌∙◌, subst, inl, inr, arith, Contains, Option, Some, None, ◌⊎◌}
+use Rattle.std.proofs.Common.{◌≡◌, ℕ, zero, suc, ◌<◌, ◌^◌, List, [], ◌∷◌, length, get_or, sym, ap, ◌∙◌, subst, inl, inr}
+use Rattle.std.proofs.Common.{arith, Contains, Option, Some, None, ◌⊎◌}
 use Rattle.std.specs.Option.{option_map_or}
 use Rattle.std.proofs.lemmas.Bool.{cases_eq}
 use Rattle.std.proofs.lemmas.List.{get_or-map, get_or_default, same_lists}
@@ -10,7 +11,8 @@ use Rattle.dwarf_source_frames.specs.AddressFrames.{AreFramesOf}
 use Rattle.dwarf_source_frames.specs.Frames.{FrameRecord}
 use Rattle.dwarf_asked_addresses.specs.Rising.{AreRising}
 use Rattle.dwarf_asked_addresses.proofs.RisingLists.{first_or_rest, one_rising, rest_is}
-use Rattle.table_source_frames.specs.Steps.{StepRecord, starts_of, AreAscending, AreFramesBefore, Changes, Stays, AreFrameSteps, IsLastNotAbove, IsStepFor, frames_at}
+use Rattle.table_source_frames.specs.Steps.{StepRecord, starts_of, AreAscending, AreFramesBefore, Changes, Stays}
+use Rattle.table_source_frames.specs.Steps.{AreFrameSteps, IsLastNotAbove, IsStepFor, frames_at}
 
 -- ---- numbers that ascend
 
@@ -85,12 +87,15 @@ module _ (only : (image : List ℕ) (address : ℕ) (one other : List FrameRecor
     at_step a h found is =
         let within : h.0 < length steps = omega (arith, h.1, starts_long steps) in
         let start : (get_or steps h.0 no_step).start ≡ a = sym (start_at steps h.0 no_step a within) ∙ h.2 in
-        let last : IsLastNotAbove (starts_of steps) a h.0 = last_at (starts_of steps) a h.0 are.rising h.1 (get_or_default (starts_of steps) h.0 0 a h.1 ∙ h.2) in
+        let last : IsLastNotAbove (starts_of steps) a h.0 =
+        last_at (starts_of steps) a h.0 are.rising h.1 (get_or_default (starts_of steps) h.0 0 a h.1 ∙ h.2) in
         let same : found ≡ Some h.0 = once (starts_of steps) a found (Some h.0) is last in
-        let here : AreFramesOf image a (get_or steps h.0 no_step).frames = subst (λ n. AreFramesOf image n (get_or steps h.0 no_step).frames) start (are.each h.0 no_step within) in
+        let here : AreFramesOf image a (get_or steps h.0 no_step).frames =
+        subst (λ n. AreFramesOf image n (get_or steps h.0 no_step).frames) start (are.each h.0 no_step within) in
         subst (AreFramesOf image a) (sym (ap (frames_at steps) same ∙ frames_there steps h.0 no_step within)) here
 
-    at_first : (found : Option ℕ) → IsStepFor (starts_of steps) 0 found → (Contains (starts_of steps) 0 → ⊥) → Stays image 0 → AreFramesOf image 0 (frames_at steps found)
+    at_first : (found : Option ℕ) → IsStepFor (starts_of steps) 0 found → (Contains (starts_of steps) 0 → ⊥)
+        → Stays image 0 → AreFramesOf image 0 (frames_at steps found)
     at_first None is none stays = subst (AreFramesOf image 0) stays.are_before stays.are_frames
     at_first (Some k) is none stays = absurd (none (member_at (starts_of steps) k 0 is.stands (omega (arith, is.not_above))))
 
@@ -113,7 +118,8 @@ module _ (only : (image : List ℕ) (address : ℕ) (one other : List FrameRecor
       omega (arith, are.below h.0 no_step within, start_at steps h.0 no_step a within, h.2)
 
   -- a step of the one is a step of the other
-  also_there : (steps others : List StepRecord) → AreFrameSteps image steps → AreFrameSteps image others → (a : ℕ) → Contains (starts_of steps) a → Contains (starts_of others) a
+  also_there : (steps others : List StepRecord) → AreFrameSteps image steps → AreFrameSteps image others → (a : ℕ)
+      → Contains (starts_of steps) a → Contains (starts_of others) a
   also_there steps others p q a h = elim (member (starts_of others) a) [
     | inl k ↦ k
     | inr none ↦ absurd (not_both a (p.changes a h) (q.stays a (start_fits steps p a h) none))
@@ -121,12 +127,15 @@ module _ (only : (image : List ℕ) (address : ℕ) (one other : List FrameRecor
 
   pub steps_once : (steps others : List StepRecord) → AreFrameSteps image steps → AreFrameSteps image others → steps ≡ others
   steps_once steps others p q =
-      let starts : starts_of steps ≡ starts_of others = one_rising (starts_of steps) (starts_of others) (risen (starts_of steps) p.rising) (risen (starts_of others) q.rising) (also_there steps others p q) (also_there others steps q p) in
+      let starts : starts_of steps ≡ starts_of others =
+      one_rising (starts_of steps) (starts_of others) (risen (starts_of steps) p.rising)
+      (risen (starts_of others) q.rising) (also_there steps others p q) (also_there others steps q p) in
       let long : length steps ≡ length others = sym (starts_long steps) ∙ ap length starts ∙ starts_long others in
       same_lists steps others long (λ k d l.
       let within : k < length others = omega (arith, l, long) in
       let start : (get_or steps k d).start ≡ (get_or others k d).start =
       sym (start_at steps k d 0 l) ∙ ap (λ (xs : List ℕ). get_or xs k 0) starts ∙ start_at others k d 0 within in
       let frames : (get_or steps k d).frames ≡ (get_or others k d).frames =
-      only image (get_or others k d).start (get_or steps k d).frames (get_or others k d).frames (subst (λ n. AreFramesOf image n (get_or steps k d).frames) start (p.each k d l)) (q.each k d within) in
+      only image (get_or others k d).start (get_or steps k d).frames (get_or others k d).frames
+      (subst (λ n. AreFramesOf image n (get_or steps k d).frames) start (p.each k d l)) (q.each k d within) in
       λ i. record { start = start i; frames = frames i })

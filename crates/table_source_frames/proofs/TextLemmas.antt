@@ -1,5 +1,6 @@
 -- Where the parts of a table stand among its bytes.
-use Rattle.std.proofs.Common.{◌≡◌, ℕ, zero, suc, ◌+◌, ◌*◌, ◌<◌, ◌≤◌, ◌^◌, List, [], ◌∷◌, ◌++◌, length, take, drop, get_or, refl, sym, ap, ◌∙◌, arith, length-append, Some}
+use Rattle.std.proofs.Common.{◌≡◌, ℕ, zero, suc, ◌+◌, ◌*◌, ◌<◌, ◌≤◌, ◌^◌, List, [], ◌∷◌, ◌++◌, length, take, drop}
+use Rattle.std.proofs.Common.{get_or, refl, sym, ap, ◌∙◌, arith, length-append, Some}
 use Rattle.std.specs.Prelude.{flat_map}
 use Rattle.std.specs.Int.{w32, from_be_bytes, to_be_bytes}
 use Rattle.std.specs.List.{concat}
@@ -9,7 +10,8 @@ use Rattle.std.proofs.lemmas.Option.{slice_get-get_or}
 use Rattle.std.proofs.Math.Nat.{mul-suc}
 use Rattle.dwarf_lines.specs.Paths.{PathRecord}
 use Rattle.dwarf_source_frames.specs.Frames.{FrameRecord}
-use Rattle.table_source_frames.specs.LineText.{LineParts, chains_in, file_bytes, head_bytes, line_text, location_bytes, parts_of, run_bytes, step_bytes, table_bytes, text_rows}
+use Rattle.table_source_frames.specs.LineText.{LineParts, chains_in, file_bytes, head_bytes, line_text, location_bytes}
+use Rattle.table_source_frames.specs.LineText.{parts_of, run_bytes, step_bytes, table_bytes, text_rows}
 use Rattle.table_source_frames.specs.Numbering.{number_in, number_or_zero, same_chain, same_path, same_text}
 use Rattle.table_source_frames.specs.Runs.{RunRecord, lower_half, runs_of}
 use Rattle.table_source_frames.specs.Steps.{StepRecord}
@@ -39,7 +41,9 @@ row_here : {A : Type 0} (f : A → List ℕ) (w : ℕ) (xs : List A) (rest : Lis
 row_here f w [] rest i d have l = absurd (omega arith)
 row_here f w (x ∷ xs) rest zero d have l =
     let none : w * 0 ≡ 0 = omega arith in
-    ap (λ n. take w (drop n ((f x ++ flat_map f xs) ++ rest))) none ∙ ap (take w) (append_assoc (f x) (flat_map f xs) rest) ∙ take_at (f x) (flat_map f xs ++ rest) w (have 0 x (omega arith))
+    ap (λ n. take w (drop n ((f x ++ flat_map f xs) ++ rest))) none
+    ∙ ap (take w) (append_assoc (f x) (flat_map f xs) rest)
+    ∙ take_at (f x) (flat_map f xs ++ rest) w (have 0 x (omega arith))
 row_here f w (x ∷ xs) rest (suc i) d have l =
     let far : w * suc i ≡ w + w * i = omega (arith, mul-suc w i) in
     ap (λ n. take w (drop n ((f x ++ flat_map f xs) ++ rest))) far
@@ -53,7 +57,12 @@ length-text_rows : (before : ℕ) (texts : List (List ℕ)) → length (text_row
 unfolding text_rows
 length-text_rows before [] = refl
 length-text_rows before (t ∷ texts) =
-    omega (arith, length-append (to_be_bytes w32 before ++ to_be_bytes w32 (length t)) (text_rows (before + length t) texts), length-text_rows (before + length t) texts)
+    omega (
+      arith,
+      length-append (to_be_bytes w32 before ++ to_be_bytes w32 (length t))
+          (text_rows (before + length t) texts),
+      length-text_rows (before + length t) texts,
+    )
 
 -- the bytes of the texts before one
 abbrev pub place_of : List (List ℕ) → ℕ → ℕ
@@ -67,7 +76,8 @@ length-text_row : (place len : ℕ) → length (text_row place len) ≡ 8
 unfolding text_row
 length-text_row place len = refl
 
-text_rows-cons : (before : ℕ) (t : List ℕ) (texts : List (List ℕ)) → text_rows before (t ∷ texts) ≡ text_row before (length t) ++ text_rows (before + length t) texts
+text_rows-cons : (before : ℕ) (t : List ℕ) (texts : List (List ℕ)) → text_rows before (t ∷ texts)
+    ≡ text_row before (length t) ++ text_rows (before + length t) texts
 unfolding text_rows text_row
 text_rows-cons before t texts = refl
 
@@ -90,7 +100,8 @@ text_row_here before (t ∷ texts) rest (suc i) d l =
     ∙ text_row_here (before + length t) texts rest i d (omega arith)
     ∙ ap (λ n. text_row n (length (get_or texts i d))) place
 
-text_here : (texts : List (List ℕ)) (i : ℕ) (d : List ℕ) → i < length texts → take (length (get_or texts i d)) (drop (place_of texts i) (concat texts)) ≡ get_or texts i d
+text_here : (texts : List (List ℕ)) (i : ℕ) (d : List ℕ) → i < length texts
+    → take (length (get_or texts i d)) (drop (place_of texts i) (concat texts)) ≡ get_or texts i d
 text_here [] i d l = absurd (omega arith)
 text_here (t ∷ texts) zero d l = take_at t (concat texts) (length t) refl
 text_here (t ∷ texts) (suc i) d l =
@@ -101,7 +112,12 @@ text_here (t ∷ texts) (suc i) d l =
 pub text_within : (texts : List (List ℕ)) (i : ℕ) (d : List ℕ) → i < length texts → place_of texts i + length (get_or texts i d) ≤ length (concat texts)
 text_within [] i d l = absurd (omega arith)
 text_within (t ∷ texts) zero d l = omega (arith, length-append t (concat texts))
-text_within (t ∷ texts) (suc i) d l = omega (arith, length-append t (concat texts), length-append t (concat (take i texts)), text_within texts i d (omega arith))
+text_within (t ∷ texts) (suc i) d l = omega (
+  arith,
+  length-append t (concat texts),
+  length-append t (concat (take i texts)),
+  text_within texts i d (omega arith),
+)
 
 -- ---- the widths of rows
 
@@ -198,28 +214,32 @@ steps_at steps m =
     let parts : LineParts = parts_of steps in
     let far : first_step parts + m ≡ 56 + (8 * length (runs_of steps) + m) = omega arith in
     ap (λ n. drop n (line_text steps)) far ∙ runs_at steps (8 * length (runs_of steps) + m)
-    ∙ drop_past (flat_map run_bytes (runs_of steps)) (steps_on parts) (8 * length (runs_of steps)) m (length_rows run_bytes 8 (runs_of steps) (runs_wide (runs_of steps)))
+    ∙ drop_past (flat_map run_bytes (runs_of steps)) (steps_on parts) (8 * length (runs_of steps)) m
+    (length_rows run_bytes 8 (runs_of steps) (runs_wide (runs_of steps)))
 
 chains_at : (steps : List StepRecord) (m : ℕ) → drop (locations_offset (parts_of steps) + m) (line_text steps) ≡ drop m (chains_on (parts_of steps))
 chains_at steps m =
     let parts : LineParts = parts_of steps in
     let far : locations_offset parts + m ≡ first_step parts + (8 * length parts.steps + m) = omega arith in
     ap (λ n. drop n (line_text steps)) far ∙ steps_at steps (8 * length parts.steps + m)
-    ∙ drop_past (flat_map (step_bytes parts) parts.steps) (chains_on parts) (8 * length parts.steps) m (length_rows (step_bytes parts) 8 parts.steps (steps_wide parts))
+    ∙ drop_past (flat_map (step_bytes parts) parts.steps) (chains_on parts) (8 * length parts.steps) m
+    (length_rows (step_bytes parts) 8 parts.steps (steps_wide parts))
 
 files_at : (steps : List StepRecord) (m : ℕ) → drop (first_file (parts_of steps) + m) (line_text steps) ≡ drop m (files_on (parts_of steps))
 files_at steps m =
     let parts : LineParts = parts_of steps in
     let far : first_file parts + m ≡ locations_offset parts + (20 * length parts.chains + m) = omega arith in
     ap (λ n. drop n (line_text steps)) far ∙ chains_at steps (20 * length parts.chains + m)
-    ∙ drop_past (flat_map (location_bytes parts) parts.chains) (files_on parts) (20 * length parts.chains) m (length_rows (location_bytes parts) 20 parts.chains (chains_wide steps))
+    ∙ drop_past (flat_map (location_bytes parts) parts.chains) (files_on parts) (20 * length parts.chains) m
+    (length_rows (location_bytes parts) 20 parts.chains (chains_wide steps))
 
 texts_at : (steps : List StepRecord) (m : ℕ) → drop (first_text (parts_of steps) + m) (line_text steps) ≡ drop m (texts_on (parts_of steps))
 texts_at steps m =
     let parts : LineParts = parts_of steps in
     let far : first_text parts + m ≡ first_file parts + (12 * length parts.files + m) = omega arith in
     ap (λ n. drop n (line_text steps)) far ∙ files_at steps (12 * length parts.files + m)
-    ∙ drop_past (flat_map (file_bytes parts) parts.files) (texts_on parts) (12 * length parts.files) m (length_rows (file_bytes parts) 12 parts.files (files_wide parts))
+    ∙ drop_past (flat_map (file_bytes parts) parts.files) (texts_on parts) (12 * length parts.files) m
+    (length_rows (file_bytes parts) 12 parts.files (files_wide parts))
 
 bytes_at : (steps : List StepRecord) (m : ℕ) → drop (texts_offset (parts_of steps) + m) (line_text steps) ≡ drop m (concat (parts_of steps).texts)
 bytes_at steps m =
@@ -253,10 +273,13 @@ head_there steps =
     let parts : LineParts = parts_of steps in
     ap (take 56) (table_is parts) ∙ take_at (head_bytes parts) (runs_on parts) 56 (length-head parts)
 
-pub run_there : (steps : List StepRecord) (i : ℕ) (d : RunRecord) → i < length (runs_of steps) → take 8 (drop (56 + 8 * i) (line_text steps)) ≡ run_bytes (get_or (runs_of steps) i d)
+pub run_there : (steps : List StepRecord) (i : ℕ) (d : RunRecord) → i < length (runs_of steps)
+    → take 8 (drop (56 + 8 * i) (line_text steps)) ≡ run_bytes (get_or (runs_of steps) i d)
 run_there steps i d l = ap (take 8) (runs_at steps (8 * i)) ∙ row_here run_bytes 8 (runs_of steps) (steps_on (parts_of steps)) i d (runs_wide (runs_of steps)) l
 
-pub step_there : (steps : List StepRecord) (i : ℕ) (d : StepRecord) → i < length steps → take 8 (drop (first_step (parts_of steps) + 8 * i) (line_text steps)) ≡ step_bytes (parts_of steps) (get_or steps i d)
+pub step_there : (steps : List StepRecord) (i : ℕ) (d : StepRecord) → i < length steps
+    → take 8 (drop (first_step (parts_of steps) + 8 * i) (line_text steps))
+    ≡ step_bytes (parts_of steps) (get_or steps i d)
 step_there steps i d l =
     let parts : LineParts = parts_of steps in
     ap (take 8) (steps_at steps (8 * i)) ∙ row_here (step_bytes parts) 8 steps (chains_on parts) i d (steps_wide parts) l
@@ -274,13 +297,17 @@ file_there steps i d l =
     ap (take 12) (files_at steps (12 * i)) ∙ row_here (file_bytes parts) 12 parts.files (texts_on parts) i d (files_wide parts) l
 
 text_row_there : (steps : List StepRecord) (i : ℕ) (d : List ℕ) → i < length (parts_of steps).texts
-    → take 8 (drop (first_text (parts_of steps) + 8 * i) (line_text steps)) ≡ text_row (place_of (parts_of steps).texts i) (length (get_or (parts_of steps).texts i d))
+    → take 8 (drop (first_text (parts_of steps) + 8 * i) (line_text steps))
+    ≡ text_row (place_of (parts_of steps).texts i) (length (get_or (parts_of steps).texts i d))
 text_row_there steps i d l =
     let parts : LineParts = parts_of steps in
-    ap (take 8) (texts_at steps (8 * i)) ∙ text_row_here 0 parts.texts (concat parts.texts) i d l ∙ ap (λ n. text_row n (length (get_or parts.texts i d))) (omega arith)
+    ap (take 8) (texts_at steps (8 * i)) ∙ text_row_here 0 parts.texts (concat parts.texts) i d l
+    ∙ ap (λ n. text_row n (length (get_or parts.texts i d))) (omega arith)
 
 pub text_there : (steps : List StepRecord) (i : ℕ) (d : List ℕ) → i < length (parts_of steps).texts
-    → take (length (get_or (parts_of steps).texts i d)) (drop (texts_offset (parts_of steps) + place_of (parts_of steps).texts i) (line_text steps)) ≡ get_or (parts_of steps).texts i d
+    → take (length (get_or (parts_of steps).texts i d))
+    (drop (texts_offset (parts_of steps) + place_of (parts_of steps).texts i) (line_text steps))
+    ≡ get_or (parts_of steps).texts i d
 text_there steps i d l =
     let parts : LineParts = parts_of steps in
     ap (take (length (get_or parts.texts i d))) (bytes_at steps (place_of parts.texts i)) ∙ text_here parts.texts i d l
@@ -295,20 +322,26 @@ pub count_in : (run : RunRecord) → run.steps < 2 ^ 32 → from_be_bytes w32 (t
 unfolding run_bytes
 count_in run fits = from_be_bytes-to_be_bytes_4 run.steps fits
 
-pub lower_in : (parts : LineParts) (s : StepRecord) → lower_half s.start < 2 ^ 32 → from_be_bytes w32 (take 4 (drop 0 (step_bytes parts s))) ≡ lower_half s.start
+pub lower_in : (parts : LineParts) (s : StepRecord) → lower_half s.start < 2 ^ 32
+    → from_be_bytes w32 (take 4 (drop 0 (step_bytes parts s))) ≡ lower_half s.start
 unfolding step_bytes
 lower_in parts s fits = from_be_bytes-to_be_bytes_4 (lower_half s.start) fits
 
-pub location_in : (parts : LineParts) (s : StepRecord) → number_in same_chain parts.chains s.frames < 2 ^ 32 → from_be_bytes w32 (take 4 (drop 4 (step_bytes parts s))) ≡ number_in same_chain parts.chains s.frames
+pub location_in : (parts : LineParts) (s : StepRecord) → number_in same_chain parts.chains s.frames < 2 ^ 32
+    → from_be_bytes w32 (take 4 (drop 4 (step_bytes parts s))) ≡ number_in same_chain parts.chains s.frames
 unfolding step_bytes
 location_in parts s fits = from_be_bytes-to_be_bytes_4 (number_in same_chain parts.chains s.frames) fits
 
 module _ (parts : LineParts) (f : FrameRecord) (fs : List FrameRecord) where
-  pub name_in : number_or_zero same_text parts.texts f.name < 2 ^ 32 → from_be_bytes w32 (take 4 (drop 0 (location_bytes parts (f ∷ fs)))) ≡ number_or_zero same_text parts.texts f.name
+  pub name_in : number_or_zero same_text parts.texts f.name < 2 ^ 32
+      → from_be_bytes w32 (take 4 (drop 0 (location_bytes parts (f ∷ fs))))
+      ≡ number_or_zero same_text parts.texts f.name
   unfolding location_bytes
   name_in fits = from_be_bytes-to_be_bytes_4 (number_or_zero same_text parts.texts f.name) fits
 
-  pub file_in : number_or_zero same_path parts.files f.path < 2 ^ 32 → from_be_bytes w32 (take 4 (drop 4 (location_bytes parts (f ∷ fs)))) ≡ number_or_zero same_path parts.files f.path
+  pub file_in : number_or_zero same_path parts.files f.path < 2 ^ 32
+      → from_be_bytes w32 (take 4 (drop 4 (location_bytes parts (f ∷ fs))))
+      ≡ number_or_zero same_path parts.files f.path
   unfolding location_bytes
   file_in fits = from_be_bytes-to_be_bytes_4 (number_or_zero same_path parts.files f.path) fits
 
@@ -320,20 +353,24 @@ module _ (parts : LineParts) (f : FrameRecord) (fs : List FrameRecord) where
   unfolding location_bytes
   column_in fits = from_be_bytes-to_be_bytes_4 f.column fits
 
-  pub caller_in : number_in same_chain parts.chains fs < 2 ^ 32 → from_be_bytes w32 (take 4 (drop 16 (location_bytes parts (f ∷ fs)))) ≡ number_in same_chain parts.chains fs
+  pub caller_in : number_in same_chain parts.chains fs < 2 ^ 32
+      → from_be_bytes w32 (take 4 (drop 16 (location_bytes parts (f ∷ fs)))) ≡ number_in same_chain parts.chains fs
   unfolding location_bytes
   caller_in fits = from_be_bytes-to_be_bytes_4 (number_in same_chain parts.chains fs) fits
 
 module _ (parts : LineParts) (path : PathRecord) where
-  pub base_in : number_in same_text parts.texts path.base < 2 ^ 32 → from_be_bytes w32 (take 4 (drop 0 (file_bytes parts path))) ≡ number_in same_text parts.texts path.base
+  pub base_in : number_in same_text parts.texts path.base < 2 ^ 32
+      → from_be_bytes w32 (take 4 (drop 0 (file_bytes parts path))) ≡ number_in same_text parts.texts path.base
   unfolding file_bytes
   base_in fits = from_be_bytes-to_be_bytes_4 (number_in same_text parts.texts path.base) fits
 
-  pub directory_in : number_in same_text parts.texts path.directory < 2 ^ 32 → from_be_bytes w32 (take 4 (drop 4 (file_bytes parts path))) ≡ number_in same_text parts.texts path.directory
+  pub directory_in : number_in same_text parts.texts path.directory < 2 ^ 32
+      → from_be_bytes w32 (take 4 (drop 4 (file_bytes parts path))) ≡ number_in same_text parts.texts path.directory
   unfolding file_bytes
   directory_in fits = from_be_bytes-to_be_bytes_4 (number_in same_text parts.texts path.directory) fits
 
-  pub file_name_in : number_in same_text parts.texts path.name < 2 ^ 32 → from_be_bytes w32 (take 4 (drop 8 (file_bytes parts path))) ≡ number_in same_text parts.texts path.name
+  pub file_name_in : number_in same_text parts.texts path.name < 2 ^ 32
+      → from_be_bytes w32 (take 4 (drop 8 (file_bytes parts path))) ≡ number_in same_text parts.texts path.name
   unfolding file_bytes
   file_name_in fits = from_be_bytes-to_be_bytes_4 (number_in same_text parts.texts path.name) fits
 

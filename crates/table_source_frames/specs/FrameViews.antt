@@ -1,4 +1,4 @@
--- What the frames that were read are in the definitions.
+-- The frames that were read, as the definitions have them.
 use Rattle.std.specs.Prelude.{List, map}
 use Rattle.std.specs.Option.{option_map}
 use Rattle.dwarf_lines.specs.Paths.{PathRecord}

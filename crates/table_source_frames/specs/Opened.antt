@@ -46,16 +46,18 @@ abbrev pub IsUnstored : LineTable → Pages → List ℕ → Type 0
 IsUnstored table pages text = (all : List ℕ) (steps : List StepRecord) → AreStored text (claim_view pages.claim) all
     → IsOpened table pages text all steps → ⊥
 
--- A call reads of a table that was opened: what it gives is true of the steps of that table, and it is refused as changed
--- only if no such table is stored there.
-abbrev pub ReadsTable : {D T : Type 0} → (D → Option (List ℕ)) → (D → ℕ) → D → D → Result T CheckFault → LineTable → Pages
+-- A call reads of a table that was opened: what it gives is true of the steps of that table, and it is refused as
+-- changed only if no such table is stored there.
+abbrev pub ReadsTable : {D T : Type 0} → (D → Option (List ℕ)) → (D → ℕ) → D → D → Result T CheckFault → LineTable
+    → Pages
     → (List StepRecord → T → Type 0) → Type 0
 ReadsTable whole failures old new result table pages IsTrue = ReadsStored whole failures old new result
     (λ text given. (all : List ℕ) (steps : List StepRecord) → IsOpened table pages text all steps → IsTrue steps given)
     (IsUnstored table pages)
 
 -- The same of a part of that table which it is asked for: whatever that is, what the call gives is true of it.
-abbrev pub ReadsPart : {D T : Type 0} (A : Type 0) → (D → Option (List ℕ)) → (D → ℕ) → D → D → Result T CheckFault → LineTable
+abbrev pub ReadsPart : {D T : Type 0} (A : Type 0) → (D → Option (List ℕ)) → (D → ℕ) → D → D → Result T CheckFault
+    → LineTable
     → Pages → (List StepRecord → A → Type 0) → (List StepRecord → A → T → Type 0) → Type 0
 ReadsPart A whole failures old new result table pages IsPart IsTrue = ReadsStored whole failures old new result
     (λ text given. (all : List ℕ) (steps : List StepRecord) (part : A) → IsOpened table pages text all steps

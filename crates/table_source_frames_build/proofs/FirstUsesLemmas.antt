@@ -16,14 +16,16 @@ pub exact_numbers : IsExact nat_eq
 exact_numbers x y = (eqb-true x y, eq-eqb x y)
 
 -- a number that is used already
-pub taken_same : (given order : List ℕ) (place number : ℕ) → AreGiven given order → place < length given → number ≡ suc place → get_or given place 0 ≢ 0 → order ≡ numbered_with nat_eq order number
+pub taken_same : (given order : List ℕ) (place number : ℕ) → AreGiven given order → place < length given → number
+    ≡ suc place → get_or given place 0 ≢ 0 → order ≡ numbered_with nat_eq order number
 taken_same given order place number are within is some = elim (with_cases nat_eq exact_numbers order number) [
   | inl h ↦ sym h.1
   | inr h ↦ absurd (some (are.each place within ∙ ap (number_in nat_eq order) (sym is) ∙ h.0))
 ]
 
 -- one that is not
-module _ (given order : List ℕ) (place number : ℕ) (are : AreGiven given order) (within : place < length given) (is : number ≡ suc place) (none : get_or given place 0 ≡ 0) where
+module _ (given order : List ℕ) (place number : ℕ) (are : AreGiven given order) (within : place < length given)
+    (is : number ≡ suc place) (none : get_or given place 0 ≡ 0) where
   unused : number_in nat_eq order number ≡ 0
   unused = ap (number_in nat_eq order) is ∙ sym (are.each place within) ∙ none
 
@@ -47,7 +49,8 @@ module _ (given order : List ℕ) (place number : ℕ) (are : AreGiven given ord
     within = λ at h. elim (cases_eq at (length order)) [
       | inl last ↦
           let here : number ≡ get_or (order ++ number ∷ []) at 0 = sym (get_or_push order number 0 at (sym last)) in
-          subst (IsNumber (length (set given place next))) here (record { some = omega (arith, is); within = omega (arith, is, within, length-set given place next) })
+          subst (IsNumber (length (set given place next))) here
+          (record { some = omega (arith, is); within = omega (arith, is, within, length-set given place next) })
       | inr other ↦
           let before : at < length order = omega (arith, h, length_push order number, other) in
           let same : get_or order at 0 ≡ get_or (order ++ number ∷ []) at 0 = sym (get_or_append_left order (number ∷ []) 0 at before) in
@@ -139,7 +142,9 @@ module _ {A : Type 0} (P : ℕ → Type 0) (f : ℕ → A) (same : A → A → B
   told_number xs n each p = ap (λ (o : Option ℕ). unwrap_or o 0) (told_place 1 xs n each p)
 
 -- the number of what may be told of
-pub told_or_zero : {A : Type 0} (count : ℕ) (f : ℕ → A) (same : A → A → Bool) → IsExact same → ((m n : ℕ) → IsNumber count m → IsNumber count n → f m ≡ f n → m ≡ n)
+pub told_or_zero : {A : Type 0} (count : ℕ) (f : ℕ → A) (same : A → A → Bool) → IsExact same
+    → ((m n : ℕ) → IsNumber count m → IsNumber count n → f m ≡ f n → m ≡ n)
     → (xs : List ℕ) (n : ℕ) → Each (IsNumber count) xs → n ≤ count → number_or_zero same (map f xs) (at_number f n) ≡ number_in nat_eq xs n
 told_or_zero count f same exact apart xs zero each within = sym (not_zero xs (λ i less. (at_each (IsNumber count) xs each i less).some))
-told_or_zero count f same exact apart xs (suc i) each within = told_number (IsNumber count) f same exact apart xs (suc i) each (record { some = omega arith; within = within })
+told_or_zero count f same exact apart xs (suc i) each within =
+    told_number (IsNumber count) f same exact apart xs (suc i) each (record { some = omega arith; within = within })

@@ -6,7 +6,10 @@ use Rattle.std.proofs.lemmas.List.{append-nil, get_or-map, get_or_append_left, g
 use Rattle.std.proofs.lemmas.Option.{get_or_from_slice_get, slice_get-get_or, slice_get-map, slice_get_within}
 use Rattle.dwarf_lines.specs.Paths.{PathRecord}
 use Rattle.dwarf_source_frames.specs.Frames.{FrameRecord}
-use Rattle.table_source_frames_build.specs.Kept.{KeptRecord, numbered_or, at_number, text_at, file_key_at, path_of_key, file_at, location_key_at, frame_of_key, callers_within, callers_of, chain_within, chain_at, IsFileKey, IsLocationKey, IsKept, IsNumberedIn, GoesOn, Grows, IsName, IsKeyOf, IsFile, IsLocation}
+use Rattle.table_source_frames_build.specs.Kept.{KeptRecord, numbered_or, at_number, text_at, file_key_at, path_of_key}
+use Rattle.table_source_frames_build.specs.Kept.{file_at, location_key_at, frame_of_key, callers_within, callers_of}
+use Rattle.table_source_frames_build.specs.Kept.{chain_within, chain_at, IsFileKey, IsLocationKey, IsKept, IsNumberedIn}
+use Rattle.table_source_frames_build.specs.Kept.{GoesOn, Grows, IsName, IsKeyOf, IsFile, IsLocation}
 use Rattle.table_source_frames_build.specs.Numbering.{IsNumber}
 use Rattle.table_source_frames_build.specs.Numbers.{IsNumbered}
 use Rattle.table_source_frames_build.specs.declared.keys.FileKey.{FileKey}
@@ -26,7 +29,8 @@ longer : {A : Type 0} (xs : List A) (x : A) → length (xs ++ x ∷ []) ≡ suc 
 longer xs x = omega (arith, length_push xs x)
 
 -- a key that has its number has it among what keys tell of
-module _ {K A : Type 0} (cmp : K → K → Ordering) (f : K → A) (exact : (a b : K) → is_eq (cmp a b) ≡ true → f a ≡ f b) (same : (a b : K) → f a ≡ f b → is_eq (cmp a b) ≡ true) where
+module _ {K A : Type 0} (cmp : K → K → Ordering) (f : K → A) (exact : (a b : K) → is_eq (cmp a b) ≡ true → f a ≡ f b)
+    (same : (a b : K) → f a ≡ f b → is_eq (cmp a b) ≡ true) where
   pub told_by : (d : A) (old : List K) (key : K) (n : ℕ) (new : List K) → IsNumbered cmp old key n new → IsNumberedIn d (map f old) (f key) n (map f new)
   told_by d old key n new h =
       let there = h.there in
@@ -40,7 +44,8 @@ module _ {K A : Type 0} (cmp : K → K → Ordering) (f : K → A) (exact : (a b
         ];
       }
     where
-      other : ((i : ℕ) (k : K) → slice_get old i ≡ Some k → is_eq (cmp key k) ≡ false) → (m : ℕ) → IsNumber (length (map f old)) m → numbered_or (map f old) d m ≡ f key → ⊥
+      other : ((i : ℕ) (k : K) → slice_get old i ≡ Some k → is_eq (cmp key k) ≡ false) → (m : ℕ)
+          → IsNumber (length (map f old)) m → numbered_or (map f old) d m ≡ f key → ⊥
       other none zero is e = omega (arith, is.some)
       other none (suc i) is e =
           let within : i < length old = omega (arith, is.within, length-map old f) in
@@ -65,7 +70,8 @@ once_more d old x n new h once = elim h.kept [
 ]
   where
     more : ((m : ℕ) → IsNumber (length old) m → numbered_or old d m ≡ x → ⊥)
-        → (a b : ℕ) → IsNumber (length (old ++ x ∷ [])) a → IsNumber (length (old ++ x ∷ [])) b → numbered_or (old ++ x ∷ []) d a ≡ numbered_or (old ++ x ∷ []) d b → a ≡ b
+        → (a b : ℕ) → IsNumber (length (old ++ x ∷ [])) a → IsNumber (length (old ++ x ∷ [])) b
+        → numbered_or (old ++ x ∷ []) d a ≡ numbered_or (old ++ x ∷ []) d b → a ≡ b
     more none a b one two e = elim (last_or_first old x a one) [
       | inl before_a ↦ elim (last_or_first old x b two) [
         | inl before_b ↦ once a b before_a before_b (sym (or_first old (x ∷ []) d a before_a.within) ∙ e ∙ or_first old (x ∷ []) d b before_b.within)
@@ -199,7 +205,8 @@ module _ (k : KeptRecord) (kept : IsKept k) where
       (ap (λ fs. frame_of_key k key ∷ fs) rest.0, ap (λ ns. suc i ∷ ns) rest.1)
 
   -- a location has its frame, and then those of the one that it is inlined into
-  pub chain_step : (i : ℕ) → suc i ≤ length k.locations → chain_at k (suc i) ≡ frame_of_key k (location_key_at k (suc i)) ∷ chain_at k (location_key_at k (suc i)).caller
+  pub chain_step : (i : ℕ) → suc i ≤ length k.locations → chain_at k (suc i)
+      ≡ frame_of_key k (location_key_at k (suc i)) ∷ chain_at k (location_key_at k (suc i)).caller
   unfolding chain_at chain_within
   chain_step i within =
       let key : LocationKey = location_key_at k (suc i) in
@@ -226,7 +233,13 @@ callers_none k = refl
 module _ (k : KeptRecord) (kept : IsKept k) where
   pub text_kept : (new : List (List ℕ)) (x : List ℕ) (n : ℕ) → IsNumberedIn [] k.texts x n new → IsKept (record k { texts = new })
   text_kept new x n h =
-      let grows : Grows k (record k { texts = new }) = record { texts = goes_on [] k.texts x n new h; files = stays k.files k.files refl; locations = stays k.locations k.locations refl } in
+      let grows : Grows k (record k { texts = new }) =
+      record {
+        texts = goes_on [] k.texts x n new h;
+        files = stays k.files k.files refl;
+        locations =
+            stays k.locations k.locations refl;
+      } in
       record {
         texts = once_more [] k.texts x n new h kept.texts;
         files = kept.files;
@@ -235,41 +248,62 @@ module _ (k : KeptRecord) (kept : IsKept k) where
         each_location = λ m is. location_key_on k (record k { texts = new }) grows m (location_key_at k m) (kept.each_location m is);
       }
 
-  pub file_kept : (new : List FileKey) (key : FileKey) (n : ℕ) → IsNumberedIn (record { base = 0; directory = 0; name = 0 }) k.files key n new → IsFileKey k key → IsKept (record k { files = new })
+  pub file_kept : (new : List FileKey) (key : FileKey) (n : ℕ)
+      → IsNumberedIn (record { base = 0; directory = 0; name = 0 }) k.files key n new → IsFileKey k key
+      → IsKept (record k { files = new })
   file_kept new key n h is_key =
       let other : FileKey = record { base = 0; directory = 0; name = 0 } in
-      let grows : Grows k (record k { files = new }) = record { texts = stays k.texts k.texts refl; files = goes_on other k.files key n new h; locations = stays k.locations k.locations refl } in
+      let grows : Grows k (record k { files = new }) =
+      record {
+        texts = stays k.texts k.texts refl;
+        files = goes_on other k.files key n new h;
+        locations =
+            stays k.locations k.locations refl;
+      } in
       record {
         texts = kept.texts;
         files = once_more other k.files key n new h kept.files;
         locations = kept.locations;
-        each_file = each_more other k.files key n new (λ m f. IsFileKey (record k { files = new }) f) h (file_key_on k (record k { files = new }) grows key is_key)
+        each_file = each_more other k.files key n new (λ m f. IsFileKey (record k { files = new }) f) h
+            (file_key_on k (record k { files = new }) grows key is_key)
             (λ m is. file_key_on k (record k { files = new }) grows (file_key_at k m) (kept.each_file m is));
         each_location = λ m is. location_key_on k (record k { files = new }) grows m (location_key_at k m) (kept.each_location m is);
       }
 
-  pub location_kept : (new : List LocationKey) (key : LocationKey) (n : ℕ) → IsNumberedIn (record { name = 0; file = 0; line = 0; column = 0; caller = 0 }) k.locations key n new
+  pub location_kept : (new : List LocationKey) (key : LocationKey) (n : ℕ)
+      → IsNumberedIn (record { name = 0; file = 0; line = 0; column = 0; caller = 0 }) k.locations key n new
       → IsLocationKey k (suc (length k.locations)) key → IsKept (record k { locations = new })
   location_kept new key n h is_key =
       let other : LocationKey = record { name = 0; file = 0; line = 0; column = 0; caller = 0 } in
-      let grows : Grows k (record k { locations = new }) = record { texts = stays k.texts k.texts refl; files = stays k.files k.files refl; locations = goes_on other k.locations key n new h } in
+      let grows : Grows k (record k { locations = new }) =
+      record {
+        texts = stays k.texts k.texts refl;
+        files = stays k.files k.files refl;
+        locations =
+            goes_on other k.locations key n new h;
+      } in
       record {
         texts = kept.texts;
         files = kept.files;
         locations = once_more other k.locations key n new h kept.locations;
         each_file = λ m is. file_key_on k (record k { locations = new }) grows (file_key_at k m) (kept.each_file m is);
-        each_location = each_more other k.locations key n new (λ m l. IsLocationKey (record k { locations = new }) m l) h (location_key_on k (record k { locations = new }) grows (suc (length k.locations)) key is_key)
+        each_location = each_more other k.locations key n new (λ m l. IsLocationKey (record k { locations = new }) m l)
+            h (location_key_on k (record k { locations = new }) grows (suc (length k.locations)) key is_key)
             (λ m is. location_key_on k (record k { locations = new }) grows m (location_key_at k m) (kept.each_location m is));
       }
 
-pub is_file : (k : KeptRecord) (new : List FileKey) (key : FileKey) (n : ℕ) (path : PathRecord) → IsNumberedIn (record { base = 0; directory = 0; name = 0 }) k.files key n new → IsKeyOf k key path → IsFile (record k { files = new }) n (Some path)
+pub is_file : (k : KeptRecord) (new : List FileKey) (key : FileKey) (n : ℕ) (path : PathRecord)
+    → IsNumberedIn (record { base = 0; directory = 0; name = 0 }) k.files key n new → IsKeyOf k key path
+    → IsFile (record k { files = new }) n (Some path)
 is_file k new key n path h is = record {
   within = h.is_number.within;
   is = at_some (file_at (record k { files = new })) n h.is_number.some ∙ ap (λ f. Some (path_of_key k f)) h.is ∙ ap Some is.is;
 }
 
 -- a location more
-module _ (k : KeptRecord) (kept : IsKept k) (key : LocationKey) (name : key.name ≤ length k.texts) (file : key.file ≤ length k.files) (caller : key.caller ≤ length k.locations) (line : key.line < 2 ^ 32) (column : key.column < 2 ^ 32)
+module _ (k : KeptRecord) (kept : IsKept k) (key : LocationKey) (name : key.name ≤ length k.texts)
+    (file : key.file ≤ length k.files) (caller : key.caller ≤ length k.locations) (line : key.line < 2 ^ 32)
+    (column : key.column < 2 ^ 32)
     (new : List LocationKey) (n : ℕ) (h : IsNumberedIn (record { name = 0; file = 0; line = 0; column = 0; caller = 0 }) k.locations key n new) where
   pub located_kept : IsKept (record k { locations = new })
   located_kept = location_kept k kept new key n h (record { name = name; file = file; caller = omega (arith, caller); line = line; column = column })
@@ -284,7 +318,9 @@ module _ (k : KeptRecord) (kept : IsKept k) (key : LocationKey) (name : key.name
   step_at : (m : ℕ) → n ≡ m → IsNumber (length new) m → chain_at (record k { locations = new }) m ≡ frame_of_key k key ∷ chain_at k key.caller
   step_at zero e is = absurd (omega (arith, is.some))
   step_at (suc i) e is =
-      let here : location_key_at (record k { locations = new }) (suc i) ≡ key = ap (numbered_or new (record { name = 0; file = 0; line = 0; column = 0; caller = 0 })) (sym e) ∙ h.is in
+      let here : location_key_at (record k { locations = new }) (suc i)
+      ≡ key = ap (numbered_or new (record { name = 0; file = 0; line = 0; column = 0; caller = 0 })) (sym e) ∙ h.is
+      in
       chain_step (record k { locations = new }) located_kept i is.within
       ∙ ap (λ (q : LocationKey). frame_of_key k q ∷ chain_at (record k { locations = new }) q.caller) here
       ∙ ap (λ fs. frame_of_key k key ∷ fs) (chain_same k (record k { locations = new }) located_grows kept key.caller caller)

@@ -48,7 +48,8 @@ module _ {K : Type 0} (cmp : K → K → Ordering) (o : IsTotalOrder cmp) where
   back a b e = ap is_eq (tied_back o a b ((Equal-is (cmp a b)).0 e))
 
   -- a key that is not found is none of them
-  pub absent : (map : tree_map.BTreeMap K ℕ) (keys : List K) (key : K) → AreNumbered cmp map keys → tree_map.get cmp map key ≡ None → (i : ℕ) (k : K) → slice_get keys i ≡ Some k → is_eq (cmp key k) ≡ false
+  pub absent : (map : tree_map.BTreeMap K ℕ) (keys : List K) (key : K) → AreNumbered cmp map keys
+      → tree_map.get cmp map key ≡ None → (i : ℕ) (k : K) → slice_get keys i ≡ Some k → is_eq (cmp key k) ≡ false
   absent map keys key are none i k at = elim (cases_Bool (is_eq (cmp key k))) [
     | inl t ↦
         let gone : ◌≡◌ {A = Option ℕ} (Some (suc i)) None = sym (are.each i k at) ∙ sym (same_get map key k t) ∙ none in
@@ -57,7 +58,9 @@ module _ {K : Type 0} (cmp : K → K → Ordering) (o : IsTotalOrder cmp) where
   ]
 
   -- a key more
-  pub numbered_more : (old new : tree_map.BTreeMap K ℕ) (keys next : List K) (key : K) (number : ℕ) → AreNumbered cmp old keys → tree_map.get cmp old key ≡ None → next ≡ keys ++ key ∷ [] → number ≡ suc (length keys)
+  pub numbered_more : (old new : tree_map.BTreeMap K ℕ) (keys next : List K) (key : K) (number : ℕ)
+      → AreNumbered cmp old keys → tree_map.get cmp old key ≡ None → next ≡ keys ++ key ∷ [] → number
+      ≡ suc (length keys)
       → ((q : K) → tree_map.get cmp new q ≡ cond (is_eq (cmp key q)) (Some number) (tree_map.get cmp old q)) → AreNumbered cmp new next
   numbered_more old new keys next key number are none is_next is_number updated = record {
     each = λ i k at. elim (push_at keys key i k (sym (ap (λ l. slice_get l i) is_next) ∙ at)) [
@@ -79,7 +82,9 @@ module _ {K : Type 0} (cmp : K → K → Ordering) (o : IsTotalOrder cmp) where
   }
 
   -- what a key gets that was not there
-  pub numbered_now : (old : tree_map.BTreeMap K ℕ) (keys next : List K) (key : K) (number : ℕ) → AreNumbered cmp old keys → tree_map.get cmp old key ≡ None → next ≡ keys ++ key ∷ [] → number ≡ suc (length keys)
+  pub numbered_now : (old : tree_map.BTreeMap K ℕ) (keys next : List K) (key : K) (number : ℕ)
+      → AreNumbered cmp old keys → tree_map.get cmp old key ≡ None → next ≡ keys ++ key ∷ [] → number
+      ≡ suc (length keys)
       → IsNumbered cmp keys key number next
   numbered_now old keys next key number are none is_next is_number = record {
     there = (length keys, key, is_number, ap (λ l. slice_get l (length keys)) is_next ∙ at_last keys key, itself key);
@@ -113,13 +118,15 @@ file_cmp a b = ordering_then (nat_cmp a.base b.base) (ordering_then (nat_cmp a.d
 file_exact : (a b : FileKey) → is_eq (file_cmp a b) ≡ true → a ≡ b
 file_exact a b e =
     let both = exact_pairs nat_cmp (λ (x y : ℕ × ℕ). ordering_then (nat_cmp x.0 y.0) (nat_cmp x.1 y.1)) exact_unsigned
-    (exact_pairs nat_cmp nat_cmp exact_unsigned exact_unsigned) (a.base, (a.directory, a.name)) (b.base, (b.directory, b.name)) ((Equal-is (file_cmp a b)).0 e) in
+    (exact_pairs nat_cmp nat_cmp exact_unsigned exact_unsigned) (a.base, (a.directory, a.name))
+    (b.base, (b.directory, b.name)) ((Equal-is (file_cmp a b)).0 e) in
     λ i. record { base = (both i).0; directory = (both i).1.0; name = (both i).1.1 }
 
 file_same : (a b : FileKey) → a ≡ b → is_eq (file_cmp a b) ≡ true
 file_same a b e = subst (λ (c : FileKey). is_eq (file_cmp a c) ≡ true) e (simp (tied_itself nat_cmp_total))
 
-pub file_told : (old : List FileKey) (key : FileKey) (n : ℕ) (new : List FileKey) → IsNumbered file_cmp old key n new → IsNumberedIn (record { base = 0; directory = 0; name = 0 }) old key n new
+pub file_told : (old : List FileKey) (key : FileKey) (n : ℕ) (new : List FileKey) → IsNumbered file_cmp old key n new
+    → IsNumberedIn (record { base = 0; directory = 0; name = 0 }) old key n new
 file_told old key n new h =
     simp map-id at (told_by file_cmp (λ (f : FileKey). f) file_exact file_same (record { base = 0; directory = 0; name = 0 }) old key n new h)
 
@@ -132,7 +139,8 @@ location_cmp a b =
 location_exact : (a b : LocationKey) → is_eq (location_cmp a b) ≡ true → a ≡ b
 location_exact a b e =
     let both = exact_pairs nat_cmp _ exact_unsigned (exact_pairs nat_cmp _ exact_unsigned (exact_pairs nat_cmp _ exact_unsigned
-    (exact_pairs nat_cmp nat_cmp exact_unsigned exact_unsigned))) (a.caller, (a.name, (a.line, (a.column, a.file)))) (b.caller, (b.name, (b.line, (b.column, b.file)))) ((Equal-is (location_cmp a b)).0 e) in
+    (exact_pairs nat_cmp nat_cmp exact_unsigned exact_unsigned))) (a.caller, (a.name, (a.line, (a.column, a.file))))
+    (b.caller, (b.name, (b.line, (b.column, b.file)))) ((Equal-is (location_cmp a b)).0 e) in
     λ i. record { caller = (both i).0; name = (both i).1.0; line = (both i).1.1.0; column = (both i).1.1.1.0; file = (both i).1.1.1.1 }
 
 location_same : (a b : LocationKey) → a ≡ b → is_eq (location_cmp a b) ≡ true
@@ -141,7 +149,8 @@ location_same a b e = subst (λ (c : LocationKey). is_eq (location_cmp a c) ≡ 
 pub location_told : (old : List LocationKey) (key : LocationKey) (n : ℕ) (new : List LocationKey) → IsNumbered location_cmp old key n new
     → IsNumberedIn (record { name = 0; file = 0; line = 0; column = 0; caller = 0 }) old key n new
 location_told old key n new h =
-    simp map-id at (told_by location_cmp (λ (l : LocationKey). l) location_exact location_same (record { name = 0; file = 0; line = 0; column = 0; caller = 0 }) old key n new h)
+    simp map-id at (told_by location_cmp (λ (l : LocationKey). l) location_exact location_same
+    (record { name = 0; file = 0; line = 0; column = 0; caller = 0 }) old key n new h)
 
 -- ---- by what a call gave
 

@@ -42,11 +42,13 @@ abbrev Rise : ℕ → List StepRecord → Type 0
 Rise low [] = Unit {0}
 Rise low (s ∷ ss) = (low ≤ s.start) × Rise (suc s.start) ss
 
-up_from : (ss : List StepRecord) (low : ℕ) → IsNonDecreasingBy (λ (s : StepRecord). s.start) ss → ((i : ℕ) (d : StepRecord) → i < length ss → low ≤ suc (get_or ss i d).start) → Up low ss
+up_from : (ss : List StepRecord) (low : ℕ) → IsNonDecreasingBy (λ (s : StepRecord). s.start) ss
+    → ((i : ℕ) (d : StepRecord) → i < length ss → low ≤ suc (get_or ss i d).start) → Up low ss
 up_from [] low up least = tt
 up_from (s ∷ ss) low up least = (
   least 0 s (omega arith),
-  up_from ss (suc s.start) (λ i j d le less. up (suc i) (suc j) d (omega arith) (omega arith)) (λ i d less. let le = up 0 (suc i) d (omega arith) (omega arith) in omega (arith, le)),
+  up_from ss (suc s.start) (λ i j d le less. up (suc i) (suc j) d (omega arith) (omega arith))
+      (λ i d less. let le = up 0 (suc i) d (omega arith) (omega arith) in omega (arith, le)),
 )
 
 -- those that are left start no earlier
@@ -72,7 +74,8 @@ module _ (image : List ℕ) (one : (a : ℕ) (f g : List FrameRecord) → AreFra
   one_before (suc a) f g p q = one a f g p q
 
   -- frames that stay are those of later addresses
-  carried : (count low : ℕ) (before : List FrameRecord) → AreFramesBefore image low before → ((a : ℕ) → low ≤ a → a < low + count → Stays image a) → AreFramesBefore image (low + count) before
+  carried : (count low : ℕ) (before : List FrameRecord) → AreFramesBefore image low before
+      → ((a : ℕ) → low ≤ a → a < low + count → Stays image a) → AreFramesBefore image (low + count) before
   carried zero low before is stay = let none : low ≡ low + 0 = omega arith in subst (λ n. AreFramesBefore image n before) none is
   carried (suc count) low before is stay =
       let earlier : AreFramesBefore image (low + count) before = carried count low before is (λ a from less. stay a from (omega arith)) in
@@ -91,7 +94,8 @@ module _ (image : List ℕ) (one : (a : ℕ) (f g : List FrameRecord) → AreFra
     pub stay : Outside low steps
 
   -- an address that is left
-  module _ (s : StepRecord) (ss : List StepRecord) (low : ℕ) (before : List FrameRecord) (new : low ≤ s.start) (small : s.start < 2 ^ 64) (up : Up (suc s.start) ss) (is : AreFramesBefore image low before)
+  module _ (s : StepRecord) (ss : List StepRecord) (low : ℕ) (before : List FrameRecord) (new : low ≤ s.start)
+      (small : s.start < 2 ^ 64) (up : Up (suc s.start) ss) (is : AreFramesBefore image low before)
       (frames : AreFramesOf image s.start s.frames) (outside : Outside low (s ∷ ss)) where
     earlier : (a : ℕ) → low ≤ a → a < s.start → Stays image a
     earlier a from less = outside a from (omega (arith, less, small)) (λ h. elim h [
@@ -144,14 +148,17 @@ module _ (image : List ℕ) (one : (a : ℕ) (f g : List FrameRecord) → AreFra
     }
 
   walk : (ss : List StepRecord) (low : ℕ) (before : List FrameRecord) → Up low ss → AllByRecursion (λ (s : StepRecord). s.start < 2 ^ 64) ss
-      → AllByRecursion (λ (s : StepRecord). AreFramesOf image s.start s.frames) ss → AreFramesBefore image low before → Outside low ss → IsWalk low (changes_after before ss)
+      → AllByRecursion (λ (s : StepRecord). AreFramesOf image s.start s.frames) ss → AreFramesBefore image low before
+      → Outside low ss → IsWalk low (changes_after before ss)
   unfolding changes_after
   walk [] low before up small frames is outside = record { rise = tt; changes = λ a h. elim h [ ]; stay = outside }
   walk (s ∷ ss) low before up small frames is outside = elim (cases_lt s.start low) [
     | inl again ↦
         let next : low ≡ suc s.start = omega (arith, again, up.0) in
         let same_frames : s.frames ≡ before = one s.start s.frames before frames.0 (subst (λ n. AreFramesBefore image n before) next is) in
-        rw ((chain_decides s.frames before).1 same_frames) (walk ss low before (subst (λ n. Up n ss) (sym next) up.1) small.1 frames.1 is (λ a from less none. outside a from less (λ h. elim h [
+        rw ((chain_decides s.frames before).1 same_frames)
+        (walk ss low before (subst (λ n. Up n ss) (sym next) up.1) small.1 frames.1 is
+        (λ a from less none. outside a from less (λ h. elim h [
           | inl e ↦ absurd (omega (arith, e, from, again))
           | inr more ↦ none more
         ])))
@@ -181,7 +188,9 @@ module _ (image : List ℕ) (one : (a : ℕ) (f g : List FrameRecord) → AreFra
   ascend (s ∷ ss) low zero (suc j) r less within = omega (arith, from_rise ss (suc s.start) j r.1 (omega arith))
   ascend (s ∷ ss) low (suc i) (suc j) r less within = ascend ss (suc s.start) i j r.1 (omega arith) (omega arith)
 
-  pub least_are_steps : (added steps : List StepRecord) → AreLeastSteps added steps → All (λ (s : StepRecord). s.start < 2 ^ 64) added → All (λ (s : StepRecord). AreFramesOf image s.start s.frames) added
+  pub least_are_steps : (added steps : List StepRecord) → AreLeastSteps added steps
+      → All (λ (s : StepRecord). s.start < 2 ^ 64) added
+      → All (λ (s : StepRecord). AreFramesOf image s.start s.frames) added
       → ((a : ℕ) → a < 2 ^ 64 → (Contains (starts_of added) a → ⊥) → Stays image a) → AreFrameSteps image steps
   least_are_steps added steps least small frames elsewhere = subst (AreFrameSteps image) (sym least.are_changes) (record {
     rising = λ i j less within. ascend changes 0 i j whole.rise less within;
@@ -206,7 +215,9 @@ module _ (image : List ℕ) (one : (a : ℕ) (f g : List FrameRecord) → AreFra
           (recursion_from_All (λ (s : StepRecord). s.start < 2 ^ 64) least.sorted sorted_small)
           (recursion_from_All (λ (s : StepRecord). AreFramesOf image s.start s.frames) least.sorted sorted_frames) refl
           (λ a from less none. elsewhere a less (λ c.
-          let there : Contains (starts_of least.sorted) a = Contains-permutation (starts_of added) (starts_of least.sorted) a (IsPermutation-map (λ (s : StepRecord). s.start) added least.sorted least.are_those) c in
+          let there : Contains (starts_of least.sorted) a =
+          Contains-permutation (starts_of added) (starts_of least.sorted) a
+          (IsPermutation-map (λ (s : StepRecord). s.start) added least.sorted least.are_those) c in
           none (has_start least.sorted a there.0 there.1 there.2)))
 
 -- ---- all that was added, and its least steps
@@ -216,10 +227,12 @@ module _ (image : List ℕ) (one : (a : ℕ) (f g : List FrameRecord) → AreFra
 -- the place of a start among some that do not fall
 place : (ss : List StepRecord) (t : ℕ) (d : StepRecord) → IsNonDecreasingBy (λ (s : StepRecord). s.start) ss → (n : ℕ) → n ≤ length ss
     → ((k : ℕ) (e : StepRecord) → n ≤ k → k < length ss → t ≤ (get_or ss k e).start)
-    → (i : ℕ) × (i ≤ length ss) × ((k : ℕ) (e : StepRecord) → k < i → (get_or ss k e).start ≤ t) × ((k : ℕ) (e : StepRecord) → i ≤ k → k < length ss → t ≤ (get_or ss k e).start)
+    → (i : ℕ) × (i ≤ length ss) × ((k : ℕ) (e : StepRecord) → k < i → (get_or ss k e).start ≤ t)
+    × ((k : ℕ) (e : StepRecord) → i ≤ k → k < length ss → t ≤ (get_or ss k e).start)
 place ss t d up zero within above = (0, omega arith, λ k e less. absurd (omega arith), above)
 place ss t d up (suc n) within above =
-    let same : (e : StepRecord) → (get_or ss n e).start ≡ (get_or ss n d).start = λ e. ap (λ (s : StepRecord). s.start) (get_or_default ss n e d (omega arith)) in
+    let same : (e : StepRecord) → (get_or ss n e).start ≡ (get_or ss n d).start =
+    λ e. ap (λ (s : StepRecord). s.start) (get_or_default ss n e d (omega arith)) in
     elim (cases_lt (get_or ss n d).start t) [
       | inl less ↦ (suc n, within, λ k e l. let le = up k n e (omega arith) (omega arith) in omega (arith, le, same e, less), above)
       | inr past ↦ place ss t d up n (omega arith) (λ k e from l. let le = up n k e from l in omega (arith, le, same e, past))
@@ -245,10 +258,13 @@ few_test [] h = refl
 few_test (f ∷ fs) h =
     let one = All-head Few f fs h in
     and_from (nat_lt f.line (2 ^ 32) && nat_lt f.column (2 ^ 32)) (have_few_lines fs)
-    (and_from (nat_lt f.line (2 ^ 32)) (nat_lt f.column (2 ^ 32)) (lt-ltb f.line (2 ^ 32) one.0) (lt-ltb f.column (2 ^ 32) one.1)) (few_test fs (All-tail Few f fs h))
+    (and_from (nat_lt f.line (2 ^ 32)) (nat_lt f.column (2 ^ 32)) (lt-ltb f.line (2 ^ 32) one.0)
+    (lt-ltb f.column (2 ^ 32) one.1)) (few_test fs (All-tail Few f fs h))
 
 -- the changes have all frames but none
-few_all : (ss : List StepRecord) (before : List FrameRecord) → All Few before → All (λ (s : StepRecord). All Few s.frames) (changes_after before ss) → All (λ (s : StepRecord). All Few s.frames) ss
+few_all : (ss : List StepRecord) (before : List FrameRecord) → All Few before
+    → All (λ (s : StepRecord). All Few s.frames) (changes_after before ss)
+    → All (λ (s : StepRecord). All Few s.frames) ss
 unfolding changes_after
 few_all [] before b h = h
 few_all (s ∷ ss) before b h = elim (cases_Bool (same_chain s.frames before)) [
@@ -260,7 +276,8 @@ few_all (s ∷ ss) before b h = elim (cases_Bool (same_chain s.frames before)) [
   | inr f ↦
       let all : All (λ (u : StepRecord). All Few u.frames) (s ∷ changes_after s.frames ss) = rw f at h in
       let here : All Few s.frames = All-head (λ (u : StepRecord). All Few u.frames) s (changes_after s.frames ss) all in
-      All-cons (λ (u : StepRecord). All Few u.frames) s ss here (few_all ss s.frames here (All-tail (λ (u : StepRecord). All Few u.frames) s (changes_after s.frames ss) all))
+      All-cons (λ (u : StepRecord). All Few u.frames) s ss here
+      (few_all ss s.frames here (All-tail (λ (u : StepRecord). All Few u.frames) s (changes_after s.frames ss) all))
 ]
 
 -- a store that has no step too wide has all of them
@@ -283,11 +300,13 @@ after_all (s ∷ ss) before whole e = elim (cases_Bool (have_few_lines s.frames)
       let next : after_steps (Some (before ++ s ∷ [])) ss ≡ Some whole = sym (ap (λ b. after_steps (cond b (Some (before ++ s ∷ [])) None) ss) t) ∙ e in
       sym (append_assoc before (s ∷ []) ss) ∙ after_all ss (before ++ s ∷ []) whole next
   | inr f ↦
-      let gone : ◌≡◌ {A = Option (List StepRecord)} None (Some whole) = sym (after_none ss) ∙ sym (ap (λ b. after_steps (cond b (Some (before ++ s ∷ [])) None) ss) f) ∙ e in
+      let gone : ◌≡◌ {A = Option (List StepRecord)} None (Some whole) = sym (after_none ss)
+      ∙ sym (ap (λ b. after_steps (cond b (Some (before ++ s ∷ [])) None) ss) f) ∙ e in
       cc gone
 ]
 
-all_by : (room : ℕ) (added : List StepRecord) (bytes : List ℕ) (store : Option (List StepRecord)) → after_steps (Some []) added ≡ store → IsWritten room store bytes → IsWritten room (Some added) bytes
+all_by : (room : ℕ) (added : List StepRecord) (bytes : List ℕ) (store : Option (List StepRecord))
+    → after_steps (Some []) added ≡ store → IsWritten room store bytes → IsWritten room (Some added) bytes
 all_by room added bytes None e h =
     let sorted = in_order added in (
       changes_after [] sorted.0,

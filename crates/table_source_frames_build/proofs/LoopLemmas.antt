@@ -33,24 +33,29 @@ unfolding numbered_after
 after_none order = refl
 
 -- those of one more
-pub after_more : {X : Type 0} (f : X → List ℕ) (xs : List X) (i : ℕ) (d : X) (order now next : List ℕ) → i < length xs → next ≡ numbered_after nat_eq now (f (get_or xs i d)) → now ≡ numbered_after nat_eq order (flat_map f (take i xs))
+pub after_more : {X : Type 0} (f : X → List ℕ) (xs : List X) (i : ℕ) (d : X) (order now next : List ℕ) → i < length xs
+    → next ≡ numbered_after nat_eq now (f (get_or xs i d)) → now ≡ numbered_after nat_eq order (flat_map f (take i xs))
     → next ≡ numbered_after nat_eq order (flat_map f (take (i + 1) xs))
 after_more f xs i d order now next less step before =
     step ∙ ap (λ l. numbered_after nat_eq l (f (get_or xs i d))) before
     ∙ sym (after-append nat_eq exact_numbers order (flat_map f (take i xs)) (f (get_or xs i d)))
     ∙ ap (numbered_after nat_eq order) (flat_map_more f [] (take i xs) (get_or xs i d) ∙ ap (flat_map f) (sym (take_more xs i d less)))
 
-pub after_both : (order one two xs ys : List ℕ) → one ≡ numbered_after nat_eq order xs → two ≡ numbered_after nat_eq one ys → two ≡ numbered_after nat_eq order (xs ++ ys)
+pub after_both : (order one two xs ys : List ℕ) → one ≡ numbered_after nat_eq order xs → two
+    ≡ numbered_after nat_eq one ys → two ≡ numbered_after nat_eq order (xs ++ ys)
 after_both order one two xs ys a b = b ∙ ap (λ l. numbered_after nat_eq l ys) a ∙ sym (after-append nat_eq exact_numbers order xs ys)
 
 -- three more
-pub after_three : (order one two : List ℕ) (x y z : ℕ) → one ≡ numbered_with nat_eq order x → two ≡ numbered_with nat_eq one y → numbered_after nat_eq order (x ∷ y ∷ z ∷ []) ≡ numbered_with nat_eq two z
+pub after_three : (order one two : List ℕ) (x y z : ℕ) → one ≡ numbered_with nat_eq order x → two
+    ≡ numbered_with nat_eq one y → numbered_after nat_eq order (x ∷ y ∷ z ∷ []) ≡ numbered_with nat_eq two z
 unfolding numbered_after
 after_three order one two x y z a b =
     ap (λ l. numbered_with nat_eq (numbered_with nat_eq l y) z) (sym a) ∙ ap (λ l. numbered_with nat_eq l z) (sym b)
 
 -- the last one of some
-pub after_last : (order next numbers rest : List ℕ) (n : ℕ) → numbers ≡ rest ++ n ∷ [] → next ≡ numbered_with nat_eq order n → numbered_after nat_eq next (reverse rest) ≡ numbered_after nat_eq order (reverse numbers)
+pub after_last : (order next numbers rest : List ℕ) (n : ℕ) → numbers ≡ rest ++ n ∷ [] → next
+    ≡ numbered_with nat_eq order n → numbered_after nat_eq next (reverse rest)
+    ≡ numbered_after nat_eq order (reverse numbers)
 unfolding numbered_after
 after_last order next numbers rest n is step =
     ap (λ l. numbered_after nat_eq l (reverse rest)) step
@@ -62,7 +67,8 @@ after_end order numbers whole none e = sym (ap (λ l. numbered_after nat_eq orde
 
 -- ---- callers
 
-pub pushed_on : (k : KeptRecord) (kept : IsKept k) (n : ℕ) (key : LocationKey) (old now whole : List ℕ) → n ≢ 0 → n ≤ length k.locations → key ≡ location_key_at k n → now ≡ old ++ n ∷ [] → old ++ callers_of k n ≡ whole
+pub pushed_on : (k : KeptRecord) (kept : IsKept k) (n : ℕ) (key : LocationKey) (old now whole : List ℕ) → n ≢ 0
+    → n ≤ length k.locations → key ≡ location_key_at k n → now ≡ old ++ n ∷ [] → old ++ callers_of k n ≡ whole
     → (key.caller ≤ length k.locations) × (now ++ callers_of k key.caller ≡ whole)
 pushed_on k kept zero key old now whole some within is push e = absurd (some refl)
 pushed_on k kept (suc i) key old now whole some within is push e =
@@ -77,11 +83,14 @@ pub pushed_end : (k : KeptRecord) (n : ℕ) (old whole : List ℕ) → n ≡ 0 �
 pushed_end k n old whole none e =
     sym (append-nil old) ∙ ap (λ l. old ++ l) (sym (ap (callers_of k) none ∙ callers_none k)) ∙ e
 
-pub callers_all : (k : KeptRecord) (kept : IsKept k) (n count : ℕ) (before numbers : List ℕ) → n ≤ length k.locations → before ≡ [] → numbers ≡ before ++ callers_of k n → count ≡ length k.locations → All (IsNumber count) numbers
+pub callers_all : (k : KeptRecord) (kept : IsKept k) (n count : ℕ) (before numbers : List ℕ) → n ≤ length k.locations
+    → before ≡ [] → numbers ≡ before ++ callers_of k n → count ≡ length k.locations → All (IsNumber count) numbers
 callers_all k kept n count before numbers within none is same =
     let here : numbers ≡ callers_of k n = is ∙ ap (λ l. l ++ callers_of k n) none in
     subst (λ (l : List ℕ). All (IsNumber count) l) (sym here)
-    (All-from_get_or (IsNumber count) (callers_of k n) 0 (λ i less. subst (λ c. IsNumber c (get_or (callers_of k n) i 0)) (sym same) (at_each (IsNumber (length k.locations)) (callers_of k n) (callers_are k kept n within) i less)))
+    (All-from_get_or (IsNumber count) (callers_of k n) 0
+    (λ i less. subst (λ c. IsNumber c (get_or (callers_of k n) i 0)) (sym same)
+    (at_each (IsNumber (length k.locations)) (callers_of k n) (callers_are k kept n within) i less)))
 
 -- ---- what is under a number
 
@@ -98,7 +107,9 @@ grows_none k = record { texts = stays k.texts k.texts refl; files = stays k.file
 
 -- ---- changes
 
-pub changed_next : (steps : List Step) (i : ℕ) (d : Step) (changed now whole : List Step) (before after : ℕ) → i < length steps → (get_or steps i d).location ≢ before → now ≡ changed ++ get_or steps i d ∷ [] → after ≡ (get_or steps i d).location
+pub changed_next : (steps : List Step) (i : ℕ) (d : Step) (changed now whole : List Step) (before after : ℕ)
+    → i < length steps → (get_or steps i d).location ≢ before → now ≡ changed ++ get_or steps i d ∷ [] → after
+    ≡ (get_or steps i d).location
     → changed ++ changed_after before (drop i steps) ≡ whole → now ++ changed_after after (drop (i + 1) steps) ≡ whole
 unfolding changed_after
 changed_next steps i d changed now whole before after less other push moved e =
@@ -106,8 +117,10 @@ changed_next steps i d changed now whole before after less other push moved e =
     let rest : List Step = drop (i + 1) steps in
     let here : changed_after before (drop i steps) ≡ changed_after before (x ∷ rest) = at_drop_more (changed_after before) steps i d less in
     let ne : nat_eq x.location before ≡ false = ne_eqb x.location before other in
-    let step : changed_after before (x ∷ rest) ≡ x ∷ changed_after x.location rest = ap (λ b. cond b (changed_after before rest) (x ∷ changed_after x.location rest)) ne in
-    (λ j. push j ++ changed_after (moved j) rest) ∙ append_assoc changed (x ∷ []) (changed_after x.location rest) ∙ ap (λ l. changed ++ l) (sym (here ∙ step)) ∙ e
+    let step : changed_after before (x ∷ rest) ≡ x ∷ changed_after x.location rest =
+    ap (λ b. cond b (changed_after before rest) (x ∷ changed_after x.location rest)) ne in
+    (λ j. push j ++ changed_after (moved j) rest) ∙ append_assoc changed (x ∷ []) (changed_after x.location rest)
+    ∙ ap (λ l. changed ++ l) (sym (here ∙ step)) ∙ e
 
 pub changed_not : (steps : List Step) (i : ℕ) (d : Step) (changed whole : List Step) (before : ℕ) → i < length steps → (get_or steps i d).location ≡ before
     → changed ++ changed_after before (drop i steps) ≡ whole → changed ++ changed_after before (drop (i + 1) steps) ≡ whole
@@ -117,7 +130,8 @@ changed_not steps i d changed whole before less same e =
     let rest : List Step = drop (i + 1) steps in
     let here : changed_after before (drop i steps) ≡ changed_after before (x ∷ rest) = at_drop_more (changed_after before) steps i d less in
     let eq : nat_eq x.location before ≡ true = eq-eqb x.location before same in
-    let step : changed_after before (x ∷ rest) ≡ changed_after before rest = ap (λ b. cond b (changed_after before rest) (x ∷ changed_after x.location rest)) eq in
+    let step : changed_after before (x ∷ rest) ≡ changed_after before rest =
+    ap (λ b. cond b (changed_after before rest) (x ∷ changed_after x.location rest)) eq in
     ap (λ l. changed ++ l) (sym (here ∙ step)) ∙ e
 
 pub callers_here : (before numbers callers : List ℕ) → before ≡ [] → numbers ≡ before ++ callers → numbers ≡ callers
@@ -128,9 +142,11 @@ callers_here before numbers callers none is = is ∙ ap (λ l. l ++ callers) non
 -- ---- bytes, one part after another
 
 -- rows of one more
-pub rows_more : {X : Type 0} (f : X → List ℕ) (xs : List X) (i : ℕ) (d : X) (old now next : List ℕ) → i < length xs → next ≡ now ++ f (get_or xs i d) → now ≡ old ++ flat_map f (take i xs) → next ≡ old ++ flat_map f (take (i + 1) xs)
+pub rows_more : {X : Type 0} (f : X → List ℕ) (xs : List X) (i : ℕ) (d : X) (old now next : List ℕ) → i < length xs
+    → next ≡ now ++ f (get_or xs i d) → now ≡ old ++ flat_map f (take i xs) → next ≡ old ++ flat_map f (take (i + 1) xs)
 rows_more f xs i d old now next less step before =
-    step ∙ ap (λ l. l ++ f (get_or xs i d)) before ∙ flat_map_more f old (take i xs) (get_or xs i d) ∙ ap (λ l. old ++ flat_map f l) (sym (take_more xs i d less))
+    step ∙ ap (λ l. l ++ f (get_or xs i d)) before ∙ flat_map_more f old (take i xs) (get_or xs i d)
+    ∙ ap (λ l. old ++ flat_map f l) (sym (take_more xs i d less))
 
 pub two_parts : (old one two a b : List ℕ) → one ≡ old ++ a → two ≡ one ++ b → two ≡ old ++ (a ++ b)
 two_parts old one two a b p q = q ∙ ap (λ l. l ++ b) p ∙ append_assoc old a b
@@ -150,11 +166,15 @@ concat_front f (suc n) (x ∷ xs) = omega (arith, concat_front f n xs, length-ap
 pub rest_is : (f : ℕ → List ℕ) (xs : List ℕ) (i : ℕ) → i < length xs → map f (drop i xs) ≡ f (get_or xs i 0) ∷ map f (drop (i + 1) xs)
 rest_is f xs i less = ap (map f) (drop_more xs i 0 less)
 
-pub rest_long : (f : ℕ → List ℕ) (xs : List ℕ) (i : ℕ) → i < length xs → length (concat (map f (drop i xs))) ≡ length (f (get_or xs i 0)) + length (concat (map f (drop (i + 1) xs)))
-rest_long f xs i less = ap (λ (ts : List (List ℕ)). length (concat ts)) (rest_is f xs i less) ∙ length-append (f (get_or xs i 0)) (concat (map f (drop (i + 1) xs)))
+pub rest_long : (f : ℕ → List ℕ) (xs : List ℕ) (i : ℕ) → i < length xs → length (concat (map f (drop i xs)))
+    ≡ length (f (get_or xs i 0)) + length (concat (map f (drop (i + 1) xs)))
+rest_long f xs i less = ap (λ (ts : List (List ℕ)). length (concat ts)) (rest_is f xs i less)
+    ∙ length-append (f (get_or xs i 0)) (concat (map f (drop (i + 1) xs)))
 
 -- the row of one more text
-pub text_row_next : (f : ℕ → List ℕ) (xs : List ℕ) (i place len next : ℕ) (now one two whole : List ℕ) → i < length xs → len ≡ length (f (get_or xs i 0)) → next ≡ place + len → one ≡ now ++ to_be_bytes w32 place → two ≡ one ++ to_be_bytes w32 len
+pub text_row_next : (f : ℕ → List ℕ) (xs : List ℕ) (i place len next : ℕ) (now one two whole : List ℕ) → i < length xs
+    → len ≡ length (f (get_or xs i 0)) → next ≡ place + len → one ≡ now ++ to_be_bytes w32 place → two ≡ one
+    ++ to_be_bytes w32 len
     → now ++ text_rows place (map f (drop i xs)) ≡ whole → two ++ text_rows next (map f (drop (i + 1) xs)) ≡ whole
 unfolding text_rows
 text_row_next f xs i place len next now one two whole less is_len is_next first second e =
@@ -166,12 +186,14 @@ text_row_next f xs i place len next now one two whole less is_len is_next first 
     ∙ ap (λ ts. now ++ text_rows place ts) (sym (rest_is f xs i less))
     ∙ e
 
-pub text_rows_end : (f : ℕ → List ℕ) (xs : List ℕ) (i place : ℕ) (now whole : List ℕ) → length xs ≤ i → now ++ text_rows place (map f (drop i xs)) ≡ whole → now ≡ whole
+pub text_rows_end : (f : ℕ → List ℕ) (xs : List ℕ) (i place : ℕ) (now whole : List ℕ) → length xs ≤ i → now
+    ++ text_rows place (map f (drop i xs)) ≡ whole → now ≡ whole
 unfolding text_rows
 text_rows_end f xs i place now whole past e = sym (append-nil now) ∙ ap (λ l. now ++ text_rows place (map f l)) (sym (drop_all i xs past)) ∙ e
 
 -- one more text
-pub text_next : (f : ℕ → List ℕ) (xs : List ℕ) (i : ℕ) (now next whole : List ℕ) → i < length xs → next ≡ now ++ f (get_or xs i 0) → now ++ concat (map f (drop i xs)) ≡ whole → next ++ concat (map f (drop (i + 1) xs)) ≡ whole
+pub text_next : (f : ℕ → List ℕ) (xs : List ℕ) (i : ℕ) (now next whole : List ℕ) → i < length xs → next ≡ now
+    ++ f (get_or xs i 0) → now ++ concat (map f (drop i xs)) ≡ whole → next ++ concat (map f (drop (i + 1) xs)) ≡ whole
 text_next f xs i now next whole less step e =
     ap (λ l. l ++ concat (map f (drop (i + 1) xs))) step ∙ append_assoc now (f (get_or xs i 0)) (concat (map f (drop (i + 1) xs)))
     ∙ ap (λ ts. now ++ concat ts) (sym (rest_is f xs i less)) ∙ e
@@ -179,40 +201,65 @@ text_next f xs i now next whole less step e =
 pub texts_end : (f : ℕ → List ℕ) (xs : List ℕ) (i : ℕ) (now whole : List ℕ) → length xs ≤ i → now ++ concat (map f (drop i xs)) ≡ whole → now ≡ whole
 texts_end f xs i now whole past e = sym (append-nil now) ∙ ap (λ l. now ++ concat (map f l)) (sym (drop_all i xs past)) ∙ e
 
-pub rows_end : {X : Type 0} (f : X → List ℕ) (xs : List X) (i : ℕ) (old now : List ℕ) → length xs ≤ i → now ≡ old ++ flat_map f (take i xs) → now ≡ old ++ flat_map f xs
+pub rows_end : {X : Type 0} (f : X → List ℕ) (xs : List X) (i : ℕ) (old now : List ℕ) → length xs ≤ i → now ≡ old
+    ++ flat_map f (take i xs) → now ≡ old ++ flat_map f xs
 rows_end f xs i old now past e = e ∙ ap (λ l. old ++ flat_map f l) (take_all i xs past)
 
 -- the rows of a file and of a location
-pub file_pushed : (texts : List ℕ) (key of : FileKey) (a b c : ℕ) (old one two three : List ℕ) → key ≡ of → a ≡ number_in nat_eq texts key.base → b ≡ number_in nat_eq texts key.directory → c ≡ number_in nat_eq texts key.name
+pub file_pushed : (texts : List ℕ) (key of : FileKey) (a b c : ℕ) (old one two three : List ℕ) → key ≡ of → a
+    ≡ number_in nat_eq texts key.base → b ≡ number_in nat_eq texts key.directory → c ≡ number_in nat_eq texts key.name
     → one ≡ old ++ to_be_bytes w32 a → two ≡ one ++ to_be_bytes w32 b → three ≡ two ++ to_be_bytes w32 c → three ≡ old ++ file_row texts of
 unfolding file_row
 file_pushed texts key of a b c old one two three is p q r x y z = simp (z, y, x, p, q, r, is, append_assoc)
 
-pub location_pushed : (locations files texts : List ℕ) (key of : LocationKey) (a b c : ℕ) (old one two three four five : List ℕ) → key ≡ of → a ≡ number_in nat_eq texts key.name → b ≡ number_in nat_eq files key.file → c ≡ number_in nat_eq locations key.caller
-    → one ≡ old ++ to_be_bytes w32 a → two ≡ one ++ to_be_bytes w32 b → three ≡ two ++ to_be_bytes w32 key.line → four ≡ three ++ to_be_bytes w32 key.column → five ≡ four ++ to_be_bytes w32 c
+pub location_pushed : (locations files texts : List ℕ) (key of : LocationKey) (a b c : ℕ)
+    (old one two three four five : List ℕ) → key ≡ of → a ≡ number_in nat_eq texts key.name → b
+    ≡ number_in nat_eq files key.file → c ≡ number_in nat_eq locations key.caller
+    → one ≡ old ++ to_be_bytes w32 a → two ≡ one ++ to_be_bytes w32 b → three ≡ two ++ to_be_bytes w32 key.line → four
+    ≡ three ++ to_be_bytes w32 key.column → five ≡ four ++ to_be_bytes w32 c
     → five ≡ old ++ location_row locations files texts of
 unfolding location_row
 location_pushed locations files texts key of a b c old one two three four five is p q r v w x y z = simp (z, y, x, w, v, p, q, r, is, append_assoc)
 
 -- the head of a table
-pub head_pushed : (runs steps locations files texts bytes : ℕ) (old a b c d e f h : List ℕ) → a ≡ old ++ to_be_bytes w64 1 → b ≡ a ++ to_be_bytes w64 runs → c ≡ b ++ to_be_bytes w64 steps → d ≡ c ++ to_be_bytes w64 locations → e ≡ d ++ to_be_bytes w64 files → f ≡ e ++ to_be_bytes w64 texts → h ≡ f ++ to_be_bytes w64 bytes
+pub head_pushed : (runs steps locations files texts bytes : ℕ) (old a b c d e f h : List ℕ) → a ≡ old
+    ++ to_be_bytes w64 1 → b ≡ a ++ to_be_bytes w64 runs → c ≡ b ++ to_be_bytes w64 steps → d ≡ c
+    ++ to_be_bytes w64 locations → e ≡ d ++ to_be_bytes w64 files → f ≡ e ++ to_be_bytes w64 texts → h ≡ f
+    ++ to_be_bytes w64 bytes
     → h ≡ old ++ head_of runs steps locations files texts bytes
 unfolding head_of
 head_pushed runs steps locations files texts bytes old a b c d e f h p q r s t u v = simp (v, u, t, s, r, q, p, append_assoc)
 
 -- all of a table
-pub all_pushed : (k : KeptRecord) (steps : List Step) (locations files texts : List ℕ) (len : ℕ) (old a b c d e f h : List ℕ) → len ≡ length (concat (texts_at k texts)) → old ≡ []
-    → a ≡ old ++ head_of (length (runs_after 0 (step_starts steps))) (length steps) (length locations) (length files) (length texts) len → b ≡ a ++ flat_map run_bytes (runs_after 0 (step_starts steps)) → c ≡ b ++ flat_map (step_row locations) steps
-    → d ≡ c ++ location_rows k locations files texts locations → e ≡ d ++ file_rows k texts files → f ≡ e ++ text_rows 0 (texts_at k texts) → h ≡ f ++ concat (texts_at k texts) → h ≡ text_of_parts k steps locations files texts
+pub all_pushed : (k : KeptRecord) (steps : List Step) (locations files texts : List ℕ) (len : ℕ)
+    (old a b c d e f h : List ℕ) → len ≡ length (concat (texts_at k texts)) → old ≡ []
+    → a ≡ old ++ head_of (length (runs_after 0 (step_starts steps))) (length steps) (length locations) (length files)
+    (length texts) len → b ≡ a ++ flat_map run_bytes (runs_after 0 (step_starts steps)) → c ≡ b
+    ++ flat_map (step_row locations) steps
+    → d ≡ c ++ location_rows k locations files texts locations → e ≡ d ++ file_rows k texts files → f ≡ e
+    ++ text_rows 0 (texts_at k texts) → h ≡ f ++ concat (texts_at k texts) → h
+    ≡ text_of_parts k steps locations files texts
 unfolding text_of_parts
 all_pushed k steps locations files texts len old a b c d e f h is none p q r s t u v = simp (v, u, t, s, r, q, p, none, is, append_assoc)
 
 -- texts that are too long
-pub too_much : (f : ℕ → List ℕ) (xs : List ℕ) (i left most len : ℕ) → i < length xs → left + length (concat (map f (take i xs))) ≡ most → len ≡ length (f (get_or xs i 0)) → (len ≤ left → ⊥) → most < length (concat (map f xs))
+pub too_much : (f : ℕ → List ℕ) (xs : List ℕ) (i left most len : ℕ) → i < length xs
+    → left + length (concat (map f (take i xs))) ≡ most → len ≡ length (f (get_or xs i 0)) → (len ≤ left → ⊥)
+    → most < length (concat (map f xs))
 too_much f xs i left most len less so_far is more =
-    omega (arith, so_far, is, more, concat_front f (i + 1) xs, ap length (concat_more f xs i less), length-append (concat (map f (take i xs))) (f (get_or xs i 0)))
+    omega (
+      arith,
+      so_far,
+      is,
+      more,
+      concat_front f (i + 1) xs,
+      ap length (concat_more f xs i less),
+      length-append (concat (map f (take i xs))) (f (get_or xs i 0)),
+    )
 
-pub left_more : (f : ℕ → List ℕ) (xs : List ℕ) (i left most len next : ℕ) → i < length xs → left + length (concat (map f (take i xs))) ≡ most → len ≡ length (f (get_or xs i 0)) → next + len ≡ left → next + length (concat (map f (take (i + 1) xs))) ≡ most
+pub left_more : (f : ℕ → List ℕ) (xs : List ℕ) (i left most len next : ℕ) → i < length xs
+    → left + length (concat (map f (take i xs))) ≡ most → len ≡ length (f (get_or xs i 0)) → next + len ≡ left
+    → next + length (concat (map f (take (i + 1) xs))) ≡ most
 left_more f xs i left most len next less so_far is e =
     omega (arith, so_far, is, e, ap length (concat_more f xs i less), length-append (concat (map f (take i xs))) (f (get_or xs i 0)))
 
@@ -229,27 +276,35 @@ go_on_at : (starts : List ℕ) (i upper : ℕ) → i < length starts → go_on u
 unfolding go_on
 go_on_at starts i upper l = at_drop_more (go_on upper) starts i 0 l
 
-pub ends_some : (steps : List Step) (i : ℕ) (next d : Step) (a b : ℕ) → i + 1 < length steps → next ≡ get_or steps (i + 1) next → a ≡ upper_half next.start → b ≡ upper_half (get_or steps i d).start
+pub ends_some : (steps : List Step) (i : ℕ) (next d : Step) (a b : ℕ) → i + 1 < length steps → next
+    ≡ get_or steps (i + 1) next → a ≡ upper_half next.start → b ≡ upper_half (get_or steps i d).start
     → not (nat_eq a b) ≡ not (go_on (upper_half (get_or (step_starts steps) i 0)) (drop (i + 1) (step_starts steps)))
 ends_some steps i next d a b within is one other =
     let there : get_or (step_starts steps) (i + 1) 0 ≡ next.start = start_at steps (i + 1) next within ∙ ap (λ (s : Step). s.start) (sym is) in
     let x : a ≡ upper_half (get_or (step_starts steps) (i + 1) 0) = one ∙ ap upper_half (sym there) in
     let y : b ≡ upper_half (get_or (step_starts steps) i 0) = other ∙ ap upper_half (sym (start_at steps i d (omega (arith, within)))) in
-    (λ j. not (nat_eq (x j) (y j))) ∙ ap not (sym (go_on_at (step_starts steps) (i + 1) (upper_half (get_or (step_starts steps) i 0)) (omega (arith, within, starts_long steps))))
+    (λ j. not (nat_eq (x j) (y j))) ∙ ap not (sym (go_on_at (step_starts steps) (i + 1)
+    (upper_half (get_or (step_starts steps) i 0)) (omega (arith, within, starts_long steps))))
 
 -- the runs from an index on, after the step there
-pub runs_join : (starts : List ℕ) (i : ℕ) → i < length starts → not (go_on (upper_half (get_or starts i 0)) (drop (i + 1) starts)) ≡ false → runs_after i (drop i starts) ≡ runs_after (i + 1) (drop (i + 1) starts)
+pub runs_join : (starts : List ℕ) (i : ℕ) → i < length starts
+    → not (go_on (upper_half (get_or starts i 0)) (drop (i + 1) starts)) ≡ false → runs_after i (drop i starts)
+    ≡ runs_after (i + 1) (drop (i + 1) starts)
 unfolding runs_after
 runs_join starts i l e =
     let rest : List RunRecord = runs_after (i + 1) (drop (i + 1) starts) in
-    at_drop_more (runs_after i) starts i 0 l ∙ ap (λ b. cond b rest (record { upper = upper_half (get_or starts i 0); steps = i + 1 } ∷ rest)) (not-false (go_on (upper_half (get_or starts i 0)) (drop (i + 1) starts)) e)
+    at_drop_more (runs_after i) starts i 0 l ∙ ap (λ b. cond b rest
+    (record { upper = upper_half (get_or starts i 0); steps = i + 1 } ∷ rest))
+    (not-false (go_on (upper_half (get_or starts i 0)) (drop (i + 1) starts)) e)
 
 pub runs_end : (starts : List ℕ) (i : ℕ) → i < length starts → not (go_on (upper_half (get_or starts i 0)) (drop (i + 1) starts)) ≡ true
     → runs_after i (drop i starts) ≡ record { upper = upper_half (get_or starts i 0); steps = i + 1 } ∷ runs_after (i + 1) (drop (i + 1) starts)
 unfolding runs_after
 runs_end starts i l e =
     let rest : List RunRecord = runs_after (i + 1) (drop (i + 1) starts) in
-    at_drop_more (runs_after i) starts i 0 l ∙ ap (λ b. cond b rest (record { upper = upper_half (get_or starts i 0); steps = i + 1 } ∷ rest)) (not-true (go_on (upper_half (get_or starts i 0)) (drop (i + 1) starts)) e)
+    at_drop_more (runs_after i) starts i 0 l ∙ ap (λ b. cond b rest
+    (record { upper = upper_half (get_or starts i 0); steps = i + 1 } ∷ rest))
+    (not-true (go_on (upper_half (get_or starts i 0)) (drop (i + 1) starts)) e)
 
 pub runs_none : (starts : List ℕ) (i : ℕ) → length starts ≤ i → runs_after i (drop i starts) ≡ []
 unfolding runs_after
@@ -257,18 +312,26 @@ runs_none starts i past = at_drop_all (runs_after i) starts i past
 
 -- ---- counted
 
-pub counted_end : (starts : List ℕ) (i count whole : ℕ) → i < length starts → not (go_on (upper_half (get_or starts i 0)) (drop (i + 1) starts)) ≡ true → count + length (runs_after i (drop i starts)) ≡ whole
+pub counted_end : (starts : List ℕ) (i count whole : ℕ) → i < length starts
+    → not (go_on (upper_half (get_or starts i 0)) (drop (i + 1) starts)) ≡ true
+    → count + length (runs_after i (drop i starts)) ≡ whole
     → count + 1 + length (runs_after (i + 1) (drop (i + 1) starts)) ≡ whole
 counted_end starts i count whole l e is = omega (arith, is, ap length (runs_end starts i l e))
 
-pub counted_join : (starts : List ℕ) (i count whole : ℕ) → i < length starts → not (go_on (upper_half (get_or starts i 0)) (drop (i + 1) starts)) ≡ false → count + length (runs_after i (drop i starts)) ≡ whole
+pub counted_join : (starts : List ℕ) (i count whole : ℕ) → i < length starts
+    → not (go_on (upper_half (get_or starts i 0)) (drop (i + 1) starts)) ≡ false
+    → count + length (runs_after i (drop i starts)) ≡ whole
     → count + length (runs_after (i + 1) (drop (i + 1) starts)) ≡ whole
 counted_join starts i count whole l e is = omega (arith, is, ap length (runs_join starts i l e))
 
 -- ---- written
 
-pub run_pushed : (starts : List ℕ) (i a b : ℕ) (old one two : List ℕ) → i < length starts → not (go_on (upper_half (get_or starts i 0)) (drop (i + 1) starts)) ≡ true → a ≡ upper_half (get_or starts i 0) → b ≡ i + 1
-    → one ≡ old ++ to_be_bytes w32 a → two ≡ one ++ to_be_bytes w32 b → two ++ flat_map run_bytes (runs_after (i + 1) (drop (i + 1) starts)) ≡ old ++ flat_map run_bytes (runs_after i (drop i starts))
+pub run_pushed : (starts : List ℕ) (i a b : ℕ) (old one two : List ℕ) → i < length starts
+    → not (go_on (upper_half (get_or starts i 0)) (drop (i + 1) starts)) ≡ true → a ≡ upper_half (get_or starts i 0) → b
+    ≡ i + 1
+    → one ≡ old ++ to_be_bytes w32 a → two ≡ one ++ to_be_bytes w32 b → two
+    ++ flat_map run_bytes (runs_after (i + 1) (drop (i + 1) starts)) ≡ old
+    ++ flat_map run_bytes (runs_after i (drop i starts))
 unfolding run_bytes
 run_pushed starts i a b old one two l e upper count p q =
     let rest : List ℕ = flat_map run_bytes (runs_after (i + 1) (drop (i + 1) starts)) in
@@ -277,5 +340,6 @@ run_pushed starts i a b old one two l e upper count p q =
     ap (λ l. l ++ rest) (two_parts old one two high low (p ∙ ap (λ n. old ++ to_be_bytes w32 n) upper) (q ∙ ap (λ n. one ++ to_be_bytes w32 n) count))
     ∙ append_assoc old (high ++ low) rest ∙ ap (λ rs. old ++ flat_map run_bytes rs) (sym (runs_end starts i l e))
 
-pub runs_pushed : (starts : List ℕ) (i : ℕ) (now whole : List ℕ) → length starts ≤ i → now ++ flat_map run_bytes (runs_after i (drop i starts)) ≡ whole → now ≡ whole
+pub runs_pushed : (starts : List ℕ) (i : ℕ) (now whole : List ℕ) → length starts ≤ i → now
+    ++ flat_map run_bytes (runs_after i (drop i starts)) ≡ whole → now ≡ whole
 runs_pushed starts i now whole past e = sym (append-nil now) ∙ ap (λ rs. now ++ flat_map run_bytes rs) (sym (runs_none starts i past)) ∙ e

@@ -1,5 +1,6 @@
 -- What a store has taken, and its least steps.
-use Rattle.std.proofs.Common.{◌≡◌, ℕ, ◌≤◌, nat_eq, Bool, true, false, List, [], ◌∷◌, map, length, get_or, Option, Some, None, refl, sym, ap, ◌∙◌, inl, inr, arith, subst}
+use Rattle.std.proofs.Common.{◌≡◌, ℕ, ◌≤◌, nat_eq, Bool, true, false, List, [], ◌∷◌, map, length, get_or, Option, Some}
+use Rattle.std.proofs.Common.{None, refl, sym, ap, ◌∙◌, inl, inr, arith, subst}
 use Rattle.std.specs.List.Sorted.{IsNonDecreasingBy, IsPermutation}
 use Rattle.std.proofs.lemmas.Bool.{cases_Bool}
 use Rattle.std.proofs.lemmas.List.{get_or-map, length-map}
@@ -27,7 +28,11 @@ module _ (old new : KeptRecord) (kept : IsKept old) (grows : Grows old new) wher
   steps_same [] h = refl
   steps_same (s ∷ steps) h =
       let here : step_of new s ≡ step_of old s =
-      λ i. record { start = s.start; frames = chain_same old new grows kept s.location (All-head (λ (t : Step). t.location ≤ length old.locations) s steps h) i } in
+      λ i. record {
+        start = s.start;
+        frames = chain_same old new grows kept s.location
+            (All-head (λ (t : Step). t.location ≤ length old.locations) s steps h) i;
+      } in
       λ i. here i ∷ steps_same steps (All-tail (λ (t : Step). t.location ≤ length old.locations) s steps h) i
 
   pub still_tells : StillTells old new
@@ -40,7 +45,8 @@ module _ (old new : KeptRecord) (kept : IsKept old) (grows : Grows old new) wher
   pub told_before : (value : KeptRecord) → old ≡ value → StillTells value new
   told_before value e = subst (λ k. StillTells k new) e still_tells
 
-  pub taken_same : (wide : Bool) (steps : List Step) (value : Option (List StepRecord)) → HaveLocations old steps → taken_steps wide old steps ≡ value → taken_steps wide new steps ≡ value
+  pub taken_same : (wide : Bool) (steps : List Step) (value : Option (List StepRecord)) → HaveLocations old steps
+      → taken_steps wide old steps ≡ value → taken_steps wide new steps ≡ value
   taken_same true steps value h e = e
   taken_same false steps value h e = ap Some (steps_same steps h) ∙ e
 
@@ -50,7 +56,8 @@ no_frames_located k = (record { within = omega arith; is = chain_none k }, refl)
 -- ---- the least steps
 
 module _ (k : KeptRecord) (kept : IsKept k) where
-  changes_told : (steps : List Step) (before : ℕ) → before ≤ length k.locations → HaveLocations k steps → map (step_of k) (changed_after before steps) ≡ changes_after (chain_at k before) (map (step_of k) steps)
+  changes_told : (steps : List Step) (before : ℕ) → before ≤ length k.locations → HaveLocations k steps
+      → map (step_of k) (changed_after before steps) ≡ changes_after (chain_at k before) (map (step_of k) steps)
   unfolding changed_after changes_after
   changes_told [] before b h = refl
   changes_told (s ∷ steps) before b h =
@@ -60,7 +67,8 @@ module _ (k : KeptRecord) (kept : IsKept k) where
       told_same (λ n. n ≤ length k.locations) (chain_at k) same_chain chain_decides (chain_apart k kept) s.location before within b in
       elim (cases_Bool (nat_eq s.location before)) [
         | inl t ↦ let is : same_chain (chain_at k s.location) (chain_at k before) ≡ true = same ∙ t in rw (t, is) (changes_told steps before b rest)
-        | inr f ↦ let is : same_chain (chain_at k s.location) (chain_at k before) ≡ false = same ∙ f in rw (f, is) (ap (λ l. step_of k s ∷ l) (changes_told steps s.location within rest))
+        | inr f ↦ let is : same_chain (chain_at k s.location) (chain_at k before) ≡ false = same ∙ f
+            in rw (f, is) (ap (λ l. step_of k s ∷ l) (changes_told steps s.location within rest))
       ]
 
   pub changed_locations : (steps : List Step) (before : ℕ) → HaveLocations k steps → HaveLocations k (changed_after before steps)
@@ -71,18 +79,24 @@ module _ (k : KeptRecord) (kept : IsKept k) where
       elim (cases_Bool (nat_eq s.location before)) [
         | inl t ↦ rw t (changed_locations steps before rest)
         | inr f ↦
-            rw f (All-cons (λ (t : Step). t.location ≤ length k.locations) s (changed_after s.location steps) (All-head (λ (t : Step). t.location ≤ length k.locations) s steps h) (changed_locations steps s.location rest))
+            rw f (All-cons (λ (t : Step). t.location ≤ length k.locations) s (changed_after s.location steps)
+            (All-head (λ (t : Step). t.location ≤ length k.locations) s steps h)
+            (changed_locations steps s.location rest))
       ]
 
   ascend_told : (steps : List Step) → IsNonDecreasingBy (λ (s : Step). s.start) steps → IsNonDecreasingBy (λ (s : StepRecord). s.start) (map (step_of k) steps)
   ascend_told steps up i j d le less =
       let none : Step = record { start = 0; location = 0 } in
       let long : length (map (step_of k) steps) ≡ length steps = length-map steps (step_of k) in
-      let one : (get_or (map (step_of k) steps) i d).start ≡ (get_or steps i none).start = ap (λ (s : StepRecord). s.start) (get_or-map (step_of k) steps i none d (omega (arith, le, less, long))) in
-      let two : (get_or (map (step_of k) steps) j d).start ≡ (get_or steps j none).start = ap (λ (s : StepRecord). s.start) (get_or-map (step_of k) steps j none d (omega (arith, less, long))) in
+      let one : (get_or (map (step_of k) steps) i d).start ≡ (get_or steps i none).start =
+      ap (λ (s : StepRecord). s.start) (get_or-map (step_of k) steps i none d (omega (arith, le, less, long))) in
+      let two : (get_or (map (step_of k) steps) j d).start ≡ (get_or steps j none).start =
+      ap (λ (s : StepRecord). s.start) (get_or-map (step_of k) steps j none d (omega (arith, less, long))) in
       omega (arith, one, two, up i j none le (omega (arith, less, long)))
 
-  pub least_are : (steps sorted changed : List Step) → HaveLocations k steps → IsPermutation steps sorted → IsNonDecreasingBy (λ (s : Step). s.start) sorted → changed ≡ changed_after 0 sorted → AreLeastSteps (map (step_of k) steps) (map (step_of k) changed)
+  pub least_are : (steps sorted changed : List Step) → HaveLocations k steps → IsPermutation steps sorted
+      → IsNonDecreasingBy (λ (s : Step). s.start) sorted → changed ≡ changed_after 0 sorted
+      → AreLeastSteps (map (step_of k) steps) (map (step_of k) changed)
   least_are steps sorted changed h those up is = record {
     sorted = map (step_of k) sorted;
     are_those = IsPermutation-map (step_of k) steps sorted those;
@@ -92,13 +106,16 @@ module _ (k : KeptRecord) (kept : IsKept k) where
         ∙ ap (λ c. changes_after c (map (step_of k) sorted)) (chain_none k);
   }
 
-  pub changed_are : (steps sorted changed : List Step) → HaveLocations k steps → IsPermutation steps sorted → changed ≡ changed_after 0 sorted → HaveLocations k changed
+  pub changed_are : (steps sorted changed : List Step) → HaveLocations k steps → IsPermutation steps sorted → changed
+      ≡ changed_after 0 sorted → HaveLocations k changed
   changed_are steps sorted changed h those is =
       subst (HaveLocations k) (sym is) (changed_locations sorted 0 (All-permutation (λ (t : Step). t.location ≤ length k.locations) steps sorted those h))
 
   -- ---- what is written
 
-  pub written : (room : ℕ) (wide : Bool) (steps changed : List Step) (value : Option (List StepRecord)) (bytes : List ℕ) → wide ≡ false → taken_steps wide k steps ≡ value → AreLeastSteps (map (step_of k) steps) (map (step_of k) changed)
+  pub written : (room : ℕ) (wide : Bool) (steps changed : List Step) (value : Option (List StepRecord)) (bytes : List ℕ)
+      → wide ≡ false → taken_steps wide k steps ≡ value
+      → AreLeastSteps (map (step_of k) steps) (map (step_of k) changed)
       → IsLineTextWithin room (map (step_of k) changed) bytes → IsWritten room value bytes
   written room true steps changed value bytes not_wide e least text = cc not_wide
   written room false steps changed value bytes not_wide e least text = subst (λ v. IsWritten room v bytes) e (map (step_of k) changed, least, text)

@@ -6,7 +6,8 @@ use Rattle.table_source_frames_build.specs.TurnSteps.{step_of_turn, steps_of_tur
 use Rattle.table_source_frames.specs.Steps.{StepRecord}
 use Rattle.table_source_frames_build.specs.Lines.{after_step, after_steps}
 
-one_more : (store : Option (List StepRecord)) (steps : List StepRecord) (step : StepRecord) → after_steps store (steps ++ step ∷ []) ≡ after_step (after_steps store steps) step
+one_more : (store : Option (List StepRecord)) (steps : List StepRecord) (step : StepRecord)
+    → after_steps store (steps ++ step ∷ []) ≡ after_step (after_steps store steps) step
 one_more store [] step = refl
 one_more store (s ∷ steps) step = one_more (after_step store s) steps step
 

@@ -30,7 +30,9 @@ known image (turn ∷ turns) a each = elim (cases_eq turn.address a) [
     later other none (suc k, within, is) = none (k, omega (arith, within), is)
 
 module _ (image : List ℕ)
-    (same : (a b : ℕ) (frames : List FrameRecord) → a < b → b < 2 ^ 64 → ((turn : ℕ) → a < turn → turn ≤ b → IsTurn image turn → ⊥) → AreFramesOf image a frames → AreFramesOf image b frames)
+    (same : (a b : ℕ) (frames : List FrameRecord) → a < b → b < 2 ^ 64
+    → ((turn : ℕ) → a < turn → turn ≤ b → IsTurn image turn → ⊥) → AreFramesOf image a frames
+    → AreFramesOf image b frames)
     (empty : (a : ℕ) → a < 2 ^ 64 → ((turn : ℕ) → turn ≤ a → IsTurn image turn → ⊥) → AreFramesOf image a []) where
   -- the frames of the next address, which is no turn
   next : (a : ℕ) (frames : List FrameRecord) → suc a < 2 ^ 64 → (IsTurn image (suc a) → ⊥) → AreFramesOf image a frames → AreFramesOf image (suc a) frames
@@ -69,20 +71,25 @@ same_starts (turn ∷ turns) = λ i. turn.address ∷ same_starts turns i
 pub start_there : (image : List ℕ) (turns : List TurnRecord) (a : ℕ) → AreTurnsOf image turns → IsTurn image a → Contains (starts_of (steps_of_turns turns)) a
 start_there image turns a are is = subst (λ l. Contains l a) (same_starts turns) (are.all a is)
 
-small : (image : List ℕ) (turns : List TurnRecord) → All (IsTurnWithFrames (debug_sections image)) turns → All (λ (s : StepRecord). s.start < 2 ^ 64) (steps_of_turns turns)
+small : (image : List ℕ) (turns : List TurnRecord) → All (IsTurnWithFrames (debug_sections image)) turns
+    → All (λ (s : StepRecord). s.start < 2 ^ 64) (steps_of_turns turns)
 small image [] each = All-nil (λ (s : StepRecord). s.start < 2 ^ 64)
 small image (turn ∷ turns) each =
-    All-cons (λ (s : StepRecord). s.start < 2 ^ 64) (step_of_turn turn) (steps_of_turns turns) (All-head (IsTurnWithFrames (debug_sections image)) turn turns each).0.0
+    All-cons (λ (s : StepRecord). s.start < 2 ^ 64) (step_of_turn turn) (steps_of_turns turns)
+    (All-head (IsTurnWithFrames (debug_sections image)) turn turns each).0.0
     (small image turns (All-tail (IsTurnWithFrames (debug_sections image)) turn turns each))
 
-right : (image : List ℕ) (turns : List TurnRecord) → All (IsTurnWithFrames (debug_sections image)) turns → All (λ (s : StepRecord). AreFramesOf image s.start s.frames) (steps_of_turns turns)
+right : (image : List ℕ) (turns : List TurnRecord) → All (IsTurnWithFrames (debug_sections image)) turns
+    → All (λ (s : StepRecord). AreFramesOf image s.start s.frames) (steps_of_turns turns)
 right image [] each = All-nil (λ (s : StepRecord). AreFramesOf image s.start s.frames)
 right image (turn ∷ turns) each =
-    All-cons (λ (s : StepRecord). AreFramesOf image s.start s.frames) (step_of_turn turn) (steps_of_turns turns) (All-head (IsTurnWithFrames (debug_sections image)) turn turns each).1
+    All-cons (λ (s : StepRecord). AreFramesOf image s.start s.frames) (step_of_turn turn) (steps_of_turns turns)
+    (All-head (IsTurnWithFrames (debug_sections image)) turn turns each).1
     (right image turns (All-tail (IsTurnWithFrames (debug_sections image)) turn turns each))
 
 pub starts_small : (image : List ℕ) (turns : List TurnRecord) → AreTurnsOf image turns → All (λ (s : StepRecord). s.start < 2 ^ 64) (steps_of_turns turns)
 starts_small image turns are = small image turns are.each
 
-pub frames_right : (image : List ℕ) (turns : List TurnRecord) → AreTurnsOf image turns → All (λ (s : StepRecord). AreFramesOf image s.start s.frames) (steps_of_turns turns)
+pub frames_right : (image : List ℕ) (turns : List TurnRecord) → AreTurnsOf image turns
+    → All (λ (s : StepRecord). AreFramesOf image s.start s.frames) (steps_of_turns turns)
 frames_right image turns are = right image turns are.each

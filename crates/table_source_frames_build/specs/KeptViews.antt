@@ -1,4 +1,4 @@
--- What is kept, without where texts lie.
+-- The kept parts of frames, without the places of texts.
 use Rattle.std.specs.Prelude.{map}
 use Rattle.table_source_frames_build.specs.Kept.{KeptRecord}
 use Rattle.table_source_frames_build.specs.declared.kept.Kept.{Kept}

@@ -1,4 +1,4 @@
--- The mark of a text, by which texts are told apart before their bytes.
+-- The mark of a text, by which texts are distinguished before their bytes are compared.
 use Rattle.std.specs.Prelude.{ℕ, List, ◌+◌, ◌*◌, ◌%◌, ◌^◌, fold}
 
 -- the mark of a text that has one byte more

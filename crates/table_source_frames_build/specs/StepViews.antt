@@ -1,4 +1,4 @@
--- What steps of the code are in the definitions.
+-- Steps of the code, as the definitions have them.
 use Rattle.std.specs.Prelude.{ℕ, List, [], ◌∷◌, ◌==◌, ◌≤◌, All, if◌then◌else◌, length, map}
 use Rattle.table_source_frames.specs.Steps.{StepRecord}
 use Rattle.table_source_frames_build.specs.Kept.{KeptRecord, chain_at}

@@ -1,4 +1,4 @@
--- What a store of lines is in the definitions.
+-- A store of lines, as the definitions have it.
 use Rattle.std.specs.Prelude.{Bool, true, false, List, map, Option, Some, None}
 use Rattle.table_source_frames.specs.Steps.{StepRecord}
 use Rattle.table_source_frames_build.specs.Kept.{KeptRecord}

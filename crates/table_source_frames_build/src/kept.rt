@@ -22,7 +22,8 @@ impl<'a> Kept<'a> {
     ghost use Rattle.std.specs.Option.{option_map};
     ghost use Rattle.dwarf_lines.specs.PathViews.{path_view};
     ghost use Rattle.dwarf_source_frames.specs.FrameViews.{frame_view};
-    ghost use Rattle.table_source_frames_build.specs.Kept.{Grows, IsFile, IsKeyOf, IsLocation, IsName, IsText, chain_at};
+    ghost use Rattle.table_source_frames_build.specs.Kept.{Grows, IsFile, IsKeyOf, IsLocation, IsName, IsText};
+    ghost use Rattle.table_source_frames_build.specs.Kept.{chain_at};
     ghost use Rattle.table_source_frames_build.specs.Kept.{frame_of_key};
     ghost use Rattle.table_source_frames_build.specs.KeptViews.{kept_view};
 

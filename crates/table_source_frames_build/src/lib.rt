@@ -1,14 +1,14 @@
 //! The line table of an image, made from the image.
 //!
-//! The frames of an image change at its turns alone (`dwarf_frame_changes`), a store takes them as they come, in any order, and
-//! what it writes is the one table of the image (`table_source_frames`).
+//! The frames of an image change at its turns alone (`dwarf_frame_changes`), a store takes them as they come, in any
+//! order, and what it writes is the one table of the image (`table_source_frames`).
 //!
 //! The modules in reading order: `numbers`, the numbers of things as they first come; `keys` and `kept`, what frames
 //! have, each thing once and told by number, and `lookups`, what a number tells of; `step` and `store`, `LineStore`,
-//! which takes the frames of addresses; `changes`, the steps at which frames change; `first_uses`, numbers anew by first
-//! use, and `parts`, those of a table; `runs`, `rows` and `texts`, its bytes part by part; `finish`,
-//! `LineStore::finish`; `taker`, a store as a taker of turns; `making`, [`line_table`]; `laws`, what the definitions say
-//! of each other, and why it is enough to take the turns.
+//! which takes the frames of addresses; `changes`, the steps at which frames change; `first_uses`, numbers anew by
+//! first use, and `parts`, those of a table; `runs`, `rows` and `texts`, its bytes part by part; `finish`,
+//! `LineStore::finish`; `taker`, a store as a taker of turns; `making`, [`line_table`]; `laws`, what the definitions
+//! say of each other, and why it is enough to take the turns.
 //!
 //! Decided:
 //!

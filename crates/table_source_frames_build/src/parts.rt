@@ -4,7 +4,8 @@ ghost use Rattle.std.specs.Prelude.{◌≡◌, ◌≤◌, ◌++◌, [], IfOk, On
 ghost use Rattle.table_source_frames.specs.Numbering.{numbered_after};
 ghost use Rattle.table_source_frames_build.specs.Kept.{IsFileKey, callers_of};
 ghost use Rattle.table_source_frames_build.specs.KeptViews.{kept_view};
-ghost use Rattle.table_source_frames_build.specs.PartNumbers.{AreNumbers, file_uses, location_uses, name_uses, path_numbers};
+ghost use Rattle.table_source_frames_build.specs.PartNumbers.{AreNumbers, file_uses, location_uses, name_uses};
+ghost use Rattle.table_source_frames_build.specs.PartNumbers.{path_numbers};
 ghost use Rattle.table_source_frames_build.specs.PartNumbers.{path_uses};
 ghost use Rattle.table_source_frames_build.specs.StepViews.{HaveLocations};
 

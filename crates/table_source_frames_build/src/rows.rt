@@ -5,7 +5,8 @@ ghost use Rattle.std.specs.Int.{w32, w64, to_be_bytes};
 ghost use Rattle.table_source_frames_build.specs.Kept.{file_key_at, location_key_at};
 ghost use Rattle.table_source_frames_build.specs.KeptViews.{kept_view};
 ghost use Rattle.table_source_frames_build.specs.Numbering.{IsNumber};
-ghost use Rattle.table_source_frames_build.specs.PartBytes.{AreCounts, file_row, file_rows, location_row, location_rows, step_row};
+ghost use Rattle.table_source_frames_build.specs.PartBytes.{AreCounts, file_row, file_rows, location_row};
+ghost use Rattle.table_source_frames_build.specs.PartBytes.{location_rows, step_row};
 ghost use Rattle.table_source_frames_build.specs.PartNumbers.{AreNumbers};
 ghost use Rattle.table_source_frames_build.specs.StepViews.{HaveLocations};
 

@@ -1,5 +1,7 @@
 -- The names of sections in 32 bytes, and what is found with them.
-use Rattle.std.proofs.Common.{◌≡◌, ℕ, zero, suc, ◌+◌, ◌*◌, ◌-◌, ◌==◌, ◌<◌, ◌≤◌, inl, inr, subst, length-take, append_assoc, List, [], ◌∷◌, ◌++◌, length, take, drop, map, slice_get, refl, sym, ap, ◌∙◌, arith, Option, Some, length-append}
+use Rattle.std.proofs.Common.{◌≡◌, ℕ, zero, suc, ◌+◌, ◌*◌, ◌-◌, ◌==◌, ◌<◌, ◌≤◌, inl, inr, subst, length-take}
+use Rattle.std.proofs.Common.{append_assoc, List, [], ◌∷◌, ◌++◌, length, take, drop, map, slice_get, refl, sym, ap, ◌∙◌}
+use Rattle.std.proofs.Common.{arith, Option, Some, length-append}
 use Rattle.std.specs.Prelude.{All, flat_map}
 use Rattle.std.specs.List.{before_first}
 use Rattle.std.specs.Option.{option_map, option_map_or}
@@ -99,7 +101,8 @@ record AreNamesOf (names : List ℕ) (o : Option SectionRecord) : Type 0 where
   pub segment : name_at names 0 ≡ option_map_or (λ s. s.segment) o []
   pub section : name_at names 16 ≡ option_map_or (λ s. s.section) o []
 
-names_found : (all : List SectionRecord) (i : ℕ) → All ArePadded all → AreNamesOf (option_map_or section_bytes (option_map names_of (slice_get all i)) (zeros 32)) (slice_get all i)
+names_found : (all : List SectionRecord) (i : ℕ) → All ArePadded all
+    → AreNamesOf (option_map_or section_bytes (option_map names_of (slice_get all i)) (zeros 32)) (slice_get all i)
 names_found [] i are = record { segment = zeros_segment; section = zeros_section }
 names_found (s ∷ all) zero are =
     let here = All-head ArePadded s all are in
@@ -111,7 +114,8 @@ names_of_number image zero h = record { segment = zeros_segment; section = zeros
 names_of_number image (suc i) h =
     let same : slice_get (map names_of (take 255 (sections image))) i ≡ option_map names_of (slice_get (sections image) i) =
     slice_get-map names_of (take 255 (sections image)) i ∙ ap (option_map names_of) (get-take 255 (sections image) i (omega arith)) in
-    subst (λ o. AreNamesOf (option_map_or section_bytes o (zeros 32)) (slice_get (sections image) i)) (sym same) (names_found (sections image) i (padded_of image))
+    subst (λ o. AreNamesOf (option_map_or section_bytes o (zeros 32)) (slice_get (sections image) i)) (sym same)
+    (names_found (sections image) i (padded_of image))
 
 -- ---- where they stand
 
@@ -123,7 +127,8 @@ one_stands : (names : List SectionNames) (rest : List ℕ) (i : ℕ) → All (λ
 one_stands [] rest i fit h = absurd (omega (arith, h))
 one_stands (s ∷ names) rest zero fit h =
     let here = All-head (λ (s : SectionNames). (length s.segment ≤ 16) × (length s.section ≤ 16)) s names fit in
-    ap (take 32) (append_assoc (section_bytes s) (flat_map section_bytes names) rest) ∙ take_at (section_bytes s) (flat_map section_bytes names ++ rest) 32 (long_names s here.0 here.1)
+    ap (take 32) (append_assoc (section_bytes s) (flat_map section_bytes names) rest)
+    ∙ take_at (section_bytes s) (flat_map section_bytes names ++ rest) 32 (long_names s here.0 here.1)
 one_stands (s ∷ names) rest (suc i) fit h =
     let here = All-head (λ (s : SectionNames). (length s.segment ≤ 16) × (length s.section ≤ 16)) s names fit in
     let all : List ℕ = (section_bytes s ++ flat_map section_bytes names) ++ rest in
@@ -133,7 +138,8 @@ one_stands (s ∷ names) rest (suc i) fit h =
     ∙ ap (λ (b : List ℕ). take 32 (drop (32 * i) b)) (drop_at (section_bytes s) (flat_map section_bytes names ++ rest) 32 (long_names s here.0 here.1))
     ∙ one_stands names rest i (All-tail (λ (s : SectionNames). (length s.segment ≤ 16) × (length s.section ≤ 16)) s names fit) (omega (arith, h))
 
-in_table : (t : TableParts) (i : ℕ) → FitsTable t → i < length t.names → take 32 (drop (48 + 32 * i) (table_bytes t)) ≡ option_map_or section_bytes (slice_get t.names i) (zeros 32)
+in_table : (t : TableParts) (i : ℕ) → FitsTable t → i < length t.names → take 32 (drop (48 + 32 * i) (table_bytes t))
+    ≡ option_map_or section_bytes (slice_get t.names i) (zeros 32)
 unfolding table_bytes
 in_table t i fits h =
     let rest : List ℕ = rows_bytes t.rows ++ (t.strings ++ t.lines) in
@@ -146,7 +152,8 @@ pub names_read : (t : TableParts) (sect first n : ℕ) (bytes : List ℕ) → Fi
 names_read t zero first n bytes fits some within at long is = absurd (omega (arith, some))
 names_read t (suc i) first n bytes fits some within at long is =
     let here : first ≡ 48 + 32 * i = omega (arith, at) in
-    is ∙ ap (λ (k : ℕ). take k (drop first (table_bytes t))) long ∙ ap (λ (k : ℕ). take 32 (drop k (table_bytes t))) here ∙ in_table t i fits (omega (arith, within))
+    is ∙ ap (λ (k : ℕ). take k (drop first (table_bytes t))) long
+    ∙ ap (λ (k : ℕ). take 32 (drop k (table_bytes t))) here ∙ in_table t i fits (omega (arith, within))
 
 -- there is no such section
 pub none_at : (names : List SectionNames) → names_at names 0 ≡ zeros 32
@@ -162,7 +169,8 @@ no_names = refl
 
 -- ---- what is found
 
-found_same : (image : List ℕ) (address : ℕ) (c : Tuple) (f : OwnedFound) → f.symbol.name.items ≡ c.name → f.symbol.row.value ≡ c.value → f.symbol.row.sect ≡ c.sect
+found_same : (image : List ℕ) (address : ℕ) (c : Tuple) (f : OwnedFound) → f.symbol.name.items ≡ c.name
+    → f.symbol.row.value ≡ c.value → f.symbol.row.sect ≡ c.sect
     → f.offset ≡ address - f.symbol.row.value → AreNamesOf f.names (section_of image c.sect) → owned_view f ≡ found_of image address c
 unfolding found_of
 found_same image address c f name value sect offset names = λ i. record {
@@ -174,10 +182,14 @@ found_same image address c f name value sect offset names = λ i. record {
   section = names.section i;
 }
 
-pub found_said : (image : List ℕ) (address : ℕ) (t : TableParts) (f : OwnedFound) → IsTableOf image t → IsSaid image address (Some f.symbol) → f.symbol.row.sect < 256
+pub found_said : (image : List ℕ) (address : ℕ) (t : TableParts) (f : OwnedFound) → IsTableOf image t
+    → IsSaid image address (Some f.symbol) → f.symbol.row.sect < 256
     → f.names ≡ names_at t.names f.symbol.row.sect → f.offset ≡ address - f.symbol.row.value → FindsNearest image address (Some (owned_view f))
 found_said image address t f is said small names offset =
     let c : Tuple = said.0 in
     let at : AreNamesOf f.names (section_of image c.sect) =
-    subst (λ n. AreNamesOf f.names (section_of image n)) said.3 (subst (λ ns. AreNamesOf ns (section_of image f.symbol.row.sect)) (sym (names ∙ ap (λ ns. names_at ns f.symbol.row.sect) is.names)) (names_of_number image f.symbol.row.sect small)) in
+    subst (λ n. AreNamesOf f.names (section_of image n)) said.3
+    (subst (λ ns. AreNamesOf ns (section_of image f.symbol.row.sect))
+    (sym (names ∙ ap (λ ns. names_at ns f.symbol.row.sect) is.names))
+    (names_of_number image f.symbol.row.sect small)) in
     (Some c, said.1, ap Some (found_same image address c f said.4 said.2 said.3 offset at))

@@ -18,7 +18,13 @@ one_place image c p q a b = omega (arith, a.least b.some.0 b.some.1 b.some.2, b.
 
 same_said : (image : List ℕ) (r s : Row) (nearest : Option Tuple) → r.start ≡ s.start → Says image r nearest → Says image s nearest → r ≡ s
 same_said image r s None e a b = λ i. record { start = e i; value = (a.0 ∙ sym b.0) i; n_strx = (a.1 ∙ sym b.1) i; sect = (a.2 ∙ sym b.2) i }
-same_said image r s (Some c) e a b = λ i. record { start = e i; value = (a.0 ∙ sym b.0) i; n_strx = one_place image c r.n_strx s.n_strx a.1 b.1 i; sect = (a.2 ∙ sym b.2) i }
+same_said image r s (Some c) e a b = λ i. record {
+  start = e i;
+  value = (a.0 ∙ sym b.0) i;
+  n_strx =
+      one_place image c r.n_strx s.n_strx a.1 b.1 i;
+  sect = (a.2 ∙ sym b.2) i;
+}
 
 same_row : (image : List ℕ) (r s : Row) → r.start ≡ s.start → SaysNearest image r.start r → SaysNearest image s.start s → r ≡ s
 same_row image r s e a b =
@@ -40,7 +46,8 @@ steps_once image rows others a b =
     same_lists rows others long (λ k d l.
     let within : k < length others = omega (arith, l, long) in
     let same : (get_or rows k d).start ≡ (get_or others k d).start =
-    sym (get_or-map (λ r. r.start) rows k d d.start l) ∙ ap (λ (xs : List ℕ). get_or xs k d.start) starts ∙ get_or-map (λ r. r.start) others k d d.start within in
+    sym (get_or-map (λ r. r.start) rows k d d.start l) ∙ ap (λ (xs : List ℕ). get_or xs k d.start) starts
+    ∙ get_or-map (λ r. r.start) others k d d.start within in
     same_row image (get_or rows k d) (get_or others k d) same (a.each k d l) (b.each k d within))
 
 -- ---- one table

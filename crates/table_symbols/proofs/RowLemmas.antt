@@ -1,5 +1,7 @@
 -- Rows in the bytes of a table.
-use Rattle.std.proofs.Common.{◌≡◌, ℕ, zero, suc, ◌+◌, ◌*◌, ◌-◌, ◌<◌, ◌≤◌, List, [], ◌∷◌, ◌++◌, length, take, drop, get_or, refl, sym, ap, ◌∙◌, subst, arith, length-append, append_assoc, slice_get, Some, inl, inr, nat_le}
+use Rattle.std.proofs.Common.{◌≡◌, ℕ, zero, suc, ◌+◌, ◌*◌, ◌-◌, ◌<◌, ◌≤◌, List, [], ◌∷◌, ◌++◌, length, take, drop}
+use Rattle.std.proofs.Common.{get_or, refl, sym, ap, ◌∙◌, subst, arith, length-append, append_assoc, slice_get, Some}
+use Rattle.std.proofs.Common.{inl, inr, nat_le}
 use Rattle.std.specs.Prelude.{slice_index_or, All, Decides, Option, None}
 use Rattle.std.specs.Int.{w32, w64, from_be_bytes}
 use Rattle.std.proofs.lemmas.List.{append-nil, get_or_default, take_at, drop_at, drop-drop, drop-take, take-take}
@@ -53,15 +55,18 @@ read_row bytes start value place sect r is e s v p n =
 
 -- ---- the rows of a table, one after another
 
-pub row_here : (rows : List Row) (rest : List ℕ) (i : ℕ) (d : Row) → i < length rows → take 21 (drop (21 * i) (rows_bytes rows ++ rest)) ≡ row_bytes (slice_index_or rows i d)
+pub row_here : (rows : List Row) (rest : List ℕ) (i : ℕ) (d : Row) → i < length rows
+    → take 21 (drop (21 * i) (rows_bytes rows ++ rest)) ≡ row_bytes (slice_index_or rows i d)
 row_here [] rest i d h = absurd (omega arith)
-row_here (r ∷ rows) rest zero d h = ap (take 21) (append_assoc (row_bytes r) (rows_bytes rows) rest) ∙ take_at (row_bytes r) (rows_bytes rows ++ rest) 21 (length-row_bytes r)
+row_here (r ∷ rows) rest zero d h = ap (take 21) (append_assoc (row_bytes r) (rows_bytes rows) rest)
+    ∙ take_at (row_bytes r) (rows_bytes rows ++ rest) 21 (length-row_bytes r)
 row_here (r ∷ rows) rest (suc i) d h =
     let all : List ℕ = row_bytes r ++ (rows_bytes rows ++ rest) in
     let behind : drop 21 all ≡ rows_bytes rows ++ rest = drop_at (row_bytes r) (rows_bytes rows ++ rest) 21 (length-row_bytes r) in
     let far : 21 * suc i ≡ 21 + 21 * i = omega arith in
     ap (λ b. take 21 (drop (21 * suc i) b)) (append_assoc (row_bytes r) (rows_bytes rows) rest)
-    ∙ ap (λ n. take 21 (drop n all)) far ∙ ap (take 21) (sym (drop-drop (21 * i) 21 all)) ∙ ap (λ b. take 21 (drop (21 * i) b)) behind ∙ row_here rows rest i d (omega arith)
+    ∙ ap (λ n. take 21 (drop n all)) far ∙ ap (take 21) (sym (drop-drop (21 * i) 21 all))
+    ∙ ap (λ b. take 21 (drop (21 * i) b)) behind ∙ row_here rows rest i d (omega arith)
 
 -- ---- one row, and one table
 
@@ -96,15 +101,22 @@ only_row rows address (Some r) None a b = absurd (last_is_not_above rows address
 only_row rows address (Some r) (Some s) a b = ap Some (one_last rows address r s a b)
 
 row_again : (r s : Row) → IsRow r → IsRow s → row_bytes r ≡ row_bytes s → r ≡ s
-row_again r s is other e = read_row (row_bytes s) r.start r.value r.n_strx r.sect s other refl (sym (start_in r is) ∙ ap (λ b. from_be_bytes w64 (take 8 (drop 0 b))) e) (sym (value_in r is) ∙ ap (λ b. from_be_bytes w64 (take 8 (drop 8 b))) e) (sym (place_in r is) ∙ ap (λ b. from_be_bytes w32 (take 4 (drop 16 b))) e) (sym (sect_in r) ∙ ap (λ b. get_or b 20 0) e)
+row_again r s is other e = read_row (row_bytes s) r.start r.value r.n_strx r.sect s other refl
+    (sym (start_in r is) ∙ ap (λ b. from_be_bytes w64 (take 8 (drop 0 b))) e)
+    (sym (value_in r is) ∙ ap (λ b. from_be_bytes w64 (take 8 (drop 8 b))) e)
+    (sym (place_in r is) ∙ ap (λ b. from_be_bytes w32 (take 4 (drop 16 b))) e)
+    (sym (sect_in r) ∙ ap (λ b. get_or b 20 0) e)
 
 pub only_rows : (rows others : List Row) → All IsRow rows → All IsRow others → rows_bytes rows ≡ rows_bytes others → rows ≡ others
 only_rows [] [] are others_are same = refl
 only_rows [] (s ∷ others) are others_are same = absurd (omega (arith, ap length same, length-rows_bytes (s ∷ others)))
 only_rows (r ∷ rows) [] are others_are same = absurd (omega (arith, ap length same, length-rows_bytes (r ∷ rows)))
 only_rows (r ∷ rows) (s ∷ others) are others_are same =
-    let first : row_bytes r ≡ row_bytes s = sym (take_at (row_bytes r) (rows_bytes rows) 21 (length-row_bytes r)) ∙ ap (take 21) same ∙ take_at (row_bytes s) (rows_bytes others) 21 (length-row_bytes s) in
-    let rest : rows_bytes rows ≡ rows_bytes others = sym (drop_at (row_bytes r) (rows_bytes rows) 21 (length-row_bytes r)) ∙ ap (drop 21) same ∙ drop_at (row_bytes s) (rows_bytes others) 21 (length-row_bytes s) in
+    let first : row_bytes r ≡ row_bytes s = sym (take_at (row_bytes r) (rows_bytes rows) 21 (length-row_bytes r))
+    ∙ ap (take 21) same ∙ take_at (row_bytes s) (rows_bytes others) 21 (length-row_bytes s) in
+    let rest : rows_bytes rows ≡ rows_bytes others = sym
+    (drop_at (row_bytes r) (rows_bytes rows) 21 (length-row_bytes r)) ∙ ap (drop 21) same
+    ∙ drop_at (row_bytes s) (rows_bytes others) 21 (length-row_bytes s) in
     let head = row_again r s (All-head IsRow r rows are) (All-head IsRow s others others_are) first in
     let tail = only_rows rows others (All-tail IsRow r rows are) (All-tail IsRow s others others_are) rest in
     λ i. head i ∷ tail i
@@ -134,8 +146,10 @@ above_edge rows address place are at j d low l =
     ]
 
 -- the row before that place is the last one
-pub last_of_edge : (rows : List Row) (address place : ℕ) (row : Row) → AreRows rows → 0 < place → ((d : Row) → (slice_index_or rows (place - 1) d).start ≤ address)
-    → (place < length rows → ((d : Row) → (slice_index_or rows place d).start ≤ address) → ⊥) → slice_get rows (place - 1) ≡ Some row → IsLastNotAbove rows address row
+pub last_of_edge : (rows : List Row) (address place : ℕ) (row : Row) → AreRows rows → 0 < place
+    → ((d : Row) → (slice_index_or rows (place - 1) d).start ≤ address)
+    → (place < length rows → ((d : Row) → (slice_index_or rows place d).start ≤ address) → ⊥)
+    → slice_get rows (place - 1) ≡ Some row → IsLastNotAbove rows address row
 last_of_edge rows address place row are some before at stands = record {
   at = place - 1;
   stands = stands;
@@ -147,7 +161,8 @@ no_row : Row
 no_row = record { start = 0; value = 0; n_strx = 0; sect = 0 }
 
 -- the row that was read tells whether its start is not above
-pub start_decides : (rows : List Row) (address place : ℕ) (row : Row) → slice_get rows place ≡ Some row → Decides (nat_le row.start address) ((d : Row) → (slice_index_or rows place d).start ≤ address)
+pub start_decides : (rows : List Row) (address place : ℕ) (row : Row) → slice_get rows place ≡ Some row
+    → Decides (nat_le row.start address) ((d : Row) → (slice_index_or rows place d).start ≤ address)
 start_decides rows address place row stands = (
   λ t d.
       let within : row.start ≤ address = grind (arith, nat_tests, t) in
@@ -168,11 +183,13 @@ part_stands all part first m n stands within =
     let rest : ℕ = length part - m in
     let whole : length part ≡ m + rest = omega (arith, within) in
     let here : drop m part ≡ take rest (drop (first + m) all) =
-    ap (drop m) (sym stands.1) ∙ ap (λ k. drop m (take k (drop first all))) whole ∙ drop-take m rest (drop first all) ∙ ap (take rest) (drop-drop m first all) in
+    ap (drop m) (sym stands.1) ∙ ap (λ k. drop m (take k (drop first all))) whole ∙ drop-take m rest (drop first all)
+    ∙ ap (take rest) (drop-drop m first all) in
     sym (take-take n rest (drop (first + m) all) (omega (arith, within))) ∙ ap (take n) (sym here)
 
 -- the row that bytes are which were read
-pub row_read : (all bytes : List ℕ) (rows : List Row) (first index n : ℕ) (row d : Row) → AreRows rows → Stands all first (rows_bytes rows) → index < length rows
+pub row_read : (all bytes : List ℕ) (rows : List Row) (first index n : ℕ) (row d : Row) → AreRows rows
+    → Stands all first (rows_bytes rows) → index < length rows
     → n ≡ 21 → bytes ≡ take n (drop (first + 21 * index) all) → ((r : Row) → IsRow r → bytes ≡ row_bytes r → row ≡ r) → slice_get rows index ≡ Some row
 row_read all bytes rows first index n row d are stands within long came reads =
     let here : Row = get_or rows index d in

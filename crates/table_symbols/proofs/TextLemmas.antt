@@ -3,7 +3,8 @@ use Rattle.std.proofs.Common.{◌≡◌, ℕ, zero, suc, ◌-◌, List, [], ◌�
 use Rattle.std.proofs.lemmas.List.{take_all}
 use Rattle.table_symbols.specs.Table.{padded, zeros}
 
-pub pushed_four : (old a b c d one two three four : List ℕ) → one ≡ old ++ a → two ≡ one ++ b → three ≡ two ++ c → four ≡ three ++ d → four ≡ old ++ (a ++ (b ++ (c ++ d)))
+pub pushed_four : (old a b c d one two three four : List ℕ) → one ≡ old ++ a → two ≡ one ++ b → three ≡ two ++ c → four
+    ≡ three ++ d → four ≡ old ++ (a ++ (b ++ (c ++ d)))
 pushed_four old a b c d one two three four p q r s =
     s ∙ (λ i. (r ∙ (λ j. (q ∙ (λ k. p k ++ b)) j ++ c)) i ++ d) ∙ simp append_assoc
 

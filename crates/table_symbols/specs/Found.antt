@@ -1,4 +1,4 @@
--- What a table of an image tells of an address, with the names of the section.
+-- The answer of an image's table for an address, with the names of the section.
 use Rattle.std.specs.Prelude.{◌≡◌, ℕ, zero, suc, List, Option, Some, None, slice_get}
 use Rattle.std.specs.Option.{option_map_or}
 use Rattle.macho_image.specs.Layout.{name_at}

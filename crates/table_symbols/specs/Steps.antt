@@ -1,4 +1,4 @@
--- What is true of each image.
+-- Facts that hold for each image.
 use Rattle.std.specs.Prelude.{◌<◌, ℕ, List, slice_index}
 
 -- an image is bytes

@@ -20,8 +20,8 @@
 //!
 //! Decided:
 //!
-//! - A table is its own bytes (head, sections, rows) in memory, the strings where they lie, and its lines as another maker
-//!   gave them: a page is hashed in these three parts, and none is copied.
+//! - A table is its own bytes (head, sections, rows) in memory, the strings where they lie, and its lines as another
+//!   maker gave them: a page is hashed in these three parts, and none is copied.
 //! - What the lines of a table are is not told here: what is asked of its symbols holds with any.
 #![tactic(auto)]
 

@@ -104,7 +104,8 @@
 //!
 //! Each call and each command line is carried out on the plain archive and on the indexed one, and has to end alike.
 //! One that is not swept is carried out on the first with inputs in pieces of 1 byte, too, and on the second in pieces
-//! of 7. A report of more than 40 lines is printed as `5000 lines SHA256`. What contradicts itself is printed as `WRONG`.
+//! of 7. A report of more than 40 lines is printed as `5000 lines SHA256`. What contradicts itself is printed as
+//! `WRONG`.
 
 use crate::folder::Folder;
 use crate::sweeps::{tell_growths, tell_sweep};

@@ -1,5 +1,5 @@
-//! What the cases of `test_acceptance` are made of: the bytes that their words spell, devices that are asked as they should
-//! be, and calls below the commands, with what is printed of each.
+//! What the cases of `test_acceptance` are made of: the bytes that their words spell, devices that are asked as they
+//! should be, and calls below the commands, with what is printed of each.
 //!
 //! - `faults`: why a case is not carried out, or a call is refused;
 //! - `store`: files in memory;

@@ -1,5 +1,6 @@
 -- Decimal numbers, and what `parse` reads.
-use Rattle.std.proofs.Common.{◌≡◌, ◌≢◌, ◌∙◌, ◌<◌, ◌^◌, ◌&&◌, ◌||◌, ◌==◌, ℕ, Bool, true, not, sym, ap, arith, List, length, get_or, nat_lt, Some, None, Result, Ok, Err, eq-eqb, zero, suc, lit<}
+use Rattle.std.proofs.Common.{◌≡◌, ◌≢◌, ◌∙◌, ◌<◌, ◌^◌, ◌&&◌, ◌||◌, ◌==◌, ℕ, Bool, true, not, sym, ap, arith, List}
+use Rattle.std.proofs.Common.{length, get_or, nat_lt, Some, None, Result, Ok, Err, eq-eqb, zero, suc, lit<}
 use Rattle.std.specs.Result.{OkIff, result_ok}
 use Rattle.std.specs.Fmt.{decimal}
 use Rattle.std.specs.Str.{all_ascii_digits}
@@ -26,7 +27,9 @@ read_by : {E : Type 0} (text : List ℕ) (r : Result ℕ E)
     → result_ok r ≡ number_of text
 read_by text (Ok x) h alone =
     let v = digits_value 10 text in
-    let fits : (is_decimal text && nat_lt v (2 ^ 32)) ≡ true = parts_all (all_ascii_digits text) (nat_lt 0 (length text)) (length text == 1) (get_or text 0 0 == 48) (nat_lt v (2 ^ 32))
+    let fits : (is_decimal text && nat_lt v (2 ^ 32)) ≡ true =
+    parts_all (all_ascii_digits text) (nat_lt 0 (length text)) (length text == 1) (get_or text 0 0 == 48)
+    (nat_lt v (2 ^ 32))
     h.0.0 (lt-ltb 0 (length text) h.0.1) (λ e. eq-eqb (length text) 1 (alone (eqb-true (get_or text 0 0) 48 e))) (lt-ltb v (2 ^ 32) h.0.2) in
     ap Some h.1 ∙ sym (cond-true (is_decimal text && nat_lt v (2 ^ 32)) (Some v) None fits)
 read_by text (Err e) h alone =

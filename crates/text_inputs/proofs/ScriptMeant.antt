@@ -1,5 +1,6 @@
 -- A script by its lines, and the first faulty line.
-use Rattle.std.proofs.Common.{◌≡◌, ◌∙◌, sym, ap, refl, arith, ℕ, ◌+◌, ◌≤◌, ◌⊎◌, inl, inr, true, false, List, [], ◌∷◌, ◌++◌, append_assoc, length, map, nat_lt, Option, Some, None, Result, Ok, Err}
+use Rattle.std.proofs.Common.{◌≡◌, ◌∙◌, sym, ap, refl, arith, ℕ, ◌+◌, ◌≤◌, ◌⊎◌, inl, inr, true, false, List, [], ◌∷◌}
+use Rattle.std.proofs.Common.{◌++◌, append_assoc, length, map, nat_lt, Option, Some, None, Result, Ok, Err}
 use Rattle.std.specs.Prelude.{IsSome, is_some}
 use Rattle.std.proofs.lemmas.Bool.{cases_lt, le-ltb, lt-ltb}
 use Rattle.std.proofs.lemmas.List.{append-nil, length-append, map-append}
@@ -105,7 +106,8 @@ either bytes = by (counting bytes) refl
       | Some sites ↦ λ asked. behind_events bytes first sites asked [] [] refl (omega arith) further e
     ] refl
 
-pub not_both : (bytes : List ℕ) (sites : ℕ) (events : List Act) (fault : ScriptFault) (line : ℕ) → IsScript bytes sites events → IsFirstFault bytes fault line → ⊥
+pub not_both : (bytes : List ℕ) (sites : ℕ) (events : List Act) (fault : ScriptFault) (line : ℕ)
+    → IsScript bytes sites events → IsFirstFault bytes fault line → ⊥
 not_both bytes sites events fault line script faulty =
     let good = script_said bytes sites events script in
     let bad = fault_said bytes fault line faulty in

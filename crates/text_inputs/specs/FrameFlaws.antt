@@ -1,4 +1,4 @@
--- What is wrong with a line that tells no frame.
+-- The flaw of a line that has no frame.
 use Rattle.std.specs.Prelude.{ℕ, List, [], ◌∷◌, Option, Some, None}
 use Rattle.uuid.specs.Text.{parsed}
 use Rattle.archive_core.specs.declared.keys.ArchKey.{ArchKey}

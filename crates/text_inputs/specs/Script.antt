@@ -1,4 +1,4 @@
--- Which bytes are a script, and what is wrong with the others.
+-- The bytes that are a script, and the faults of the others.
 use Rattle.std.specs.Prelude.{◌≡◌, ◌+◌, ℕ, ◌≤◌, ◌⊎◌, List, [], ◌∷◌, ◌++◌, length, nat_lt, if◌then◌else◌, map, ⊤}
 use Rattle.std.specs.Prelude.{Option, Some, None, IsSome, Result, Ok, Err}
 use Rattle.text_inputs.specs.declared.event.Event.{Event}

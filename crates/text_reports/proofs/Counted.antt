@@ -37,10 +37,13 @@ key_total : IsTotalOrder key_cmp
 key_total = then_total (on_texts (λ key. key.uuid)) (on_total (λ key. key.arch) arch_total)
 
 arch_tied : (a b : ArchKey) → is_arch a b ≡ is_eq (arch_cmp a b)
-arch_tied a b = both_tied (a.cputype == b.cputype) (a.cpusubtype == b.cpusubtype) (nat_cmp a.cputype b.cputype) (nat_cmp a.cpusubtype b.cpusubtype) (sym (unsigned_tied a.cputype b.cputype)) (sym (unsigned_tied a.cpusubtype b.cpusubtype))
+arch_tied a b = both_tied (a.cputype == b.cputype) (a.cpusubtype == b.cpusubtype) (nat_cmp a.cputype b.cputype)
+    (nat_cmp a.cpusubtype b.cpusubtype) (sym (unsigned_tied a.cputype b.cputype))
+    (sym (unsigned_tied a.cpusubtype b.cpusubtype))
 
 tied : (a b : SliceKey) → is_key a b ≡ is_eq (key_cmp a b)
-tied a b = both_tied (bytes_eq a.uuid b.uuid) (is_arch a.arch b.arch) (slice_cmp nat_cmp a.uuid b.uuid) (arch_cmp a.arch b.arch) (sym (is_eq-slice_cmp a.uuid b.uuid)) (arch_tied a.arch b.arch)
+tied a b = both_tied (bytes_eq a.uuid b.uuid) (is_arch a.arch b.arch) (slice_cmp nat_cmp a.uuid b.uuid)
+    (arch_cmp a.arch b.arch) (sym (is_eq-slice_cmp a.uuid b.uuid)) (arch_tied a.arch b.arch)
 
 below_differs : (a b : SliceKey) → key_cmp a b ≡ Less → is_key a b ≡ false
 below_differs a b e = tied a b ∙ ap is_eq e
@@ -70,7 +73,8 @@ weaker P Q step [] all = tt
 weaker P Q step (x ∷ xs) all = (step x all.0, weaker P Q step xs all.1)
 
 -- the keys of groups are those of the rows
-onto : (P : SliceKey → Type 0) (row : FindRow) (before : List Group) → P row.key → AllByRecursion (λ g. P g.key) before → AllByRecursion (λ g. P g.key) (with_row row before)
+onto : (P : SliceKey → Type 0) (row : FindRow) (before : List Group) → P row.key → AllByRecursion (λ g. P g.key) before
+    → AllByRecursion (λ g. P g.key) (with_row row before)
 onto P row [] p all = (p, tt)
 onto P row (group ∷ after) p all =
     put_before (AllByRecursion (λ g. P g.key)) row group after (λ _. (p, all.1)) (λ _. (p, all))
@@ -80,7 +84,8 @@ unfolding groups
 from_rows P [] all = tt
 from_rows P (row ∷ rows) all = onto P row (groups rows) all.0 (from_rows P rows all.1)
 
-off : (P : SliceKey → Type 0) (row : FindRow) (before : List Group) → AllByRecursion (λ g. P g.key) (with_row row before) → P row.key × AllByRecursion (λ g. P g.key) before
+off : (P : SliceKey → Type 0) (row : FindRow) (before : List Group)
+    → AllByRecursion (λ g. P g.key) (with_row row before) → P row.key × AllByRecursion (λ g. P g.key) before
 off P row [] = λ all. all
 off P row (group ∷ after) =
     put_before
@@ -132,7 +137,8 @@ own-none key [] above = refl
 own-none key (row ∷ rows) above = own-other key row rows (above_differs key row.key above.0) ∙ own-none key rows above.1
 
 -- where rows ascend, a group has all rows of its key
-kept : (row : FindRow) (rows : List FindRow) (gs : List Group) → AreAbove row.key gs → AllByRecursion (λ g. g.rows ≡ own g.key rows) gs → AllByRecursion (λ g. g.rows ≡ own g.key (row ∷ rows)) gs
+kept : (row : FindRow) (rows : List FindRow) (gs : List Group) → AreAbove row.key gs
+    → AllByRecursion (λ g. g.rows ≡ own g.key rows) gs → AllByRecursion (λ g. g.rows ≡ own g.key (row ∷ rows)) gs
 kept row rows [] above old = tt
 kept row rows (group ∷ after) above old =
     (old.0 ∙ sym (own-other group.key row rows (below_differs row.key group.key above.0)), kept row rows after above.1 old.1)
@@ -152,7 +158,8 @@ own_rows : (rows : List FindRow) → Ascends rows → AllByRecursion (λ g. g.ro
 unfolding groups
 own_rows [] up = tt
 own_rows (row ∷ rows) up =
-    add row rows (groups rows) (λ above. own-none row.key rows (to_rows (λ key. key_cmp row.key key ≡ Less) rows above)) (are_sorted (row ∷ rows) up) (own_rows rows up.1)
+    add row rows (groups rows) (λ above. own-none row.key rows (to_rows (λ key. key_cmp row.key key ≡ Less) rows above))
+    (are_sorted (row ∷ rows) up) (own_rows rows up.1)
 
 -- the rows of a key are those of its UUID that have its architecture
 abbrev of_arch : ArchKey → List FindRow → List FindRow
@@ -171,7 +178,9 @@ filter-twice : {X : Type 0} (p q : X → Bool) (xs : List X)
 filter-twice p q [] = refl
 filter-twice p q (x ∷ xs) = grind (arith, filter-twice p q xs)
 
-count-own : (q : FindRow → Bool) (arch : ArchKey) (rows : List FindRow) → count_by (λ row. is_arch row.key.arch arch && q row) (of_arch arch rows) ≡ count_by (λ row. is_arch row.key.arch arch && q row) rows
+count-own : (q : FindRow → Bool) (arch : ArchKey) (rows : List FindRow)
+    → count_by (λ row. is_arch row.key.arch arch && q row) (of_arch arch rows)
+    ≡ count_by (λ row. is_arch row.key.arch arch && q row) rows
 count-own q arch rows =
     sym (length-filter (λ row. is_arch row.key.arch arch && q row) (of_arch arch rows))
     ∙ ap length (filter-twice (λ row. is_arch row.key.arch arch) q rows)
@@ -180,7 +189,8 @@ count-own q arch rows =
 count_alike : (arch : ArchKey) (rows : List FindRow) → answering_count (of_arch arch rows) arch ≡ answering_count rows arch
 count_alike arch rows = rw (count-own (λ row. is_dsym row.state) arch rows, count-own (λ row. is_image row.state) arch rows) refl
 
-counted : (rows : List FindRow) (gs : List Group) → AllByRecursion (λ g. g.rows ≡ own g.key rows) gs → All (λ g. answering_count g.rows g.key.arch ≡ answering_count (rows_under g.key.uuid rows) g.key.arch) gs
+counted : (rows : List FindRow) (gs : List Group) → AllByRecursion (λ g. g.rows ≡ own g.key rows) gs
+    → All (λ g. answering_count g.rows g.key.arch ≡ answering_count (rows_under g.key.uuid rows) g.key.arch) gs
 counted rows gs all = All-from_recursion _ gs (weaker _ _ (λ (g : Group) is.
     ap (λ rs. answering_count rs g.key.arch) (is ∙ own_by g.key rows)
     ∙ count_alike g.key.arch (rows_under g.key.uuid rows)) gs all)
@@ -189,16 +199,27 @@ counted rows gs all = All-from_recursion _ gs (weaker _ _ (λ (g : Group) is.
 by_key : (u a r : Ordering) → ordering_then u (ordering_then a r) ≡ Less → ordering_then u a ≢ Greater
 by_key u a r e = λ g. grind arith
 
-rows_above : (operation : Operation) (others : List Operation) → AllByRecursion (λ other. list_cmp operation other ≡ Less) others → AllByRecursion (λ other. key_cmp (row_of operation).key other.key ≢ Greater) (map row_of others)
+rows_above : (operation : Operation) (others : List Operation)
+    → AllByRecursion (λ other. list_cmp operation other ≡ Less) others
+    → AllByRecursion (λ other. key_cmp (row_of operation).key other.key ≢ Greater) (map row_of others)
 rows_above operation [] above = tt
-rows_above operation (other ∷ others) above =
-    (by_key (slice_cmp nat_cmp (key_in operation).uuid (key_in other).uuid) (arch_cmp (key_in operation).arch (key_in other).arch) (slice_cmp nat_cmp (record_bytes operation) (record_bytes other)) above.0, rows_above operation others above.1)
+rows_above operation (other ∷ others) above = (
+  by_key (slice_cmp nat_cmp (key_in operation).uuid (key_in other).uuid)
+      (arch_cmp (key_in operation).arch (key_in other).arch)
+      (slice_cmp nat_cmp (record_bytes operation) (record_bytes other)) above.0,
+  rows_above operation others above.1,
+)
 
 ascends : (operations : List Operation) → IsStrictlySortedBy list_cmp operations → Ascends (map row_of operations)
 ascends [] up = tt
-ascends (operation ∷ others) up = (rows_above operation others (sorted_head list_cmp operation others up), ascends others (sorted_tail list_cmp operation others up))
+ascends (operation ∷ others) up = (
+  rows_above operation others (sorted_head list_cmp operation others up),
+  ascends others (sorted_tail list_cmp operation others up),
+)
 
-pub groups_count_all : (o : Operations) (rows : List FindRow) → IsList o rows → All (λ group. answering_count group.rows group.key.arch ≡ answering_count (rows_under group.key.uuid rows) group.key.arch) (groups rows)
+pub groups_count_all : (o : Operations) (rows : List FindRow) → IsList o rows
+    → All (λ group. answering_count group.rows group.key.arch
+    ≡ answering_count (rows_under group.key.uuid rows) group.key.arch) (groups rows)
 groups_count_all o rows list =
     let Up : List FindRow → Type 0 = λ rs. Ascends rs in
     counted rows (groups rows) (own_rows rows (subst Up (sym list.rows_are) (ascends list.operations list.ascending)))
@@ -208,18 +229,22 @@ each_of : (P : Operation → Type 0) (xs : List Operation) → ((a : Operation) 
 each_of P [] each = tt
 each_of P (x ∷ xs) each = (each x (in_front x xs), each_of P xs (λ a h. each a (in_rest x xs a h)))
 
-above_in_list : (uuid : List ℕ) (x : Operation) → (key_in x).uuid ≡ uuid → (ys : List Operation) → AllByRecursion (λ a. (key_in a).uuid ≡ uuid) ys → AllByRecursion (λ y. find_cmp x y ≡ Less) ys → AllByRecursion (λ y. list_cmp x y ≡ Less) ys
+above_in_list : (uuid : List ℕ) (x : Operation) → (key_in x).uuid ≡ uuid → (ys : List Operation)
+    → AllByRecursion (λ a. (key_in a).uuid ≡ uuid) ys → AllByRecursion (λ y. find_cmp x y ≡ Less) ys
+    → AllByRecursion (λ y. list_cmp x y ≡ Less) ys
 above_in_list uuid x x_is [] are above = tt
 above_in_list uuid x x_is (y ∷ ys) are above =
     let same : slice_cmp nat_cmp (key_in x).uuid (key_in y).uuid ≡ Equal = rw (x_is, are.0) (tied_itself nat_list_cmp_total uuid) in
     (ap (λ r. ordering_then r (find_cmp x y)) same ∙ above.0, above_in_list uuid x x_is ys are.1 above.1)
 
-ascends_in_list : (uuid : List ℕ) (xs : List Operation) → AllByRecursion (λ a. (key_in a).uuid ≡ uuid) xs → IsStrictlySortedBy find_cmp xs → IsStrictlySortedBy list_cmp xs
+ascends_in_list : (uuid : List ℕ) (xs : List Operation) → AllByRecursion (λ a. (key_in a).uuid ≡ uuid) xs
+    → IsStrictlySortedBy find_cmp xs → IsStrictlySortedBy list_cmp xs
 unfolding IsStrictlySortedBy
 ascends_in_list uuid [] are up = tt
 ascends_in_list uuid (x ∷ xs) are up = (above_in_list uuid x are.0 xs are.1 up.0, ascends_in_list uuid xs are.1 up.1)
 
-rows_are_under : (uuid : List ℕ) (xs : List Operation) → AllByRecursion (λ a. (key_in a).uuid ≡ uuid) xs → AllByRecursion (λ row. row.key.uuid ≡ uuid) (map row_of xs)
+rows_are_under : (uuid : List ℕ) (xs : List Operation) → AllByRecursion (λ a. (key_in a).uuid ≡ uuid) xs
+    → AllByRecursion (λ row. row.key.uuid ≡ uuid) (map row_of xs)
 rows_are_under uuid [] are = tt
 rows_are_under uuid (x ∷ xs) are = (are.0, rows_are_under uuid xs are.1)
 
@@ -227,7 +252,8 @@ all_under : (uuid : List ℕ) (rows : List FindRow) → AllByRecursion (λ row. 
 all_under uuid [] are = refl
 all_under uuid (row ∷ rows) are = rw ((bytes_eq-Decides row.key.uuid uuid).1 are.0) (ap (λ rs. row ∷ rs) (all_under uuid rows are.1))
 
-pub groups_count_found : (o : Operations) (uuid : List ℕ) (rows : List FindRow) → IsFinds o uuid rows → All (λ group. answering_count group.rows group.key.arch ≡ answering_count rows group.key.arch) (groups rows)
+pub groups_count_found : (o : Operations) (uuid : List ℕ) (rows : List FindRow) → IsFinds o uuid rows
+    → All (λ group. answering_count group.rows group.key.arch ≡ answering_count rows group.key.arch) (groups rows)
 groups_count_found o uuid rows finds =
     let Up : List FindRow → Type 0 = λ rs. Ascends rs in
     let IsUnder : List FindRow → Type 0 = λ rs. AllByRecursion (λ row. row.key.uuid ≡ uuid) rs in

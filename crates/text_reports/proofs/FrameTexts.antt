@@ -1,5 +1,6 @@
 -- The lines of frames, written one piece after another.
-use Rattle.std.proofs.Common.{◌≡◌, ◌<◌, ◌+◌, ◌∙◌, ℕ, suc, List, [], ◌∷◌, ◌++◌, length, take, get_or, refl, sym, ap, append_assoc, append-nil, add-one, zero, arith}
+use Rattle.std.proofs.Common.{◌≡◌, ◌<◌, ◌+◌, ◌∙◌, ℕ, suc, List, [], ◌∷◌, ◌++◌, length, take, get_or, refl, sym, ap}
+use Rattle.std.proofs.Common.{append_assoc, append-nil, add-one, zero, arith}
 use Rattle.archive_core.specs.declared.keys.Digest.{Digest}
 use Rattle.archive_core.specs.declared.lookup.Own.{Own}
 use Rattle.dwarf_source_frames.specs.Frames.{FrameRecord}

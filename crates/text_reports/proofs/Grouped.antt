@@ -1,5 +1,7 @@
 -- The groups of rows, one cut off after another.
-use Rattle.std.proofs.Common.{◌≡◌, ◌∙◌, ℕ, suc, ◌+◌, ◌<◌, Some, None, List, [], ◌∷◌, ◌++◌, Bool, true, false, if◌then◌else◌, refl, sym, ap, subst, take, drop, arith, append_assoc, append-nil, length, length-drop}
+use Rattle.std.proofs.Common.{◌≡◌, ◌∙◌, ℕ, suc, ◌+◌, ◌<◌, Some, None, List, [], ◌∷◌, ◌++◌, Bool, true, false}
+use Rattle.std.proofs.Common.{if◌then◌else◌, refl, sym, ap, subst, take, drop, arith, append_assoc, append-nil, length}
+use Rattle.std.proofs.Common.{length-drop}
 use Rattle.std.specs.List.{prefix_len, flat_map, slice_get}
 use Rattle.std.proofs.lemmas.Bool.{eq-eqb}
 use Rattle.archive_core.specs.declared.keys.SliceKey.{SliceKey}
@@ -28,7 +30,8 @@ len_behind-cons : (key : SliceKey) (next : FindRow) (rows : List FindRow) (b : B
 len_behind-cons key next rows true e = let one : 1 + len_behind key rows ≡ suc (len_behind key rows) = omega arith in rw e one
 len_behind-cons key next rows false e = rw e refl
 
-step : (row next : FindRow) (rows : List FindRow) (b : Bool) → is_key next.key row.key ≡ b → groups (next ∷ rows) ≡ cut next rows → with_row row (cut next rows) ≡ cut row (next ∷ rows)
+step : (row next : FindRow) (rows : List FindRow) (b : Bool) → is_key next.key row.key ≡ b → groups (next ∷ rows)
+    ≡ cut next rows → with_row row (cut next rows) ≡ cut row (next ∷ rows)
 step row next rows true e before =
     let same = one_key next.key row.key e in
     let one : 1 + len_behind row.key rows ≡ suc (len_behind row.key rows) = omega arith in
@@ -38,13 +41,19 @@ step row next rows false e before = rw (e, before) refl
 pub groups_cut : (row : FindRow) (rows : List FindRow) → groups (row ∷ rows) ≡ cut row rows
 unfolding groups
 groups_cut row [] = refl
-groups_cut row (next ∷ rows) = groups-cons row (next ∷ rows) ∙ ap (with_row row) (groups_cut next rows) ∙ step row next rows (is_key next.key row.key) refl (groups_cut next rows)
+groups_cut row (next ∷ rows) = groups-cons row (next ∷ rows) ∙ ap (with_row row) (groups_cut next rows)
+    ∙ step row next rows (is_key next.key row.key) refl (groups_cut next rows)
 
 pub key_is_same : (key : SliceKey) → is_key key key ≡ true
-key_is_same key = rw ((bytes_eq-Decides key.uuid key.uuid).1 refl, eq-eqb key.arch.cputype key.arch.cputype refl, eq-eqb key.arch.cpusubtype key.arch.cpusubtype refl) refl
+key_is_same key = rw (
+  (bytes_eq-Decides key.uuid key.uuid).1 refl,
+  eq-eqb key.arch.cputype key.arch.cputype refl,
+  eq-eqb key.arch.cpusubtype key.arch.cpusubtype refl,
+) refl
 
 -- fewer rows are left after the first group
-pub fewer_behind : (first : FindRow) (rows others : List FindRow) (n : ℕ) → Some first ≡ slice_get rows 0 → n ≡ len_behind first.key rows → others ≡ drop n rows → length others < length rows
+pub fewer_behind : (first : FindRow) (rows others : List FindRow) (n : ℕ) → Some first ≡ slice_get rows 0 → n
+    ≡ len_behind first.key rows → others ≡ drop n rows → length others < length rows
 fewer_behind first [] others n e len back = cc
 fewer_behind first (row ∷ rows) others n e len back =
     let is_first : row ≡ first = cc in
@@ -55,7 +64,9 @@ fewer_behind first (row ∷ rows) others n e len back =
 
 -- the lines of the first group come first
 lines_cut : (form : KeyForm) (first : FindRow) (rows : List FindRow)
-    → groups_lines form (first ∷ rows) ≡ group_lines form (record { key = first.key; rows = take (len_behind first.key (first ∷ rows)) (first ∷ rows) }) ++ groups_lines form (drop (len_behind first.key (first ∷ rows)) (first ∷ rows))
+    → groups_lines form (first ∷ rows) ≡ group_lines form
+    (record { key = first.key; rows = take (len_behind first.key (first ∷ rows)) (first ∷ rows) })
+    ++ groups_lines form (drop (len_behind first.key (first ∷ rows)) (first ∷ rows))
 unfolding groups_lines
 lines_cut form first rows =
     rw (len_behind-cons first.key first rows true (key_is_same first.key)) (ap (flat_map (group_lines form)) (groups_cut first rows))
@@ -64,8 +75,11 @@ regrouped : (text lines conflict after : List ℕ) → ((text ++ lines) ++ confl
 regrouped text lines conflict after = simp append_assoc
 
 -- a text that goes on with the lines of rows goes on with those of the others, once the first group is written
-next_written : (form : KeyForm) (whole text : List ℕ) (first : FindRow) (rows : List FindRow) (n : ℕ) → n ≡ len_behind first.key (first ∷ rows) → text ++ groups_lines form (first ∷ rows) ≡ whole
-    → ((text ++ flat_map (λ row. line (find_row_text form row)) (take n (first ∷ rows))) ++ conflict_line form first.key (answering_count (take n (first ∷ rows)) first.key.arch)) ++ groups_lines form (drop n (first ∷ rows)) ≡ whole
+next_written : (form : KeyForm) (whole text : List ℕ) (first : FindRow) (rows : List FindRow) (n : ℕ) → n
+    ≡ len_behind first.key (first ∷ rows) → text ++ groups_lines form (first ∷ rows) ≡ whole
+    → ((text ++ flat_map (λ row. line (find_row_text form row)) (take n (first ∷ rows)))
+    ++ conflict_line form first.key (answering_count (take n (first ∷ rows)) first.key.arch))
+    ++ groups_lines form (drop n (first ∷ rows)) ≡ whole
 unfolding group_lines
 next_written form whole text first rows n len before = rw len (regrouped text _ _ _ ∙ ap (λ after. text ++ after) (sym (lines_cut form first rows)) ∙ before)
 

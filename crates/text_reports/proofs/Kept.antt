@@ -1,5 +1,6 @@
 -- Lists of all of which something is true, with keys of their widths: what is kept of others, put in order, each once.
-use Rattle.std.proofs.Common.{◌≡◌, ◌↔◌, ◌⊎◌, ℕ, ◌+◌, ◌<◌, ◌≤◌, true, List, [], ◌∷◌, ◌++◌, length, take, get_or, Result, Ok, Err, refl, sym, ap, ◌∙◌, subst, arith, inl, inr, length-take}
+use Rattle.std.proofs.Common.{◌≡◌, ◌↔◌, ◌⊎◌, ℕ, ◌+◌, ◌<◌, ◌≤◌, true, List, [], ◌∷◌, ◌++◌, length, take, get_or, Result}
+use Rattle.std.proofs.Common.{Ok, Err, refl, sym, ap, ◌∙◌, subst, arith, inl, inr, length-take}
 use Rattle.std.specs.Cmp.{IsTotalOrder}
 use Rattle.std.specs.List.{Contains, dedup}
 use Rattle.std.specs.List.Sorted.{IsBinarySearchResult, IsPartitionPoint, IsPermutation, IsSearchInRange, IsSorted, IsSortedBy, IsStrictlySortedBy}
@@ -31,7 +32,8 @@ module _ {K : Type 0} {R : K → K → Ordering} (o : IsTotalOrder R) {X : Type 
   abbrev pub place_of : X → Ordering
   place_of x = R (key x) sought
 
-  nowhere : (xs : List X) (i : ℕ) → IsPartitionPoint (λ x. place_of x ≡ Less) (λ x. place_of x ≡ Greater) xs i → (x : X) → Contains xs x → place_of x ≡ Equal → ⊥
+  nowhere : (xs : List X) (i : ℕ) → IsPartitionPoint (λ x. place_of x ≡ Less) (λ x. place_of x ≡ Greater) xs i → (x : X)
+      → Contains xs x → place_of x ≡ Equal → ⊥
   nowhere xs i parts x there same =
       elim (cases_lt there.0 i) [
         | inl below ↦ cc (same, there.2, parts.0 there.0 x (omega arith) below)
@@ -39,7 +41,8 @@ module _ {K : Type 0} {R : K → K → Ordering} (o : IsTotalOrder R) {X : Type 
       ]
 
   -- a binary search finds a place exactly if there is one
-  pub halved : (xs : List X) (r : Result ℕ ℕ) → IsSortedBy (λ a b. is_lt (R (key a) (key b))) xs → IsSearchInRange r (length xs) → IsBinarySearchResult place_of xs r
+  pub halved : (xs : List X) (r : Result ℕ ℕ) → IsSortedBy (λ a b. is_lt (R (key a) (key b))) xs
+      → IsSearchInRange r (length xs) → IsBinarySearchResult place_of xs r
       → (is_ok r ≡ true) ↔ ((x : X) × Contains xs x × (place_of x ≡ Equal))
   halved [] (Ok i) sorted lt at = absurd (omega (arith, lt))
   halved (x ∷ xs) (Ok i) sorted lt at = (λ _. (get_or (x ∷ xs) i x, Contains-get_or (x ∷ xs) i x lt, at x), λ _. refl)
@@ -130,7 +133,8 @@ module _ {X : Type 0} (key_of : X → SliceKey) (IsOne : X → Type 0) where
     of_kept : (x : X) → Contains kept x → Contains sorted x
     of_kept x there = Contains-from_dedup (eq_by_cmp R) sorted x (subst (λ (l : List X). Contains l x) once there)
 
-    pub exactly_once : ((x y : X) → IsOne x → IsOne y → IsKey (key_of x) → IsKey (key_of y) → R x y ≡ Equal → x ≡ y) → AreExactly key_of IsOne sorted → AreExactly key_of IsOne kept
+    pub exactly_once : ((x y : X) → IsOne x → IsOne y → IsKey (key_of x) → IsKey (key_of y) → R x y ≡ Equal → x ≡ y)
+        → AreExactly key_of IsOne sorted → AreExactly key_of IsOne kept
     exactly_once one are = record {
       exactly = λ x. (
         λ there. (are.exactly x).0 (of_kept x there),
@@ -142,7 +146,8 @@ module _ {X : Type 0} (key_of : X → SliceKey) (IsOne : X → Type 0) where
             let keyed = λ (y : X) (h : Contains sorted y). All-contains (λ z. IsKey (key_of z)) sorted y are.are_keyed h in
             subst (Contains kept) (sym (one x any.1 is other_is (keyed x there) (keyed any.1 (of_kept any.1 other)) (eq_true _ any.4))) other,
       );
-      are_keyed = λ k d within. All-contains (λ x. IsKey (key_of x)) sorted (get_or kept k d) are.are_keyed (of_kept (get_or kept k d) (Contains-get_or kept k d within));
+      are_keyed = λ k d within. All-contains (λ x. IsKey (key_of x)) sorted (get_or kept k d) are.are_keyed
+          (of_kept (get_or kept k d) (Contains-get_or kept k d within));
     }
 
     pub once_ascends : IsSorted R sorted → IsStrictlySortedBy R kept

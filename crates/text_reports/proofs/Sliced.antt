@@ -65,14 +65,24 @@ tied_slice a b same =
 pub slice_found : (rows : List FindRow) (row : FindRow) (found : Bool) → All (λ (other : FindRow). IsKey other.key) rows → IsKey row.key
     → (found ≡ true) ↔ ((other : FindRow) × Contains rows other × (slice_row_cmp other row ≡ Equal)) → (found ≡ true) ↔ HasSlice rows row
 slice_found rows row found keyed key is = (
-  λ e. let there = is.0 e in (there.0, there.1, same_slice there.0 row (All-contains (λ (other : FindRow). IsKey other.key) rows there.0 keyed there.1) key there.2),
+  λ e. let there = is.0 e in (
+    there.0,
+    there.1,
+    same_slice there.0 row
+        (All-contains (λ (other : FindRow). IsKey other.key) rows there.0 keyed there.1) key there.2,
+  ),
   λ has. is.1 (has.0, has.1, tied_slice has.0 row has.2),
 )
 
 pub key_found : (rows : List FindRow) (key : SliceKey) (found : Bool) → All (λ (row : FindRow). IsKey row.key) rows → IsKey key
     → (found ≡ true) ↔ ((row : FindRow) × Contains rows row × (slice_key_cmp row.key key ≡ Equal)) → (found ≡ true) ↔ HasKey rows key
 key_found rows key found keyed is_key is = (
-  λ e. let there = is.0 e in (there.0, there.1, one_key_same there.0.key key (All-contains (λ (row : FindRow). IsKey row.key) rows there.0 keyed there.1) is_key there.2),
+  λ e. let there = is.0 e in (
+    there.0,
+    there.1,
+    one_key_same there.0.key key
+        (All-contains (λ (row : FindRow). IsKey row.key) rows there.0 keyed there.1) is_key there.2,
+  ),
   λ has. is.1 (has.0, has.1, tied_keys has.0.key key has.2),
 )
 
@@ -104,7 +114,8 @@ beside_companions live companions are row = (
   ),
 )
 
-pub answers : (pool live : List FindRow) → AreExactly row_key (LivesAmong pool) live → (row : FindRow) → (Contains live row × AnswersIn live row) ↔ AnswersAmong pool row
+pub answers : (pool live : List FindRow) → AreExactly row_key (LivesAmong pool) live → (row : FindRow)
+    → (Contains live row × AnswersIn live row) ↔ AnswersAmong pool row
 answers pool live are row = (
   λ h. (
     (are.exactly row).0 h.0,
@@ -137,7 +148,8 @@ companions_both pool a b is_a is_b key dsym = elim is_b.1 [
 ]
 
 -- so a slice that answers has one row
-pub one_answer : (pool : List FindRow) (a b : FindRow) → AnswersAmong pool a → AnswersAmong pool b → IsKey a.key → IsKey b.key → slice_row_cmp a b ≡ Equal → a ≡ b
+pub one_answer : (pool : List FindRow) (a b : FindRow) → AnswersAmong pool a → AnswersAmong pool b → IsKey a.key
+    → IsKey b.key → slice_row_cmp a b ≡ Equal → a ≡ b
 one_answer pool a b is_a is_b key_a key_b e =
     let same = same_slice a b key_a key_b e in
     let state = one_state a.state b.state is_a.0.1 is_b.0.1 (companions_both pool a b is_a is_b same.0) (companions_both pool b a is_b is_a (sym same.0)) in

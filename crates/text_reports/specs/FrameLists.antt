@@ -1,4 +1,4 @@
--- What lists of frames of the code are in the definitions.
+-- Lists of frames of the code, as the definitions have them.
 use Rattle.std.specs.Prelude.{List, map}
 use Rattle.std.specs.Borrow.{Bor}
 use Rattle.dwarf_source_frames.specs.Frames.{FrameRecord}

@@ -38,4 +38,5 @@ AnswersBeside companions row = (row.state ≡ Dsym) ⊎ (HasKey companions row.k
 
 -- the row is of a companion, or no companion under its key is among these
 abbrev pub AnswersIn : List FindRow → FindRow → Type 0
-AnswersIn live row = (row.state ≡ Dsym) ⊎ ((other : FindRow) → Contains live other → other.key ≡ row.key → other.state ≢ Dsym)
+AnswersIn live row = (row.state ≡ Dsym) ⊎ ((other : FindRow) → Contains live other → other.key ≡ row.key
+    → other.state ≢ Dsym)

@@ -19,7 +19,8 @@ use Rattle.archive_admission.specs.declared.fault.TakeFault.{TakeFault}
 use Rattle.archive_admission.specs.declared.fault.TakeFault.TheVariants.{Unrecognised, Fat, Slice, NothingToAdmit}
 use Rattle.archive_admission.specs.declared.fault.TakeFault.TheVariants.{OutOfMemory as TakeOutOfMemory}
 use Rattle.fat_slices.specs.declared.fat_fault.FatFault.{FatFault}
-use Rattle.fat_slices.specs.declared.fat_fault.FatFault.TheVariants.{NotUniversal, HeaderTruncated as FatHeaderTruncated}
+use Rattle.fat_slices.specs.declared.fat_fault.FatFault.TheVariants.{NotUniversal}
+use Rattle.fat_slices.specs.declared.fat_fault.FatFault.TheVariants.{HeaderTruncated as FatHeaderTruncated}
 use Rattle.fat_slices.specs.declared.fat_fault.FatFault.TheVariants.{TooManyArches, TableTruncated, SliceOutside}
 use Rattle.fat_slices.specs.declared.fat_fault.FatFault.TheVariants.{TooLarge as FatTooLarge}
 use Rattle.text_inputs.specs.declared.script.ScriptFault.{ScriptFault}

@@ -1,5 +1,6 @@
 -- Hex digits, as they are printed.
-use Rattle.std.proofs.Common.{◌≡◌, ◌∙◌, ℕ, zero, suc, ◌+◌, ◌-◌, ◌/◌, ◌%◌, ◌^◌, ◌<◌, List, [], ◌∷◌, ◌++◌, length, replicate, refl, sym, ap, arith, rules, false, true, pow-suc, ◌==◌, append_assoc, nat_lt}
+use Rattle.std.proofs.Common.{◌≡◌, ◌∙◌, ℕ, zero, suc, ◌+◌, ◌-◌, ◌/◌, ◌%◌, ◌^◌, ◌<◌, List, [], ◌∷◌, ◌++◌, length}
+use Rattle.std.proofs.Common.{replicate, refl, sym, ap, arith, rules, false, true, pow-suc, ◌==◌, append_assoc, nat_lt}
 use Rattle.std.proofs.lemmas.Fmt.{hex_byte}
 use Rattle.std.proofs.lemmas.List.{append-nil, replicate_more}
 use Rattle.std.specs.Fmt.{digits, digits_onto, digit_glyph, padded_integral, format_spec, char_count}
@@ -35,7 +36,8 @@ step : (k n : ℕ) (acc : List ℕ) → ((w : ℕ) → n / 16 < 16 ^ suc w → w
 unfolding hex_digits
 step k n acc next w zero e small deep =
     let count : suc w + length acc - suc (length acc) ≡ w = omega arith in
-    rw (last k n acc e, e, zeros w) (ap (λ m. replicate m 48 ++ digit_glyph false (n % 16) ∷ acc) count ∙ sym (append_assoc (replicate w 48) (digit_glyph false (n % 16) ∷ []) acc))
+    rw (last k n acc e, e, zeros w) (ap (λ m. replicate m 48 ++ digit_glyph false (n % 16) ∷ acc) count
+    ∙ sym (append_assoc (replicate w 48) (digit_glyph false (n % 16) ∷ []) acc))
 step k n acc next zero (suc q) e small deep = absurd (omega arith)
 step k n acc next (suc w) (suc q) e small deep =
     let here : n / 16 < 16 ^ suc w = omega (arith, pow-suc 16 (suc w)) in

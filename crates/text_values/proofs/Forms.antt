@@ -1,5 +1,6 @@
 -- Numbers of hex digits, and the `cpu:` form.
-use Rattle.std.proofs.Common.{◌≡◌, ◌<◌, ◌≤◌, ◌+◌, ◌*◌, ◌^◌, ◌&&◌, ℕ, suc, arith, pow-suc, ap, codes, refl, length, eq-eqb, ne_eqb, nat_eq, ◌==◌, Bool, true, false, List, Option, None, if◌then◌else◌}
+use Rattle.std.proofs.Common.{◌≡◌, ◌<◌, ◌≤◌, ◌+◌, ◌*◌, ◌^◌, ◌&&◌, ℕ, suc, arith, pow-suc, ap, codes, refl, length}
+use Rattle.std.proofs.Common.{eq-eqb, ne_eqb, nat_eq, ◌==◌, Bool, true, false, List, Option, None, if◌then◌else◌}
 use Rattle.std.proofs.Math.Nat.{pow-le-pow_right}
 use Rattle.std.specs.List.{slice_range, starts_with}
 use Rattle.std.specs.Str.{bytes_eq}

@@ -1,5 +1,7 @@
 -- What is printed is read back.
-use Rattle.std.proofs.Common.{◌≡◌, ◌∙◌, ◌<◌, ◌/◌, ◌%◌, ◌^◌, ℕ, zero, suc, true, false, Some, List, [], ◌∷◌, ◌++◌, All, codes, length, length-append, refl, sym, ap, arith, pow-suc, inl, inr, slice_index, unwrap_or}
+use Rattle.std.proofs.Common.{◌≡◌, ◌∙◌, ◌<◌, ◌/◌, ◌%◌, ◌^◌, ℕ, zero, suc, true, false, Some, List, [], ◌∷◌, ◌++◌, All}
+use Rattle.std.proofs.Common.{codes, length, length-append, refl, sym, ap, arith, pow-suc, inl, inr, slice_index}
+use Rattle.std.proofs.Common.{unwrap_or}
 use Rattle.std.proofs.lemmas.Bool.{cases_lt, cond_both}
 use Rattle.std.proofs.lemmas.Bool.Decides.{nat_tests}
 use Rattle.std.proofs.lemmas.Int.Digits.{digits_value_push}
@@ -18,7 +20,8 @@ use Rattle.archive_core.proofs.Answering.{one_arch}
 use Rattle.archive_core.specs.Find.{is_arch}
 use Rattle.archive_core.specs.declared.keys.ArchKey.{ArchKey}
 use Rattle.archive_core.specs.declared.keys.Digest.{Digest}
-use Rattle.text_values.specs.Words.{NamedArch, address_of, address_text, arch_of, arch_text, cpu_of, cpu_text, digest_of, digest_text, hex_digits, named_archs, number_of}
+use Rattle.text_values.specs.Words.{NamedArch, address_of, address_text, arch_of, arch_text, cpu_of, cpu_text}
+use Rattle.text_values.specs.Words.{digest_of, digest_text, hex_digits, named_archs, number_of}
 
 -- ---- digits
 

@@ -1,4 +1,4 @@
--- What keeps a line from having fields with one space between two, whatever these are to be.
+-- The flaws that keep a line from having fields with one space between two.
 use Rattle.std.specs.Prelude.{ℕ, Bool, true, false, not, ◌==◌, nat_eq, if◌then◌else◌, List, [], ◌∷◌, Option, Some, None}
 use Rattle.std.specs.List.{list_any, starts_with}
 use Rattle.std.specs.Str.{is_utf8}

@@ -1,5 +1,5 @@
--- The words for architectures, UUIDs, digests and addresses. UUIDs are those of the crate `uuid`: `hyphenated_text
--- lower` is printed, and `parsed` says what is read.
+-- The printed forms of architectures, UUIDs, digests and addresses. UUIDs are those of the crate `uuid`:
+-- `hyphenated_text lower` is printed, and `parsed` says which texts are read.
 use Rattle.std.specs.Prelude.{ℕ, zero, suc, ◌/◌, ◌%◌, Bool, false, ◌==◌, ◌&&◌, nat_eq, nat_le, if◌then◌else◌, codes}
 use Rattle.std.specs.Prelude.{List, [], ◌∷◌, ◌++◌, Option, Some, None, option_map, unwrap_or, drop, length, slice_range}
 use Rattle.std.specs.Char.{is_digit}

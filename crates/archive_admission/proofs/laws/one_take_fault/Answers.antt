@@ -10,4 +10,5 @@ returns-clause-one c = one_take_fault c.one_slice_fault.ensures.none c.one_slice
 
 pub returns-clause-none : goal.returns-clause-none
 returns-clause-none c = λ file f accepted fault.
-    one_take_fault c.one_slice_fault.ensures.none c.one_slice_fault.ensures.one c.one_fault.ensures.one c.one_fault.ensures.none file f OutOfMemory fault accepted
+    one_take_fault c.one_slice_fault.ensures.none c.one_slice_fault.ensures.one c.one_fault.ensures.one
+    c.one_fault.ensures.none file f OutOfMemory fault accepted

@@ -9,7 +9,8 @@ parts-init g c = taking_none _ _ _ c.new-rows.ensures.items
 pub parts-preserved : goal.parts-preserved
 parts-preserved g c =
     let part = c.in_ok-slice.ensures in
-    taking_more _ c.parts.index part.0 _ _ _ c.parts.rows.items _ c.in_ok-row.row c.parts.invariant part.1 (c.in_ok-row.ensures.content part.0 part.2) (c.in_ok-row.ensures.row part.0 part.2) c.in_ok-push.ensures.items
+    taking_more _ c.parts.index part.0 _ _ _ c.parts.rows.items _ c.in_ok-row.row c.parts.invariant part.1
+    (c.in_ok-row.ensures.content part.0 part.2) (c.in_ok-row.ensures.row part.0 part.2) c.in_ok-push.ensures.items
 
 pub returns-in_err-slice-clause-stopped : goal.returns-in_err-slice-clause-stopped
 returns-in_err-slice-clause-stopped g c =
@@ -22,4 +23,5 @@ returns-in_err-row-clause-stopped g c =
 pub returns-in_err-push-clause-stopped : goal.returns-in_err-push-clause-stopped
 returns-in_err-push-clause-stopped g c =
     let part = c.in_ok-slice.ensures in
-    errs _ (stopped_behind (file_of c.args.accepted.now) c.parts.index part.0 _ _ _ c.parts.rows.items c.parts.invariant part.1 (c.in_ok-row.ensures.content part.0 part.2))
+    errs _ (stopped_behind (file_of c.args.accepted.now) c.parts.index part.0 _ _ _ c.parts.rows.items c.parts.invariant
+    part.1 (c.in_ok-row.ensures.content part.0 part.2))

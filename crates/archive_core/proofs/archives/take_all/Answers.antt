@@ -7,7 +7,8 @@ returns-clause-joined g c =
     let join = g.A.Join in
     let law = g.met.A.Archive in
     on_ok_weaker c.absorb.result
-    (least_is_joined join.is_content join.below law.is_content_is law.below_is (join.content c.args.archive.now) (join.content c.args.other) (join.content c.absorb.new.self) c.len.ensures.content c.len-2.ensures.content)
+    (least_is_joined join.is_content join.below law.is_content_is law.below_is (join.content c.args.archive.now)
+    (join.content c.args.other) (join.content c.absorb.new.self) c.len.ensures.content c.len-2.ensures.content)
     c.absorb.ensures.joined
 
 pub returns-clause-refused : goal.returns-clause-refused
@@ -15,5 +16,6 @@ returns-clause-refused g c =
     let join = g.A.Join in
     let law = g.met.A.Archive in
     on_err_weaker c.absorb.result
-    (towards_in_words join.is_content join.below law.is_content_is law.below_is (join.content c.args.archive.now) (join.content c.args.other) (join.content c.absorb.new.self))
+    (towards_in_words join.is_content join.below law.is_content_is law.below_is (join.content c.args.archive.now)
+    (join.content c.args.other) (join.content c.absorb.new.self))
     c.absorb.ensures.refused

@@ -23,6 +23,9 @@ returns-clause-order c =
     let types = cmp_four a.arch.cputype b.arch.cputype first.key.cputype second.key.cputype in
     let subtypes = cmp_four a.arch.cpusubtype b.arch.cpusubtype first.key.cpusubtype second.key.cpusubtype in
     c.cmp.ensures
-    ∙ (λ i. ordering_then (ordering_then (nat_cmp (first.numbers i).0 (second.numbers i).0) (nat_cmp (first.numbers i).1 (second.numbers i).1)) (nat_cmp (first.numbers i).2 (second.numbers i).2))
+    ∙ (λ i. ordering_then (ordering_then (nat_cmp (first.numbers i).0 (second.numbers i).0)
+    (nat_cmp (first.numbers i).1 (second.numbers i).1)) (nat_cmp (first.numbers i).2 (second.numbers i).2))
     ∙ (λ i. ordering_then (ordering_then (uuids i) (types i)) (subtypes i))
-    ∙ sym (three_parts a.uuid (to_be_bytes w32 a.arch.cputype) (to_be_bytes w32 a.arch.cpusubtype) b.uuid (to_be_bytes w32 b.arch.cputype) (to_be_bytes w32 b.arch.cpusubtype) (first.key.uuid ∙ sym second.key.uuid) (omega arith))
+    ∙ sym (three_parts a.uuid (to_be_bytes w32 a.arch.cputype) (to_be_bytes w32 a.arch.cpusubtype) b.uuid
+    (to_be_bytes w32 b.arch.cputype) (to_be_bytes w32 b.arch.cpusubtype) (first.key.uuid ∙ sym second.key.uuid)
+    (omega arith))

@@ -9,7 +9,12 @@ use Rattle.archive_core.specs.declared.faults.SliceFault.{SliceFault}
 use Rattle.archive_core.specs.declared.faults.SliceFault.TheVariants.{Image, Symbols}
 use Rattle.archive_core.proofs.laws.one_slice_fault.Goals as goal
 
-module _ (image_some : (bytes : List ℕ) → IsImage bytes ⊎ ((f : ImageFault) × IsImageFault bytes f)) (image_one : (bytes : List ℕ) (f g : ImageFault) → IsImageFault bytes f → IsImageFault bytes g → f ≡ g) (image_none : (bytes : List ℕ) (f : ImageFault) → IsImage bytes → IsImageFault bytes f → ⊥) (symbols_some : (image : List ℕ) → HasSymbols image ⊎ ((f : SymbolFault) × IsSymbolFault image f)) (symbols_one : (image : List ℕ) (f g : SymbolFault) → IsSymbolFault image f → IsSymbolFault image g → f ≡ g) (symbols_none : (image : List ℕ) (f : SymbolFault) → HasSymbols image → IsSymbolFault image f → ⊥) where
+module _ (image_some : (bytes : List ℕ) → IsImage bytes ⊎ ((f : ImageFault) × IsImageFault bytes f))
+    (image_one : (bytes : List ℕ) (f g : ImageFault) → IsImageFault bytes f → IsImageFault bytes g → f ≡ g)
+    (image_none : (bytes : List ℕ) (f : ImageFault) → IsImage bytes → IsImageFault bytes f → ⊥)
+    (symbols_some : (image : List ℕ) → HasSymbols image ⊎ ((f : SymbolFault) × IsSymbolFault image f))
+    (symbols_one : (image : List ℕ) (f g : SymbolFault) → IsSymbolFault image f → IsSymbolFault image g → f ≡ g)
+    (symbols_none : (image : List ℕ) (f : SymbolFault) → HasSymbols image → IsSymbolFault image f → ⊥) where
   some : (bytes : List ℕ) → IsImage bytes ⊎ ((f : ImageFault) × IsImageFault bytes f) → IsValid bytes ⊎ ((f : SliceFault) × IsSliceFault bytes f)
   some bytes (inl image) = elim (symbols_some bytes) [
     | inl symbols ↦ inl (record { image = image; symbols = symbols })
@@ -29,7 +34,11 @@ module _ (image_some : (bytes : List ℕ) → IsImage bytes ⊎ ((f : ImageFault
 
 pub returns : goal.returns
 returns c = record {
-  some = λ bytes. some c.one_fault.ensures.some c.one_fault.ensures.one c.one_fault.ensures.none c.one_symbol_fault.ensures.some c.one_symbol_fault.ensures.one c.one_symbol_fault.ensures.none bytes (c.one_fault.ensures.some bytes);
-  one = one c.one_fault.ensures.some c.one_fault.ensures.one c.one_fault.ensures.none c.one_symbol_fault.ensures.some c.one_symbol_fault.ensures.one c.one_symbol_fault.ensures.none;
-  none = none c.one_fault.ensures.some c.one_fault.ensures.one c.one_fault.ensures.none c.one_symbol_fault.ensures.some c.one_symbol_fault.ensures.one c.one_symbol_fault.ensures.none;
+  some = λ bytes. some c.one_fault.ensures.some c.one_fault.ensures.one c.one_fault.ensures.none
+      c.one_symbol_fault.ensures.some c.one_symbol_fault.ensures.one c.one_symbol_fault.ensures.none bytes
+      (c.one_fault.ensures.some bytes);
+  one = one c.one_fault.ensures.some c.one_fault.ensures.one c.one_fault.ensures.none c.one_symbol_fault.ensures.some
+      c.one_symbol_fault.ensures.one c.one_symbol_fault.ensures.none;
+  none = none c.one_fault.ensures.some c.one_fault.ensures.one c.one_fault.ensures.none c.one_symbol_fault.ensures.some
+      c.one_symbol_fault.ensures.one c.one_symbol_fault.ensures.none;
 }

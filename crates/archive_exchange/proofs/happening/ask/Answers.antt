@@ -3,4 +3,6 @@ use Rattle.archive_exchange.proofs.Followed.{asked, follows_as}
 use Rattle.archive_exchange.proofs.happening.ask.Goals as goal
 
 pub returns : goal.returns
-returns g c = λ i. follows_as _ _ _ _ _ _ _ c.in_ok-outcome.ensures.number (asked i _ _ c.args.messages.now.items _ c.in_ok-text.ensures.held c.in_ok-text.ensures.saved (c.in_ok-outcome.ensures.sent ∙ ap (λ t. c.args.messages.now.items ++ t ∷ []) c.in_ok-text.ensures.text))
+returns g c = λ i. follows_as _ _ _ _ _ _ _ c.in_ok-outcome.ensures.number
+    (asked i _ _ c.args.messages.now.items _ c.in_ok-text.ensures.held c.in_ok-text.ensures.saved
+    (c.in_ok-outcome.ensures.sent ∙ ap (λ t. c.args.messages.now.items ++ t ∷ []) c.in_ok-text.ensures.text))

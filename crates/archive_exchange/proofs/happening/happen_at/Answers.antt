@@ -23,4 +23,5 @@ pub returns-in-Stop-clause-recorded : goal.returns-in-Stop-clause-recorded
 returns-in-Stop-clause-recorded g c = on_ok _ c.stop.result (λ seen. recorded_by c.args.event.now seen (λ s k d e. cc (c.in-Stop.is, e)))
 
 pub returns-in-Retire-clause-recorded : goal.returns-in-Retire-clause-recorded
-returns-in-Retire-clause-recorded g c = retire_ok c.args.event.now c.in-Retire.site c.in-Retire.key c.in-Retire.digest c.retire.result c.in-Retire.is c.retire.ensures.recorded
+returns-in-Retire-clause-recorded g c = retire_ok c.args.event.now c.in-Retire.site c.in-Retire.key c.in-Retire.digest
+    c.retire.result c.in-Retire.is c.retire.ensures.recorded

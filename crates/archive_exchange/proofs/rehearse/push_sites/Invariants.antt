@@ -5,4 +5,5 @@ use Rattle.archive_exchange.specs.Rehearse.{site_lines}
 use Rattle.archive_exchange.proofs.rehearse.push_sites.Given as goal
 
 abbrev pub invariant-sites : goal.invariant-sites
-invariant-sites g l = (w : World) → Represents l.world.sites l.world.messages w → string_bytes l.text ≡ string_bytes l.initial.text ++ site_lines w.held l.number
+invariant-sites g l = (w : World) → Represents l.world.sites l.world.messages w → string_bytes l.text
+    ≡ string_bytes l.initial.text ++ site_lines w.held l.number

@@ -23,7 +23,8 @@ events-preserved g c = record {
 pub returns-clause-has_run : goal.returns-clause-has_run
 returns-clause-has_run g c = λ seen are.
     let all : c.events.event-index ≡ length c.args.events.now = omega arith in
-    run_end c.args.sites seen c.events.event-index _ _ _ _ _ (c.events.invariant.run seen are) (all ∙ sym (AllZip-long IsSeen c.args.events.now seen are)) c.new.ensures.sites c.new.ensures.messages
+    run_end c.args.sites seen c.events.event-index _ _ _ _ _ (c.events.invariant.run seen are)
+    (all ∙ sym (AllZip-long IsSeen c.args.events.now seen are)) c.new.ensures.sites c.new.ensures.messages
 
 pub new-requires : goal.new-requires
 new-requires g c =

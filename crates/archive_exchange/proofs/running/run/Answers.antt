@@ -14,9 +14,11 @@ pub returns-clause-records : goal.returns-clause-records
 returns-clause-records g c = λ seen are. records_of c.args.sites seen _ _ _ (c.in_ok-done.ensures.has_run seen are)
 
 pub returns-clause-lifted : goal.returns-clause-lifted
-returns-clause-lifted g c = λ seen are i x a r k tell ex. c.delta_lifts.ensures c.args.sites seen i x a r k (records_of c.args.sites seen _ _ _ (c.in_ok-done.ensures.has_run seen are)) tell ex
+returns-clause-lifted g c = λ seen are i x a r k tell ex. c.delta_lifts.ensures c.args.sites seen i x a r k
+    (records_of c.args.sites seen _ _ _ (c.in_ok-done.ensures.has_run seen are)) tell ex
 
 pub returns-clause-agreed : goal.returns-clause-agreed
 returns-clause-agreed g c = λ seen are i j a r d b s e tell one other quiet also.
     let records = records_of c.args.sites seen _ _ _ (c.in_ok-done.ensures.has_run seen are) in
-    alike _ _ (held_content c.args.sites seen (suc (max d e)) i records) (c.answered_agree.ensures c.args.sites seen i j a r d b s e records tell one other quiet also)
+    alike _ _ (held_content c.args.sites seen (suc (max d e)) i records)
+    (c.answered_agree.ensures c.args.sites seen i j a r d b s e records tell one other quiet also)

@@ -11,7 +11,9 @@ operations-init c =
     record {
       can = tt;
       finite = tt;
-      way = λ old is. parting_none old all all c.none-parts.result.admissions.items c.none-parts.result.retirements.items (from_list c.none-seen.result) is refl c.none-parts.ensures.admissions c.none-parts.ensures.retirements (ap from_list c.none-seen.ensures);
+      way = λ old is. parting_none old all all c.none-parts.result.admissions.items
+          c.none-parts.result.retirements.items (from_list c.none-seen.result) is refl c.none-parts.ensures.admissions
+          c.none-parts.ensures.retirements (ap from_list c.none-seen.ensures);
       long = omega (arith, c.into_iter-operation-iterator.ensures.into_iter_gives.1, ap length c.into_iter-operation-iterator.ensures.into_iter_gives.0);
     }
 
@@ -33,4 +35,6 @@ pub returns : goal.returns
 returns c =
     let at = c.operations in
     let none : length (into_iter_items at.operation-iterator) ≡ 0 = omega (arith, at.invariant.long, c.in-None.ensures.steps) in
-    λ old made. rw (← c.into_iter-operation-iterator.ensures.into_iter_gives.0) (parted old _ _ at.parts.admissions.items at.parts.retirements.items (from_list at.seen) (at.invariant.way old made) none)
+    λ old made. rw (← c.into_iter-operation-iterator.ensures.into_iter_gives.0)
+    (parted old _ _ at.parts.admissions.items at.parts.retirements.items (from_list at.seen)
+    (at.invariant.way old made) none)

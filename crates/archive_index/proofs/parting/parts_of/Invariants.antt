@@ -9,6 +9,7 @@ abbrev pub invariant-operations : goal.invariant-operations
 invariant-operations l = record {
   can : goal.iterator-operations.can_next l.operation-iterator;
   finite : goal.iterator-operations.is_finite l.operation-iterator;
-  way : (old : Operations) → IsMade old → IsParting old (into_iter_items l.initial.operation-iterator) (into_iter_items l.operation-iterator) l.parts.admissions.items l.parts.retirements.items (from_list l.seen);
+  way : (old : Operations) → IsMade old → IsParting old (into_iter_items l.initial.operation-iterator)
+      (into_iter_items l.operation-iterator) l.parts.admissions.items l.parts.retirements.items (from_list l.seen);
   long : into_iter_len l.operation-iterator ≡ length (into_iter_items l.operation-iterator);
 }

@@ -12,7 +12,12 @@ at_ok (Ok x) e h = h
 at_ok (Err x) e h = cc
 
 pub returns-then-is_err-clause-sorted : goal.returns-then-is_err-clause-sorted
-returns-then-is_err-clause-sorted c = c.sort_unstable_by.ensures.sorted (λ x y. is_lt (slice_cmp nat_cmp (record_bytes x) (record_bytes y))) (ranks_by nat_list_cmp_total record_bytes) (always_returns_same _ _ _ (λ a r g called. (search rules, search rules)))
+returns-then-is_err-clause-sorted c = c.sort_unstable_by.ensures.sorted
+    (λ x y. is_lt (slice_cmp nat_cmp (record_bytes x) (record_bytes y))) (ranks_by nat_list_cmp_total record_bytes)
+    (always_returns_same _ _ _ (λ a r g called. (search rules, search rules)))
 
 pub returns-else-is_err-clause-sorted : goal.returns-else-is_err-clause-sorted
-returns-else-is_err-clause-sorted c = at_ok c.sort_by.result (sym c.is_err.ensures.value ∙ c.if-is_err.false) c.sort_by.ensures.sorted (λ x y. is_lt (slice_cmp nat_cmp (record_bytes x) (record_bytes y))) (ranks_by nat_list_cmp_total record_bytes) (always_returns_same _ _ _ (λ a r g called. (search rules, search rules)))
+returns-else-is_err-clause-sorted c = at_ok c.sort_by.result (sym c.is_err.ensures.value ∙ c.if-is_err.false)
+    c.sort_by.ensures.sorted (λ x y. is_lt (slice_cmp nat_cmp (record_bytes x) (record_bytes y)))
+    (ranks_by nat_list_cmp_total record_bytes) (always_returns_same _ _ _
+    (λ a r g called. (search rules, search rules)))

@@ -5,9 +5,11 @@ use Rattle.archive_merge.proofs.borrowed.covers.Goals as goal
 
 pub returns-then-covers_slice-clause-covered : goal.returns-then-covers_slice-clause-covered
 returns-then-covers_slice-clause-covered c =
-    rw c.in-Admit.is (c.if-covers_slice.true ∙ sym (covered_own (Some c.args.shared.now) c.args.retired.now (admission_record c.in-Admit.slice) (sym c.covers_slice.ensures.covered ∙ c.if-covers_slice.true)))
+    rw c.in-Admit.is (c.if-covers_slice.true ∙ sym (covered_own (Some c.args.shared.now) c.args.retired.now
+    (admission_record c.in-Admit.slice) (sym c.covers_slice.ensures.covered ∙ c.if-covers_slice.true)))
 
 pub returns-else-covers_slice-clause-covered : goal.returns-else-covers_slice-clause-covered
 returns-else-covers_slice-clause-covered c =
     let shared = rw c.covers_slice.ensures.same at c.covers_slice-else-covers_slice.ensures.covered in
-    rw c.in-Admit.is (shared ∙ sym (covered_shared c.args.shared.now c.args.retired.now (admission_record c.in-Admit.slice) (sym c.covers_slice.ensures.covered ∙ c.if-covers_slice.false)))
+    rw c.in-Admit.is (shared ∙ sym (covered_shared c.args.shared.now c.args.retired.now
+    (admission_record c.in-Admit.slice) (sym c.covers_slice.ensures.covered ∙ c.if-covers_slice.false)))

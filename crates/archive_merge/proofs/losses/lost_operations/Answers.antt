@@ -15,4 +15,6 @@ returns-clause-lost g c =
 pub returns-in_err-told-clause-refused : goal.returns-in_err-told-clause-refused
 returns-in_err-told-clause-refused g c =
     let p = err_from_is_err_and c.from_residual.result c.from_residual.ensures.1 in
-    rw (p.1, p.2) (not_compared (stream g.R.Source.left g.R.Source.failures c.args.new.now c.merge_telling.new.left) (stream g.S.Source.left g.S.Source.failures c.args.old.now c.merge_telling.new.right) _ _ _ (λ failed. omega (arith, failed)) c.in_err-told.ensures.merges.0)
+    rw (p.1, p.2) (not_compared (stream g.R.Source.left g.R.Source.failures c.args.new.now c.merge_telling.new.left)
+    (stream g.S.Source.left g.S.Source.failures c.args.old.now c.merge_telling.new.right) _ _ _
+    (λ failed. omega (arith, failed)) c.in_err-told.ensures.merges.0)

@@ -5,7 +5,10 @@ use Rattle.archive_merge.proofs.merging.merge_records.Given as goal
 
 abbrev pub invariant-turns : goal.invariant-turns
 invariant-turns g l = record {
-  merging : (a1 a2 w0 : Option (List ℕ)) → Merging a1 (g.R.Source.left l.initial.r1) a2 (g.B.ReadFrom.left l.initial.r2) w0 (g.W.Sink.held l.initial.w) (sides_of g.B.Side.seen l.initial.m) → Merging a1 (g.R.Source.left l.r1) a2 (g.B.ReadFrom.left l.r2) w0 (g.W.Sink.held l.w) (sides_of g.B.Side.seen l.m);
+  merging : (a1 a2 w0 : Option (List ℕ)) → Merging a1 (g.R.Source.left l.initial.r1) a2 (g.B.ReadFrom.left l.initial.r2)
+      w0 (g.W.Sink.held l.initial.w) (sides_of g.B.Side.seen l.initial.m)
+      → Merging a1 (g.R.Source.left l.r1) a2 (g.B.ReadFrom.left l.r2) w0 (g.W.Sink.held l.w)
+      (sides_of g.B.Side.seen l.m);
   fits : Fits (sides_of g.B.Side.seen l.m);
   read : IsRead (sides_of g.B.Side.seen l.m);
   unfailed1 : g.R.Source.failures l.r1 ≡ g.R.Source.failures l.initial.r1;

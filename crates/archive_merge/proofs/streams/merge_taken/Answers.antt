@@ -11,7 +11,8 @@ pub returns-in_err-merge_records-clause-devices : goal.returns-in_err-merge_reco
 returns-in_err-merge_records-clause-devices g c =
     let e = err_from_is_err_and c.from_residual-in_err-merge_records.result c.from_residual-in_err-merge_records.ensures.1 in
     let begun = c.in_ok-m.ensures.devices in
-    rw (e.1, e.2) (blamed_later g.R.Source.left g.R.Source.failures g.B.ReadFrom.left g.B.ReadFrom.failures _ _ _ _ _ _ _ _ _ _ begun.0 begun.1 begun.2 c.in_err-merge_records.ensures.devices)
+    rw (e.1, e.2) (blamed_later g.R.Source.left g.R.Source.failures g.B.ReadFrom.left g.B.ReadFrom.failures _ _ _ _ _ _
+    _ _ _ _ begun.0 begun.1 begun.2 c.in_err-merge_records.ensures.devices)
 
 pub returns-clause-leaves : goal.returns-clause-leaves
 returns-clause-leaves g c = c.finish.ensures.leaves _ _ _ _ _ (c.in_ok-merge_records.ensures.merging _ _ _ c.in_ok-m.ensures.telling.merging)

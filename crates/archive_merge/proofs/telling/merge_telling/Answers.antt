@@ -9,24 +9,38 @@ pub returns-in_err-sizes-clause-merges : goal.returns-in_err-sizes-clause-merges
 returns-in_err-sizes-clause-merges g c =
     let e = err_from_is_err_and c.from_residual.result c.from_residual.ensures.1 in
     let taken = c.in_err-sizes.ensures in
-    rw (e.1, e.2) (merges (stream g.R.Source.left g.R.Source.failures c.args.left.now c.tell_taken.new.r1) (stream g.B.ReadFrom.left g.B.ReadFrom.failures c.args.right.now c.tell_taken.new.r2) (stream g.W.Sink.held g.W.Sink.failures c.args.w.now c.tell_taken.new.w) (Err _) taken.leaves taken.devices)
+    rw (e.1, e.2) (merges (stream g.R.Source.left g.R.Source.failures c.args.left.now c.tell_taken.new.r1)
+    (stream g.B.ReadFrom.left g.B.ReadFrom.failures c.args.right.now c.tell_taken.new.r2)
+    (stream g.W.Sink.held g.W.Sink.failures c.args.w.now c.tell_taken.new.w) (Err _) taken.leaves taken.devices)
 
 pub returns-clause-merges : goal.returns-clause-merges
 returns-clause-merges g c =
     let taken = c.in_ok-sizes.ensures in
-    merges (stream g.R.Source.left g.R.Source.failures c.args.left.now c.tell_taken.new.r1) (stream g.B.ReadFrom.left g.B.ReadFrom.failures c.args.right.now c.tell_taken.new.r2) (stream g.W.Sink.held g.W.Sink.failures c.args.w.now c.tell_taken.new.w) (Ok c.in_ok-sizes.sizes) taken.leaves taken.devices
+    merges (stream g.R.Source.left g.R.Source.failures c.args.left.now c.tell_taken.new.r1)
+    (stream g.B.ReadFrom.left g.B.ReadFrom.failures c.args.right.now c.tell_taken.new.r2)
+    (stream g.W.Sink.held g.W.Sink.failures c.args.w.now c.tell_taken.new.w) (Ok c.in_ok-sizes.sizes) taken.leaves
+    taken.devices
 
 pub returns-clause-tells : goal.returns-clause-tells
 returns-clause-tells g c =
     let taken = c.in_ok-sizes.ensures in
-    merged_telling (stream g.R.Source.left g.R.Source.failures c.args.left.now c.tell_taken.new.r1) (stream g.B.ReadFrom.left g.B.ReadFrom.failures c.args.right.now c.tell_taken.new.r2) (stream g.W.Sink.held g.W.Sink.failures c.args.w.now c.tell_taken.new.w) c.in_ok-sizes.sizes c.tell_taken.new.told.arrivals.items c.tell_taken.new.told.withdraws taken.told taken.devices
+    merged_telling (stream g.R.Source.left g.R.Source.failures c.args.left.now c.tell_taken.new.r1)
+    (stream g.B.ReadFrom.left g.B.ReadFrom.failures c.args.right.now c.tell_taken.new.r2)
+    (stream g.W.Sink.held g.W.Sink.failures c.args.w.now c.tell_taken.new.w) c.in_ok-sizes.sizes
+    c.tell_taken.new.told.arrivals.items c.tell_taken.new.told.withdraws taken.told taken.devices
 
 pub returns-clause-arrivals : goal.returns-clause-arrivals
 returns-clause-arrivals g c =
     let taken = c.in_ok-sizes.ensures in
-    arrivals_of_texts (stream g.R.Source.left g.R.Source.failures c.args.left.now c.tell_taken.new.r1) (stream g.B.ReadFrom.left g.B.ReadFrom.failures c.args.right.now c.tell_taken.new.r2) (stream g.W.Sink.held g.W.Sink.failures c.args.w.now c.tell_taken.new.w) c.in_ok-sizes.sizes c.tell_taken.new.told.arrivals.items c.tell_taken.new.told.withdraws taken.told taken.devices
+    arrivals_of_texts (stream g.R.Source.left g.R.Source.failures c.args.left.now c.tell_taken.new.r1)
+    (stream g.B.ReadFrom.left g.B.ReadFrom.failures c.args.right.now c.tell_taken.new.r2)
+    (stream g.W.Sink.held g.W.Sink.failures c.args.w.now c.tell_taken.new.w) c.in_ok-sizes.sizes
+    c.tell_taken.new.told.arrivals.items c.tell_taken.new.told.withdraws taken.told taken.devices
 
 pub returns-clause-withdraws : goal.returns-clause-withdraws
 returns-clause-withdraws g c =
     let taken = c.in_ok-sizes.ensures in
-    withdraws_of_texts (stream g.R.Source.left g.R.Source.failures c.args.left.now c.tell_taken.new.r1) (stream g.B.ReadFrom.left g.B.ReadFrom.failures c.args.right.now c.tell_taken.new.r2) (stream g.W.Sink.held g.W.Sink.failures c.args.w.now c.tell_taken.new.w) c.in_ok-sizes.sizes c.tell_taken.new.told.arrivals.items c.tell_taken.new.told.withdraws taken.told taken.devices
+    withdraws_of_texts (stream g.R.Source.left g.R.Source.failures c.args.left.now c.tell_taken.new.r1)
+    (stream g.B.ReadFrom.left g.B.ReadFrom.failures c.args.right.now c.tell_taken.new.r2)
+    (stream g.W.Sink.held g.W.Sink.failures c.args.w.now c.tell_taken.new.w) c.in_ok-sizes.sizes
+    c.tell_taken.new.told.arrivals.items c.tell_taken.new.told.withdraws taken.told taken.devices

@@ -8,12 +8,14 @@ use Rattle.archive_merge.proofs.telling.tell_taken.Goals as goal
 pub returns-in_err-tell_records-clause-leaves : goal.returns-in_err-tell_records-clause-leaves
 returns-in_err-tell_records-clause-leaves g c =
     let e = err_from_is_err_and c.from_residual-in_err-tell_records.result c.from_residual-in_err-tell_records.ensures.1 in
-    let begun = tells_as _ _ _ _ _ _ (sides_of g.B.Side.seen c.in_ok-m.m) [] c.args.told.now.arrivals.items false c.args.told.now.withdraws c.requires.arrivals c.requires.withdraws c.in_ok-m.ensures.telling in
+    let begun = tells_as _ _ _ _ _ _ (sides_of g.B.Side.seen c.in_ok-m.m) [] c.args.told.now.arrivals.items false
+    c.args.told.now.withdraws c.requires.arrivals c.requires.withdraws c.in_ok-m.ensures.telling in
     rw (e.1, e.2) (stops_later _ _ _ _ _ _ _ (c.in_err-tell_records.ensures.telling _ _ _ begun))
 
 pub returns-clause-leaves : goal.returns-clause-leaves
 returns-clause-leaves g c =
-    let begun = tells_as _ _ _ _ _ _ (sides_of g.B.Side.seen c.in_ok-m.m) [] c.args.told.now.arrivals.items false c.args.told.now.withdraws c.requires.arrivals c.requires.withdraws c.in_ok-m.ensures.telling in
+    let begun = tells_as _ _ _ _ _ _ (sides_of g.B.Side.seen c.in_ok-m.m) [] c.args.told.now.arrivals.items false
+    c.args.told.now.withdraws c.requires.arrivals c.requires.withdraws c.in_ok-m.ensures.telling in
     let told = c.in_ok-tell_records.ensures.telling _ _ _ begun in
     c.finish.ensures.leaves _ _ _ _ _ told.merging
 
@@ -21,4 +23,5 @@ pub returns-in_err-tell_records-clause-devices : goal.returns-in_err-tell_record
 returns-in_err-tell_records-clause-devices g c =
     let e = err_from_is_err_and c.from_residual-in_err-tell_records.result c.from_residual-in_err-tell_records.ensures.1 in
     let begun = c.in_ok-m.ensures.devices in
-    rw (e.1, e.2) (blamed_later g.R.Source.left g.R.Source.failures g.B.ReadFrom.left g.B.ReadFrom.failures _ _ _ _ _ _ _ _ _ _ begun.0 begun.1 begun.2 c.in_err-tell_records.ensures.devices)
+    rw (e.1, e.2) (blamed_later g.R.Source.left g.R.Source.failures g.B.ReadFrom.left g.B.ReadFrom.failures _ _ _ _ _ _
+    _ _ _ _ begun.0 begun.1 begun.2 c.in_err-tell_records.ensures.devices)

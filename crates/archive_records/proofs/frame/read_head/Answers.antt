@@ -17,12 +17,17 @@ returns-in_err-fill g c =
     })
 
 pub returns-in_default-clause-reader : goal.returns-in_default-clause-reader
-returns-in_default-clause-reader g c = text_blames g.R.Source.left g.R.Source.failures c.args.r.now c.fill.new.r BadTag (λ e. cc) (λ e. cc) c.in_ok-fill.ensures.reader
+returns-in_default-clause-reader g c = text_blames g.R.Source.left g.R.Source.failures c.args.r.now c.fill.new.r BadTag
+    (λ e. cc) (λ e. cc) c.in_ok-fill.ensures.reader
 
 pub returns-in_default-clause-head : goal.returns-in_default-clause-head
 returns-in_default-clause-head g c =
     let b = c.fill.new.buffer in
-    framed-bad c.args.file (bytes_so_far b) (omega (arith, length-bytes_so_far b c.fill.ensures.fills.within, c.in_ok-fill.ensures.came)) (rw (← c.deref.ensures.value) (sym c.in_default.ensures.value))
+    framed-bad c.args.file (bytes_so_far b) (omega (
+      arith,
+      length-bytes_so_far b c.fill.ensures.fills.within,
+      c.in_ok-fill.ensures.came,
+    )) (rw (← c.deref.ensures.value) (sym c.in_default.ensures.value))
 
 pub returns-in_err-fill-2 : goal.returns-in_err-fill-2
 returns-in_err-fill-2 g c =
@@ -37,8 +42,11 @@ returns-in_err-fill-2 g c =
     rw (failed c.from_residual-in_err-fill-2.result c.in_err-fill-2.field-0.0 c.from_residual-in_err-fill-2.ensures.1) (record {
       fills = Fills-then c.fill.ensures.fills fills;
       head = rw came.1
-          (grown-head c.args.file (bytes_so_far b) fills.more (bytes_so_far d) c.in-Some.head fills.grows (omega (arith, x)) (rw (← c.deref.ensures.value) (sym c.in-Some.ensures.value)) (omega (arith, x, y, came.0, c.requires)));
-      reader = blames_behind g.R.Source.left g.R.Source.failures c.args.r.now c.fill.new.r c.fill-2.new.r c.in_ok-fill.ensures.reader _ c.in_err-fill-2.ensures.reader;
+          (grown-head c.args.file (bytes_so_far b) fills.more (bytes_so_far d) c.in-Some.head fills.grows
+          (omega (arith, x)) (rw (← c.deref.ensures.value) (sym c.in-Some.ensures.value))
+          (omega (arith, x, y, came.0, c.requires)));
+      reader = blames_behind g.R.Source.left g.R.Source.failures c.args.r.now c.fill.new.r c.fill-2.new.r
+          c.in_ok-fill.ensures.reader _ c.in_err-fill-2.ensures.reader;
     })
 
 pub returns-clause-fills : goal.returns-clause-fills
@@ -50,7 +58,8 @@ returns-clause-head g c =
     let fills = c.fill-2.ensures.fills in
     record {
       tag = tag_kept c.args.file (bytes_so_far b) fills.more (bytes_so_far c.fill-2.new.buffer) c.in-Some.head fills.grows
-          (omega (arith, length-bytes_so_far b c.fill.ensures.fills.within, c.in_ok-fill.ensures.came)) (rw (← c.deref.ensures.value) (sym c.in-Some.ensures.value));
+          (omega (arith, length-bytes_so_far b c.fill.ensures.fills.within, c.in_ok-fill.ensures.came))
+          (rw (← c.deref.ensures.value) (sym c.in-Some.ensures.value));
       at_is = omega (arith, c.in-Some.ensures.long, c.in_ok-fill.ensures.came, c.in_ok-fill-2.ensures.came, c.requires.start);
       long = c.in-Some.ensures.long.0;
     }

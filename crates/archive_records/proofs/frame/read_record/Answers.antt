@@ -21,4 +21,5 @@ pub returns-clause-over : goal.returns-clause-over
 returns-clause-over g c = c.read_body.ensures.fills.over _ (c.read_head.ensures.fills.over _ (record { rest = λ _. refl; order = refl }))
 
 pub returns-clause-reader : goal.returns-clause-reader
-returns-clause-reader g c = blamed_behind g.R.Source.left g.R.Source.failures c.args.r.now c.read_head.new.r c.read_body.new.r c.in_ok-head.ensures.reader c.read_body.result c.read_body.ensures.reader
+returns-clause-reader g c = blamed_behind g.R.Source.left g.R.Source.failures c.args.r.now c.read_head.new.r
+    c.read_body.new.r c.in_ok-head.ensures.reader c.read_body.result c.read_body.ensures.reader

@@ -18,7 +18,8 @@ of_checked-requires c = rw take_rest (rw c.in-Some.is at c.requires).1
 pub returns-in-None-clause-bytes : goal.returns-in-None-clause-bytes
 returns-in-None-clause-bytes c =
     let t = rw c.in-None.is at c.requires in
-    tagged_is 1 c.args.bytes.now c.key_in.result c.digest_in.result.0 (long-retirement c.args.bytes.now t) (tag-retirement c.args.bytes.now t) c.key_in.ensures.bytes c.digest_in.ensures
+    tagged_is 1 c.args.bytes.now c.key_in.result c.digest_in.result.0 (long-retirement c.args.bytes.now t)
+    (tag-retirement c.args.bytes.now t) c.key_in.ensures.bytes c.digest_in.ensures
 
 pub returns-in-Some-clause-bytes : goal.returns-in-Some-clause-bytes
 returns-in-Some-clause-bytes c = admitted_is c.args.bytes.now c.of_checked.result (rw c.in-Some.is at c.requires).0 (rw take_rest at c.of_checked.ensures)

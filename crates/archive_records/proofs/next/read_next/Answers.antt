@@ -18,4 +18,5 @@ returns-then-ends_file-clause-reader g c = c.in-Err.ensures.reader.1 (λ device.
 
 pub returns-else-ends_file-clause-unended : goal.returns-else-ends_file-clause-unended
 returns-else-ends_file-clause-unended g c =
-    unended_behind c.args.file _ _ c.read_tested.new.buffer c.in-Err.kind c.read_tested.ensures.within (λ part at is. false≢true (c.if-ends_file.ensures.1 (part, at, is))) c.in-Err.ensures.fails
+    unended_behind c.args.file _ _ c.read_tested.new.buffer c.in-Err.kind c.read_tested.ensures.within
+    (λ part at is. false≢true (c.if-ends_file.ensures.1 (part, at, is))) c.in-Err.ensures.fails

@@ -16,4 +16,11 @@ test_item-requires-clause-item g c =
 pub returns-in_err-end : goal.returns-in_err-end
 returns-in_err-end g c =
     rw (failed c.from_residual.result c.in_err-end.field-0.0 c.from_residual.ensures.1)
-    (record { within = c.read_in_order.ensures.within; taken = c.read_in_order.ensures.taken; step = tt; fails = inl c.in_err-end.ensures.next; reader = c.in_err-end.ensures.reader })
+    (record {
+      within = c.read_in_order.ensures.within;
+      taken = c.read_in_order.ensures.taken;
+      step = tt;
+      fails =
+          inl c.in_err-end.ensures.next;
+      reader = c.in_err-end.ensures.reader;
+    })

@@ -14,7 +14,8 @@ record_count_of-requires c =
 
 pub returns-then-record_count_of-count-clause-end_is : goal.returns-then-record_count_of-count-clause-end_is
 returns-then-record_count_of-count-clause-end_is c =
-    λ _. ends c.args.file c.args.bytes.now c.args.count c.requires c.if-bytes-eq-END.true (sym c.record_count_of.ensures ∙ c.if-record_count_of-count.true) (λ i. omega (arith, c.type_inv.bytes i))
+    λ _. ends c.args.file c.args.bytes.now c.args.count c.requires c.if-bytes-eq-END.true
+    (sym c.record_count_of.ensures ∙ c.if-record_count_of-count.true) (λ i. omega (arith, c.type_inv.bytes i))
 
 pub returns-then-record_count_of-count-clause-tested : goal.returns-then-record_count_of-count-clause-tested
 returns-then-record_count_of-count-clause-tested c = λ last _.
@@ -22,7 +23,8 @@ returns-then-record_count_of-count-clause-tested c = λ last _.
 
 pub returns-else-record_count_of-count-clause-tested : goal.returns-else-record_count_of-count-clause-tested
 returns-else-record_count_of-count-clause-tested c = λ last _.
-    tested-miscounted c.args.file last c.args.count c.args.bytes.now c.if-bytes-eq-END.true (λ same. c.if-record_count_of-count.false (c.record_count_of.ensures ∙ same))
+    tested-miscounted c.args.file last c.args.count c.args.bytes.now c.if-bytes-eq-END.true
+    (λ same. c.if-record_count_of-count.false (c.record_count_of.ensures ∙ same))
 
 pub returns-then-allowed-clause-tested : goal.returns-then-allowed-clause-tested
 returns-then-allowed-clause-tested c = λ last allowed.

@@ -26,8 +26,11 @@ returns-then-has_key-clause-found c =
     let form = whole-admission Archive c.args.bytes.now c.requires.whole c.requires.item c.if-bytes-eq-RETIREMENT.false in
     let v = rw take_rest at c.in-Ok.ensures.valid in
     let k = c.key.ensures ∙ ap key_of (rw take_rest at c.in-Ok.ensures.slice) in
-    let facts = c.facts.ensures in
-    (admits c.args.bytes.now form v (c.if-has_key.ensures.0 refl ∙ ap key_bytes k) (λ i. omega (arith, c.type_inv.bytes i)), rw (rw take_rest at c.in-Ok.ensures.slice) at facts)
+    let facts = c.facts.ensures in (
+      admits c.args.bytes.now form v (c.if-has_key.ensures.0 refl ∙ ap key_bytes k)
+          (λ i. omega (arith, c.type_inv.bytes i)),
+      rw (rw take_rest at c.in-Ok.ensures.slice) at facts,
+    )
 
 pub returns-else-has_key-clause-refused : goal.returns-else-has_key-clause-refused
 returns-else-has_key-clause-refused c =

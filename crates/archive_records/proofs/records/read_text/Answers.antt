@@ -16,10 +16,15 @@ returns-in_err-reader g c =
 
 pub returns-clause-read : goal.returns-clause-read
 returns-clause-read g c =
-    let begun = c.in_ok-reader.ensures in
-    (c.in_ok-reader.reader.file, begun.kind ∙ c.requires.file, c.in_ok-take_records.ensures.all (g.R.Source.left c.args.r.now) c.args.question c.begin-taker.ensures begun.read)
+    let begun = c.in_ok-reader.ensures in (
+      c.in_ok-reader.reader.file,
+      begun.kind ∙ c.requires.file,
+      c.in_ok-take_records.ensures.all (g.R.Source.left c.args.r.now) c.args.question c.begin-taker.ensures
+          begun.read,
+    )
 
 pub returns-in_err-take_records-clause-reader : goal.returns-in_err-take_records-clause-reader
 returns-in_err-take_records-clause-reader g c =
     let p = err_from_is_err_and c.from_residual-in_err-take_records.result c.from_residual-in_err-take_records.ensures.1 in
-    rw (p.1, p.2) (blames_behind g.R.Source.left g.R.Source.failures c.args.r.now c.begin.new.r c.take_records.new.r c.in_ok-reader.ensures.reader _ c.in_err-take_records.ensures.reader)
+    rw (p.1, p.2) (blames_behind g.R.Source.left g.R.Source.failures c.args.r.now c.begin.new.r c.take_records.new.r
+    c.in_ok-reader.ensures.reader _ c.in_err-take_records.ensures.reader)

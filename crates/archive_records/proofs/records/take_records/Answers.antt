@@ -7,7 +7,12 @@ use Rattle.archive_records.proofs.Steps.{HasRead-grows, HasReadAll-grows, Stoppe
 use Rattle.archive_records.proofs.records.take_records.Goals as goal
 
 pub taking-init : goal.taking-init
-taking-init g c = record { gathers = λ a start. record { records = []; read = start; makes = λ question made. rw (taken_none c.args.reader.now.file) made }; file = refl; unfailed = refl }
+taking-init g c = record {
+  gathers = λ a start. record
+      { records = []; read = start; makes = λ question made. rw (taken_none c.args.reader.now.file) made };
+  file = refl;
+  unfailed = refl;
+}
 
 pub take-requires : goal.take-requires
 take-requires g c =
@@ -18,7 +23,12 @@ pub returns-in-Ok-End-clause-all : goal.returns-in-Ok-End-clause-all
 returns-in-Ok-End-clause-all g c = λ a question made start.
     let step = rw c.in-Ok-End.field-0-is at c.in-Ok-End.ensures in
     let m = c.taking.invariant.gathers a start in
-    record { records = m.records; read = HasReadAll-grows c.args.reader.now.file a _ _ m.records c.taking.reader c.advance.new.self m.read step.0; makes = m.makes question made }
+    record {
+      records = m.records;
+      read = HasReadAll-grows c.args.reader.now.file a _ _ m.records c.taking.reader
+          c.advance.new.self m.read step.0;
+      makes = m.makes question made;
+    }
 
 pub returns-in-Err-clause-stopped : goal.returns-in-Err-clause-stopped
 returns-in-Err-clause-stopped g c = λ a start.
@@ -34,7 +44,12 @@ returns-in-Err-take-clause-stopped g c =
     rw (c.out_of_memory.ensures, c.offset-offset.ensures)
     (λ a start.
     let m = c.taking.invariant.gathers a start in
-    inr (c.args.reader.now.file, c.requires.file, m.records, Stopped-unkept c.args.reader.now.file a _ _ m.records c.taking.reader c.advance.new.self m.read step.0))
+    inr (
+      c.args.reader.now.file,
+      c.requires.file,
+      m.records,
+      Stopped-unkept c.args.reader.now.file a _ _ m.records c.taking.reader c.advance.new.self m.read step.0,
+    ))
 
 pub taking-smaller : goal.taking-smaller
 taking-smaller g c =
@@ -70,7 +85,8 @@ taking-preserved g c =
           let read = HasRead-grows file a _ _ m.records c.taking.reader c.advance.new.self m.read step.0 in
           let drops = subst (λ b. DropsLast file b (m.records ++ c.advance.new.self.last ∷ [])) (sym c.dropped.ensures ∙ c.if-dropped.false) read.dropped_is in
           let grown = taken_push m.records c.advance.new.self.last file read.ordered drops in
-          let made = subst (λ k. MakeThemselves k (taken_of file (m.records ++ c.advance.new.self.last ∷ []))) c.requires.file (made_taken file (m.records ++ c.advance.new.self.last ∷ []) read.ordered read.apart) in
+          let made = subst (λ k. MakeThemselves k (taken_of file (m.records ++ c.advance.new.self.last ∷ [])))
+          c.requires.file (made_taken file (m.records ++ c.advance.new.self.last ∷ []) read.ordered read.apart) in
           record {
             records = m.records ++ c.advance.new.self.last ∷ [];
             read = read;

@@ -14,7 +14,9 @@ pub record_of-requires : goal.record_of-requires
 record_of-requires c = long-retirement c.args.bytes.now (none_retires c.args.bytes.now c.args.found.now (sym c.is_some.ensures ∙ c.if-is_some.false) c.requires)
 
 pub returns-then-is_some-clause-found : goal.returns-then-is_some-clause-found
-returns-then-is_some-clause-found c = found_record c.args.bytes.now c.retires_beside.new.found (inl (some_admits c.args.bytes.now c.args.found.now (sym c.is_some.ensures ∙ c.if-is_some.true) c.requires)) c.retires_beside.ensures.found
+returns-then-is_some-clause-found c = found_record c.args.bytes.now c.retires_beside.new.found
+    (inl (some_admits c.args.bytes.now c.args.found.now (sym c.is_some.ensures ∙ c.if-is_some.true) c.requires))
+    c.retires_beside.ensures.found
 
 pub returns-then-is_some-clause-kept : goal.returns-then-is_some-clause-kept
 returns-then-is_some-clause-kept c =
@@ -23,10 +25,14 @@ returns-then-is_some-clause-kept c =
     keeps_admission _ c.retires_beside.result c.args.bytes.now (λ one. omega (arith, one, tag)) (c.retires_beside.ensures.retires (inl admits))
 
 pub returns-in-Err-clause-refused : goal.returns-in-Err-clause-refused
-returns-in-Err-clause-refused c =
-    (refl, uncovered_retirement _ c.args.bytes.now (tag-retirement c.args.bytes.now (none_retires c.args.bytes.now c.args.found.now (sym c.is_some.ensures ∙ c.if-is_some.false) c.requires)))
+returns-in-Err-clause-refused c = (
+  refl,
+  uncovered_retirement _ c.args.bytes.now (tag-retirement c.args.bytes.now
+      (none_retires c.args.bytes.now c.args.found.now (sym c.is_some.ensures ∙ c.if-is_some.false) c.requires)),
+)
 
 pub returns-in-Ok-clause-kept : goal.returns-in-Ok-clause-kept
 returns-in-Ok-clause-kept c =
     let tag = tag-retirement c.args.bytes.now (none_retires c.args.bytes.now c.args.found.now (sym c.is_some.ensures ∙ c.if-is_some.false) c.requires) in
-    keeps_retirement _ c.args.retired.now c.keep.new.self c.args.bytes.now tag (c.in-Ok.ensures.kept ∙ ap (set.insert (set_of c.args.retired.now)) c.record_of.ensures)
+    keeps_retirement _ c.args.retired.now c.keep.new.self c.args.bytes.now tag
+    (c.in-Ok.ensures.kept ∙ ap (set.insert (set_of c.args.retired.now)) c.record_of.ensures)

@@ -10,7 +10,10 @@ pub entries-preserved : goal.entries-preserved
 entries-preserved g c =
     let o = g.A.Join.content c.args.archive.now in
     let lt : c.entries.i < length (listing o) = omega (arith, length_written o, c.len-i-end.ensures.len, c.entries-test.true) in
-    record { are = one_more (listing o) c.entries.i _ lt c.record_at.ensures c.entries.entries.items _ _ c.in_ok-push.ensures.items c.of.ensures c.entries.invariant.are }
+    record {
+      are = one_more (listing o) c.entries.i _ lt c.record_at.ensures c.entries.entries.items _ _
+          c.in_ok-push.ensures.items c.of.ensures c.entries.invariant.are;
+    }
 
 pub returns-clause-entries : goal.returns-clause-entries
 returns-clause-entries g c =

@@ -30,6 +30,7 @@ putting-preserved g c =
 pub returns-clause-puts : goal.returns-clause-puts
 returns-clause-puts g c =
     let xs = map entry_bytes c.args.entries.now in
-    let all : take c.putting.entry-index xs ≡ xs = take_all c.putting.entry-index xs (omega (arith, length-map c.args.entries.now entry_bytes, c.putting-test.false)) in
+    let all : take c.putting.entry-index xs ≡ xs = take_all c.putting.entry-index xs
+    (omega (arith, length-map c.args.entries.now entry_bytes, c.putting-test.false)) in
     let put = c.putting.invariant.put in
     rw all at put

@@ -7,7 +7,11 @@ use Rattle.archive_records.proofs.writing.put_front.Goals as goal
 
 pub returns-in_err-done-clause-puts : goal.returns-in_err-done-clause-puts
 returns-in_err-done-clause-puts g c =
-    rw (failed c.from_residual.result c.in_err-done.field-0.0 c.from_residual.ensures.1) (front_stops _ _ _ _ _ c.magic.result magic (concat (listing (g.A.Join.content c.args.archive.now))) c.magic.ensures c.in_err-done.ensures)
+    rw (failed c.from_residual.result c.in_err-done.field-0.0 c.from_residual.ensures.1)
+    (front_stops _ _ _ _ _ c.magic.result magic (concat (listing (g.A.Join.content c.args.archive.now)))
+    c.magic.ensures c.in_err-done.ensures)
 
 pub returns-clause-puts : goal.returns-clause-puts
-returns-clause-puts g c = front_then _ _ _ _ _ _ _ c.magic.result magic (concat (listing (g.A.Join.content c.args.archive.now))) c.put_records.result c.magic.ensures c.in_ok-done.ensures c.put_records.ensures.puts
+returns-clause-puts g c = front_then _ _ _ _ _ _ _ c.magic.result magic
+    (concat (listing (g.A.Join.content c.args.archive.now))) c.put_records.result c.magic.ensures c.in_ok-done.ensures
+    c.put_records.ensures.puts

@@ -26,14 +26,21 @@ putting-preserved g c =
     record {
       fits = omega (arith, c.in_ok-sizes.ensures.short, c.putting.invariant.fits);
       few = omega (arith, c.in_ok-sizes.ensures.records, c.putting.invariant.few, one);
-      count = missing_count s xs c.putting.i _ lt c.record_at.ensures c.putting.sizes.records c.in_ok-sizes.sizes.records c.putting.invariant.count c.in_ok-sizes.ensures.records;
+      count = missing_count s xs c.putting.i _ lt c.record_at.ensures c.putting.sizes.records
+          c.in_ok-sizes.sizes.records c.putting.invariant.count c.in_ok-sizes.ensures.records;
       put = missing_puts s xs c.putting.i _ lt c.record_at.ensures _ _ _ _ _ _ _ (Ok c.in_ok-sizes.sizes) c.putting.invariant.put c.in_ok-sizes.ensures.puts;
     }
 
 pub returns : goal.returns
 returns g c =
     let xs = listing (g.A.Join.content c.args.archive.now) in
-    let all : take c.putting.i xs ≡ xs = take_all c.putting.i xs (omega (arith, length_written (g.A.Join.content c.args.archive.now), c.len-i-end.ensures.len, c.putting-test.false)) in
+    let all : take c.putting.i xs ≡ xs = take_all c.putting.i xs
+    (omega (
+      arith,
+      length_written (g.A.Join.content c.args.archive.now),
+      c.len-i-end.ensures.len,
+      c.putting-test.false,
+    )) in
     let put = c.putting.invariant.put in
     let count = c.putting.invariant.count in
     record { puts = rw all at put; records = rw all at count; short = omega arith }

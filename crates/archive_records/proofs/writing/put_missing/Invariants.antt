@@ -10,5 +10,6 @@ invariant-putting g l = record {
   fits : l.sizes.bytes ≤ 8 + l.i * 2 ^ 33;
   few : l.sizes.records ≤ l.i;
   count : l.sizes.records ≡ length (missing l.summary (take l.i (listing (g.A.Join.content l.archive))));
-  put : IsPut g.W.Sink.held g.W.Sink.failures l.initial.w l.w l.fn.done (concat (missing l.summary (take l.i (listing (g.A.Join.content l.archive))))) l.sizes.bytes;
+  put : IsPut g.W.Sink.held g.W.Sink.failures l.initial.w l.w l.fn.done
+      (concat (missing l.summary (take l.i (listing (g.A.Join.content l.archive))))) l.sizes.bytes;
 }

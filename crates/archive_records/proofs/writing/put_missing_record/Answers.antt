@@ -9,7 +9,13 @@ use Rattle.archive_records.proofs.writing.put_missing_record.Goals as goal
 pub returns-then-has : goal.returns-then-has
 returns-then-has g c =
     let named = ap (set.contains c.args.summary.now) (sym c.of.ensures) ∙ sym c.has.ensures ∙ c.if-has.true in
-    rw (missing_none c.args.summary.now (borrowed_bytes c.args.item.now) named) (record { puts = record { size_is = omega arith; gained = Appends-none _; unfailed = refl }; records = omega arith; short = omega arith })
+    rw (missing_none c.args.summary.now (borrowed_bytes c.args.item.now) named)
+    (record {
+      puts = record { size_is = omega arith; gained = Appends-none _; unfailed = refl };
+      records =
+          omega arith;
+      short = omega arith;
+    })
 
 pub returns : goal.returns
 returns g c =
@@ -23,4 +29,7 @@ returns g c =
 pub returns-in_err-bytes-clause-puts : goal.returns-in_err-bytes-clause-puts
 returns-in_err-bytes-clause-puts g c =
     let other = ap (set.contains c.args.summary.now) (sym c.of.ensures) ∙ sym c.has.ensures ∙ c.if-has.false in
-    rw (failed c.from_residual.result c.in_err-bytes.field-0.0 c.from_residual.ensures.1, concat_one c.args.summary.now (borrowed_bytes c.args.item.now) other) c.in_err-bytes.ensures.puts
+    rw (
+      failed c.from_residual.result c.in_err-bytes.field-0.0 c.from_residual.ensures.1,
+      concat_one c.args.summary.now (borrowed_bytes c.args.item.now) other,
+    ) c.in_err-bytes.ensures.puts

@@ -6,7 +6,8 @@ use Rattle.archive_records.proofs.writing.put_record.Goals as goal
 
 pub returns-in-Admit-clause-puts : goal.returns-in-Admit-clause-puts
 returns-in-Admit-clause-puts g c =
-    let is = head_and_slice c.admission_head.result c.bytes.result.now c.in-Admit.slice c.admission_head.ensures.head c.bytes.ensures.bytes ∙ sym (ap borrowed_bytes c.in-Admit.is) in
+    let is = head_and_slice c.admission_head.result c.bytes.result.now c.in-Admit.slice c.admission_head.ensures.head
+    c.bytes.ensures.bytes ∙ sym (ap borrowed_bytes c.in-Admit.is) in
     puts_along _ _ _ _ _ _ _ _ c.put_both.result is c.put_both.ensures
 
 pub returns-in-Retire-clause-puts : goal.returns-in-Retire-clause-puts
@@ -15,4 +16,9 @@ returns-in-Retire-clause-puts g c = puts_along _ _ _ _ _ _ _ _ c.put.result (c.r
 pub put_both-requires : goal.put_both-requires
 put_both-requires g c =
     let long : length c.admission_head.result ≡ 33 = omega arith in
-    omega (arith, c.requires, head_and_slice_short c.admission_head.result c.bytes.result.now c.in-Admit.slice long c.bytes.ensures.bytes c.admission_head.ensures.short)
+    omega (
+      arith,
+      c.requires,
+      head_and_slice_short c.admission_head.result c.bytes.result.now c.in-Admit.slice long
+          c.bytes.ensures.bytes c.admission_head.ensures.short,
+    )

@@ -18,12 +18,19 @@ putting-preserved g c =
     let lt : c.putting.i < length (listing o) = omega (arith, length_written o, c.len-i-end.ensures.len, c.putting-test.true) in
     record {
       fits = omega (arith, c.in_ok-done.ensures.short, c.putting.invariant.fits);
-      put = puts_more _ _ (λ (n : ℕ). n) _ _ _ _ _ (listing o) c.putting.i _ lt c.record_at.ensures (Ok c.in_ok-done.done) c.putting.invariant.put c.in_ok-done.ensures.puts;
+      put = puts_more _ _ (λ (n : ℕ). n) _ _ _ _ _ (listing o) c.putting.i _ lt c.record_at.ensures
+          (Ok c.in_ok-done.done) c.putting.invariant.put c.in_ok-done.ensures.puts;
     }
 
 pub returns-clause-puts : goal.returns-clause-puts
 returns-clause-puts g c =
     let o = g.A.Join.content c.args.archive.now in
-    let all : take c.putting.i (listing o) ≡ listing o = take_all c.putting.i (listing o) (omega (arith, length_written o, c.len-i-end.ensures.len, c.putting-test.false)) in
+    let all : take c.putting.i (listing o) ≡ listing o =
+    take_all c.putting.i (listing o) (omega (
+      arith,
+      length_written o,
+      c.len-i-end.ensures.len,
+      c.putting-test.false,
+    )) in
     let put = c.putting.invariant.put in
     rw all at put

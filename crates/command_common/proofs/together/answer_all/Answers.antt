@@ -12,6 +12,7 @@ questions-preserved g c =
     record {
       within = λ later there. c.questions.invariant.within later (behind_there left later (rw more.left at there));
       answered = λ start o alike was.
-          more.answered start o (answers_first left key (g.A.Join.content c.args.archive.now) o first (alike key (c.questions.invariant.within key (first_there left key first)) c.in-Some.ensures.long))
+          more.answered start o (answers_first left key (g.A.Join.content c.args.archive.now) o first
+          (alike key (c.questions.invariant.within key (first_there left key first)) c.in-Some.ensures.long))
           (c.questions.invariant.answered start o alike was);
     }

@@ -15,8 +15,10 @@ others-preserved g c =
     let lt : c.others.index < length c.args.others.now = omega arith in
     let is = same_at c.others.others c.args.others.now c.others.index c.index-others-index.result c.others.invariant.rest c.index-others-index.is in
     record {
-      joined = parts_more _ _ _ _ _ _ _ got.content (one_more _ _ _ _ _ _ _ lt c.others.auto.others is) c.others.invariant.joined got.is_content (rw (← c.index-others-index.is) at got.text) got.is_true;
-      unfailed = unfailed_more _ _ _ _ _ _ _ lt c.others.auto.others is c.others.invariant.unfailed (rw (← c.index-others-index.is) at c.in_ok-join_part.ensures.unfailed);
+      joined = parts_more _ _ _ _ _ _ _ got.content (one_more _ _ _ _ _ _ _ lt c.others.auto.others is)
+          c.others.invariant.joined got.is_content (rw (← c.index-others-index.is) at got.text) got.is_true;
+      unfailed = unfailed_more _ _ _ _ _ _ _ lt c.others.auto.others is c.others.invariant.unfailed
+          (rw (← c.index-others-index.is) at c.in_ok-join_part.ensures.unfailed);
       rest = rest_kept c.others.others c.args.others.now c.others.index c.join_part.new.archive c.others.invariant.rest;
     }
 
@@ -25,7 +27,8 @@ returns-in_err-join_part g c =
     let p = err_from_is_err_and c.from_residual.result c.from_residual.ensures.1 in
     let lt : c.others.index < length c.args.others.now = omega arith in
     let is = same_at c.others.others c.args.others.now c.others.index c.index-others-index.result c.others.invariant.rest c.index-others-index.is in
-    rw (p.1, p.2) (refused_at _ _ further_name IsArchive IsArchiveRefused _ _ _ _ _ _ lt c.others.auto.others is (parts_archives _ _ _ _ c.others.invariant.joined) c.others.invariant.rest c.others.invariant.unfailed
+    rw (p.1, p.2) (refused_at _ _ further_name IsArchive IsArchiveRefused _ _ _ _ _ _ lt c.others.auto.others is
+    (parts_archives _ _ _ _ c.others.invariant.joined) c.others.invariant.rest c.others.invariant.unfailed
     (rw (← c.index-others-index.is) at c.in_err-join_part.ensures))
 
 pub returns : goal.returns

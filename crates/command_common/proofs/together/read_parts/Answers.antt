@@ -13,7 +13,8 @@ pub returns-in_err-join_parts : goal.returns-in_err-join_parts
 returns-in_err-join_parts g c =
     let p = err_from_is_err_and c.from_residual-in_err-join_parts.result c.from_residual-in_err-join_parts.ensures.1 in
     let kept = c.in_ok-kept.ensures.is in
-    rw (p.1, p.2) (other_refused _ _ c.in_err-join_parts.field-0.0 (kept.whole, kept.is_content, kept.text) c.in_ok-kept.ensures.unfailed c.in_err-join_parts.ensures)
+    rw (p.1, p.2) (other_refused _ _ c.in_err-join_parts.field-0.0 (kept.whole, kept.is_content, kept.text)
+    c.in_ok-kept.ensures.unfailed c.in_err-join_parts.ensures)
 
 pub returns : goal.returns
 returns g c = record {

@@ -12,7 +12,8 @@ returns-in-Err-push_all g c =
     let buffer = c.take_piece.new.buffer in
     let k = c.in-Err-push_all.fault.written in
     let err = c.in-Err-push_all.ensures.err in
-    let part = gone_part (whole c.args.device.now) (whole c.copying.device) (held c.args.w.now) (held c.copying.w) (held c.push_all.new.w) c.args.at c.copying.done n buffer c.copying.hasher
+    let part = gone_part (whole c.args.device.now) (whole c.copying.device) (held c.args.w.now) (held c.copying.w)
+    (held c.push_all.new.w) c.args.at c.copying.done n buffer c.copying.hasher
     inv.gone c.in-Ok.ensures.room inv.keeps c.in-Ok.ensures.bytes k err.within err.gained in
     record {
       keeps = c.in-Ok.ensures.keeps ∙ inv.keeps;
@@ -38,8 +39,10 @@ copying-preserved g c =
     record {
       room = omega (arith, c.take_piece.auto.buffer, inv.room);
       within = omega (arith, c.in-Ok.ensures.most, inv.within, c.copying-test.true);
-      gone = gone_more (whole c.args.device.now) (whole c.copying.device) (held c.args.w.now) (held c.copying.w) (held c.push_all.new.w) c.args.at c.copying.done n buffer c.copying.hasher
-          inv.gone c.in-Ok.ensures.room inv.keeps c.in-Ok.ensures.bytes (take n buffer) c.update.new.self refl c.in_default.ensures.ok (λ m h. c.update.ensures m h);
+      gone = gone_more (whole c.args.device.now) (whole c.copying.device) (held c.args.w.now) (held c.copying.w)
+          (held c.push_all.new.w) c.args.at c.copying.done n buffer c.copying.hasher
+          inv.gone c.in-Ok.ensures.room inv.keeps c.in-Ok.ensures.bytes (take n buffer) c.update.new.self refl
+          c.in_default.ensures.ok (λ m h. c.update.ensures m h);
       keeps = c.in-Ok.ensures.keeps ∙ inv.keeps;
       unfailed = c.in-Ok.ensures.count.1 ∙ inv.unfailed;
       unfailed_sink = c.in_default.ensures.unfailed ∙ inv.unfailed_sink;

@@ -15,5 +15,6 @@ returns g c = λ x names.
       after,
       subst (λ (n : ℕ). before ≡ get_or old n before) names.input_is c.index-archives-named.is,
       ap (λ (n : ℕ). set old n after) names.input_is,
-      subst (λ b. PublishesSlice (reader g.P.Placed.whole g.P.Placed.failures b after) c.args.key.now x out report c.publish_named.result) (sym c.index-archives-named.is) (c.publish_named.ensures x names),
+      subst (λ b. PublishesSlice (reader g.P.Placed.whole g.P.Placed.failures b after) c.args.key.now x out report
+          c.publish_named.result) (sym c.index-archives-named.is) (c.publish_named.ensures x names),
     )

@@ -12,7 +12,8 @@ returns-in_err-read g c =
     let indexes = readers g.I.Placed.whole g.I.Placed.failures c.args.indexes.now c.read_indexes.new.indexes in
     let archives = readers g.P.Placed.whole g.P.Placed.failures c.args.archives.now c.read_indexes.new.archives in
     let p = err_from_is_err_and c.from_residual.result c.from_residual.ensures.1 in
-    rw (p.1, p.2) (refused_first indexes archives c.args.key.now c.args.digest.now _ _ c.in_err-read.field-0.0 c.in_err-read.ensures.read refl (Appends-none _, refl))
+    rw (p.1, p.2) (refused_first indexes archives c.args.key.now c.args.digest.now _ _ c.in_err-read.field-0.0
+    c.in_err-read.ensures.read refl (Appends-none _, refl))
 
 pub returns-in_err-named : goal.returns-in_err-named
 returns-in_err-named g c =

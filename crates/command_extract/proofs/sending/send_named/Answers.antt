@@ -12,9 +12,12 @@ returns-in_err-piece g c =
 
 pub returns-in-Ok : goal.returns-in-Ok
 returns-in-Ok g c =
-    λ x names. sent g.P.Placed.whole g.P.Placed.failures g.W.Sink.held g.W.Sink.failures c.args.archive.now c.send_slice_at.new.device c.args.draft.now c.send_slice_at.new.w c.args.named.now x names c.in-Ok.ensures.sends
+    λ x names. sent g.P.Placed.whole g.P.Placed.failures g.W.Sink.held g.W.Sink.failures c.args.archive.now
+    c.send_slice_at.new.device c.args.draft.now c.send_slice_at.new.w c.args.named.now x names c.in-Ok.ensures.sends
 
 pub returns : goal.returns
 returns g c =
     rw c.told.ensures
-    (λ x names. unsent g.P.Placed.whole g.P.Placed.failures g.W.Sink.held g.W.Sink.failures c.args.archive.now c.send_slice_at.new.device c.args.draft.now c.send_slice_at.new.w c.args.named.now x names c.in-Err.fault c.in-Err.ensures.sends)
+    (λ x names. unsent g.P.Placed.whole g.P.Placed.failures g.W.Sink.held g.W.Sink.failures c.args.archive.now
+    c.send_slice_at.new.device c.args.draft.now c.send_slice_at.new.w c.args.named.now x names c.in-Err.fault
+    c.in-Err.ensures.sends)

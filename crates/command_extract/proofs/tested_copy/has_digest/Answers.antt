@@ -9,7 +9,8 @@ returns-in-None-clause-tests g c =
     let whole = g.P.Placed.whole in
     let failures = g.P.Placed.failures in
     let kept = c.in_ok-reaches.ensures.keeps in
-    let told = nothing_hashed (stream whole failures c.reaches.new.device c.hash_at.new.device) c.args.at c.args.size c.hash_at.result c.args.digest.now c.hash_at.ensures (c.in_ok-found.was ∙ ap Ok c.in-None.is) in
+    let told = nothing_hashed (stream whole failures c.reaches.new.device c.hash_at.new.device) c.args.at c.args.size
+    c.hash_at.result c.args.digest.now c.hash_at.ensures (c.in_ok-found.was ∙ ap Ok c.in-None.is) in
     record {
       keeps = c.hash_at.ensures.keeps ∙ kept;
       tests = (

@@ -13,7 +13,8 @@ pub returns : goal.returns
 returns c =
     let keys : List SliceKey = c.in_ok-keys.keys.items in
     let source = YieldsList-from_slice keys (search rules) in
-    let made = map_from_collect _ c.collect.ensures.ran (YieldsList-from_map_by _ prefix_bytes key_bytes source c.map.ensures.closure (λ x r q k. search rules)) in
+    let made = map_from_collect _ c.collect.ensures.ran
+    (YieldsList-from_map_by _ prefix_bytes key_bytes source c.map.ensures.closure (λ x r q k. search rules)) in
     IfOk-weaker c.collect.result _ _
     (λ prefixes is. subst (λ (l : List (List ℕ)). HaveSameMembers l (keys_of c.args.frames.now)) (sym is) c.in_ok-keys.ensures)
     made

@@ -54,7 +54,8 @@ returns-in_err-status g c =
     let read = rw (← c.deref-2.ensures.value) at c.in_ok-read.ensures.read in
     let refusal = frames_refused g.I.Placed.whole g.I.Placed.failures g.P.Placed.whole g.P.Placed.failures c.args.indexes.now c.read_indexes.new.indexes
     c.tell_frames_and_slices.new.indexes
-    c.args.archives.now c.read_indexes.new.archives c.tell_frames_and_slices.new.archives c.deref-2.result.now c.tell_frames_and_slices.auto.indexes c.tell_frames_and_slices.auto.archives
+    c.args.archives.now c.read_indexes.new.archives c.tell_frames_and_slices.new.archives c.deref-2.result.now
+    c.tell_frames_and_slices.auto.indexes c.tell_frames_and_slices.auto.archives
     read c.in_ok-read.ensures.kept
     c.args.lines c.deref.result.now c.in_err-status.field-0.0 c.in_err-status.ensures in
     rw (p.1, p.2)
@@ -69,7 +70,8 @@ returns g c =
     let read = rw (← c.deref-2.ensures.value) at c.in_ok-read.ensures.read in
     let told = frames_told g.I.Placed.whole g.I.Placed.failures g.P.Placed.whole g.P.Placed.failures c.args.indexes.now c.read_indexes.new.indexes
     c.tell_frames_and_slices.new.indexes
-    c.args.archives.now c.read_indexes.new.archives c.tell_frames_and_slices.new.archives c.deref-2.result.now c.tell_frames_and_slices.auto.indexes c.tell_frames_and_slices.auto.archives
+    c.args.archives.now c.read_indexes.new.archives c.tell_frames_and_slices.new.archives c.deref-2.result.now
+    c.tell_frames_and_slices.auto.indexes c.tell_frames_and_slices.auto.archives
     read c.in_ok-read.ensures.kept
     c.args.lines c.deref.result.now c.args.slices c.in_ok-status.status c.in_ok-status.text.items c.in_ok-status.ensures in
     let is = rw (← c.deref-3.ensures.value) at told.is in

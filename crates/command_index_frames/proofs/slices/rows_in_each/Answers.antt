@@ -11,7 +11,8 @@ indexes-init c = rw c.new-rows.ensures.items (rows_none (is_under c.args.uuid))
 
 pub indexes-preserved : goal.indexes-preserved
 indexes-preserved c =
-    rows_more (is_under c.args.uuid) c.args.read.now c.indexes.index-index c.index-item.result c.indexes.rows.items c.in_ok-more.more.items c.append.new.self.items
+    rows_more (is_under c.args.uuid) c.args.read.now c.indexes.index-index c.index-item.result c.indexes.rows.items
+    c.in_ok-more.more.items c.append.new.self.items
     c.indexes-test.true c.index-item.is c.in_ok-append.ensures.items c.indexes.invariant c.in_ok-more.ensures
 
 pub returns-clause-rows : goal.returns-clause-rows

@@ -14,7 +14,8 @@ uuids-init c = record {
 
 pub uuids-preserved : goal.uuids-preserved
 uuids-preserved c = record {
-  rows = rows_either_more (all_of c.args.read.now) c.args.uuids.now c.uuids.uuid-index c.uuid-item.result c.uuids.rows.items c.in_ok-more.more.items c.append.new.self.items
+  rows = rows_either_more (all_of c.args.read.now) c.args.uuids.now c.uuids.uuid-index c.uuid-item.result
+      c.uuids.rows.items c.in_ok-more.more.items c.append.new.self.items
       c.uuids-test.true c.uuid-item.is c.in_ok-append.ensures.items c.uuids.invariant.rows c.in_ok-more.ensures.rows;
   long = longs_more c.args.uuids.now c.uuids.uuid-index c.uuid-item.result c.uuids-test.true c.uuid-item.is c.uuids.invariant.long c.in_ok-more.ensures.long;
 }

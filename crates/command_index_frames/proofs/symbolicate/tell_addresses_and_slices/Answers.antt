@@ -24,7 +24,8 @@ returns g c =
     let after = rw bytes at c.in_ok-text.ensures in
     record {
       is = elim c.in_ok-status.ensures.is [
-        | inl by ↦ inl (followed c.args.slices (TellTables (HaveTexts g.I.Placed.whole c.args.indexes.now) all key c.args.load c.args.lines c.args.addresses.now) all (key ∷ [])
+        | inl by ↦ inl (followed c.args.slices (TellTables (HaveTexts g.I.Placed.whole c.args.indexes.now) all key
+            c.args.load c.args.lines c.args.addresses.now) all (key ∷ [])
             c.in_ok-status.status (string_bytes c.in_ok-status.answers) c.in_ok-text.text.items by after)
         | inr (tied, held) ↦ inr (
           tied,

@@ -9,7 +9,9 @@ use Rattle.command_index_frames.proofs.tables.borrowed_lists.Goals as goal
 
 pub lists-preserved : goal.lists-preserved
 lists-preserved c =
-    rows_more borrowed_in (λ (frames : Bor (List Frame)). list_view frames.now) c.args.lists.now c.lists.list-index c.list-item.result c.lists.borrowed.items c.push.new.self.items c.as_slice.result c.lists-test.true c.list-item.is c.in_ok-push.ensures.items
+    rows_more borrowed_in (λ (frames : Bor (List Frame)). list_view frames.now) c.args.lists.now c.lists.list-index
+    c.list-item.result c.lists.borrowed.items c.push.new.self.items c.as_slice.result c.lists-test.true
+    c.list-item.is c.in_ok-push.ensures.items
     (ap (λ (frames : List Frame). list_view frames) c.as_slice.ensures.value) c.lists.invariant
 
 pub returns : goal.returns

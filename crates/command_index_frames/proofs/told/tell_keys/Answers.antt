@@ -23,7 +23,9 @@ keys-init g c = record {
 }
 
 -- the key of the first that is left was asked for
-there : (asked left : List AskedPlace) (told : List KeyAnswers) (first : AskedPlace) → IsToldSoFar asked left told → Some first ≡ slice_get left 0 → Contains (map (λ (one : AskedPlace). key_bytes one.key) asked) (key_bytes first.key)
+there : (asked left : List AskedPlace) (told : List KeyAnswers) (first : AskedPlace) → IsToldSoFar asked left told
+    → Some first ≡ slice_get left 0 → Contains (map (λ (one : AskedPlace). key_bytes one.key) asked)
+    (key_bytes first.key)
 there asked left told first so is = to_map (λ (one : AskedPlace). key_bytes one.key) asked first (so.of_asked first (first_there first left is))
 
 pub returns-in_err-one : goal.returns-in_err-one
@@ -50,9 +52,12 @@ pub keys-preserved : goal.keys-preserved
 keys-preserved g c =
     let told = rw c.in-Some-2.is at c.in_ok-one.ensures.is.0 in
     let places = told.1 ∙ ap (map (λ (asked : AskedPlace). asked.place)) c.split_at.ensures.front in
-    let so = told_more c.args.asked.now c.keys.left.now c.keys.told.items c.keys.invariant.so c.in-Some.first.now c.in-Some.ensures.value c.run_len.result c.run_len.ensures.len c.in-Some-2.one told.0 places in
-    let one = true_first g.I.Placed.whole g.I.Placed.failures c.args.lines c.args.read.now c.args.indexes.now c.keys.indexes c.keys.invariant.texts c.in-Some-2.one told.2 in
-    let all = All-push (IsToldUnder (HaveTexts g.I.Placed.whole c.args.indexes.now) c.args.read.now c.args.lines) c.keys.told.items c.in-Some-2.one c.keys.invariant.are_true one in
+    let so = told_more c.args.asked.now c.keys.left.now c.keys.told.items c.keys.invariant.so c.in-Some.first.now
+    c.in-Some.ensures.value c.run_len.result c.run_len.ensures.len c.in-Some-2.one told.0 places in
+    let one = true_first g.I.Placed.whole g.I.Placed.failures c.args.lines c.args.read.now c.args.indexes.now
+    c.keys.indexes c.keys.invariant.texts c.in-Some-2.one told.2 in
+    let all = All-push (IsToldUnder (HaveTexts g.I.Placed.whole c.args.indexes.now) c.args.read.now c.args.lines)
+    c.keys.told.items c.in-Some-2.one c.keys.invariant.are_true one in
     record {
       so = rw (c.split_at.ensures.back, c.in_ok-push.ensures.items) so;
       are_true = rw c.in_ok-push.ensures.items all;

@@ -27,7 +27,8 @@ returns g c =
       index_of = c.in_ok-entries.ensures.is;
       tells = record {
         rows = rows;
-        are_rows = subst (λ (prefix : List ℕ). AreIndexRows prefix (placed_of c.in_ok-entries.entries) rows) c.uuid_bytes-prefix.ensures.bytes c.in_ok-rows.ensures;
+        are_rows = subst (λ (prefix : List ℕ). AreIndexRows prefix (placed_of c.in_ok-entries.entries) rows)
+            c.uuid_bytes-prefix.ensures.bytes c.in_ok-rows.ensures;
         status_is = c.found_status.ensures ∙ ap found_status c.deref-2.ensures.value;
         text_is = c.deref-3.ensures ∙ c.in_ok-text.ensures ∙ ap find_lines c.deref.ensures.value;
       };

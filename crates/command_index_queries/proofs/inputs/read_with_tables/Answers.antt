@@ -12,7 +12,8 @@ returns-in_err-test_length-clause-read g c =
     let archive = reader g.P.Placed.whole g.P.Placed.failures c.args.archive.now c.test_length.new.archive in
     let read = c.in_ok-tables.ensures.read in
     rw (p.1, p.2) (archive_refused c.args.number index archive c.in_err-test_length.field-0.0 (placed_of c.in_ok-tables.tables)
-    (record { are = c.in_err-test_length.ensures.entries; all = c.in_ok-tables.tables; holds = read.is; placed = refl }) read.unfailed c.in_err-test_length.ensures.tests)
+    (record { are = c.in_err-test_length.ensures.entries; all = c.in_ok-tables.tables; holds = read.is; placed = refl })
+    read.unfailed c.in_err-test_length.ensures.tests)
 
 pub returns-clause-read : goal.returns-clause-read
 returns-clause-read g c =

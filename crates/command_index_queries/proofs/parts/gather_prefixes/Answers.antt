@@ -20,7 +20,9 @@ pub prefixes-preserved : goal.prefixes-preserved
 prefixes-preserved g c =
     let one = c.in_ok-gather_prefix.ensures in
     record {
-      gathered = gathered_more _ _ c.args.prefixes.now c.prefixes.prefix-index c.prefix-item.result (placed_of c.args.index.now) c.prefixes-test.true c.prefix-item.is c.prefixes.invariant.keeps _ (map record_bytes c.prefixes.gathered.items) _ c.prefixes.invariant.gathered one.0;
+      gathered = gathered_more _ _ c.args.prefixes.now c.prefixes.prefix-index c.prefix-item.result
+          (placed_of c.args.index.now) c.prefixes-test.true c.prefix-item.is c.prefixes.invariant.keeps _
+          (map record_bytes c.prefixes.gathered.items) _ c.prefixes.invariant.gathered one.0;
       keeps = one.1 ∙ c.prefixes.invariant.keeps;
       unfailed = one.2 ∙ c.prefixes.invariant.unfailed;
     }
@@ -30,15 +32,24 @@ returns-in_err-gather_prefix g c =
     let fault = c.in_err-gather_prefix.field-0.0 in
     rw (failed c.from_residual.result fault c.from_residual.ensures.1)
     (refused_behind g.P.Placed.whole g.P.Placed.failures c.args.device.now c.prefixes.device _ c.prefixes.invariant.keeps c.prefixes.invariant.unfailed
-    (IsReadUnder (prefix_bytes c.prefix-item.result) (placed_of c.args.index.now)) (IsReadUnderOne (map prefix_bytes c.args.prefixes.now) (placed_of c.args.index.now)) fault
-    (fault_at _ _ c.args.prefixes.now c.prefixes.prefix-index c.prefix-item.result (placed_of c.args.index.now) c.prefixes-test.true c.prefix-item.is c.prefixes.invariant.keeps _ (map record_bytes c.prefixes.gathered.items) fault c.prefixes.invariant.gathered)
-    (read_at_prefix (g.P.Placed.whole c.args.device.now) (g.P.Placed.whole c.prefixes.device) c.args.prefixes.now c.prefixes.prefix-index c.prefix-item.result (placed_of c.args.index.now) c.prefixes-test.true c.prefix-item.is c.prefixes.invariant.keeps)
+    (IsReadUnder (prefix_bytes c.prefix-item.result) (placed_of c.args.index.now))
+    (IsReadUnderOne (map prefix_bytes c.args.prefixes.now) (placed_of c.args.index.now)) fault
+    (fault_at _ _ c.args.prefixes.now c.prefixes.prefix-index c.prefix-item.result (placed_of c.args.index.now)
+    c.prefixes-test.true c.prefix-item.is c.prefixes.invariant.keeps _ (map record_bytes c.prefixes.gathered.items)
+    fault c.prefixes.invariant.gathered)
+    (read_at_prefix (g.P.Placed.whole c.args.device.now) (g.P.Placed.whole c.prefixes.device) c.args.prefixes.now
+    c.prefixes.prefix-index c.prefix-item.result (placed_of c.args.index.now) c.prefixes-test.true c.prefix-item.is
+    c.prefixes.invariant.keeps)
     c.in_err-gather_prefix.ensures)
 
 pub returns : goal.returns
 returns g c =
     let all = map prefix_bytes c.args.prefixes.now in (
-      rw (take_all c.prefixes.prefix-index all (omega (arith, length-map c.args.prefixes.now prefix_bytes, c.prefixes-test.false))) at c.prefixes.invariant.gathered,
+      rw (take_all c.prefixes.prefix-index all (omega (
+        arith,
+        length-map c.args.prefixes.now prefix_bytes,
+        c.prefixes-test.false,
+      ))) at c.prefixes.invariant.gathered,
       c.prefixes.invariant.keeps,
       c.prefixes.invariant.unfailed,
     )

@@ -7,7 +7,8 @@ use Rattle.command_index_queries.proofs.parts.gather_prefixes.Given as goal
 
 abbrev pub invariant-prefixes : goal.invariant-prefixes
 invariant-prefixes g l = record {
-  gathered : HaveGathered (g.P.Placed.whole l.initial.device) (take l.prefix-index (map prefix_bytes l.prefixes)) (placed_of l.index) (map record_bytes l.initial.gathered.items) (map record_bytes l.gathered.items);
+  gathered : HaveGathered (g.P.Placed.whole l.initial.device) (take l.prefix-index (map prefix_bytes l.prefixes))
+      (placed_of l.index) (map record_bytes l.initial.gathered.items) (map record_bytes l.gathered.items);
   keeps : g.P.Placed.whole l.device ≡ g.P.Placed.whole l.initial.device;
   unfailed : g.P.Placed.failures l.device ≡ g.P.Placed.failures l.initial.device;
 }

@@ -8,11 +8,13 @@ pub returns-in-Ok : goal.returns-in-Ok
 returns-in-Ok g c =
     let j = c.in-Ok.ensures in
     record {
-      is = named_in g.P.Placed.whole g.P.Placed.failures c.args.archive.now _ (map prefix_bytes c.args.prefixes.now) (placed_of c.args.tables.now) c.args.tables.now refl _ _ j.0.0 j.0.1;
+      is = named_in g.P.Placed.whole g.P.Placed.failures c.args.archive.now _ (map prefix_bytes c.args.prefixes.now)
+          (placed_of c.args.tables.now) c.args.tables.now refl _ _ j.0.0 j.0.1;
       unfailed = j.2;
     }
 
 pub returns-in-Err : goal.returns-in-Err
 returns-in-Err g c =
     rw c.told.ensures
-    (told_refused g.P.Placed.whole g.P.Placed.failures c.args.archive.now _ (map prefix_bytes c.args.prefixes.now) (placed_of c.args.tables.now) c.args.tables.now refl _ _ c.in-Err.ensures.0 c.in-Err.ensures.2)
+    (told_refused g.P.Placed.whole g.P.Placed.failures c.args.archive.now _ (map prefix_bytes c.args.prefixes.now)
+    (placed_of c.args.tables.now) c.args.tables.now refl _ _ c.in-Err.ensures.0 c.in-Err.ensures.2)

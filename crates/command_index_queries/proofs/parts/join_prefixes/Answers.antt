@@ -16,14 +16,23 @@ returns-in_err-gather_prefixes g c =
     let prefixes = map prefix_bytes c.args.prefixes.now in
     let first = c.in_ok-size.ensures in
     rw (failed c.from_residual-in_err-gather_prefixes.result fault c.from_residual-in_err-gather_prefixes.ensures.1)
-    (refused_behind g.P.Placed.whole g.P.Placed.failures c.args.device.now c.indexed_size.new.archive _ first.1 first.2 (IsReadUnderOne prefixes (placed_of c.args.index.now)) (IsReadFor prefixes (placed_of c.args.index.now)) fault
-    (λ h. along_both (HasIndexedLength (placed_of c.args.index.now)) (λ text. IsFaultAmong prefixes (placed_of c.args.index.now) text fault) (λ text. IsFaultUnder prefixes (placed_of c.args.index.now) text fault) (g.P.Placed.whole c.args.device.now)
-    (λ text long among. fault_then prefixes (placed_of c.args.index.now) text fault long among) first.0.1 (subst (λ (w : Option (List ℕ)). IfSome w (λ text. IsFaultAmong prefixes (placed_of c.args.index.now) text fault)) first.1 h)) (λ n h. inr h) c.in_err-gather_prefixes.ensures)
+    (refused_behind g.P.Placed.whole g.P.Placed.failures c.args.device.now c.indexed_size.new.archive _ first.1 first.2
+    (IsReadUnderOne prefixes (placed_of c.args.index.now)) (IsReadFor prefixes (placed_of c.args.index.now)) fault
+    (λ h. along_both (HasIndexedLength (placed_of c.args.index.now))
+    (λ text. IsFaultAmong prefixes (placed_of c.args.index.now) text fault)
+    (λ text. IsFaultUnder prefixes (placed_of c.args.index.now) text fault) (g.P.Placed.whole c.args.device.now)
+    (λ text long among. fault_then prefixes (placed_of c.args.index.now) text fault long among) first.0.1
+    (subst (λ (w : Option (List ℕ)). IfSome w (λ text. IsFaultAmong prefixes (placed_of c.args.index.now) text
+    fault)) first.1 h)) (λ n h. inr h) c.in_err-gather_prefixes.ensures)
 
 pub returns-in-Ok : goal.returns-in-Ok
 returns-in-Ok g c =
     let first = c.in_ok-size.ensures in
     let then = c.in_ok-gather_prefixes.ensures in
-    let gathered = subst (λ (w : Option (List ℕ)). HaveGathered w (map prefix_bytes c.args.prefixes.now) (placed_of c.args.index.now) (map record_bytes c.new-gathered.result.items) (map record_bytes c.gather_prefixes.new.gathered.items)) first.1 then.0 in
-    let joined = joined_together _ (map prefix_bytes c.args.prefixes.now) (placed_of c.args.index.now) _ _ (g.A.Join.content c.args.kept.now) (g.A.Join.content c.join_gathered.new.kept) c.len-held.ensures.content.itself (ap (map record_bytes) c.new-gathered.ensures.items) gathered c.in-Ok.ensures in
+    let gathered = subst (λ (w : Option (List ℕ)). HaveGathered w (map prefix_bytes c.args.prefixes.now)
+    (placed_of c.args.index.now) (map record_bytes c.new-gathered.result.items)
+    (map record_bytes c.gather_prefixes.new.gathered.items)) first.1 then.0 in
+    let joined = joined_together _ (map prefix_bytes c.args.prefixes.now) (placed_of c.args.index.now) _ _
+    (g.A.Join.content c.args.kept.now) (g.A.Join.content c.join_gathered.new.kept) c.len-held.ensures.content.itself
+    (ap (map record_bytes) c.new-gathered.ensures.items) gathered c.in-Ok.ensures in
     ((first.0.1, joined), then.1 ∙ first.1, then.2 ∙ first.2)

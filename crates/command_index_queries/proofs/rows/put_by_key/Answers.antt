@@ -9,8 +9,10 @@ use Rattle.command_index_queries.proofs.rows.put_by_key.Goals as goal
 
 pub returns-clause-sorted : goal.returns-clause-sorted
 returns-clause-sorted c =
-    c.in_ok-sort_by.ensures.sorted has_lower_key (ranks_by nat_list_cmp_total (λ (row : FindRow). key_bytes row.key)) (always_returns_same _ _ _ (λ a r g called. (search rules, search rules)))
+    c.in_ok-sort_by.ensures.sorted has_lower_key (ranks_by nat_list_cmp_total (λ (row : FindRow). key_bytes row.key))
+    (always_returns_same _ _ _ (λ a r g called. (search rules, search rules)))
 
 pub returns-clause-stable : goal.returns-clause-stable
 returns-clause-stable c =
-    c.in_ok-sort_by.ensures.stable has_lower_key (ranks_by nat_list_cmp_total (λ (row : FindRow). key_bytes row.key)) (always_returns_same _ _ _ (λ a r g called. (search rules, search rules)))
+    c.in_ok-sort_by.ensures.stable has_lower_key (ranks_by nat_list_cmp_total (λ (row : FindRow). key_bytes row.key))
+    (always_returns_same _ _ _ (λ a r g called. (search rules, search rules)))

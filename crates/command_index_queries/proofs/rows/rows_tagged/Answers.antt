@@ -8,7 +8,8 @@ returns-clause-rows c =
     let entries = c.entries-entries in
     let run = c.run_under-start in
     IfOk-weaker c.rows_of.result _ _
-    (λ rows each. rows_of_run entries.result.now c.args.index.now entries.ensures.bytes entries.ensures.fields (is_tagged c.args.tag c.args.prefix.now) run.result.0 run.result.1 run.ensures.run rows.items each)
+    (λ rows each. rows_of_run entries.result.now c.args.index.now entries.ensures.bytes entries.ensures.fields
+    (is_tagged c.args.tag c.args.prefix.now) run.result.0 run.result.1 run.ensures.run rows.items each)
     c.rows_of.ensures
 
 pub returns-clause-tags : goal.returns-clause-tags

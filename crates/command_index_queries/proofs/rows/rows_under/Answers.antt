@@ -13,7 +13,9 @@ returns c =
     let placed = c.sort_by_offset.new.entries.items in
     record {
       placed = map placed_bytes placed;
-      moved = subst (λ es. IsPermutation es (map placed_bytes placed)) (c.in_ok-placed.ensures ∙ ap (filter (is_under c.args.prefix.now)) c.entries.ensures.placed) c.sort_by_offset.ensures.moved;
+      moved = subst (λ es. IsPermutation es (map placed_bytes placed))
+          (c.in_ok-placed.ensures ∙ ap (filter (is_under c.args.prefix.now)) c.entries.ensures.placed)
+          c.sort_by_offset.ensures.moved;
       by_offset = c.sort_by_offset.ensures.sorted;
       told = c.in_ok-rows.rows.items;
       each = subst (λ (es : List IndexEntry). AllZip IsEntryRow (map placed_bytes es) c.in_ok-rows.rows.items) c.deref.ensures.value c.in_ok-rows.ensures;

@@ -15,4 +15,6 @@ returns-clause-moved c = IsPermutation-map placed_bytes _ _ c.sort_unstable_by.e
 pub returns-clause-sorted : goal.returns-clause-sorted
 returns-clause-sorted c =
     sorted_map placed_bytes stands_before c.sort_unstable_by.new.self.items
-    (c.sort_unstable_by.ensures.sorted (λ x y. is_lt (nat_cmp (offset_in (placed_bytes x)) (offset_in (placed_bytes y)))) (ranks_by nat_cmp_total (λ (x : IndexEntry). offset_in (placed_bytes x))) (always_returns_same _ _ _ (λ a r f called. (search rules, search rules))))
+    (c.sort_unstable_by.ensures.sorted (λ x y. is_lt (nat_cmp (offset_in (placed_bytes x))
+    (offset_in (placed_bytes y)))) (ranks_by nat_cmp_total (λ (x : IndexEntry). offset_in (placed_bytes x)))
+    (always_returns_same _ _ _ (λ a r f called. (search rules, search rules))))

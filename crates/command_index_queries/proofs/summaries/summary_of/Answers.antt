@@ -9,7 +9,8 @@ use Rattle.command_index_queries.proofs.Entries.{are_entries}
 use Rattle.command_index_queries.proofs.summaries.summary_of.Goals as goal
 
 pub of_entries-requires : goal.of_entries-requires
-of_entries-requires c = subst (AllByRecursion IsEntry) (sym c.in_ok-entries.ensures) (are_entries (map placed_bytes c.entries.result.now) c.entries.ensures.indexed.are)
+of_entries-requires c = subst (AllByRecursion IsEntry) (sym c.in_ok-entries.ensures)
+    (are_entries (map placed_bytes c.entries.result.now) c.entries.ensures.indexed.are)
 
 pub returns : goal.returns
 returns c = c.of_entries.ensures ∙ ap (set.from_list {R = slice_cmp nat_cmp}) (c.in_ok-entries.ensures ∙ ap (map (take 57)) c.entries.ensures.placed)

@@ -33,8 +33,12 @@ archives-preserved g c =
     let got = rw (← c.index-archives-number.is) at c.in_ok-join_archive.ensures.is in
     let well = rw (← c.index-archives-number.is) at c.in_ok-join_archive.ensures.unfailed in
     record {
-      joined = groups_more (map prefix_bytes c.args.prefixes.now) (take number (readers whole failures before seen)) _ (take number all) _ (reader whole failures archive later) entries (g.A.Join.content c.args.kept.now) (g.A.Join.content c.archives.kept) (g.A.Join.content c.join_archive.new.kept)
-          (one_more whole failures before seen number archive later lt c.archives.auto.archives is) (take_more all number entries few ∙ ap (λ e. take number all ++ e ∷ []) (sym c.index-read-number.is)) inv.joined got;
+      joined = groups_more (map prefix_bytes c.args.prefixes.now) (take number (readers whole failures before seen)) _
+          (take number all) _ (reader whole failures archive later) entries (g.A.Join.content c.args.kept.now)
+          (g.A.Join.content c.archives.kept) (g.A.Join.content c.join_archive.new.kept)
+          (one_more whole failures before seen number archive later lt c.archives.auto.archives is)
+          (take_more all number entries few ∙ ap (λ e. take number all ++ e ∷ []) (sym c.index-read-number.is))
+          inv.joined got;
       unfailed = unfailed_more whole failures before seen number archive later lt c.archives.auto.archives is inv.unfailed well;
       rest = rest_kept seen before number later inv.rest;
     }

@@ -6,7 +6,9 @@ use Rattle.command_index_queries.proofs.together.join_archives.Given as goal
 
 abbrev pub invariant-archives : goal.invariant-archives
 invariant-archives g l = record {
-  joined : HaveJoinedGroups (map prefix_bytes l.prefixes) (take l.number (readers g.P.Placed.whole g.P.Placed.failures l.fn.archives l.archives)) (take l.number l.read) (g.A.Join.content l.initial.kept) (g.A.Join.content l.kept);
+  joined : HaveJoinedGroups (map prefix_bytes l.prefixes)
+      (take l.number (readers g.P.Placed.whole g.P.Placed.failures l.fn.archives l.archives)) (take l.number l.read)
+      (g.A.Join.content l.initial.kept) (g.A.Join.content l.kept);
   unfailed : EachUnfailed (readers g.P.Placed.whole g.P.Placed.failures l.fn.archives l.archives);
   rest : drop l.number l.archives ≡ drop l.number l.fn.archives;
 }

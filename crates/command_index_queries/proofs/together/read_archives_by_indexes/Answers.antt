@@ -34,6 +34,8 @@ returns g c =
     let read = c.in_ok-read.ensures in
     let prefixes = map prefix_bytes c.args.prefixes.now in
     let later = readers whole failures mid now in
-    reads_later prefixes indexes whole failures old mid now c.in_ok-read.read.items c.read_indexes.auto.archives (c.read_prefixes.auto.archives ∙ c.read_indexes.auto.archives) read.read.is read.read.unfailed read.kept.1
+    reads_later prefixes indexes whole failures old mid now c.in_ok-read.read.items c.read_indexes.auto.archives
+    (c.read_prefixes.auto.archives ∙ c.read_indexes.auto.archives) read.read.is read.read.unfailed read.kept.1
     g.A.Join.content c.read_prefixes.result
-    (subst (λ all. ReadsInputs c.read_prefixes.result (λ kept. HoldNamed prefixes later all (g.A.Join.content kept)) (IsFirstRefusedAtPlaces prefixes later all) (EachUnfailed later)) c.deref.ensures.value c.read_prefixes.ensures)
+    (subst (λ all. ReadsInputs c.read_prefixes.result (λ kept. HoldNamed prefixes later all (g.A.Join.content kept))
+    (IsFirstRefusedAtPlaces prefixes later all) (EachUnfailed later)) c.deref.ensures.value c.read_prefixes.ensures)

@@ -41,8 +41,12 @@ indexes-preserved g c =
     let well = rw (← c.index-indexes-number.is, ← c.index-archives-number.is) at c.in_ok-tables.ensures.read.unfailed in
     let same = rw (← c.index-indexes-number.is, ← c.index-archives-number.is) at c.in_ok-tables.ensures.kept in
     record {
-      read = read_more (take number (readers left failures old now)) _ (take number (readers whole failures_at before seen)) _ c.indexes.read.items _ (reader left failures index after) (reader whole failures_at archive later) c.in_ok-tables.tables
-          (one_more left failures old now number index after lt c.indexes.auto.indexes is) (one_more whole failures_at before seen number archive later lt_at c.indexes.auto.archives is_at) c.in_ok-push.ensures.items inv.read got;
+      read = read_more (take number (readers left failures old now)) _
+          (take number (readers whole failures_at before seen)) _ c.indexes.read.items _
+          (reader left failures index after) (reader whole failures_at archive later) c.in_ok-tables.tables
+          (one_more left failures old now number index after lt c.indexes.auto.indexes is)
+          (one_more whole failures_at before seen number archive later lt_at c.indexes.auto.archives is_at)
+          c.in_ok-push.ensures.items inv.read got;
       unfailed = unfailed_more left failures old now number index after lt c.indexes.auto.indexes is inv.unfailed well.0;
       unfailed_at = unfailed_more whole failures_at before seen number archive later lt_at c.indexes.auto.archives is_at inv.unfailed_at well.1;
       kept = kept_more left failures old now number index after lt is inv.kept same.0;
@@ -85,8 +89,11 @@ returns-in_err-push-clause-read g c =
     let well = rw (← c.index-indexes-number.is, ← c.index-archives-number.is) at c.in_ok-tables.ensures.read.unfailed in
     let p = err_from_is_err_and c.from_residual-in_err-push.result c.from_residual-in_err-push.ensures.1 in
     rw (p.1, p.2) (
-      unfailed_more g.I.Placed.whole g.I.Placed.failures old now number index c.read_with_tables.new.index lt c.indexes.auto.indexes (same_at now old number index inv.rest c.index-indexes-number.is) inv.unfailed well.0,
-      unfailed_more g.P.Placed.whole g.P.Placed.failures before seen number archive c.read_with_tables.new.archive lt_at c.indexes.auto.archives (same_at seen before number archive inv.rest_at c.index-archives-number.is) inv.unfailed_at well.1,
+      unfailed_more g.I.Placed.whole g.I.Placed.failures old now number index c.read_with_tables.new.index lt
+          c.indexes.auto.indexes (same_at now old number index inv.rest c.index-indexes-number.is) inv.unfailed well.0,
+      unfailed_more g.P.Placed.whole g.P.Placed.failures before seen number archive c.read_with_tables.new.archive lt_at
+          c.indexes.auto.archives (same_at seen before number archive inv.rest_at c.index-archives-number.is)
+          inv.unfailed_at well.1,
     )
 
 pub returns-clause-read : goal.returns-clause-read
@@ -100,9 +107,11 @@ returns-clause-read g c =
     let end_at : c.indexes.number ≡ length before = omega arith in
     record {
       is = subst (λ is. AreReadWith is (readers g.P.Placed.whole g.P.Placed.failures before seen) c.indexes.read.items)
-          (ap (λ n. take n (readers g.I.Placed.whole g.I.Placed.failures old now)) end ∙ all_read g.I.Placed.whole g.I.Placed.failures old now c.indexes.auto.indexes)
+          (ap (λ n. take n (readers g.I.Placed.whole g.I.Placed.failures old now)) end
+          ∙ all_read g.I.Placed.whole g.I.Placed.failures old now c.indexes.auto.indexes)
           (subst (λ ones. AreReadWith (take c.indexes.number (readers g.I.Placed.whole g.I.Placed.failures old now)) ones c.indexes.read.items)
-          (ap (λ n. take n (readers g.P.Placed.whole g.P.Placed.failures before seen)) end_at ∙ all_read g.P.Placed.whole g.P.Placed.failures before seen c.indexes.auto.archives) inv.read);
+          (ap (λ n. take n (readers g.P.Placed.whole g.P.Placed.failures before seen)) end_at
+          ∙ all_read g.P.Placed.whole g.P.Placed.failures before seen c.indexes.auto.archives) inv.read);
       unfailed = (inv.unfailed, inv.unfailed_at);
     }
 

@@ -5,7 +5,8 @@ use Rattle.command_index_queries.proofs.together.read_indexes.Given as goal
 
 abbrev pub invariant-indexes : goal.invariant-indexes
 invariant-indexes g l = record {
-  read : AreReadWith (take l.number (readers g.I.Placed.whole g.I.Placed.failures l.fn.indexes l.indexes)) (take l.number (readers g.P.Placed.whole g.P.Placed.failures l.fn.archives l.archives)) l.read.items;
+  read : AreReadWith (take l.number (readers g.I.Placed.whole g.I.Placed.failures l.fn.indexes l.indexes))
+      (take l.number (readers g.P.Placed.whole g.P.Placed.failures l.fn.archives l.archives)) l.read.items;
   unfailed : EachUnfailed (readers g.I.Placed.whole g.I.Placed.failures l.fn.indexes l.indexes);
   unfailed_at : EachUnfailed (readers g.P.Placed.whole g.P.Placed.failures l.fn.archives l.archives);
   kept : AreAllKept g.I.Placed.whole g.I.Placed.failures l.fn.indexes l.indexes;

@@ -8,5 +8,7 @@ use Rattle.command_queries.proofs.asked_frames.source_frames_of.Goals as goal
 
 pub returns-in_ok-places : goal.returns-in_ok-places
 returns-in_ok-places g c =
-    IfOk-weaker _ _ _ (λ (sources : Sources) all. sources_there (g.A.Join.content c.args.archive.now) c.args.key.now c.args.lines (λ (one : AskedFrame). asked_of one.frame.load one.frame.address) c.args.asked.now _ sources.found.items
+    IfOk-weaker _ _ _ (λ (sources : Sources) all. sources_there (g.A.Join.content c.args.archive.now) c.args.key.now
+    c.args.lines (λ (one : AskedFrame). asked_of one.frame.load one.frame.address) c.args.asked.now _
+    sources.found.items
     c.if-lines.true (c.deref.ensures.value ∙ c.in_ok-places.ensures) all) c.of.ensures

@@ -22,7 +22,8 @@ returns g c =
     (together_tells _ _ _ _ (λ o alike. record {
       rows = rows;
       finds = finds_alike (g.A.Join.content c.in_ok-kept.kept) o uuid rows
-          (alike uuid (omega (arith, c.bytes_of-prefix.ensures.long)) (λ r h. ap (λ prefix. is_under prefix r) c.bytes_of-prefix.ensures.bytes ∙ h)) c.in_ok-rows.ensures;
+          (alike uuid (omega (arith, c.bytes_of-prefix.ensures.long))
+          (λ r h. ap (λ prefix. is_under prefix r) c.bytes_of-prefix.ensures.bytes ∙ h)) c.in_ok-rows.ensures;
       status_is = c.found_status.ensures ∙ ap found_status c.deref-2.ensures.value;
       text_is = c.deref-3.ensures ∙ c.in_ok-text.ensures ∙ ap find_lines c.deref.ensures.value;
     }) c.in_ok-kept.ensures.is)

@@ -14,7 +14,10 @@ pub answer_archives-requires-clause-start : goal.answer_archives-requires-clause
 answer_archives-requires-clause-start g c = λ o.
     let questions = c.in_ok-questions.questions in (
       refl,
-      begun c.args.frames.now _ questions.left.now questions.told.items (c.in_ok-questions.ensures.left ∙ c.deref.ensures.value) c.in_ok-asked.ensures.lines c.in_ok-asked.ensures.long (c.in_ok-questions.ensures.told ∙ ap length c.deref.ensures.value) questions.lines o questions.ahead _ c.in_ok-questions.ensures.ahead,
+      begun c.args.frames.now _ questions.left.now questions.told.items
+          (c.in_ok-questions.ensures.left ∙ c.deref.ensures.value) c.in_ok-asked.ensures.lines
+          c.in_ok-asked.ensures.long (c.in_ok-questions.ensures.told ∙ ap length c.deref.ensures.value) questions.lines
+          o questions.ahead _ c.in_ok-questions.ensures.ahead,
     )
 
 pub answer_archives-requires-clause-picked : goal.answer_archives-requires-clause-picked
@@ -25,14 +28,20 @@ pub in_line_order-requires : goal.in_line_order-requires
 in_line_order-requires g c =
     let questions = c.in_ok-questions.questions in
     let told = c.in_ok-told.ensures.is.is_true in
-    pieces c.args.frames.now _ questions.left.now questions.told.items (c.in_ok-questions.ensures.left ∙ c.deref.ensures.value) c.in_ok-asked.ensures.lines c.in_ok-asked.ensures.long (c.in_ok-questions.ensures.told ∙ ap length c.deref.ensures.value) _ _ _ _ _ _ told.0 told.1.1
+    pieces c.args.frames.now _ questions.left.now questions.told.items
+    (c.in_ok-questions.ensures.left ∙ c.deref.ensures.value) c.in_ok-asked.ensures.lines c.in_ok-asked.ensures.long
+    (c.in_ok-questions.ensures.told ∙ ap length c.deref.ensures.value) _ _ _ _ _ _ told.0 told.1.1
 
 pub returns : goal.returns
 returns g c =
     let questions = c.in_ok-questions.questions in
     record {
-      is = together_tells _ _ _ _ (λ o is. subst (λ (w : Bool). TellsFrames w o c.args.frames.now c.in_ok-text.text.0 c.in_ok-text.text.1.items) c.in_ok-questions.ensures.lines
-          (frames_told c.args.frames.now _ questions.left.now questions.told.items (c.in_ok-questions.ensures.left ∙ c.deref.ensures.value) c.in_ok-asked.ensures.lines c.in_ok-asked.ensures.long (c.in_ok-questions.ensures.told ∙ ap length c.deref.ensures.value) questions.lines o _ _ _ _ is.0 is.1.1 _ _
+      is = together_tells _ _ _ _ (λ o is. subst (λ (w : Bool). TellsFrames w o c.args.frames.now c.in_ok-text.text.0
+          c.in_ok-text.text.1.items) c.in_ok-questions.ensures.lines
+          (frames_told c.args.frames.now _ questions.left.now questions.told.items
+          (c.in_ok-questions.ensures.left ∙ c.deref.ensures.value) c.in_ok-asked.ensures.lines
+          c.in_ok-asked.ensures.long (c.in_ok-questions.ensures.told ∙ ap length c.deref.ensures.value)
+          questions.lines o _ _ _ _ is.0 is.1.1 _ _
           c.in_ok-text.ensures.status c.in_ok-text.ensures.text)) c.in_ok-told.ensures.is;
       unfailed = c.in_ok-told.ensures.unfailed;
     }

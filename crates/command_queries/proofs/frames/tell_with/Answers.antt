@@ -8,12 +8,15 @@ pub returns-then-slices : goal.returns-then-slices
 returns-then-slices g c =
     let left = g.R.Source.left in
     let failures = g.R.Source.failures in
-    subst (λ (slices : Bool). ReadsTogether (reader left failures c.args.archive.now c.tell_with_slices.new.archive) (readers left failures c.args.others.now c.tell_with_slices.new.others)
-    c.tell_with_slices.result (λ told o. TellsFramesWith c.args.lines slices o c.args.frames.now told.0 told.1.items)) (sym c.if-slices.true) c.tell_with_slices.ensures
+    subst (λ (slices : Bool). ReadsTogether (reader left failures c.args.archive.now c.tell_with_slices.new.archive)
+    (readers left failures c.args.others.now c.tell_with_slices.new.others)
+    c.tell_with_slices.result (λ told o. TellsFramesWith c.args.lines slices o c.args.frames.now told.0 told.1.items))
+    (sym c.if-slices.true) c.tell_with_slices.ensures
 
 pub returns-else-slices : goal.returns-else-slices
 returns-else-slices g c =
     let left = g.R.Source.left in
     let failures = g.R.Source.failures in
-    subst (λ (slices : Bool). ReadsTogether (reader left failures c.args.archive.now c.tell_frames.new.archive) (readers left failures c.args.others.now c.tell_frames.new.others)
+    subst (λ (slices : Bool). ReadsTogether (reader left failures c.args.archive.now c.tell_frames.new.archive)
+    (readers left failures c.args.others.now c.tell_frames.new.others)
     c.tell_frames.result (λ told o. TellsFramesWith c.args.lines slices o c.args.frames.now told.0 told.1.items)) (sym c.if-slices.false) c.tell_frames.ensures

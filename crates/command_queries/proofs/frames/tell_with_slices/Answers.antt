@@ -15,7 +15,8 @@ returns g c =
     let uuids = c.in_ok-uuids.uuids.items in
     let kept = g.A.Join.content c.in_ok-kept.kept in
     record {
-      is = content_tells _ _ _ _ (λ o content alike. frames_after c.args.lines kept o c.args.frames.now keys uuids _ _ content c.in_ok-keys.ensures.are c.in_ok-keys.ensures.keyed
+      is = content_tells _ _ _ _ (λ o content alike. frames_after c.args.lines kept o c.args.frames.now keys uuids _ _
+          content c.in_ok-keys.ensures.are c.in_ok-keys.ensures.keyed
           (rw c.deref.ensures.value at c.in_ok-uuids.ensures.are) (rw c.deref-2.ensures.value at alike)
           (rw (c.deref-3.ensures.value, c.deref-4.ensures.value) at c.in_ok-told.ensures)) c.in_ok-kept.ensures.is;
       unfailed = c.in_ok-kept.ensures.unfailed;

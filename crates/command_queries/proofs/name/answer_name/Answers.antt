@@ -20,7 +20,8 @@ returns g c = record {
           ∙ ap (λ rows. found_status (map owned_name_view rows)) c.deref-3.ensures.value;
       text_is = c.in_ok-text.ensures ∙ ap (λ rows. name_lines (map owned_name_view rows)) c.deref-2.ensures.value;
     },
-    rw c.is_underscored.ensures (underscored_by o c.args.sought.now c.in_ok-told.told.rows.items c.in_ok-told.told.others.items both.0 (rw (c.deref.ensures.value, c.in_ok-other.ensures) at both.1)),
+    rw c.is_underscored.ensures (underscored_by o c.args.sought.now c.in_ok-told.told.rows.items
+        c.in_ok-told.told.others.items both.0 (rw (c.deref.ensures.value, c.in_ok-other.ensures) at both.1)),
   )) c.in_ok-told.ensures.is;
   unfailed = c.in_ok-told.ensures.unfailed;
 }

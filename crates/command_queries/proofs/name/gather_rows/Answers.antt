@@ -14,10 +14,12 @@ pub returns-in_err-found : goal.returns-in_err-found
 returns-in_err-found g c =
     let p = err_from_is_err_and c.from_residual-in_err-found.result c.from_residual-in_err-found.ensures.1 in
     let first = c.in_ok-first.ensures.is in
-    rw (p.1, p.2) (other_refused _ _ c.in_err-found.field-0.0 (first.content, first.is_content, first.text) c.in_ok-first.ensures.unfailed c.in_err-found.ensures)
+    rw (p.1, p.2) (other_refused _ _ c.in_err-found.field-0.0 (first.content, first.is_content, first.text)
+    c.in_ok-first.ensures.unfailed c.in_err-found.ensures)
 
 pub live_names-requires : goal.live_names-requires
-live_names-requires g c = entries_together _ _ _ _ _ _ _ c.no_rows.ensures.0 c.no_rows.ensures.1 c.new.ensures.items c.in_ok-first.ensures.is c.in_ok-found.ensures.is
+live_names-requires g c = entries_together _ _ _ _ _ _ _ c.no_rows.ensures.0 c.no_rows.ensures.1 c.new.ensures.items
+    c.in_ok-first.ensures.is c.in_ok-found.ensures.is
 
 pub returns : goal.returns
 returns g c = record {

@@ -7,11 +7,13 @@ use Rattle.command_queries.proofs.symbolicate.tell_kept.Goals as goal
 pub returns-then-slices : goal.returns-then-slices
 returns-then-slices g c =
     let content = g.A.Join.content c.args.archive.now in
-    subst (λ (slices : Bool). IfOk c.tell_with_slices.result (λ told. WithRows slices (TellsAddresses content c.args.key.now c.args.load c.args.lines c.args.addresses.now)
+    subst (λ (slices : Bool). IfOk c.tell_with_slices.result
+    (λ told. WithRows slices (TellsAddresses content c.args.key.now c.args.load c.args.lines c.args.addresses.now)
     content (c.args.key.now.uuid ∷ []) (c.args.key.now ∷ []) told.0 (string_bytes told.1))) (sym c.if-slices.true) c.tell_with_slices.ensures
 
 pub returns-else-slices : goal.returns-else-slices
 returns-else-slices g c =
     let content = g.A.Join.content c.args.archive.now in
-    subst (λ (slices : Bool). IfOk c.answer_each.result (λ told. WithRows slices (TellsAddresses content c.args.key.now c.args.load c.args.lines c.args.addresses.now)
+    subst (λ (slices : Bool). IfOk c.answer_each.result
+    (λ told. WithRows slices (TellsAddresses content c.args.key.now c.args.load c.args.lines c.args.addresses.now)
     content (c.args.key.now.uuid ∷ []) (c.args.key.now ∷ []) told.0 (string_bytes told.1))) (sym c.if-slices.false) c.answer_each.ensures

@@ -17,11 +17,16 @@ returns-in-Ok-clause-ends g c =
     let h = c.in-Ok.ensures.is in
     admitted_in_turn (reader g.R.Source.left g.R.Source.failures c.args.input.now c.write_admitted.new.input) _
     (out_of (outs g.T.Draft.Sink.held g.T.Draft.Sink.failures g.T.Target.published g.T.Target.failures c.args.out.now c.write_admitted.new.out))
-    (writer g.P.Sink.held g.P.Sink.failures c.args.report.now c.write_admitted.new.report) (λ _. Fine) h.0 _ _ _ h.1 c.in-Ok.ensures.unfailed c.write_admitted.result (c.write_admitted.ensures.ends (records_of (map Ok h.0)) h.1.are_first)
+    (writer g.P.Sink.held g.P.Sink.failures c.args.report.now c.write_admitted.new.report) (λ _. Fine) h.0 _ _ _ h.1
+    c.in-Ok.ensures.unfailed c.write_admitted.result
+    (c.write_admitted.ensures.ends (records_of (map Ok h.0)) h.1.are_first)
 
 pub returns-in-Err-clause-ends : goal.returns-in-Err-clause-ends
 returns-in-Err-clause-ends g c =
-    told_behind _ _ _ _ _ _ _ _ c.in-Err.fault c.refused_behind.result c.in-Err.ensures c.refused_behind.ensures ((Appends-none _, refl), (refl, refl)) (Appends-none _, refl)
+    told_behind _ _ _ _ _ _ _ _ c.in-Err.fault c.refused_behind.result c.in-Err.ensures c.refused_behind.ensures
+    ((Appends-none _, refl), (refl, refl)) (Appends-none _, refl)
 
 pub returns-in-Ok-clause-noted : goal.returns-in-Ok-clause-noted
-returns-in-Ok-clause-noted g c = let h = c.in-Ok.ensures.is in on_ok_weaker c.write_admitted.result (retired_noted (λ _. Fine) _ _ h.0 _ _ _ h.1 _ _) c.write_admitted.ensures.noted
+returns-in-Ok-clause-noted g c = let h = c.in-Ok.ensures.is
+    in on_ok_weaker c.write_admitted.result (retired_noted (λ _. Fine) _ _ h.0 _ _ _ h.1 _ _)
+    c.write_admitted.ensures.noted

@@ -11,7 +11,12 @@ pub files-init : goal.files-init
 files-init g c =
     let none = c.none-arrivals.ensures in
     record {
-      taken = ([], come_none g.S.Opens.opening_of _ _ _ none.came none.rows (first_none _ _ _ (ap (λ (o : Operations). listing o) none.came ∙ no_listing) none.first_rows none.rows), refl);
+      taken = (
+        [],
+        come_none g.S.Opens.opening_of _ _ _ none.came none.rows
+            (first_none _ _ _ (ap (λ (o : Operations). listing o) none.came ∙ no_listing) none.first_rows none.rows),
+        refl,
+      );
       rest = refl;
     }
 
@@ -24,7 +29,8 @@ files-preserved g c =
     record {
       taken = (
         seen.0 ++ got.0 ∷ [],
-        come_more g.S.Opens.opening_of _ _ c.files.index _ _ got.0 _ _ (read_to _ _ _ _ _ lt c.files.auto.files) (one_more _ _ _ _ _ _ _ lt c.files.auto.files is)
+        come_more g.S.Opens.opening_of _ _ c.files.index _ _ got.0 _ _ (read_to _ _ _ _ _ lt c.files.auto.files)
+            (one_more _ _ _ _ _ _ _ lt c.files.auto.files is)
             seen.1 (rw (← c.index-files-index.is) at got.1) got.2,
         rw (seen.2, got.3, passed_more seen.0 got.0) refl,
       );

@@ -24,7 +24,9 @@ tell_operations-requires-clause-ascending g c = rw c.operations.ensures.listed (
 
 pub returns-in_err-sizes-clause-ends : goal.returns-in_err-sizes-clause-ends
 returns-in_err-sizes-clause-ends g c = λ records are_first.
-    rw (failed c.from_residual.result _ c.from_residual.ensures.1) (told_stopped _ _ _ _ _ _ (rw (same_set c.args.arrivals.came c.operations.ensures.listed) at c.in_err-sizes.ensures.1) c.in_err-sizes.ensures.2 c.in_err-sizes.ensures.0 (refl, refl) (Appends-none _, refl))
+    rw (failed c.from_residual.result _ c.from_residual.ensures.1)
+    (told_stopped _ _ _ _ _ _ (rw (same_set c.args.arrivals.came c.operations.ensures.listed) at
+    c.in_err-sizes.ensures.1) c.in_err-sizes.ensures.2 c.in_err-sizes.ensures.0 (refl, refl) (Appends-none _, refl))
 
 pub tell_arrivals-requires-clause-told : goal.tell_arrivals-requires-clause-told
 tell_arrivals-requires-clause-told g c =
@@ -35,13 +37,16 @@ pub returns-in_err-lines-clause-ends : goal.returns-in_err-lines-clause-ends
 returns-in_err-lines-clause-ends g c = λ records are_first.
     let j = rw (same_set c.args.arrivals.came c.operations.ensures.listed) at c.in_ok-sizes.ensures in
     let whole = j.joined.written_is in
-    rw (failed c.from_residual-in_err-lines.result _ c.from_residual-in_err-lines.ensures.1) (told_published _ _ _ _ _ _ _ j _ refl _ _ (Err OutOfMemory) (inr (whole.written, whole.unfailed), (refl, refl), (Appends-none _, refl)))
+    rw (failed c.from_residual-in_err-lines.result _ c.from_residual-in_err-lines.ensures.1)
+    (told_published _ _ _ _ _ _ _ j _ refl _ _ (Err OutOfMemory)
+    (inr (whole.written, whole.unfailed), (refl, refl), (Appends-none _, refl)))
 
 pub returns-clause-ends : goal.returns-clause-ends
 returns-clause-ends g c = λ records are_first.
     let j = rw (same_set c.args.arrivals.came c.operations.ensures.listed) at c.in_ok-sizes.ensures in
     let whole = j.joined.written_is in
-    told_published _ _ _ _ _ _ _ j _ (c.in_ok-lines.ensures.lines j.joined.content records are_first (c.deref.ensures.value ∙ j.arrivals_are)) _ _ c.publish_draft.result
+    told_published _ _ _ _ _ _ _ j _ (c.in_ok-lines.ensures.lines j.joined.content records are_first
+    (c.deref.ensures.value ∙ j.arrivals_are)) _ _ c.publish_draft.result
     (c.publish_draft.ensures c.args.out.now.draft _ (whole.written, whole.unfailed) whole.bytes_are)
 
 pub returns-clause-noted : goal.returns-clause-noted

@@ -19,10 +19,14 @@ write_applied-requires-clause-few g c =
 
 pub returns-in-Ok : goal.returns-in-Ok
 returns-in-Ok g c =
-    applied (reader g.R.Source.left g.R.Source.failures c.args.input.now c.write_applied.new.input) g.S.Source.left g.S.Source.failures c.args.ops.now c.read_new.new.ops
+    applied (reader g.R.Source.left g.R.Source.failures c.args.input.now c.write_applied.new.input) g.S.Source.left
+    g.S.Source.failures c.args.ops.now c.read_new.new.ops
     (out_of (outs g.T.Draft.Sink.held g.T.Draft.Sink.failures g.T.Target.published g.T.Target.failures c.args.out.now c.write_applied.new.out))
-    (writer g.P.Sink.held g.P.Sink.failures c.args.report.now c.write_applied.new.report) c.in-Ok.sorted.items c.in-Ok.number c.in-Ok.ensures.is c.in-Ok.ensures.unfailed c.write_applied.result (rw c.deref.ensures.value at c.write_applied.ensures)
+    (writer g.P.Sink.held g.P.Sink.failures c.args.report.now c.write_applied.new.report) c.in-Ok.sorted.items
+    c.in-Ok.number c.in-Ok.ensures.is c.in-Ok.ensures.unfailed c.write_applied.result
+    (rw c.deref.ensures.value at c.write_applied.ensures)
 
 pub returns-in-Err : goal.returns-in-Err
 returns-in-Err g c =
-    told_behind _ _ _ _ _ _ _ _ c.in-Err.fault c.refused_behind.result c.in-Err.ensures c.refused_behind.ensures ((Appends-none _, refl), (refl, refl)) (Appends-none _, refl)
+    told_behind _ _ _ _ _ _ _ _ c.in-Err.fault c.refused_behind.result c.in-Err.ensures c.refused_behind.ensures
+    ((Appends-none _, refl), (refl, refl)) (Appends-none _, refl)

@@ -26,8 +26,11 @@ told-preserved c =
       marked = λ f came records are_first is.
           let many = as_many came c.args.first_rows.now c.args.rows.now records are_first in
           let low : index < length came = omega (arith, many, lt) in
-          let arrival_is = ap (λ (xs : List Arrival). get_or xs index New) is ∙ get_or-map f came index [] New low ∙ ap f (record_at came c.args.first_rows.now c.args.rows.now records are_first index _ at) in
-          marked_more (λ r. is_new (f r)) _ records _ index _ c.told.rows _ c.is_new.result (c.told.invariant.marked f came records are_first is) at (row_inside came _ _ records are_first index _ at)
+          let arrival_is = ap (λ (xs : List Arrival). get_or xs index New) is ∙ get_or-map f came index [] New low
+          ∙ ap f (record_at came c.args.first_rows.now c.args.rows.now records are_first index _ at) in
+          marked_more (λ r. is_new (f r)) _ records _ index _ c.told.rows _ c.is_new.result
+          (c.told.invariant.marked f came records are_first is) at
+          (row_inside came _ _ records are_first index _ at)
           (c.is_new.ensures ∙ ap is_new arrival_is) (c.tell_row.ensures no_row);
     }
 
@@ -35,7 +38,8 @@ pub tell_row-requires : goal.tell_row-requires
 tell_row-requires c =
     let lt : c.told.index < length c.args.first_rows.now = omega (arith, c.told.invariant.many) in
     let at = slice_get-get_or c.args.first_rows.now c.told.index 0 lt in
-    let inside = row_inside c.requires.0 c.args.first_rows.now c.args.rows.now c.requires.1 c.requires.2 c.told.index (get_or c.args.first_rows.now c.told.index 0) at in
+    let inside = row_inside c.requires.0 c.args.first_rows.now c.args.rows.now c.requires.1 c.requires.2 c.told.index
+    (get_or c.args.first_rows.now c.told.index 0) at in
     omega (arith, inside, c.told.invariant.long)
 
 pub returns : goal.returns
@@ -43,4 +47,5 @@ returns c = λ f came records are_first is.
     let told_long : length c.args.told.now ≡ length came = ap length is ∙ length-map came f in
     let many : length came ≡ length c.args.first_rows.now = as_many came c.args.first_rows.now c.args.rows.now records are_first in
     let end : c.told.index ≡ length c.args.first_rows.now = omega (arith, told_long, many) in
-    all_marked came c.args.first_rows.now c.args.rows.now records are_first (λ r. is_new (f r)) c.told.index c.told.rows (c.told.invariant.marked f came records are_first is) end
+    all_marked came c.args.first_rows.now c.args.rows.now records are_first (λ r. is_new (f r)) c.told.index c.told.rows
+    (c.told.invariant.marked f came records are_first is) end

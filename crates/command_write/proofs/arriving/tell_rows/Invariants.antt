@@ -9,5 +9,7 @@ abbrev pub invariant-told : goal.invariant-told
 invariant-told l = record {
   many : length l.fn.told ≡ length l.fn.first_rows;
   long : length l.rows ≡ length l.fn.rows;
-  marked : (arrival : List ℕ → Arrival) (came records : List (List ℕ)) → AreFirstRows came l.fn.first_rows l.fn.rows records → l.fn.told ≡ map arrival came → AreMarked (λ r. is_new (arrival r)) l.fn.rows records l.fn.first_rows l.index l.rows;
+  marked : (arrival : List ℕ → Arrival) (came records : List (List ℕ))
+      → AreFirstRows came l.fn.first_rows l.fn.rows records → l.fn.told ≡ map arrival came
+      → AreMarked (λ r. is_new (arrival r)) l.fn.rows records l.fn.first_rows l.index l.rows;
 }

@@ -74,7 +74,8 @@ copying-preserved g c =
           record {
             records = m.records ++ c.advance.new.self.last ∷ [];
             read = read;
-            makes = rw (taken_push m.records c.advance.new.self.last c.args.reader.now.file read.ordered drops) (copied_more _ w0 _ _ _ _ c.copying.written m.makes c.in-Ok.more put.size_is count put.gained);
+            makes = rw (taken_push m.records c.advance.new.self.last c.args.reader.now.file read.ordered drops)
+                (copied_more _ w0 _ _ _ _ c.copying.written m.makes c.in-Ok.more put.size_is count put.gained);
           };
       file = step.0.file_is ∙ c.copying.invariant.file;
       unfailed = step.1 ∙ c.copying.invariant.unfailed;

@@ -8,10 +8,14 @@ use Rattle.command_write.proofs.delta.run_delta.Goals as goal
 
 pub returns-in-Ok : goal.returns-in-Ok
 returns-in-Ok g c =
-    named (reader g.R.Source.left g.R.Source.failures c.args.archive.now c.write_unnamed.new.archive) g.S.Source.left g.S.Source.failures c.args.summary.now c.read_summary_input.new.summary
+    named (reader g.R.Source.left g.R.Source.failures c.args.archive.now c.write_unnamed.new.archive) g.S.Source.left
+    g.S.Source.failures c.args.summary.now c.read_summary_input.new.summary
     (out_of (outs g.T.Draft.Sink.held g.T.Draft.Sink.failures g.T.Target.published g.T.Target.failures c.args.out.now c.write_unnamed.new.out))
-    (writer g.P.Sink.held g.P.Sink.failures c.args.report.now c.write_unnamed.new.report) c.in-Ok.named c.in-Ok.ensures.is.0 c.in-Ok.ensures.is.1 c.in-Ok.ensures.unfailed c.write_unnamed.result c.write_unnamed.ensures
+    (writer g.P.Sink.held g.P.Sink.failures c.args.report.now c.write_unnamed.new.report) c.in-Ok.named
+    c.in-Ok.ensures.is.0 c.in-Ok.ensures.is.1 c.in-Ok.ensures.unfailed c.write_unnamed.result
+    c.write_unnamed.ensures
 
 pub returns-in-Err : goal.returns-in-Err
 returns-in-Err g c =
-    told_behind _ _ _ _ _ _ _ _ c.in-Err.fault c.refused_behind.result c.in-Err.ensures c.refused_behind.ensures ((Appends-none _, refl), (refl, refl)) (Appends-none _, refl)
+    told_behind _ _ _ _ _ _ _ _ c.in-Err.fault c.refused_behind.result c.in-Err.ensures c.refused_behind.ensures
+    ((Appends-none _, refl), (refl, refl)) (Appends-none _, refl)

@@ -15,8 +15,10 @@ files-preserved g c =
     let lt : c.files.index < length c.args.files.now = omega arith in
     let is = same_at c.files.files c.args.files.now c.files.index c.index-files-index.result c.files.invariant.rest c.index-files-index.is in
     record {
-      joined = joined_more _ _ _ _ _ _ got.content (one_more _ _ _ _ _ _ _ lt c.files.auto.files is) c.files.invariant.joined got.is_content (rw (← c.index-files-index.is) at got.text) got.is_true;
-      unfailed = unfailed_more _ _ _ _ _ _ _ lt c.files.auto.files is c.files.invariant.unfailed (rw (← c.index-files-index.is) at c.in_ok-join_file.ensures.unfailed);
+      joined = joined_more _ _ _ _ _ _ got.content (one_more _ _ _ _ _ _ _ lt c.files.auto.files is)
+          c.files.invariant.joined got.is_content (rw (← c.index-files-index.is) at got.text) got.is_true;
+      unfailed = unfailed_more _ _ _ _ _ _ _ lt c.files.auto.files is c.files.invariant.unfailed
+          (rw (← c.index-files-index.is) at c.in_ok-join_file.ensures.unfailed);
       rest = rest_kept c.files.files c.args.files.now c.files.index c.join_file.new.file c.files.invariant.rest;
     }
 
@@ -24,7 +26,9 @@ pub returns-in_err-join_file : goal.returns-in_err-join_file
 returns-in_err-join_file g c =
     let lt : c.files.index < length c.args.files.now = omega arith in
     let is = same_at c.files.files c.args.files.now c.files.index c.index-files-index.result c.files.invariant.rest c.index-files-index.is in
-    rw (failed c.from_residual.result _ c.from_residual.ensures.1) (refused_at _ _ further_name IsArchive IsArchiveRefused _ _ _ _ _ _ lt c.files.auto.files is (joined_archives _ _ _ c.files.invariant.joined) c.files.invariant.rest c.files.invariant.unfailed
+    rw (failed c.from_residual.result _ c.from_residual.ensures.1)
+    (refused_at _ _ further_name IsArchive IsArchiveRefused _ _ _ _ _ _ lt c.files.auto.files is
+    (joined_archives _ _ _ c.files.invariant.joined) c.files.invariant.rest c.files.invariant.unfailed
     (rw (← c.index-files-index.is) at c.in_err-join_file.ensures))
 
 pub returns : goal.returns

@@ -5,7 +5,8 @@ use Rattle.command_write.proofs.merge.join_files.Given as goal
 
 abbrev pub invariant-files : goal.invariant-files
 invariant-files g l = record {
-  joined : HasJoined (take l.index (readers g.S.Source.left g.S.Source.failures l.fn.files l.files)) (g.A.Join.content l.initial.archive) (g.A.Join.content l.archive);
+  joined : HasJoined (take l.index (readers g.S.Source.left g.S.Source.failures l.fn.files l.files))
+      (g.A.Join.content l.initial.archive) (g.A.Join.content l.archive);
   unfailed : EachUnfailed (readers g.S.Source.left g.S.Source.failures l.fn.files l.files);
   rest : drop l.index l.files ≡ drop l.index l.fn.files;
 }

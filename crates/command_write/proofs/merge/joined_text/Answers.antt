@@ -4,5 +4,6 @@ use Rattle.command_write.proofs.merge.joined_text.Goals as goal
 
 pub returns : goal.returns
 returns g c =
-    text_of_join _ c.text_in_memory.result (readers g.S.Source.left g.S.Source.failures c.args.files.now c.join_files.new.files) _ _ c.empty-joined.ensures c.in_ok-join_files.ensures
+    text_of_join _ c.text_in_memory.result (readers g.S.Source.left g.S.Source.failures c.args.files.now
+    c.join_files.new.files) _ _ c.empty-joined.ensures c.in_ok-join_files.ensures
     c.text_in_memory.ensures.text c.text_in_memory.ensures.content c.text_in_memory.ensures.wanting

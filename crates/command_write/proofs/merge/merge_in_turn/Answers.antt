@@ -12,8 +12,10 @@ returns-in-Ok g c =
     let j = c.in-Ok.ensures.is in
     merged_in_turn (reader g.R.Source.left g.R.Source.failures c.args.input.now c.merge_text.new.input) _
     (out_of (outs g.T.Draft.Sink.held g.T.Draft.Sink.failures g.T.Target.published g.T.Target.failures c.args.out.now c.merge_text.new.out))
-    (writer g.P.Sink.held g.P.Sink.failures c.args.report.now c.merge_text.new.report) j.0 j.3 c.in-Ok.ensures.unfailed c.merge_text.result (c.merge_text.ensures j.0 j.1 (same_Some _ _ (sym c.as_slice.ensures ∙ j.2)))
+    (writer g.P.Sink.held g.P.Sink.failures c.args.report.now c.merge_text.new.report) j.0 j.3 c.in-Ok.ensures.unfailed
+    c.merge_text.result (c.merge_text.ensures j.0 j.1 (same_Some _ _ (sym c.as_slice.ensures ∙ j.2)))
 
 pub returns-in-Err : goal.returns-in-Err
 returns-in-Err g c =
-    told_behind _ _ _ _ _ _ _ _ c.in-Err.fault c.refused_behind.result c.in-Err.ensures c.refused_behind.ensures ((Appends-none _, refl), (refl, refl)) (Appends-none _, refl)
+    told_behind _ _ _ _ _ _ _ _ c.in-Err.fault c.refused_behind.result c.in-Err.ensures c.refused_behind.ensures
+    ((Appends-none _, refl), (refl, refl)) (Appends-none _, refl)

@@ -7,8 +7,11 @@ use Rattle.command_write.proofs.merge.merge_one.Goals as goal
 pub returns-in-Err : goal.returns-in-Err
 returns-in-Err g c =
     stopped _ _ _ _ _ _ _ _
-    (outs g.T.Draft.Sink.held g.T.Draft.Sink.failures g.T.Target.published g.T.Target.failures c.args.out.now (record { draft = c.merge_streams.new.w; target = c.args.out.now.target }))
-    (writer g.P.Sink.held g.P.Sink.failures c.args.report.now c.args.report.now) c.in-Err.fault c.command_fault_of.result c.in-Err.ensures.merges c.in-Err.ensures.written c.command_fault_of.ensures (refl, refl) (Appends-none _, refl)
+    (outs g.T.Draft.Sink.held g.T.Draft.Sink.failures g.T.Target.published g.T.Target.failures c.args.out.now
+    (record { draft = c.merge_streams.new.w; target = c.args.out.now.target }))
+    (writer g.P.Sink.held g.P.Sink.failures c.args.report.now c.args.report.now) c.in-Err.fault
+    c.command_fault_of.result c.in-Err.ensures.merges c.in-Err.ensures.written c.command_fault_of.ensures
+    (refl, refl) (Appends-none _, refl)
 
 pub returns-in-Ok : goal.returns-in-Ok
 returns-in-Ok g c =

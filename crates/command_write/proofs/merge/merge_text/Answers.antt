@@ -9,14 +9,36 @@ use Rattle.command_write.proofs.merge.merge_text.Goals as goal
 pub returns-in_err-sizes : goal.returns-in_err-sizes
 returns-in_err-sizes g c = λ p content is.
     let given = c.new-other.ensures.left ∙ ap Some is in
-    rw (failed c.from_residual.result _ c.from_residual.ensures.1) (join_stopped _ p (MakesJoined _ p) (λ o lines m. (m.before, m.is_content, m.archive, m.content_is)) _ _ _
-    (c.in_err-sizes.ensures.1 p (record { is_content = content; text = written p; is_text = inl refl; bytes = given; unfailed_before = c.new-other.ensures.failures; unfailed = refl }))
+    rw (failed c.from_residual.result _ c.from_residual.ensures.1)
+    (join_stopped _ p (MakesJoined _ p) (λ o lines m. (m.before, m.is_content, m.archive, m.content_is)) _ _ _
+    (c.in_err-sizes.ensures.1 p (record {
+      is_content = content;
+      text = written p;
+      is_text = inl refl;
+      bytes = given;
+      unfailed_before = c.new-other.ensures.failures;
+      unfailed = refl;
+    }))
     c.in_err-sizes.ensures.2 c.in_err-sizes.ensures.0 (refl, refl) (Appends-none _, refl))
 
 pub returns : goal.returns
 returns g c = λ p content is.
     let given = c.new-other.ensures.left ∙ ap Some is in
-    let j = c.in_ok-sizes.ensures p (record { is_content = content; text = written p; is_text = inl refl; bytes = given; unfailed_before = c.new-other.ensures.failures; unfailed = refl }) in
+    let j = c.in_ok-sizes.ensures p (record {
+      is_content = content;
+      text = written p;
+      is_text = inl refl;
+      bytes = given;
+      unfailed_before = c.new-other.ensures.failures;
+      unfailed = refl;
+    }) in
     join_published _ p (MakesJoined _ p) _ _ j _
-    (record { before = j.content; is_content = j.is_content; archive = j.archive; content_is = refl; lines_are = c.new.ensures.bytes }) _ _ c.publish_draft.result
+    (record {
+      before = j.content;
+      is_content = j.is_content;
+      archive = j.archive;
+      content_is = refl;
+      lines_are =
+          c.new.ensures.bytes;
+    }) _ _ c.publish_draft.result
     (c.publish_draft.ensures c.args.out.now.draft _ (j.written_is.written, j.written_is.unfailed) j.written_is.bytes_are)

@@ -11,14 +11,34 @@ use Rattle.command_write.proofs.migrate.run_migrate.Goals as goal
 pub returns-in_err-sizes : goal.returns-in_err-sizes
 returns-in_err-sizes g c =
     let nothing = c.new-nothing.ensures.left ∙ ap Some c.empty_text-empty.ensures in
-    rw (failed c.from_residual.result _ c.from_residual.ensures.1) (join_stopped _ set.empty (MakesMigrated _) (λ o lines m. (o, m.is_content, m.archive, sym (join_with_nothing o m.is_content.itself))) _ _ _
-    (c.in_err-sizes.ensures.1 set.empty (record { is_content = empty_content; text = written set.empty; is_text = inl refl; bytes = nothing; unfailed_before = c.new-nothing.ensures.failures; unfailed = refl }))
+    rw (failed c.from_residual.result _ c.from_residual.ensures.1)
+    (join_stopped _ set.empty (MakesMigrated _) (λ o lines m.
+    (o, m.is_content, m.archive, sym (join_with_nothing o m.is_content.itself))) _ _ _
+    (c.in_err-sizes.ensures.1 set.empty (record {
+      is_content = empty_content;
+      text = written set.empty;
+      is_text =
+          inl refl;
+      bytes = nothing;
+      unfailed_before = c.new-nothing.ensures.failures;
+      unfailed = refl;
+    }))
     c.in_err-sizes.ensures.2 c.in_err-sizes.ensures.0 (refl, refl) (Appends-none _, refl))
 
 pub returns : goal.returns
 returns g c =
     let nothing = c.new-nothing.ensures.left ∙ ap Some c.empty_text-empty.ensures in
-    let j = c.in_ok-sizes.ensures set.empty (record { is_content = empty_content; text = written set.empty; is_text = inl refl; bytes = nothing; unfailed_before = c.new-nothing.ensures.failures; unfailed = refl }) in
+    let j = c.in_ok-sizes.ensures set.empty (record {
+      is_content = empty_content;
+      text = written set.empty;
+      is_text =
+          inl refl;
+      bytes = nothing;
+      unfailed_before = c.new-nothing.ensures.failures;
+      unfailed = refl;
+    }) in
     join_published _ set.empty (MakesMigrated _) _ _ j _
-    (rw (join_with_nothing j.content j.is_content.itself) (record { is_content = j.is_content; archive = j.archive; lines_are = c.new.ensures.bytes })) _ _ c.publish_draft.result
+    (rw (join_with_nothing j.content j.is_content.itself)
+    (record { is_content = j.is_content; archive = j.archive; lines_are = c.new.ensures.bytes })) _ _
+    c.publish_draft.result
     (c.publish_draft.ensures c.args.out.now.draft _ (j.written_is.written, j.written_is.unfailed) j.written_is.bytes_are)

@@ -27,7 +27,8 @@ arrived-preserved c =
           let told : get_or c.args.arrived.now index New ≡ arrival (record_bytes operation) =
           ap (λ (ts : List Arrival). get_or ts index New) is ∙ get_or-map arrival (map record_bytes operations) index [] New low
           ∙ ap arrival (get_or-map record_bytes operations index operation [] lt ∙ ap record_bytes (sym at)) in
-          noted_more (λ one. note_of (arrival (record_bytes one)) one) c.args.notes.now.items operations index operation lt at c.arrived.notes.items (c.arrived.invariant.noted arrival is) c.note_operation.new.notes.items
+          noted_more (λ one. note_of (arrival (record_bytes one)) one) c.args.notes.now.items operations index operation
+          lt at c.arrived.notes.items (c.arrived.invariant.noted arrival is) c.note_operation.new.notes.items
           (c.in_ok-note_operation.ensures ∙ ap (λ t. c.arrived.notes.items ++ note_of t operation) told);
     }
 
@@ -36,4 +37,6 @@ returns c = λ arrival is.
     let operations = c.args.operations.now in
     let many : length c.args.arrived.now ≡ length operations = c.arrived.invariant.many in
     c.arrived.invariant.noted arrival is
-    ∙ ap (λ (xs : List Operation). c.args.notes.now.items ++ flat_map (λ one. note_of (arrival (record_bytes one)) one) xs) (take_all c.arrived.index operations (omega (arith, many)))
+    ∙ ap (λ (xs : List Operation). c.args.notes.now.items
+    ++ flat_map (λ one. note_of (arrival (record_bytes one)) one) xs)
+    (take_all c.arrived.index operations (omega (arith, many)))

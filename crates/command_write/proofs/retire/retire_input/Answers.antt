@@ -11,7 +11,11 @@ tell_operations-requires-clause-ascending g c = (tt, tt)
 
 pub returns-in_err-sizes : goal.returns-in_err-sizes
 returns-in_err-sizes g c =
-    rw (failed c.from_residual.result _ c.from_residual.ensures.1) (c.in_err-sizes.ensures.0, retire_stops _ _ _ _ _ (rw c.retirement.ensures.is at c.in_err-sizes.ensures.1), c.in_err-sizes.ensures.2)
+    rw (failed c.from_residual.result _ c.from_residual.ensures.1) (
+      c.in_err-sizes.ensures.0,
+      retire_stops _ _ _ _ _ (rw c.retirement.ensures.is at c.in_err-sizes.ensures.1),
+      c.in_err-sizes.ensures.2,
+    )
 
 pub index-requires : goal.index-requires
 index-requires g c =

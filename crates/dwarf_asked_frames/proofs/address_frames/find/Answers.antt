@@ -21,4 +21,5 @@ returns c = λ i h.
     let own = get_or places i None in
     let by_unit = c.in_ok-by_unit.by_unit in
     let under = subst (λ (ps : List (Option ℕ)). AreUnder addresses ps by_unit) c.deref.ensures.value c.in_ok-by_unit.ensures.under in
-    found_under s c.in_ok-found.found by_unit a own c.in_ok-found.ensures.right (c.in_ok-places.ensures.each i h) (is_under addresses places by_unit under a own (i, h, refl, refl)) c.in_ok-found.ensures.each
+    found_under s c.in_ok-found.found by_unit a own c.in_ok-found.ensures.right (c.in_ok-places.ensures.each i h)
+    (is_under addresses places by_unit under a own (i, h, refl, refl)) c.in_ok-found.ensures.each

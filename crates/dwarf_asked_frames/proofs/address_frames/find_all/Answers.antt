@@ -21,7 +21,8 @@ find_unit-requires c =
     let s = sections_view c.args.info.now.sections in
     let list = c.in-Some.list.addresses.items in
     let sorted = c.sorted_once-addresses in
-    let before : AreOfUnit s c.in-Some.place list = subst (λ (xs : List ℕ). AreOfUnit s c.in-Some.place xs) (ap addresses_or_none c.in-Some.ensures.taken) (c.units.invariant.units c.in-Some.place) in
+    let before : AreOfUnit s c.in-Some.place list = subst (λ (xs : List ℕ). AreOfUnit s c.in-Some.place xs)
+    (ap addresses_or_none c.in-Some.ensures.taken) (c.units.invariant.units c.in-Some.place) in
     record {
       lines = c.requires.lines;
       rising = subst (λ (xs : List ℕ). AreRising xs) (sym c.deref.ensures.value) sorted.ensures.rising;
@@ -35,13 +36,18 @@ units-preserved c =
     let s = sections_view c.args.info.now.sections in
     let list = c.in-Some.list.addresses.items in
     let sorted = c.sorted_once-addresses in
-    let found = subst (λ (xs : List ℕ). (i : ℕ) → i < length xs → IsFound s c.find_unit.new.found (get_or xs i 0)) c.deref.ensures.value c.in_ok-find_unit.ensures.each in
+    let found = subst (λ (xs : List ℕ). (i : ℕ) → i < length xs → IsFound s c.find_unit.new.found (get_or xs i 0))
+    c.deref.ensures.value c.in_ok-find_unit.ensures.each in
     let each = each_among (λ a. IsFound s c.find_unit.new.found a) sorted.result.items list (λ a h. (sorted.ensures.same a).1 h) found in
     record {
       right = c.in_ok-find_unit.ensures.right;
-      units = of_unit_next s c.units.by_unit c.take_unit.new.by_unit c.in-Some.place c.units.invariant.units (ap addresses_or_none c.in-Some.ensures.gone) (λ other not. ap addresses_or_none (c.in-Some.ensures.others other not));
+      units = of_unit_next s c.units.by_unit c.take_unit.new.by_unit c.in-Some.place c.units.invariant.units
+          (ap addresses_or_none c.in-Some.ensures.gone)
+          (λ other not. ap addresses_or_none (c.in-Some.ensures.others other not));
       done = λ other.
-          done_next s c.units.found c.find_unit.new.found c.units.by_unit c.take_unit.new.by_unit c.in-Some.place list c.in_ok-find_unit.ensures.kept each (ap addresses_or_none c.in-Some.ensures.taken) (λ o not. ap addresses_or_none (c.in-Some.ensures.others o not)) other
+          done_next s c.units.found c.find_unit.new.found c.units.by_unit c.take_unit.new.by_unit c.in-Some.place list
+          c.in_ok-find_unit.ensures.kept each (ap addresses_or_none c.in-Some.ensures.taken)
+          (λ o not. ap addresses_or_none (c.in-Some.ensures.others o not)) other
           (addresses_under c.args.by_unit other) (c.units.invariant.done other);
     }
 
@@ -50,4 +56,6 @@ returns-clause-right c = c.units.invariant.right
 
 pub returns-clause-each : goal.returns-clause-each
 returns-clause-each c = λ place i h.
-    (done_all (sections_view c.args.info.now.sections) c.units.found (addresses_under c.units.by_unit place) (addresses_under c.args.by_unit place) (ap addresses_or_none (c.in_default.ensures.none place)) (c.units.invariant.done place)).each i h
+    (done_all (sections_view c.args.info.now.sections) c.units.found (addresses_under c.units.by_unit place)
+    (addresses_under c.args.by_unit place) (ap addresses_or_none (c.in_default.ensures.none place))
+    (c.units.invariant.done place)).each i h

@@ -18,4 +18,5 @@ returns c =
     let lines = lines_view c.args.lines.now in
     let links = links_view c.args.links.now.links.items in
     with_link lines links c.args.row c.args.number (map frame_view c.in_ok-frames.frames.items) (omega arith)
-    (subst (λ (place : SourceLocation). AreFramesOfLink lines links place c.args.number (map frame_view c.in_ok-frames.frames.items)) c.of_row.ensures c.in_ok-frames.ensures)
+    (subst (λ (place : SourceLocation). AreFramesOfLink lines links place c.args.number
+    (map frame_view c.in_ok-frames.frames.items)) c.of_row.ensures c.in_ok-frames.ensures)

@@ -25,7 +25,8 @@ frames_at-requires c =
     let inside : i < length c.in_ok-links.links.numbers.items = omega (arith, less, c.in_ok-links.ensures.count) in
     let number = get_or_read c.in_ok-links.links.numbers.items _ _ inside c.index-in-loop-i.ensures 0 in
     let is = c.in_ok-links.ensures.each i less in
-    let within = number_within s (unit_view c.args.unit.now) (links_view links) (get_or c.in_ok-links.links.numbers.items i 0) (reverse is.chain) is.are_entries in
+    let within = number_within s (unit_view c.args.unit.now) (links_view links)
+    (get_or c.in_ok-links.links.numbers.items i 0) (reverse is.chain) is.are_entries in
     record {
       callers = c.in_ok-links.ensures.callers;
       within = omega (arith, number, within, length-map links link_view);
@@ -56,7 +57,8 @@ loop-i-preserved c =
     let others = c.in_ok-put_frames.ensures.others in
     record {
       right = right_put s old new a list here others is c.loop-i.invariant.right;
-      each = below_more _ _ (λ k h. kept_put s old new a list here others is (get_or c.args.addresses.now k 0) (c.loop-i.invariant.each k h)) (found_put s old new a list here others is);
+      each = below_more _ _ (λ k h. kept_put s old new a list here others is (get_or c.args.addresses.now k 0)
+          (c.loop-i.invariant.each k h)) (found_put s old new a list here others is);
       kept = λ b before. kept_put s old new a list here others is b (c.loop-i.invariant.kept b before);
     }
 

@@ -15,4 +15,5 @@ find_in-requires c = record {
 
 pub returns-in_default-clause-each : goal.returns-in_default-clause-each
 returns-in_default-clause-each c = λ i h.
-    no_unit (sections_view c.args.info.now.sections) c.args.found.now (get_or c.args.addresses.now i 0) c.args.place c.requires.right (c.requires.unit.each i h) c.in_default.ensures.value
+    no_unit (sections_view c.args.info.now.sections) c.args.found.now (get_or c.args.addresses.now i 0) c.args.place
+    c.requires.right (c.requires.unit.each i h) c.in_default.ensures.value

@@ -8,5 +8,6 @@ returns-in_err-last c =
 
 pub returns : goal.returns
 returns c =
-    let found = number_found last_unsigned c.args.bytes.now c.in_ok-last.last 0 c.in_ok-last.ensures.within c.in_ok-last.ensures.before c.in_ok-last.ensures.last (ends_unsigned _ c.in_ok-last.ensures.last) in
+    let found = number_found last_unsigned c.args.bytes.now c.in_ok-last.last 0 c.in_ok-last.ensures.within
+    c.in_ok-last.ensures.before c.in_ok-last.ensures.last (ends_unsigned _ c.in_ok-last.ensures.last) in
     cc

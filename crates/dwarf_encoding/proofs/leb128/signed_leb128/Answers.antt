@@ -10,9 +10,12 @@ returns-in_err-last c =
 pub returns : goal.returns
 returns c = elim c.if-bytes-last-lt64.branch [
   | then-bytes-last-lt64 w ↦
-      let found = number_found last_signed c.args.bytes.now c.in_ok-last.last 0 c.in_ok-last.ensures.within c.in_ok-last.ensures.before c.in_ok-last.ensures.last (ends_positive _ w.if-bytes-last-lt64.true) in
+      let found = number_found last_signed c.args.bytes.now c.in_ok-last.last 0 c.in_ok-last.ensures.within
+      c.in_ok-last.ensures.before c.in_ok-last.ensures.last (ends_positive _ w.if-bytes-last-lt64.true) in
       cc
   | else-bytes-last-lt64 w ↦
-      let found = number_found last_signed c.args.bytes.now c.in_ok-last.last 18446744073709551615 c.in_ok-last.ensures.within c.in_ok-last.ensures.before c.in_ok-last.ensures.last (ends_negative _ c.in_ok-last.ensures.last w.if-bytes-last-lt64.false) in
+      let found = number_found last_signed c.args.bytes.now c.in_ok-last.last 18446744073709551615
+      c.in_ok-last.ensures.within c.in_ok-last.ensures.before c.in_ok-last.ensures.last
+      (ends_negative _ c.in_ok-last.ensures.last w.if-bytes-last-lt64.false) in
       cc
 ]

@@ -9,9 +9,12 @@ pub units-preserved : goal.units-preserved
 units-preserved c = record {
   within = omega (arith, c.in-Some.ensures.shorter);
   each = λ q.
-      table_step (option_map (λ u. u.now) (tree_map.get nat_cmp c.units.by_offset q)) _ q (length c.args.section.now) (length c.args.section.now - length c.units.rest.now) c.units.rest.now c.in-Some.unit.now c.in-Some.after.now _
+      table_step (option_map (λ u. u.now) (tree_map.get nat_cmp c.units.by_offset q)) _ q (length c.args.section.now)
+      (length c.args.section.now - length c.units.rest.now) c.units.rest.now c.in-Some.unit.now c.in-Some.after.now
+      _
       c.in-Some.ensures.value refl (c.in_ok-keep_first.ensures q) (c.units.invariant.each q);
 }
 
 pub returns : goal.returns
-returns c = λ q. table_done (option_map (λ u. u.now) (tree_map.get nat_cmp c.units.by_offset q)) q (length c.args.section.now) c.units.rest.now _ (sym c.in_default.ensures.value) (c.units.invariant.each q)
+returns c = λ q. table_done (option_map (λ u. u.now) (tree_map.get nat_cmp c.units.by_offset q)) q
+    (length c.args.section.now) c.units.rest.now _ (sym c.in_default.ensures.value) (c.units.invariant.each q)

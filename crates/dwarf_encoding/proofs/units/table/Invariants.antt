@@ -9,7 +9,8 @@ use Rattle.dwarf_encoding.proofs.units.table.Given as goal
 abbrev pub invariant-units : goal.invariant-units
 invariant-units l = record {
   within : length l.rest ≤ length l.section;
-  each : (q : ℕ) → option_or (option_map (λ u. u.now) (tree_map.get nat_cmp l.by_offset q)) (item_at q (placed_from unit_at (length l.section) l.rest)) ≡ unit_of l.section q;
+  each : (q : ℕ) → option_or (option_map (λ u. u.now) (tree_map.get nat_cmp l.by_offset q))
+      (item_at q (placed_from unit_at (length l.section) l.rest)) ≡ unit_of l.section q;
 }
 
 abbrev pub decreases-units : goal.decreases-units

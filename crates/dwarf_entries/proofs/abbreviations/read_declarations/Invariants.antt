@@ -8,7 +8,8 @@ abbrev pub invariant-declarations : goal.invariant-declarations
 invariant-declarations l = record {
   within : length l.rest ≤ length l.section;
   each : (table code : ℕ) →
-      option_or (option_map declaration_view (declaration_in l.declarations table code)) (declared table code (declarations_from (length l.section) l.table l.rest))
+      option_or (option_map declaration_view (declaration_in l.declarations table code))
+      (declared table code (declarations_from (length l.section) l.table l.rest))
       ≡ declaration_of l.section table code;
 }
 

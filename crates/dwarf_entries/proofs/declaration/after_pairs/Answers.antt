@@ -8,7 +8,8 @@ returns-in_default c =
 
 pub loop-pair-preserved : goal.loop-pair-preserved
 loop-pair-preserved c =
-    after_step c.args.version c.args.pairs.now c.loop-pair.pair-index c.loop-pair.rest.now c.in-Some.after.now _ (omega arith) c.in-Some.ensures c.loop-pair.invariant
+    after_step c.args.version c.args.pairs.now c.loop-pair.pair-index c.loop-pair.rest.now c.in-Some.after.now _
+    (omega arith) c.in-Some.ensures c.loop-pair.invariant
 
 pub returns : goal.returns
 returns c = after_done c.args.version c.args.pairs.now c.loop-pair.pair-index c.loop-pair.rest.now _ (omega arith) c.loop-pair.invariant

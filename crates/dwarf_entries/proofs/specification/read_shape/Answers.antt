@@ -8,10 +8,13 @@ specifications-smaller c = specification_shortens.less c.specifications.rest.now
 
 pub specifications-preserved : goal.specifications-preserved
 specifications-preserved c =
-    shape_step (shape_view c.specifications.shape) (shape_view c.add.new.self) c.in-Some-specification.specification c.specifications.rest.now c.in-Some.after.now _ (rw c.in-Some-specification.is at c.in-Some.ensures) c.in_ok-add-in-Some-specification.ensures c.specifications.invariant
+    shape_step (shape_view c.specifications.shape) (shape_view c.add.new.self) c.in-Some-specification.specification
+    c.specifications.rest.now c.in-Some.after.now _ (rw c.in-Some-specification.is at c.in-Some.ensures)
+    c.in_ok-add-in-Some-specification.ensures c.specifications.invariant
 
 pub returns-in-None : goal.returns-in-None
-returns-in-None c = shape_done (shape_view c.specifications.shape) c.specifications.rest.now c.in-Some.after.now _ (rw c.in-None.is at c.in-Some.ensures) c.specifications.invariant
+returns-in-None c = shape_done (shape_view c.specifications.shape) c.specifications.rest.now c.in-Some.after.now _
+    (rw c.in-None.is at c.in-Some.ensures) c.specifications.invariant
 
 pub returns : goal.returns
 returns c = shape_fails (shape_view c.specifications.shape) c.specifications.rest.now _ (sym c.in_default.ensures) c.specifications.invariant

@@ -11,7 +11,8 @@ use Rattle.dwarf_frame_changes.proofs.GivenLemmas.{takes_none}
 use Rattle.dwarf_frame_changes.proofs.NumberLemmas.{no_names, takes_nothing}
 use Rattle.dwarf_frame_changes.proofs.numbers.all_linked.Goals as goal
 
-none_linked : (P : ℕ → Option (List ℕ) → Type 0) (F : Option ℕ → List FrameRecord → Type 0) (lines : LinesRecord) (links : List LinkRecord) (all : List Linked) → all ≡ [] → AreLinked P F lines links (length all) all
+none_linked : (P : ℕ → Option (List ℕ) → Type 0) (F : Option ℕ → List FrameRecord → Type 0) (lines : LinesRecord)
+    (links : List LinkRecord) (all : List Linked) → all ≡ [] → AreLinked P F lines links (length all) all
 none_linked P F lines links all none = rw none (record { count_is = refl; each = λ i linked there. absurd (none-some linked there) })
 
 pub links-init : goal.links-init
@@ -19,7 +20,9 @@ links-init g c = record {
   within = let e = ap (λ (l : List Linked). length l) c.new-all.ensures.items in omega (arith, e);
   names = no_names (g.T.FrameTaker.tells_name c.args.taker.now) c.args.links.now c.in_ok-names.names c.in_ok-names.ensures.count c.in_ok-names.ensures.none;
   paths = c.requires.paths;
-  linked = none_linked (g.T.FrameTaker.tells_name c.args.taker.now) (g.T.FrameTaker.tells_frames c.args.taker.now) (lines_view c.args.lines.now) (links_view c.args.links.now.links.items) c.new-all.result.items c.new-all.ensures.items;
+  linked = none_linked (g.T.FrameTaker.tells_name c.args.taker.now) (g.T.FrameTaker.tells_frames c.args.taker.now)
+      (lines_view c.args.lines.now) (links_view c.args.links.now.links.items) c.new-all.result.items
+      c.new-all.ensures.items;
   taken = takes_none (g.T.FrameTaker.has_taken c.args.taker.now);
 }
 
@@ -29,5 +32,6 @@ links-preserved g c = record {
   names = c.in_ok-push_linked.ensures.names;
   paths = c.in_ok-push_linked.ensures.kept;
   linked = c.in_ok-push_linked.ensures.linked;
-  taken = takes_nothing (g.T.FrameTaker.has_taken c.args.taker.now) (g.T.FrameTaker.has_taken c.links.taker) (g.T.FrameTaker.has_taken c.push_linked.new.taker) c.links.invariant.taken c.push_linked.ensures.taken;
+  taken = takes_nothing (g.T.FrameTaker.has_taken c.args.taker.now) (g.T.FrameTaker.has_taken c.links.taker)
+      (g.T.FrameTaker.has_taken c.push_linked.new.taker) c.links.invariant.taken c.push_linked.ensures.taken;
 }

@@ -10,7 +10,8 @@ invariant-links g l = record {
   within : length l.all.items ≤ length l.links.links.items;
   names : AreNameNumbers (g.T.FrameTaker.tells_name l.taker) l.links l.names;
   paths : ArePathNumbers (g.T.FrameTaker.tells_path l.taker) (lines_view l.lines) l.paths;
-  linked : AreLinked (g.T.FrameTaker.tells_name l.taker) (g.T.FrameTaker.tells_frames l.taker) (lines_view l.lines) (links_view l.links.links.items) (length l.all.items) l.all.items;
+  linked : AreLinked (g.T.FrameTaker.tells_name l.taker) (g.T.FrameTaker.tells_frames l.taker) (lines_view l.lines)
+      (links_view l.links.links.items) (length l.all.items) l.all.items;
   taken : Takes (g.T.FrameTaker.has_taken l.fn.taker) (g.T.FrameTaker.has_taken l.taker) [];
 }
 

@@ -19,9 +19,14 @@ returns-then-link-eq0-clause-linked g c =
     let next : Linked = record { name = c.in_ok-name.name; callers = c.no_frames-callers.result } in
     let count : c.len-index.result ≡ length all = omega (arith, c.len-index.ensures, c.args.all.now.ok.0) in
     let there = link_there c.args.links.now.links.items all c.len-index.result link count c.requires.within c.index-link.ensures in
-    let told = c.in_ok-name.ensures.is link (slice_get_read c.args.links.now.links.items (length c.args.links.now.links.items) c.len-index.result link refl (omega (arith, count, c.requires.within)) c.index-link.ensures) in
-    let is = linked_at N F lines links (length all) (link_view link) next there (record { name = told; outer = []; are_outer = c.if-link-eq0.true; callers = c.no_frames-callers.ensures }) in
-    let before = linked_still (g.T.FrameTaker.tells_name c.args.taker.now) N (g.T.FrameTaker.tells_frames c.args.taker.now) F c.name_of.ensures.names c.name_of.ensures.frames lines links (length all) all c.requires.linked in
+    let told = c.in_ok-name.ensures.is link (slice_get_read c.args.links.now.links.items
+    (length c.args.links.now.links.items) c.len-index.result link refl (omega (arith, count, c.requires.within))
+    c.index-link.ensures) in
+    let is = linked_at N F lines links (length all) (link_view link) next there
+    (record { name = told; outer = []; are_outer = c.if-link-eq0.true; callers = c.no_frames-callers.ensures }) in
+    let before = linked_still (g.T.FrameTaker.tells_name c.args.taker.now) N
+    (g.T.FrameTaker.tells_frames c.args.taker.now) F c.name_of.ensures.names c.name_of.ensures.frames lines links
+    (length all) all c.requires.linked in
     subst (λ (xs : List Linked). AreLinked N F lines links (length xs) xs) (sym c.in_ok-push.ensures.items) (linked_more N F lines links all next before is)
 
 pub index-outer-requires : goal.index-outer-requires
@@ -44,7 +49,9 @@ frames-requires g c = λ κs.
     let n = link.caller - 1 in
     let within : n < length all = omega (arith, low, c.if-link-eq0.false) in
     let inside : n < length c.args.links.now.links.items = omega (arith, within, c.requires.within) in
-    let of = numbers_of (g.T.FrameTaker.tells_name c.args.taker.now) (g.T.FrameTaker.tells_frames c.args.taker.now) lines c.args.links.now.links.items (length all) all n c.index-outer.result.now c.requires.linked within c.index-outer.ensures inside in
+    let of = numbers_of (g.T.FrameTaker.tells_name c.args.taker.now) (g.T.FrameTaker.tells_frames c.args.taker.now)
+    lines c.args.links.now.links.items (length all) all n c.index-outer.result.now c.requires.linked within
+    c.index-outer.ensures inside in
     let named = c.number.ensures.names _ _ (c.name_of.ensures.names _ _ of.2.name) in
     let called = c.number.ensures.frames _ _ (c.name_of.ensures.frames _ _ of.2.callers) in
     ((refl, tt), ((of.0.name, named), ((path_in lines link.call.file, c.in_ok-path.ensures.is), (of.2.outer, called))))
@@ -67,9 +74,14 @@ returns-clause-linked g c =
     let within : n < length all = omega (arith, low, c.if-link-eq0.false) in
     let inside : n < length c.args.links.now.links.items = omega (arith, within, c.requires.within) in
     let some : link.caller ≡ suc n = omega (arith, c.if-link-eq0.false) in
-    let of = numbers_of (P c.args.taker.now) (Q c.args.taker.now) lines c.args.links.now.links.items (length all) all n c.index-outer.result.now c.requires.linked within c.index-outer.ensures inside in
-    let told = c.in_ok-callers.ensures.is of.0.name (path_in lines link.call.file) of.2.outer (c.number.ensures.names _ _ (c.name_of.ensures.names _ _ of.2.name)) c.in_ok-path.ensures.is (c.number.ensures.frames _ _ (c.name_of.ensures.frames _ _ of.2.callers)) in
-    let named = c.in_ok-name.ensures.is link (slice_get_read c.args.links.now.links.items (length c.args.links.now.links.items) c.len-index.result link refl (omega (arith, count, c.requires.within)) c.index-link.ensures) in
+    let of = numbers_of (P c.args.taker.now) (Q c.args.taker.now) lines c.args.links.now.links.items (length all) all n
+    c.index-outer.result.now c.requires.linked within c.index-outer.ensures inside in
+    let told = c.in_ok-callers.ensures.is of.0.name (path_in lines link.call.file) of.2.outer
+    (c.number.ensures.names _ _ (c.name_of.ensures.names _ _ of.2.name)) c.in_ok-path.ensures.is
+    (c.number.ensures.frames _ _ (c.name_of.ensures.frames _ _ of.2.callers)) in
+    let named = c.in_ok-name.ensures.is link (slice_get_read c.args.links.now.links.items
+    (length c.args.links.now.links.items) c.len-index.result link refl (omega (arith, count, c.requires.within))
+    c.index-link.ensures) in
     let is = linked_at N F lines links (length all) (link_view link) next there
     (record {
       name = c.frames.ensures.names _ _ (c.number.ensures.names _ _ named);
@@ -77,8 +89,12 @@ returns-clause-linked g c =
       are_outer = frames_of_link lines links link.call link.caller n of.0 of.2.outer some of.1 (c.requires.callers n of.0 of.1) of.2.are_outer;
       callers = told;
     }) in
-    let names = still_more (P c.args.taker.now) (P c.number.new.taker) N (still_more (P c.args.taker.now) (P c.name_of.new.taker) (P c.number.new.taker) c.name_of.ensures.names c.number.ensures.names) c.frames.ensures.names in
-    let frames = still_more (Q c.args.taker.now) (Q c.number.new.taker) F (still_more (Q c.args.taker.now) (Q c.name_of.new.taker) (Q c.number.new.taker) c.name_of.ensures.frames c.number.ensures.frames) c.frames.ensures.frames in
+    let names = still_more (P c.args.taker.now) (P c.number.new.taker) N
+    (still_more (P c.args.taker.now) (P c.name_of.new.taker) (P c.number.new.taker) c.name_of.ensures.names
+    c.number.ensures.names) c.frames.ensures.names in
+    let frames = still_more (Q c.args.taker.now) (Q c.number.new.taker) F
+    (still_more (Q c.args.taker.now) (Q c.name_of.new.taker) (Q c.number.new.taker) c.name_of.ensures.frames
+    c.number.ensures.frames) c.frames.ensures.frames in
     let before = linked_still (P c.args.taker.now) N (Q c.args.taker.now) F names frames lines links (length all) all c.requires.linked in
     subst (λ (xs : List Linked). AreLinked N F lines links (length xs) xs) (sym c.in_ok-push-2.ensures.items) (linked_more N F lines links all next before is)
 

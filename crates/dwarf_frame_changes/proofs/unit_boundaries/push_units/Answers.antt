@@ -11,10 +11,12 @@ units-preserved c =
     let size = length c.args.info.now.sections.debug_info.now in
     record {
       within = omega (arith, c.units.invariant.within, c.in-Some.ensures.shorter);
-      so_far = units_more s size c.units.rest.now c.in-Some.bytes.now c.in-Some.after.now c.units.starts.items c.push_ranges.new.starts.items _ c.in-Some.ensures.value
+      so_far = units_more s size c.units.rest.now c.in-Some.bytes.now c.in-Some.after.now c.units.starts.items
+          c.push_ranges.new.starts.items _ c.in-Some.ensures.value
           (c.in_ok-push_ranges.ensures ∙ ap (λ (rs : List CodeRange). c.units.starts.items ++ ends_of rs) c.own_ranges.ensures) c.units.invariant.so_far;
     }
 
 pub returns : goal.returns
 returns c =
-    units_all (sections_view c.args.info.now.sections) (length c.args.info.now.sections.debug_info.now) c.units.rest.now c.units.starts.items _ c.in_default.ensures.value c.units.invariant.so_far
+    units_all (sections_view c.args.info.now.sections) (length c.args.info.now.sections.debug_info.now) c.units.rest.now
+    c.units.starts.items _ c.in_default.ensures.value c.units.invariant.so_far

@@ -11,4 +11,5 @@ units-preserved c =
     c.in-Some.ensures.taken c.in-Some.ensures.gone c.in-Some.ensures.others c.sorted_once.ensures.rising c.sorted_once.ensures.same)
 
 pub returns : goal.returns
-returns c = in_order c.args.by_unit c.units.by_unit c.units.all.items c.sort_unstable_by_key.new.self.items c.sort_unstable_by_key.ensures.permutation c.in_default.ensures.none c.units.invariant
+returns c = in_order c.args.by_unit c.units.by_unit c.units.all.items c.sort_unstable_by_key.new.self.items
+    c.sort_unstable_by_key.ensures.permutation c.in_default.ensures.none c.units.invariant

@@ -17,10 +17,16 @@ returns g c =
     let without : List ℕ = c.sorted_once-without.result.items in
     let given = c.in_ok-give_units.ensures.0 in
     let lone = bare_turns s starts places steps None c.in_ok-without.without.items without c.in_ok-without.ensures.without
-    c.sorted_once-without.ensures.rising (λ a h. c.in_ok-give_without.ensures.fits a (subst (λ (xs : List ℕ). Contains xs a) (sym c.deref.ensures.value) h)) c.sorted_once-without.ensures.same refl (λ a is turn. none_at s a is turn) in
-    let first = subst (λ (xs : List ℕ). Takes (g.T.FrameTaker.has_taken c.args.taker.now) (g.T.FrameTaker.has_taken c.give_without.new.taker) (map (turn_with none) xs)) c.deref.ensures.value c.in_ok-give_without.ensures.given in (
+    c.sorted_once-without.ensures.rising (λ a h. c.in_ok-give_without.ensures.fits a
+    (subst (λ (xs : List ℕ). Contains xs a) (sym c.deref.ensures.value) h)) c.sorted_once-without.ensures.same refl
+    (λ a is turn. none_at s a is turn) in
+    let first = subst (λ (xs : List ℕ). Takes (g.T.FrameTaker.has_taken c.args.taker.now)
+    (g.T.FrameTaker.has_taken c.give_without.new.taker) (map (turn_with none) xs)) c.deref.ensures.value
+    c.in_ok-give_without.ensures.given in (
       map (turn_with none) without ++ given,
-      takes_more (g.T.FrameTaker.has_taken c.args.taker.now) (g.T.FrameTaker.has_taken c.give_without.new.taker) (g.T.FrameTaker.has_taken c.give_units.new.taker) (map (turn_with none) without) given first c.in_ok-give_units.ensures.1,
+      takes_more (g.T.FrameTaker.has_taken c.args.taker.now) (g.T.FrameTaker.has_taken c.give_without.new.taker)
+          (g.T.FrameTaker.has_taken c.give_units.new.taker) (map (turn_with none) without) given first
+          c.in_ok-give_units.ensures.1,
       subst (λ (x : DebugSectionsRecord). AreTurnsBy x (map (turn_with none) without ++ given)) c.in_ok-info.ensures
           (all_turns s (map (turn_with none) without) given lone c.in_ok-give_units.ensures.2 (λ a fits. some_unit s starts places a steps fits)),
     )

@@ -22,9 +22,14 @@ returns-in_default-clause-given g c =
     let none : ℕ → List FrameRecord = λ a. [] in
     let turns : List ℕ = c.args.of.now.boundaries.items in (
       map (turn_with none) turns,
-      subst (λ (xs : List ℕ). Takes (g.T.FrameTaker.has_taken c.args.taker.now) (g.T.FrameTaker.has_taken c.give_without.new.taker) (map (turn_with none) xs)) c.deref.ensures.value c.in_ok-give_without.ensures.given,
+      subst (λ (xs : List ℕ). Takes (g.T.FrameTaker.has_taken c.args.taker.now)
+          (g.T.FrameTaker.has_taken c.give_without.new.taker) (map (turn_with none) xs)) c.deref.ensures.value
+          c.in_ok-give_without.ensures.given,
       bare_turns s c.args.steps.now.starts.items c.args.steps.now.places.items c.requires.steps (Some c.args.of.now.place) turns turns c.requires.boundaries
-          c.requires.rising (λ a h. c.in_ok-give_without.ensures.fits a (subst (λ (xs : List ℕ). Contains xs a) (sym c.deref.ensures.value) h)) (λ a. (λ h. h, λ h. h)) (sym c.in_default.ensures.value) (λ a is turn. none_read s a c.args.of.now.place c.in_default.ensures.value is turn),
+          c.requires.rising (λ a h. c.in_ok-give_without.ensures.fits a
+          (subst (λ (xs : List ℕ). Contains xs a) (sym c.deref.ensures.value) h)) (λ a. (λ h. h, λ h. h))
+          (sym c.in_default.ensures.value) (λ a is turn. none_read s a c.args.of.now.place
+          c.in_default.ensures.value is turn),
     )
 
 pub give_all-requires : goal.give_all-requires
@@ -34,16 +39,21 @@ give_all-requires g c = λ κs.
     let lines = lines_view c.in_ok-lines.lines in
     let steps = c.requires.steps in
     let parts = parts_of lines c.run.new.self.rows c.in_ok-parts.parts.links in
-    let rows_are : rows_of lines ≡ rows_at s c.program_offset.result = rows_of_unit s unit lines c.program_offset.result c.in_ok-lines.ensures.value c.program_offset.ensures in
+    let rows_are : rows_of lines ≡ rows_at s c.program_offset.result =
+    rows_of_unit s unit lines c.program_offset.result c.in_ok-lines.ensures.value c.program_offset.ensures in
     let rows_back : rows_at s c.run.new.self.program ≡ rows_of lines = ap (rows_at s) c.in_ok-run.ensures.program ∙ sym rows_are in
-    let row_steps : AreRowSteps (rows_of lines) parts.row_starts parts.rows = subst (λ (rs : List Row). AreRowSteps rs parts.row_starts parts.rows) rows_back (c.in_ok-run.ensures.rows s c.requires.last rows_are) in (
+    let row_steps : AreRowSteps (rows_of lines) parts.row_starts parts.rows =
+    subst (λ (rs : List Row). AreRowSteps rs parts.row_starts parts.rows) rows_back
+    (c.in_ok-run.ensures.rows s c.requires.last rows_are) in (
       (refl, tt),
       (
         subst (λ (xs : List ℕ). AreRising xs) (sym c.deref-2.ensures.value) c.requires.rising,
         (
           steps.rising,
           (
-            λ a h. (steps.all a).1 (step_boundary s c.args.steps.now.starts.items c.args.steps.now.places.items steps a (Some c.args.of.now.place) ((c.requires.boundaries a).0 (subst (λ (xs : List ℕ). Contains xs a) c.deref-2.ensures.value h))),
+            λ a h. (steps.all a).1 (step_boundary s c.args.steps.now.starts.items c.args.steps.now.places.items steps a
+                (Some c.args.of.now.place) ((c.requires.boundaries a).0
+                (subst (λ (xs : List ℕ). Contains xs a) c.deref-2.ensures.value h))),
             (are_steps s unit parts c.in_ok-lines.ensures.value row_steps c.in_ok-parts.ensures.links, c.in_ok-parts.ensures.told),
           ),
         ),
@@ -53,7 +63,8 @@ give_all-requires g c = λ κs.
 pub returns-clause-last : goal.returns-clause-last
 returns-clause-last g c =
     let s = sections_view c.args.info.now.sections in
-    c.in_ok-run.ensures.rows s c.requires.last (rows_of_unit s (unit_view c.in-Some.unit) (lines_view c.in_ok-lines.lines) c.program_offset.result c.in_ok-lines.ensures.value c.program_offset.ensures)
+    c.in_ok-run.ensures.rows s c.requires.last (rows_of_unit s (unit_view c.in-Some.unit)
+    (lines_view c.in_ok-lines.lines) c.program_offset.result c.in_ok-lines.ensures.value c.program_offset.ensures)
 
 pub returns-clause-given : goal.returns-clause-given
 returns-clause-given g c =
@@ -62,12 +73,19 @@ returns-clause-given g c =
     let lines = lines_view c.in_ok-lines.lines in
     let starts = c.args.steps.now.starts.items in
     let parts = parts_of lines c.run.new.self.rows c.in_ok-parts.parts.links in
-    let rows_are : rows_of lines ≡ rows_at s c.program_offset.result = rows_of_unit s unit lines c.program_offset.result c.in_ok-lines.ensures.value c.program_offset.ensures in
+    let rows_are : rows_of lines ≡ rows_at s c.program_offset.result =
+    rows_of_unit s unit lines c.program_offset.result c.in_ok-lines.ensures.value c.program_offset.ensures in
     let rows_back : rows_at s c.run.new.self.program ≡ rows_of lines = ap (rows_at s) c.in_ok-run.ensures.program ∙ sym rows_are in
-    let row_steps : AreRowSteps (rows_of lines) parts.row_starts parts.rows = subst (λ (rs : List Row). AreRowSteps rs parts.row_starts parts.rows) rows_back (c.in_ok-run.ensures.rows s c.requires.last rows_are) in
+    let row_steps : AreRowSteps (rows_of lines) parts.row_starts parts.rows =
+    subst (λ (rs : List Row). AreRowSteps rs parts.row_starts parts.rows) rows_back
+    (c.in_ok-run.ensures.rows s c.requires.last rows_are) in
     let given = c.in_ok-give_all.ensures in
-    let are : AreTurnsFrom parts starts c.args.of.now.boundaries.items given.0 = subst (λ (xs : List ℕ). AreTurnsFrom parts starts xs given.0) c.deref-2.ensures.value given.2 in (
+    let are : AreTurnsFrom parts starts c.args.of.now.boundaries.items given.0 =
+    subst (λ (xs : List ℕ). AreTurnsFrom parts starts xs given.0) c.deref-2.ensures.value given.2 in (
       given.0,
-      takes_more (g.T.FrameTaker.has_taken c.args.taker.now) (g.T.FrameTaker.has_taken c.read-2.new.taker) (g.T.FrameTaker.has_taken c.give_all.new.taker) [] given.0 c.in_ok-parts.ensures.taken given.1,
-      turns_in_unit s unit parts c.in_ok-lines.ensures.value row_steps c.in_ok-parts.ensures.links c.args.of.now.place c.in-Some.ensures.value starts c.args.steps.now.places.items c.requires.steps c.args.of.now.boundaries.items c.requires.boundaries given.0 are,
+      takes_more (g.T.FrameTaker.has_taken c.args.taker.now) (g.T.FrameTaker.has_taken c.read-2.new.taker)
+          (g.T.FrameTaker.has_taken c.give_all.new.taker) [] given.0 c.in_ok-parts.ensures.taken given.1,
+      turns_in_unit s unit parts c.in_ok-lines.ensures.value row_steps c.in_ok-parts.ensures.links c.args.of.now.place
+          c.in-Some.ensures.value starts c.args.steps.now.places.items c.requires.steps c.args.of.now.boundaries.items
+          c.requires.boundaries given.0 are,
     )

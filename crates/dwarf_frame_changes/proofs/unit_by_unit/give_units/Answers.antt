@@ -19,8 +19,11 @@ loop-unit-init g c =
 
 pub give_unit-requires : goal.give_unit-requires
 give_unit-requires g c = λ κs.
-    let are : AreBoundariesBy c.args.by_unit c.deref-unit-items.result.now = subst (λ (xs : List UnitBoundaries). AreBoundariesBy c.args.by_unit xs) (sym c.deref-unit-items.ensures.value) c.in_ok-all.ensures in
-    let listed = listed_at c.args.by_unit c.deref-unit-items.result.now c.loop-unit.unit-index c.unit-item.result are (omega (arith, c.loop-unit-test.true)) c.unit-item.is in (
+    let are : AreBoundariesBy c.args.by_unit c.deref-unit-items.result.now =
+    subst (λ (xs : List UnitBoundaries). AreBoundariesBy c.args.by_unit xs) (sym c.deref-unit-items.ensures.value)
+    c.in_ok-all.ensures in
+    let listed = listed_at c.args.by_unit c.deref-unit-items.result.now c.loop-unit.unit-index c.unit-item.result are
+    (omega (arith, c.loop-unit-test.true)) c.unit-item.is in (
       (refl, tt),
       (
         c.requires.lines,
@@ -29,7 +32,10 @@ give_unit-requires g c = λ κs.
           (
             listed.0,
             (
-              λ a. (λ h. (c.requires.boundaries c.unit-item.result.place a).0 ((listed.1 a).0 h), λ h. (listed.1 a).1 ((c.requires.boundaries c.unit-item.result.place a).1 h)),
+              λ a. (
+                λ h. (c.requires.boundaries c.unit-item.result.place a).0 ((listed.1 a).0 h),
+                λ h. (listed.1 a).1 ((c.requires.boundaries c.unit-item.result.place a).1 h),
+              ),
               c.loop-unit.invariant.last,
             ),
           ),
@@ -41,7 +47,9 @@ pub loop-unit-preserved : goal.loop-unit-preserved
 loop-unit-preserved g c =
     let s = sections_view c.args.info.now.sections in
     let all = c.deref-unit-items.result.now in
-    let are : AreBoundariesBy c.args.by_unit all = subst (λ (xs : List UnitBoundaries). AreBoundariesBy c.args.by_unit xs) (sym c.deref-unit-items.ensures.value) c.in_ok-all.ensures in
+    let are : AreBoundariesBy c.args.by_unit all = subst
+    (λ (xs : List UnitBoundaries). AreBoundariesBy c.args.by_unit xs) (sym c.deref-unit-items.ensures.value)
+    c.in_ok-all.ensures in
     let within : c.loop-unit.unit-index < length all = omega (arith, c.loop-unit-test.true) in
     let n : length (places all) ≡ length all = length-map all (λ u. u.place) in
     let given = c.in_ok-give_unit.ensures.given in
@@ -49,8 +57,12 @@ loop-unit-preserved g c =
       last = c.in_ok-give_unit.ensures.last;
       given = (
         c.loop-unit.invariant.given.0 ++ given.0,
-        takes_more (g.T.FrameTaker.has_taken c.args.taker.now) (g.T.FrameTaker.has_taken c.loop-unit.taker) (g.T.FrameTaker.has_taken c.give_unit.new.taker) c.loop-unit.invariant.given.0 given.0 c.loop-unit.invariant.given.1 given.1,
-        far_more s (places all) c.loop-unit.unit-index c.unit-item.result.place c.loop-unit.invariant.given.0 given.0 (omega (arith, n, within)) (place_at all c.loop-unit.unit-index c.unit-item.result within c.unit-item.is) are.once c.loop-unit.invariant.given.2 given.2,
+        takes_more (g.T.FrameTaker.has_taken c.args.taker.now) (g.T.FrameTaker.has_taken c.loop-unit.taker)
+            (g.T.FrameTaker.has_taken c.give_unit.new.taker) c.loop-unit.invariant.given.0 given.0
+            c.loop-unit.invariant.given.1 given.1,
+        far_more s (places all) c.loop-unit.unit-index c.unit-item.result.place c.loop-unit.invariant.given.0 given.0
+            (omega (arith, n, within)) (place_at all c.loop-unit.unit-index c.unit-item.result within c.unit-item.is)
+            are.once c.loop-unit.invariant.given.2 given.2,
       );
     }
 
@@ -58,9 +70,13 @@ pub returns : goal.returns
 returns g c =
     let s = sections_view c.args.info.now.sections in
     let all = c.deref-unit-items.result.now in
-    let are : AreBoundariesBy c.args.by_unit all = subst (λ (xs : List UnitBoundaries). AreBoundariesBy c.args.by_unit xs) (sym c.deref-unit-items.ensures.value) c.in_ok-all.ensures in
+    let are : AreBoundariesBy c.args.by_unit all = subst
+    (λ (xs : List UnitBoundaries). AreBoundariesBy c.args.by_unit xs) (sym c.deref-unit-items.ensures.value)
+    c.in_ok-all.ensures in
     let n : length (places all) ≡ length all = length-map all (λ u. u.place) in (
       c.loop-unit.invariant.given.0,
       c.loop-unit.invariant.given.1,
-      far_end s c.args.steps.now.starts.items c.args.steps.now.places.items c.args.by_unit all c.loop-unit.unit-index c.loop-unit.invariant.given.0 c.requires.steps c.requires.boundaries are (omega (arith, n, c.loop-unit-test.false)) c.loop-unit.invariant.given.2,
+      far_end s c.args.steps.now.starts.items c.args.steps.now.places.items c.args.by_unit all c.loop-unit.unit-index
+          c.loop-unit.invariant.given.0 c.requires.steps c.requires.boundaries are
+          (omega (arith, n, c.loop-unit-test.false)) c.loop-unit.invariant.given.2,
     )

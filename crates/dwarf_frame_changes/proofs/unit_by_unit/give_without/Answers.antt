@@ -16,14 +16,17 @@ take-requires g c = λ k. ((refl, tt), ([], c.loop-address.invariant.none))
 
 pub loop-address-preserved : goal.loop-address-preserved
 loop-address-preserved g c = record {
-  taken = takes_next (g.T.FrameTaker.has_taken c.args.taker.now) (g.T.FrameTaker.has_taken c.loop-address.taker) (g.T.FrameTaker.has_taken c.take.new.self) (λ a. without_frames a) c.args.addresses.now c.loop-address.address-index
+  taken = takes_next (g.T.FrameTaker.has_taken c.args.taker.now) (g.T.FrameTaker.has_taken c.loop-address.taker)
+      (g.T.FrameTaker.has_taken c.take.new.self) (λ a. without_frames a) c.args.addresses.now
+      c.loop-address.address-index
       (omega (arith, c.loop-address-test.true)) c.loop-address.invariant.taken (c.in_ok-take.ensures.taken [] c.loop-address.invariant.none);
   none = c.take.ensures.frames c.no_frames-none.result [] c.loop-address.invariant.none;
 }
 
 pub returns-clause-given : goal.returns-clause-given
 returns-clause-given g c =
-    takes_all (g.T.FrameTaker.has_taken c.args.taker.now) (g.T.FrameTaker.has_taken c.loop-address.taker) (λ a. without_frames a) c.args.addresses.now c.loop-address.address-index
+    takes_all (g.T.FrameTaker.has_taken c.args.taker.now) (g.T.FrameTaker.has_taken c.loop-address.taker)
+    (λ a. without_frames a) c.args.addresses.now c.loop-address.address-index
     (omega (arith, c.loop-address-test.false)) c.loop-address.invariant.taken
 
 pub returns-clause-fits : goal.returns-clause-fits

@@ -16,7 +16,8 @@ loop-range-preserved c =
     let rising : IsNonDecreasingBy (λ (r : CodeRange). r.low) ranges =
     subst (λ (rs : List CodeRange). IsNonDecreasingBy (λ (r : CodeRange). r.low) rs) (sym c.deref-range-items.ensures.value) c.in_ok-sorted.ensures.order in
     record {
-      taken = taken_next ranges c.loop-range.apart.items c.push.new.self.items c.loop-range.range-index c.loop-range.reached c.max.result c.max-reached.result none rising c.loop-range-test.true
+      taken = taken_next ranges c.loop-range.apart.items c.push.new.self.items c.loop-range.range-index
+          c.loop-range.reached c.max.result c.max-reached.result none rising c.loop-range-test.true
           c.loop-range.invariant.taken c.max.ensures c.max-reached.ensures c.in_ok-push.ensures.items;
     }
 

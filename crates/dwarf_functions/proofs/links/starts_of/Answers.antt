@@ -8,4 +8,5 @@ use Rattle.dwarf_functions.proofs.links.starts_of.Goals as goal
 pub returns-clause-same : goal.returns-clause-same
 returns-clause-same c = λ a.
     subst (λ (xs : List ℕ). Contains c.sorted_once.result.items a ↔ Contains xs a)
-    (c.loop-range.invariant.so_far ∙ ap ends_of_ranges (take_all c.loop-range.range-index c.args.ranges.now c.loop-range-test.false)) (c.sorted_once.ensures.same a)
+    (c.loop-range.invariant.so_far ∙ ap ends_of_ranges
+    (take_all c.loop-range.range-index c.args.ranges.now c.loop-range-test.false)) (c.sorted_once.ensures.same a)

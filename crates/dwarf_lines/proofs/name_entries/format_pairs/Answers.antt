@@ -5,7 +5,8 @@ use Rattle.dwarf_lines.proofs.name_entries.format_pairs.Goals as goal
 
 pub returns-in_default : goal.returns-in_default
 returns-in_default c =
-    counted_fails format_pair_at (c.args.count - c.loop-index.index) c.loop-index.rest.now c.loop-index.found.items _ (omega arith) (sym c.in_default.ensures) c.loop-index.invariant
+    counted_fails format_pair_at (c.args.count - c.loop-index.index) c.loop-index.rest.now c.loop-index.found.items _
+    (omega arith) (sym c.in_default.ensures) c.loop-index.invariant
 
 pub loop-index-preserved : goal.loop-index-preserved
 loop-index-preserved c =
@@ -13,4 +14,5 @@ loop-index-preserved c =
     c.loop-index.found.items c.push.new.self.items c.in-Some.pair _ (omega arith) c.in-Some.ensures c.in_ok-push.ensures.items c.loop-index.invariant
 
 pub returns : goal.returns
-returns c = counted_done format_pair_at (c.args.count - c.loop-index.index) c.loop-index.rest.now c.loop-index.found.items _ (omega arith) c.loop-index.invariant
+returns c = counted_done format_pair_at (c.args.count - c.loop-index.index) c.loop-index.rest.now
+    c.loop-index.found.items _ (omega arith) c.loop-index.invariant

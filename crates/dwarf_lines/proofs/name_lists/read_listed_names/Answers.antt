@@ -12,13 +12,17 @@ names-smaller c = (listed_name_shortens c.args.is_file).less c.names.rest.now (o
 
 pub names-preserved : goal.names-preserved
 names-preserved c =
-    ended_step (listed_name_at c.args.is_file) (listed_name_shortens c.args.is_file) c.names.rest.now c.in-Some.after.now (map (λ n. name_view n) c.names.found.items) (map (λ n. name_view n) c.push.new.self.items)
+    ended_step (listed_name_at c.args.is_file) (listed_name_shortens c.args.is_file) c.names.rest.now
+    c.in-Some.after.now (map (λ n. name_view n) c.names.found.items) (map (λ n. name_view n) c.push.new.self.items)
     (name_view c.in-Some-name.name) _ (rw c.in-Some-name.is at c.in-Some.ensures)
     (ap (map (λ n. name_view n)) c.in_ok-push-in-Some-name.ensures.items ∙ map-append (λ n. name_view n) c.names.found.items _) c.names.invariant
 
 pub returns-in-None : goal.returns-in-None
 returns-in-None c =
-    ended_done (listed_name_at c.args.is_file) (listed_name_shortens c.args.is_file) c.names.rest.now c.in-Some.after.now (map (λ n. name_view n) c.names.found.items) _ (rw c.in-None.is at c.in-Some.ensures) c.names.invariant
+    ended_done (listed_name_at c.args.is_file) (listed_name_shortens c.args.is_file) c.names.rest.now
+    c.in-Some.after.now (map (λ n. name_view n) c.names.found.items) _ (rw c.in-None.is at c.in-Some.ensures)
+    c.names.invariant
 
 pub returns : goal.returns
-returns c = ended_fails (listed_name_at c.args.is_file) c.names.rest.now (map (λ n. name_view n) c.names.found.items) _ (sym c.in_default.ensures) c.names.invariant
+returns c = ended_fails (listed_name_at c.args.is_file) c.names.rest.now (map (λ n. name_view n) c.names.found.items) _
+    (sym c.in_default.ensures) c.names.invariant

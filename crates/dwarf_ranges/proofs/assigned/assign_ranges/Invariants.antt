@@ -12,7 +12,8 @@ invariant-loop-range l = record {
   rest : (a : ℕ) → tree_set.contains nat_cmp l.pending a ≡ true → in_ranges a l.range-iterator ≡ in_ranges a l.fn.ranges;
   was_pending : (a : ℕ) → tree_set.contains nat_cmp l.pending a ≡ true → tree_set.contains nat_cmp l.fn.pending a ≡ true;
   given_within : (a : ℕ) → tree_set.contains nat_cmp l.fn.pending a ≡ true → tree_set.contains nat_cmp l.pending a ≡ false → in_ranges a l.fn.ranges ≡ true;
-  given : (a : ℕ) → tree_set.contains nat_cmp l.fn.pending a ≡ true → tree_set.contains nat_cmp l.pending a ≡ false → tree_map.get nat_cmp l.found a ≡ Some l.value;
+  given : (a : ℕ) → tree_set.contains nat_cmp l.fn.pending a ≡ true → tree_set.contains nat_cmp l.pending a ≡ false
+      → tree_map.get nat_cmp l.found a ≡ Some l.value;
   others : (a : ℕ) → tree_set.contains nat_cmp l.fn.pending a ≡ false → tree_map.get nat_cmp l.found a ≡ tree_map.get nat_cmp l.fn.found a;
   left_is : (a : ℕ) → tree_set.contains nat_cmp l.pending a ≡ true → tree_map.get nat_cmp l.found a ≡ tree_map.get nat_cmp l.fn.found a;
 }

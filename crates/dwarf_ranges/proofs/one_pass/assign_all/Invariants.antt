@@ -12,5 +12,6 @@ invariant-loop-tuple l = record {
   left : (a : ℕ) → tree_set.contains nat_cmp l.pending a ≡ true → first_tuple a l.tuple-iterator ≡ first_tuple a l.fn.tuples;
   was_pending : (a : ℕ) → tree_set.contains nat_cmp l.pending a ≡ true → tree_set.contains nat_cmp l.fn.pending a ≡ true;
   blank : (a : ℕ) → tree_set.contains nat_cmp l.pending a ≡ true → tree_map.get nat_cmp l.found a ≡ None;
-  found : (a : ℕ) → tree_set.contains nat_cmp l.fn.pending a ≡ true → tree_set.contains nat_cmp l.pending a ≡ false → tree_map.get nat_cmp l.found a ≡ first_tuple a l.fn.tuples;
+  found : (a : ℕ) → tree_set.contains nat_cmp l.fn.pending a ≡ true → tree_set.contains nat_cmp l.pending a ≡ false
+      → tree_map.get nat_cmp l.found a ≡ first_tuple a l.fn.tuples;
 }

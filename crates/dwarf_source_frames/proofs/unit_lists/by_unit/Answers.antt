@@ -10,8 +10,10 @@ loop-i-preserved c =
     let i = c.loop-i.i in
     let own = get_or places i None in
     record {
-      without = λ a. without_more addresses places i own refl a c.loop-i.without.items c.add_placed.new.without.items (c.loop-i.invariant.without a) c.in_ok-add_placed.ensures.without;
-      under = λ place a. under_more addresses places i own refl place a (addresses_under c.loop-i.by_unit place) (addresses_under c.add_placed.new.by_unit place) (c.loop-i.invariant.under place a)
+      without = λ a. without_more addresses places i own refl a c.loop-i.without.items c.add_placed.new.without.items
+          (c.loop-i.invariant.without a) c.in_ok-add_placed.ensures.without;
+      under = λ place a. under_more addresses places i own refl place a (addresses_under c.loop-i.by_unit place)
+          (addresses_under c.add_placed.new.by_unit place) (c.loop-i.invariant.under place a)
           (c.in_ok-add_placed.ensures.under place);
     }
 
@@ -21,4 +23,5 @@ returns-clause-without c = λ a.
 
 pub returns-clause-under : goal.returns-clause-under
 returns-clause-under c = λ place a.
-    all_steps c.args.addresses.now c.args.places.now c.loop-i.i (addresses_under c.loop-i.by_unit place) a (Some place) (omega arith) (c.loop-i.invariant.under place a)
+    all_steps c.args.addresses.now c.args.places.now c.loop-i.i (addresses_under c.loop-i.by_unit place) a (Some place)
+    (omega arith) (c.loop-i.invariant.under place a)

@@ -7,4 +7,5 @@ pub returns : goal.returns
 unfolding end_record
 returns c =
     let front = c.copy_from_slice.ensures.after ∙ c.end_bytes.ensures in
-    laid_last c.copy_from_slice.new.self _ c.copy_from_slice-2.new.self 9 32 c.copy_from_slice.auto.self refl ∙ (λ i. front i ++ c.copy_from_slice-2.ensures.after i)
+    laid_last c.copy_from_slice.new.self _ c.copy_from_slice-2.new.self 9 32 c.copy_from_slice.auto.self refl
+    ∙ (λ i. front i ++ c.copy_from_slice-2.ensures.after i)

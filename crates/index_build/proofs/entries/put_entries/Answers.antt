@@ -10,7 +10,8 @@ use Rattle.index_build.proofs.entries.put_entries.Goals as goal
 pub returns-in_err-digest-clause-puts : goal.returns-in_err-digest-clause-puts
 returns-in_err-digest-clause-puts g c =
     let xs = map entry_bytes c.args.entries.now in
-    rw (failed c.from_residual.result c.in_err-digest.field-0.0 c.from_residual.ensures.1) (stops_before _ _ _ _ _ _ (concat xs) (end_of xs) c.in_err-digest.ensures.puts)
+    rw (failed c.from_residual.result c.in_err-digest.field-0.0 c.from_residual.ensures.1)
+    (stops_before _ _ _ _ _ _ (concat xs) (end_of xs) c.in_err-digest.ensures.puts)
 
 pub returns-in_err-bytes-clause-puts : goal.returns-in_err-bytes-clause-puts
 returns-in_err-bytes-clause-puts g c =

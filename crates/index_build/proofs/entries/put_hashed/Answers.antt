@@ -27,19 +27,22 @@ putting-preserved g c =
     let at = bytes_at c.args.entries.now i c.entry-item.result _ c.putting-test.true c.entry-item.is c.bytes-bytes.ensures in
     record {
       fits = omega (arith, c.in_ok-done.ensures.size_is, c.putting.invariant.fits);
-      hashed = subst (Holds256 c.update.new.self) (concat_next xs i c.bytes-bytes.result lt at) (c.update.ensures (concat (take i xs)) c.putting.invariant.hashed);
+      hashed = subst (Holds256 c.update.new.self) (concat_next xs i c.bytes-bytes.result lt at)
+          (c.update.ensures (concat (take i xs)) c.putting.invariant.hashed);
       put = puts_more _ _ (λ (n : ℕ). n) _ _ _ _ _ xs i _ lt at (Ok c.in_ok-done.done) c.putting.invariant.put c.in_ok-done.ensures;
     }
 
 pub returns-clause-puts : goal.returns-clause-puts
 returns-clause-puts g c =
     let xs = map entry_bytes c.args.entries.now in
-    let all : take c.putting.entry-index xs ≡ xs = take_all c.putting.entry-index xs (omega (arith, length-map c.args.entries.now entry_bytes, c.putting-test.false)) in
+    let all : take c.putting.entry-index xs ≡ xs = take_all c.putting.entry-index xs
+    (omega (arith, length-map c.args.entries.now entry_bytes, c.putting-test.false)) in
     let put = c.putting.invariant.put in
     rw all at put
 
 pub returns-clause-digest : goal.returns-clause-digest
 returns-clause-digest g c =
     let xs = map entry_bytes c.args.entries.now in
-    let all : take c.putting.entry-index xs ≡ xs = take_all c.putting.entry-index xs (omega (arith, length-map c.args.entries.now entry_bytes, c.putting-test.false)) in
+    let all : take c.putting.entry-index xs ≡ xs = take_all c.putting.entry-index xs
+    (omega (arith, length-map c.args.entries.now entry_bytes, c.putting-test.false)) in
     c.finalize.ensures (concat (take c.putting.entry-index xs)) c.putting.invariant.hashed ∙ ap (λ ys. sha256 (concat ys)) all

@@ -9,6 +9,9 @@ use Rattle.index_build.proofs.entries.sorted.Goals as goal
 
 pub returns : goal.returns
 returns c =
-    let by_bytes = c.sort_unstable_by.ensures.sorted (λ x y. is_lt (slice_cmp nat_cmp (entry_bytes x) (entry_bytes y))) (ranks_by nat_list_cmp_total entry_bytes) (always_returns_same _ _ _ (λ a r f called. (search rules, search rules))) in
-    let once = dedup_same _ (λ x y. eq_by_cmp (slice_cmp nat_cmp) (entry_bytes x) (entry_bytes y)) _ (λ x y b f x' y' called. search rules) _ _ c.dedup_by.ensures.filtered in
+    let by_bytes = c.sort_unstable_by.ensures.sorted (λ x y. is_lt (slice_cmp nat_cmp (entry_bytes x) (entry_bytes y)))
+    (ranks_by nat_list_cmp_total entry_bytes) (always_returns_same _ _ _
+    (λ a r f called. (search rules, search rules))) in
+    let once = dedup_same _ (λ x y. eq_by_cmp (slice_cmp nat_cmp) (entry_bytes x) (entry_bytes y)) _
+    (λ x y b f x' y' called. search rules) _ _ c.dedup_by.ensures.filtered in
     listing_kept entry_bytes _ _ _ c.sort_unstable_by.ensures.permutation once by_bytes

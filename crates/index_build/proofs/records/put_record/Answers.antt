@@ -17,6 +17,8 @@ returns-in-Ok-put_table-clause-put g c =
     let claim : claim_view c.in-Ok-put_table.claim ≡ claim_of at last p.0 = p.2 ∙ ap (λ (r : List ℕ). claim_of at r p.0) bytes in (
       p.0,
       subst (λ (r : List ℕ). IsTableOf r p.0) bytes p.1,
-      entry_made c.of_record.result c.in-Ok-put_table.claim c.in-Ok.offset at c.args.before c.args.done last p.0 c.of_record.ensures.claim placed claim c.in-Ok.ensures.1 c.in-Ok-try_from.ensures.1,
-      subst (λ (n : ℕ). IsPut g.W.Sink.held g.W.Sink.failures c.args.w.now c.put_table.new.w n (stored p.0) c.in-Ok-put_table.done) c.in-Ok-try_from.ensures.1 p.3,
+      entry_made c.of_record.result c.in-Ok-put_table.claim c.in-Ok.offset at c.args.before c.args.done last p.0
+          c.of_record.ensures.claim placed claim c.in-Ok.ensures.1 c.in-Ok-try_from.ensures.1,
+      subst (λ (n : ℕ). IsPut g.W.Sink.held g.W.Sink.failures c.args.w.now c.put_table.new.w n (stored p.0)
+          c.in-Ok-put_table.done) c.in-Ok-try_from.ensures.1 p.3,
     )

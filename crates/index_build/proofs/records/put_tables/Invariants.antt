@@ -8,7 +8,9 @@ use Rattle.index_build.proofs.records.put_tables.Given as goal
 
 abbrev pub invariant-taking : goal.invariant-taking
 invariant-taking g l = record {
-  gathers : (a : Option (List ℕ)) (first : g.row.W.Denot) → HasRead Archive a (g.R.Source.left l.initial.r) [] l.initial.reader → IsPut g.W.Sink.held g.W.Sink.failures first l.initial.w 0 (front_of []) l.initial.done
+  gathers : (a : Option (List ℕ)) (first : g.row.W.Denot)
+      → HasRead Archive a (g.R.Source.left l.initial.r) [] l.initial.reader
+      → IsPut g.W.Sink.held g.W.Sink.failures first l.initial.w 0 (front_of []) l.initial.done
       → HasPut a (g.R.Source.left l.r) g.W.Sink.held g.W.Sink.failures first l.w l.entries.items l.reader l.done;
   file : l.reader.file ≡ Archive;
   unfailed : g.R.Source.failures l.r ≡ g.R.Source.failures l.initial.r;

@@ -1,4 +1,5 @@
-use Rattle.std.proofs.Common.{◌≡◌, ◌+◌, ◌*◌, ◌-◌, ◌≤◌, ◌∙◌, ℕ, List, [], ◌∷◌, ◌++◌, sym, ap, subst, inr, arith, length, map, take, drop, length-drop, length-take}
+use Rattle.std.proofs.Common.{◌≡◌, ◌+◌, ◌*◌, ◌-◌, ◌≤◌, ◌∙◌, ℕ, List, [], ◌∷◌, ◌++◌, sym, ap, subst, inr, arith, length}
+use Rattle.std.proofs.Common.{map, take, drop, length-drop, length-take}
 use Rattle.std.specs.Prelude.{All, Ok}
 use Rattle.std.proofs.lemmas.List.Elements.{All-push}
 use Rattle.std.specs.List.{concat}
@@ -57,12 +58,19 @@ reading-preserved c =
     let x = take 122 (drop (122 * k) bytes) in
     let inv = c.reading.invariant in
     let grown : map entry_bytes c.push.new.self.items ≡ xs ++ x ∷ [] =
-    ap (map entry_bytes) c.in_default-push.ensures.items ∙ map-append entry_bytes c.reading.entries.items (c.of_bytes.result ∷ []) ∙ ap (λ (t : List ℕ). xs ++ t ∷ []) (c.of_bytes.ensures.bytes ∙ part_is bytes (122 * k) 122) in
-    let checked : check_entry c.args.end (last_of [] xs) x ≡ Ok tt = (λ i. check_entry c.args.end (sym inv.last_is i) (sym (part_is bytes (122 * k) 122) i)) ∙ sym c.check_entry.ensures.checked ∙ c.in_default.is in
+    ap (map entry_bytes) c.in_default-push.ensures.items
+    ∙ map-append entry_bytes c.reading.entries.items (c.of_bytes.result ∷ [])
+    ∙ ap (λ (t : List ℕ). xs ++ t ∷ []) (c.of_bytes.ensures.bytes ∙ part_is bytes (122 * k) 122) in
+    let checked : check_entry c.args.end (last_of [] xs) x
+    ≡ Ok tt = (λ i. check_entry c.args.end (sym inv.last_is i) (sym (part_is bytes (122 * k) 122) i))
+    ∙ sym c.check_entry.ensures.checked ∙ c.in_default.is in
     record {
       whole = ap concat grown ∙ concat_more bytes xs k inv.whole;
-      fields = subst (All HasItsFields) (sym c.in_default-push.ensures.items) (All-push HasItsFields c.reading.entries.items c.of_bytes.result inv.fields c.of_bytes.ensures.fields);
-      pass = subst (PassChecks c.args.end []) (sym grown) (pass_push c.args.end [] xs x inv.pass (long_part bytes k c.args.count c.requires.whole (omega arith)) checked);
+      fields = subst (All HasItsFields) (sym c.in_default-push.ensures.items)
+          (All-push HasItsFields c.reading.entries.items c.of_bytes.result inv.fields c.of_bytes.ensures.fields);
+      pass = subst (PassChecks c.args.end []) (sym grown)
+          (pass_push c.args.end [] xs x inv.pass (long_part bytes k c.args.count c.requires.whole (omega arith))
+          checked);
       last_is = part_is bytes (122 * k) 122 ∙ sym (ap (last_of []) grown ∙ last_push [] xs x);
     }
 

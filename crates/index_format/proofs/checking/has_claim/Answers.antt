@@ -17,4 +17,5 @@ returns-else-bytes-eq-ADMISSION c =
     let bytes = c.args.bytes.now in
     let rest : List ℕ = take (length bytes - 74) (drop 74 bytes) in
     let retired : eqb (get_or bytes 0 0) 2 ≡ false = ne_eqb (get_or bytes 0 0) 2 c.if-bytes-eq-ADMISSION.false in
-    rw retired (checked rest (zeros 48) c.eq.result (slice_eq-Decides Decides-eqb rest (zeros 48) c.eq.result c.eq.ensures) ∙ ap (λ (t : List ℕ). bytes_eq t (zeros 48)) (take_rest bytes 74))
+    rw retired (checked rest (zeros 48) c.eq.result (slice_eq-Decides Decides-eqb rest (zeros 48) c.eq.result
+    c.eq.ensures) ∙ ap (λ (t : List ℕ). bytes_eq t (zeros 48)) (take_rest bytes 74))

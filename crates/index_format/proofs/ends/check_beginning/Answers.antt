@@ -10,7 +10,8 @@ returns-then-not-begins-clause-checked c = λ text size beginning. record {
 
 pub returns-then-not-has_room-clause-checked : goal.returns-then-not-has_room-clause-checked
 returns-then-not-has_room-clause-checked c = λ text size beginning. let short : 49 ≤ c.args.size → ⊥ = λ room. cc (c.if-not-has_room.ensures.1 room) in record {
-  fails = room_fails text (sym (asked text c.args.beginning.now c.args.size size beginning c.requires) ∙ sym c.if-not-begins.ensures) (omega (arith, size, short));
+  fails = room_fails text (sym (asked text c.args.beginning.now c.args.size size beginning c.requires)
+      ∙ sym c.if-not-begins.ensures) (omega (arith, size, short));
   offset_is = omega (arith, size, c.saturating_sub.ensures);
 }
 

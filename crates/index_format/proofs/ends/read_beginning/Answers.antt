@@ -9,7 +9,9 @@ use Rattle.index_format.proofs.ends.read_beginning.Goals as goal
 pub returns-in_err-size-clause-read : goal.returns-in_err-size-clause-read
 returns-in_err-size-clause-read g c =
     let p = err_from_is_err_and c.from_residual.result c.from_residual.ensures.1 in
-    passed_on _ _ _ _ _ _ _ _ _ _ _ c.in_err-size.was (p.1 ∙ ap Err p.2) (λ text known refused. refused_as (λ t f. ⊥) FailsInBeginning text _ (λ none. absurd none) refused) c.read_size.ensures
+    passed_on _ _ _ _ _ _ _ _ _ _ _ c.in_err-size.was (p.1 ∙ ap Err p.2)
+    (λ text known refused. refused_as (λ t f. ⊥) FailsInBeginning text _ (λ none. absurd none) refused)
+    c.read_size.ensures
 
 pub returns-in_err-beginning-clause-read : goal.returns-in_err-beginning-clause-read
 returns-in_err-beginning-clause-read g c =
@@ -30,7 +32,9 @@ returns-in_err-check_beginning-clause-read g c =
     let faulty = c.in_err-check_beginning.ensures in
     rw (failed c.from_residual-in_err-check_beginning.result c.in_err-check_beginning.field-0.0 c.from_residual-in_err-check_beginning.ensures.1)
     (record {
-      says = λ text known. inr (faulty.checked text (sized.says text known) (c.deref.ensures.value ∙ front_bytes text _ _ _ (sized.says text known) c.min.ensures (read.says text known)));
+      says = λ text known. inr (faulty.checked text (sized.says text known)
+          (c.deref.ensures.value ∙ front_bytes text _ _ _ (sized.says text known) c.min.ensures
+          (read.says text known)));
       keeps = read.keeps;
       counts = unfailed_blames _ _ c.in_err-check_beginning.field-0.0.kind faulty.faulty read.counts;
     })
@@ -42,7 +46,9 @@ returns-clause-read g c =
     record {
       says = λ text known. record {
         size_is = sized.says text known;
-        beginning = c.in_ok-check_beginning.ensures.checked text (sized.says text known) (c.deref.ensures.value ∙ front_bytes text _ _ _ (sized.says text known) c.min.ensures (read.says text known));
+        beginning = c.in_ok-check_beginning.ensures.checked text (sized.says text known)
+            (c.deref.ensures.value ∙ front_bytes text _ _ _ (sized.says text known) c.min.ensures
+            (read.says text known));
       };
       keeps = read.keeps;
       counts = read.counts;

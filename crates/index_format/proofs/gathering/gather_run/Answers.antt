@@ -14,7 +14,9 @@ use Rattle.index_format.proofs.gathering.gather_run.Goals as goal
 
 pub run-init : goal.run-init
 run-init g c = record {
-  gathered = gathered_none (g.P.Placed.whole c.args.archive.now) (is_tagged c.args.tag c.args.prefix.now) (map placed_bytes c.args.entries.now) (c.run_under-start.result.0 + 0) (map record_bytes c.args.gathered.now.items)
+  gathered = gathered_none (g.P.Placed.whole c.args.archive.now) (is_tagged c.args.tag c.args.prefix.now)
+      (map placed_bytes c.args.entries.now) (c.run_under-start.result.0 + 0)
+      (map record_bytes c.args.gathered.now.items)
       (λ k d low high. c.run_under-start.ensures.placed.before k d low (omega (arith, high)));
   keeps = refl;
   unfailed = refl;
@@ -39,9 +41,12 @@ returns-in_err-gather_entry g c =
     rw (failed c.from_residual.result fault c.from_residual.ensures.1)
     (refused_behind g.P.Placed.whole g.P.Placed.failures c.args.archive.now c.run.archive _ c.run.invariant.keeps c.run.invariant.unfailed
     (IsReadOf (placed_bytes e)) (IsReadAmong (is_tagged c.args.tag c.args.prefix.now) (map placed_bytes entries)) fault
-    (stale_at (g.P.Placed.whole c.args.archive.now) (g.P.Placed.whole c.run.archive) (is_tagged c.args.tag c.args.prefix.now) (map placed_bytes entries) k (placed_bytes e) (map record_bytes c.args.gathered.now.items) (map record_bytes c.run.gathered.items) fault
+    (stale_at (g.P.Placed.whole c.args.archive.now) (g.P.Placed.whole c.run.archive)
+    (is_tagged c.args.tag c.args.prefix.now) (map placed_bytes entries) k (placed_bytes e)
+    (map record_bytes c.args.gathered.now.items) (map record_bytes c.run.gathered.items) fault
     (omega (arith, length-map entries placed_bytes, there.1)) there.3 passes c.run.invariant.keeps c.run.invariant.gathered)
-    (λ n h. read_at (is_tagged c.args.tag c.args.prefix.now) (map placed_bytes entries) k (placed_bytes e) n (omega (arith, length-map entries placed_bytes, there.1)) there.3 passes h)
+    (λ n h. read_at (is_tagged c.args.tag c.args.prefix.now) (map placed_bytes entries) k (placed_bytes e) n
+    (omega (arith, length-map entries placed_bytes, there.1)) there.3 passes h)
     c.in_err-gather_entry.ensures)
 
 pub run-preserved : goal.run-preserved
@@ -55,10 +60,15 @@ run-preserved g c =
     let one = c.in_ok-gather_entry.ensures in
     let next : k + 1 ≡ run.result.0 + (c.run.index + 1) = omega arith in
     record {
-      gathered = subst (λ (n : ℕ). AreGathered (g.P.Placed.whole c.args.archive.now) (is_tagged c.args.tag c.args.prefix.now) (map placed_bytes entries) n (map record_bytes c.args.gathered.now.items) (map record_bytes c.gather_entry.new.gathered.items)) next
-          (gathered_more (g.P.Placed.whole c.args.archive.now) (is_tagged c.args.tag c.args.prefix.now) (map placed_bytes entries) k (placed_bytes e) (map record_bytes c.args.gathered.now.items) (map record_bytes c.run.gathered.items) (map record_bytes c.gather_entry.new.gathered.items)
+      gathered = subst (λ (n : ℕ). AreGathered (g.P.Placed.whole c.args.archive.now)
+          (is_tagged c.args.tag c.args.prefix.now) (map placed_bytes entries) n
+          (map record_bytes c.args.gathered.now.items) (map record_bytes c.gather_entry.new.gathered.items)) next
+          (gathered_more (g.P.Placed.whole c.args.archive.now) (is_tagged c.args.tag c.args.prefix.now)
+          (map placed_bytes entries) k (placed_bytes e) (map record_bytes c.args.gathered.now.items)
+          (map record_bytes c.run.gathered.items) (map record_bytes c.gather_entry.new.gathered.items)
           (omega (arith, length-map entries placed_bytes, there.1)) there.3 passes c.run.invariant.gathered
-          (subst (λ (w : Option (List ℕ)). IsGathered w (placed_bytes e) (map record_bytes c.run.gathered.items) (map record_bytes c.gather_entry.new.gathered.items)) c.run.invariant.keeps one.0));
+          (subst (λ (w : Option (List ℕ)). IsGathered w (placed_bytes e) (map record_bytes c.run.gathered.items)
+          (map record_bytes c.gather_entry.new.gathered.items)) c.run.invariant.keeps one.0));
       keeps = one.1 ∙ c.run.invariant.keeps;
       unfailed = one.2 ∙ c.run.invariant.unfailed;
     }
@@ -70,7 +80,9 @@ returns g c =
     let bytes = map placed_bytes entries in
     let all : length bytes ≡ length entries = length-map entries placed_bytes in
     let long = length_run entries run.result.0 run.result.1 run.ensures.placed.ordered (omega (arith, all, run.ensures.placed.within)) in (
-      gathered_rest (g.P.Placed.whole c.args.archive.now) (is_tagged c.args.tag c.args.prefix.now) bytes (run.result.0 + c.run.index) (length entries) (map record_bytes c.args.gathered.now.items) (map record_bytes c.run.gathered.items)
+      gathered_rest (g.P.Placed.whole c.args.archive.now) (is_tagged c.args.tag c.args.prefix.now) bytes
+          (run.result.0 + c.run.index) (length entries) (map record_bytes c.args.gathered.now.items)
+          (map record_bytes c.run.gathered.items)
           (omega (arith, all, long, c.run.auto.index-end, run.ensures.placed.within, run.ensures.placed.ordered))
           (λ k d low high. run.ensures.placed.behind k d (omega (arith, long, c.run-test.false, low, run.ensures.placed.ordered)) (omega (arith, all, high)))
           c.run.invariant.gathered,

@@ -13,9 +13,13 @@ returns-in_err-gather_run g c =
     let entries = c.args.entries.now in
     let fault = c.in_err-gather_run.field-0.0 in
     rw (failed c.from_residual.result fault c.from_residual.ensures.1) (
-      stale_first (g.P.Placed.whole c.args.archive.now) c.args.prefix.now (map placed_bytes entries) c.requires.indexed (length entries) (omega (arith, length-map entries placed_bytes)) fault c.in_err-gather_run.ensures.0,
+      stale_first (g.P.Placed.whole c.args.archive.now) c.args.prefix.now (map placed_bytes entries) c.requires.indexed
+          (length entries) (omega (arith, length-map entries placed_bytes)) fault c.in_err-gather_run.ensures.0,
       c.in_err-gather_run.ensures.1,
-      blamed_behind g.P.Placed.whole g.P.Placed.failures c.args.archive.now c.args.archive.now _ refl refl (IsReadAmong (is_tagged 1 c.args.prefix.now) (map placed_bytes entries)) (IsReadAmong (is_under c.args.prefix.now) (map placed_bytes entries)) fault (read_tagged 1 c.args.prefix.now (map placed_bytes entries)) c.in_err-gather_run.ensures.2,
+      blamed_behind g.P.Placed.whole g.P.Placed.failures c.args.archive.now c.args.archive.now _ refl refl
+          (IsReadAmong (is_tagged 1 c.args.prefix.now) (map placed_bytes entries))
+          (IsReadAmong (is_under c.args.prefix.now) (map placed_bytes entries)) fault
+          (read_tagged 1 c.args.prefix.now (map placed_bytes entries)) c.in_err-gather_run.ensures.2,
     )
 
 pub returns : goal.returns
@@ -24,7 +28,8 @@ returns g c =
     let first = c.in_ok-gather_run.ensures in
     let all : length (map placed_bytes entries) ≤ length entries = omega (arith, length-map entries placed_bytes) in
     reads_behind g.P.Placed.whole g.P.Placed.failures c.args.archive.now c.gather_run.new.archive _ first.1 first.2 _ _
-    (IsReadAmong (is_tagged 2 c.args.prefix.now) (map placed_bytes entries)) (IsReadAmong (is_under c.args.prefix.now) (map placed_bytes entries)) c.gather_run-2.result
+    (IsReadAmong (is_tagged 2 c.args.prefix.now) (map placed_bytes entries))
+    (IsReadAmong (is_under c.args.prefix.now) (map placed_bytes entries)) c.gather_run-2.result
     (λ _ second. gathered_both _ c.args.prefix.now _ c.requires.indexed _ all _ _ _ _ first.1 first.0 second)
     (λ fault h. stale_second _ c.args.prefix.now _ c.requires.indexed _ all _ _ _ fault first.1 first.0 h)
     (read_tagged 2 c.args.prefix.now (map placed_bytes entries))

@@ -17,7 +17,9 @@ adding-preserved c =
     let within : i < length (map entry_bytes entries) = omega (arith, lt, length-map entries entry_bytes) in
     let fits : e.length < 2 ^ 64 = omega arith in
     let more = sum_by_more length_in (map entry_bytes entries) i [] within in
-    let one : length_in (get_or (map entry_bytes entries) i []) ≡ e.length = ap length_in (sym (bytes_at entries i e lt c.entry-item.is)) ∙ (fields_at entries i e c.requires lt c.entry-item.is).length_is in
+    let one : length_in (get_or (map entry_bytes entries) i [])
+    ≡ e.length = ap length_in (sym (bytes_at entries i e lt c.entry-item.is))
+    ∙ (fields_at entries i e c.requires lt c.entry-item.is).length_is in
     record {
       is = omega (arith, more, one, c.adding.invariant.is, c.from-size.ensures);
       fits = omega (arith, fits, c.adding.invariant.fits, c.from-size.ensures);
@@ -26,4 +28,9 @@ adding-preserved c =
 pub returns : goal.returns
 returns c =
     let xs = map entry_bytes c.args.entries.now in
-    c.adding.invariant.is ∙ ap (λ (ys : List (List ℕ)). 17 + sum_by length_in ys) (take_all c.adding.entry-index xs (omega (arith, length-map c.args.entries.now entry_bytes, c.adding-test.false)))
+    c.adding.invariant.is ∙ ap (λ (ys : List (List ℕ)). 17 + sum_by length_in ys)
+    (take_all c.adding.entry-index xs (omega (
+      arith,
+      length-map c.args.entries.now entry_bytes,
+      c.adding-test.false,
+    )))

@@ -6,4 +6,6 @@ use Rattle.index_format.proofs.parts.archive_of.Goals as goal
 
 pub returns : goal.returns
 returns g c =
-    gathered _ _ (g.A.Join.content c.take_in_turn.new.part) c.sort_unstable_by.ensures.permutation (c.in_ok-take_in_turn.ensures ∙ ap (λ (o : Operations). with_records o (map record_bytes c.sort_unstable_by.new.self.items)) c.empty-made.ensures)
+    gathered _ _ (g.A.Join.content c.take_in_turn.new.part) c.sort_unstable_by.ensures.permutation
+    (c.in_ok-take_in_turn.ensures ∙ ap (λ (o : Operations). with_records o
+    (map record_bytes c.sort_unstable_by.new.self.items)) c.empty-made.ensures)

@@ -19,7 +19,9 @@ operations-preserved g c =
     record {
       can = tt;
       finite = tt;
-      way = one_taken (g.A.Join.content c.args.part.now) (g.A.Join.content at.part) (g.A.Join.content c.take.new.self) (into_iter_items c.into_iter-operation-iterator.result) left rest c.in-Some.operation at.invariant.way steps c.in_ok-take.ensures.taken;
+      way = one_taken (g.A.Join.content c.args.part.now) (g.A.Join.content at.part) (g.A.Join.content c.take.new.self)
+          (into_iter_items c.into_iter-operation-iterator.result) left rest c.in-Some.operation at.invariant.way steps
+          c.in_ok-take.ensures.taken;
       long =
           let was : into_iter_len at.operation-iterator ≡ length left = at.invariant.long in
           let gone = c.in-Some.ensures.steps.1 in
@@ -34,4 +36,5 @@ returns g c =
     let long : into_iter_len at.operation-iterator ≡ length left = at.invariant.long in
     let none : length left ≡ 0 = omega (arith, long, c.in-None.ensures.steps) in
     all_taken (g.A.Join.content c.args.part.now) (g.A.Join.content at.part) (into_iter_items c.into_iter-operation-iterator.result) left at.invariant.way none
-    ∙ ap (λ (all : List Operation). with_records (g.A.Join.content c.args.part.now) (map record_bytes all)) c.into_iter-operation-iterator.ensures.into_iter_gives.0
+    ∙ ap (λ (all : List Operation). with_records (g.A.Join.content c.args.part.now) (map record_bytes all))
+    c.into_iter-operation-iterator.ensures.into_iter_gives.0

@@ -7,6 +7,7 @@ abbrev pub invariant-operations : goal.invariant-operations
 invariant-operations g l = record {
   can : (goal.iterator-operations g).can_next l.operation-iterator;
   finite : (goal.iterator-operations g).is_finite l.operation-iterator;
-  way : IsUnderWay (g.A.Join.content l.initial.part) (g.A.Join.content l.part) (into_iter_items l.initial.operation-iterator) (into_iter_items l.operation-iterator);
+  way : IsUnderWay (g.A.Join.content l.initial.part) (g.A.Join.content l.part)
+      (into_iter_items l.initial.operation-iterator) (into_iter_items l.operation-iterator);
   long : into_iter_len l.operation-iterator ≡ length (into_iter_items l.operation-iterator);
 }

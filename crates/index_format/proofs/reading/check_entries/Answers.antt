@@ -11,8 +11,11 @@ use Rattle.index_format.proofs.Checks.{pass_ascending}
 use Rattle.index_format.proofs.reading.check_entries.Goals as goal
 
 -- the same of the text
-checked_in : (text bytes : List ℕ) (ends : Ends) (entries : List IndexEntry) → AreEndsOf text ends → AreEntriesOf text bytes → AreChecked ends.start bytes entries → AreChecked (start_in text) (entries_in text) entries
-checked_in text bytes ends entries are of h = subst (λ (n : ℕ). AreChecked n (entries_in text) entries) are.start_is (subst (λ (b : List ℕ). AreChecked ends.start b entries) of.bytes_are h)
+checked_in : (text bytes : List ℕ) (ends : Ends) (entries : List IndexEntry) → AreEndsOf text ends
+    → AreEntriesOf text bytes → AreChecked ends.start bytes entries
+    → AreChecked (start_in text) (entries_in text) entries
+checked_in text bytes ends entries are of h = subst (λ (n : ℕ). AreChecked n (entries_in text) entries) are.start_is
+    (subst (λ (b : List ℕ). AreChecked ends.start b entries) of.bytes_are h)
 
 -- what is told of the entries where they are borrowed
 laid_of : (end : ℕ) (borrowed entries : List IndexEntry) → borrowed ≡ entries → AreLaid end (map entry_bytes borrowed) → AreLaid end (map entry_bytes entries)
@@ -27,7 +30,8 @@ returns-in_err-entries-clause-faulty c =
       | inr after ↦ inr (λ text are of. inl (record {
         digest = of.digest;
         before = after.0;
-        after = subst (λ (n : ℕ). FailsAfter n (entries_in text) after.0 f) are.start_is (subst (λ (b : List ℕ). FailsAfter c.args.ends.now.start b after.0 f) of.bytes_are after.1);
+        after = subst (λ (n : ℕ). FailsAfter n (entries_in text) after.0 f) are.start_is
+            (subst (λ (b : List ℕ). FailsAfter c.args.ends.now.start b after.0 f) of.bytes_are after.1);
       }))
     ])
 
@@ -54,7 +58,8 @@ returns-in-Ok-true-clause-sorted c =
     record {
       fields = read.fields;
       ascending = (pass_ascending c.args.ends.now.start [] bytes read.pass).1;
-      placed_ascending = laid_ascending c.args.ends.now.start bytes read.pass (laid_of c.args.ends.now.start _ _ c.deref.ensures.value (c.in-Ok-true.ensures.0 c.in-Ok-true.field-0-test));
+      placed_ascending = laid_ascending c.args.ends.now.start bytes read.pass
+          (laid_of c.args.ends.now.start _ _ c.deref.ensures.value (c.in-Ok-true.ensures.0 c.in-Ok-true.field-0-test));
     }
 
 pub returns-in-Ok-false-clause-faulty : goal.returns-in-Ok-false-clause-faulty
@@ -66,7 +71,11 @@ returns-in-Ok-false-clause-faulty c = inr (λ text are of.
       entries = map entry_bytes entries;
       whole = sym there.whole;
       pass = there.pass;
-      unlaid = λ laid. cc (c.in-Ok-false.field-0-test, c.in-Ok-false.ensures.1 (subst (λ (n : ℕ). AreLaid n (map entry_bytes c.deref.result.now)) (sym are.start_is) (rw c.deref.ensures.value laid)));
+      unlaid = λ laid. cc (
+        c.in-Ok-false.field-0-test,
+        c.in-Ok-false.ensures.1 (subst (λ (n : ℕ). AreLaid n (map entry_bytes c.deref.result.now)) (sym are.start_is)
+            (rw c.deref.ensures.value laid)),
+      );
       kind_is = refl;
       offset_is = are.start_is;
     }))

@@ -29,7 +29,9 @@ returns-then-not-has_digest-clause-read g c =
         ends = are.has;
         kind_is = refl;
         offset_is = are.start_is;
-        other = λ h. cc (c.if-not-has_digest.ensures.1 (ap sha256 (c.deref.ensures.value ∙ are_entries text c.in_ok-bytes.bytes.items c.args.ends.now are (read.says text known)) ∙ h ∙ sym are.digest_is));
+        other = λ h. cc (c.if-not-has_digest.ensures.1
+            (ap sha256 (c.deref.ensures.value ∙ are_entries text c.in_ok-bytes.bytes.items c.args.ends.now are
+            (read.says text known)) ∙ h ∙ sym are.digest_is));
       }));
       keeps = read.keeps;
       counts = read.counts;

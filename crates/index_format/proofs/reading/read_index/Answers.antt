@@ -18,14 +18,17 @@ behind_ends text f fault = inr (inr fault)
 pub returns-in_err-ends : goal.returns-in_err-ends
 returns-in_err-ends g c =
     let p = err_from_is_err_and c.from_residual.result c.from_residual.ensures.1 in
-    passed_on _ _ _ _ _ _ _ _ _ _ _ c.in_err-ends.was (p.1 ∙ ap Err p.2) (λ text known refused. refused_as FailsInEnds IsIndexFault text _ (in_ends text _) refused) c.read_ends.ensures.read
+    passed_on _ _ _ _ _ _ _ _ _ _ _ c.in_err-ends.was (p.1 ∙ ap Err p.2)
+    (λ text known refused. refused_as FailsInEnds IsIndexFault text _ (in_ends text _) refused)
+    c.read_ends.ensures.read
 
 pub returns-in_err-entries : goal.returns-in_err-entries
 returns-in_err-entries g c =
     let p = err_from_is_err_and c.from_residual-in_err-entries.result c.from_residual-in_err-entries.ensures.1 in
     let ends = c.in_ok-ends.ensures.read in
     passed_on _ _ _ _ _ _ _ _ _ _ _ c.in_err-entries.was (p.1 ∙ ap Err p.2)
-    (λ text known refused. refused_as FailsBehindEnds IsIndexFault text _ (behind_ends text _) (flat FailsBehindEnds text _ refused (λ under. under (ends.says text known))))
+    (λ text known refused. refused_as FailsBehindEnds IsIndexFault text _ (behind_ends text _)
+    (flat FailsBehindEnds text _ refused (λ under. under (ends.says text known))))
     (after_ok _ _ _ _ _ _ _ _ ends.keeps ends.counts c.read_entries.ensures.read)
 
 pub returns : goal.returns
@@ -36,7 +39,8 @@ returns g c =
       says = λ text known.
           let are = ends.says text known in
           let of = read.says text known are in
-          rw c.of_entries.ensures (index_of text c.in_ok-ends.ends (map entry_bytes c.in_ok-entries.entries.items) are (omega (arith, c.in_ok-ends.ensures.fits)) of.digest of.checked.whole of.checked.pass of.laid);
+          rw c.of_entries.ensures (index_of text c.in_ok-ends.ends (map entry_bytes c.in_ok-entries.entries.items) are
+          (omega (arith, c.in_ok-ends.ensures.fits)) of.digest of.checked.whole of.checked.pass of.laid);
       keeps = read.keeps;
       counts = read.counts;
     }

@@ -13,7 +13,8 @@ unfolding slice_length
 returns-then-has_key-clause-admits c =
     let v = rw take_rest at c.in-Ok.ensures.valid in
     let k = c.key.ensures ∙ ap key_of (rw take_rest at c.in-Ok.ensures.slice) in
-    admits c.args.bytes.now (c.has_head.ensures.yes c.if-not-has_head.false) v (c.if-has_key.ensures.0 refl ∙ ap key_bytes k) (λ i. omega (arith, c.type_inv.bytes i))
+    admits c.args.bytes.now (c.has_head.ensures.yes c.if-not-has_head.false) v
+    (c.if-has_key.ensures.0 refl ∙ ap key_bytes k) (λ i. omega (arith, c.type_inv.bytes i))
 
 pub returns-then-has_key-clause-found : goal.returns-then-has_key-clause-found
 returns-then-has_key-clause-found c = admitted_is c.args.bytes.now _ (returns-then-has_key-clause-admits c) (rw take_rest at c.in-Ok.ensures.slice)

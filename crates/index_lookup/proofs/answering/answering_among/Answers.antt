@@ -23,6 +23,8 @@ returns c =
     let indexes = c.args.indexes.now in
     let sorted = map entry_at c.sort_by_rank.new.entries.items in
     let moved = subst (λ (xs : List EntryAt). IsPermutation xs sorted) c.in_ok-entries.ensures c.sort_by_rank.ensures.moved in
-    let agree = subst (λ (ns : List Numbered). AllPairs HaveOrder (map entry_at ns)) c.deref.ensures.value (MatchBool-at_false _ _ c.if-are_tied.false c.are_tied.ensures) in
+    let agree = subst (λ (ns : List Numbered). AllPairs HaveOrder (map entry_at ns)) c.deref.ensures.value
+    (MatchBool-at_false _ _ c.if-are_tied.false c.are_tied.ensures) in
     subst (λ f. AreAnsweringAmong f indexes c.of_entries.result) c.key_prefix.ensures
-    (subst (AreAnsweringAmong prefix indexes) (sym (c.of_entries.ensures ∙ c.keep_first_index.ensures)) (answering prefix indexes sorted moved c.sort_by_rank.ensures.sorted agree))
+    (subst (AreAnsweringAmong prefix indexes) (sym (c.of_entries.ensures ∙ c.keep_first_index.ensures))
+    (answering prefix indexes sorted moved c.sort_by_rank.ensures.sorted agree))

@@ -7,7 +7,9 @@ use Rattle.index_lookup.proofs.answers.borrowed_each.Goals as goal
 
 pub frames-preserved : goal.frames-preserved
 frames-preserved c =
-    rows_more owned_frame_view frame_view c.args.frames.now c.frames.frame-index c.frame-item.result c.frames.borrowed.items c.push.new.self.items c.borrowed.result c.frames-test.true c.frame-item.is c.in_ok-push.ensures.items
+    rows_more owned_frame_view frame_view c.args.frames.now c.frames.frame-index c.frame-item.result
+    c.frames.borrowed.items c.push.new.self.items c.borrowed.result c.frames-test.true c.frame-item.is
+    c.in_ok-push.ensures.items
     c.borrowed.ensures c.frames.invariant
 
 pub returns : goal.returns

@@ -6,7 +6,9 @@ use Rattle.index_lookup.proofs.answers.frames_of_each.Goals as goal
 
 pub columns-preserved : goal.columns-preserved
 columns-preserved c =
-    rows_more (frames_at c.args.number) borrowed_in c.args.columns.now c.columns.column-index c.column-item.result c.columns.lists.items c.push.new.self.items c.in_ok-frames.frames c.columns-test.true c.column-item.is c.in_ok-push.ensures.items
+    rows_more (frames_at c.args.number) borrowed_in c.args.columns.now c.columns.column-index c.column-item.result
+    c.columns.lists.items c.push.new.self.items c.in_ok-frames.frames c.columns-test.true c.column-item.is
+    c.in_ok-push.ensures.items
     c.in_ok-frames.ensures c.columns.invariant
 
 pub returns : goal.returns

@@ -7,7 +7,9 @@ use Rattle.index_lookup.proofs.answers.rows_at.Goals as goal
 
 pub columns-preserved : goal.columns-preserved
 columns-preserved c =
-    rows_more (row_at c.args.number) own_row c.args.columns.now c.columns.column-index c.column-item.result c.columns.rows.items c.push.new.self.items (c.column-item.result.digest, c.own.result) c.columns-test.true c.column-item.is c.in_ok-push.ensures.items
+    rows_more (row_at c.args.number) own_row c.args.columns.now c.columns.column-index c.column-item.result
+    c.columns.rows.items c.push.new.self.items (c.column-item.result.digest, c.own.result) c.columns-test.true
+    c.column-item.is c.in_ok-push.ensures.items
     (λ i. record { digest = c.column-item.result.digest.0; own = c.own.ensures i }) c.columns.invariant
 
 pub returns : goal.returns

@@ -14,8 +14,10 @@ returns-in_err-lines g c =
     let claim = claim_view c.args.table.pages.claim in
     passed_on _ _ _ _ _ _ _ _ _ _ _ c.in_err-lines.was c.from_residual.ensures.1
     (λ text known absent opened slice all is stored.
-    let here = lines_here c.args.table c.into_lines-pages.result.0 c.into_lines-pages.result.1 claim text slice all is c.into_lines-pages.ensures.lines opened (may_be text all claim stored) in
-    absent slice all is.lines (subst (λ fields. AreStored text (claim_view fields) all) (sym c.into_lines-pages.ensures.claim) stored) here.0 here.1 is.are_lines)
+    let here = lines_here c.args.table c.into_lines-pages.result.0 c.into_lines-pages.result.1 claim text slice all is
+    c.into_lines-pages.ensures.lines opened (may_be text all claim stored) in
+    absent slice all is.lines (subst (λ fields. AreStored text (claim_view fields) all)
+    (sym c.into_lines-pages.ensures.claim) stored) here.0 here.1 is.are_lines)
     c.open.ensures.read
 
 pub returns-in_default : goal.returns-in_default
@@ -24,8 +26,10 @@ returns-in_default g c =
     let lines = c.in_ok-lines.ensures.read in
     record {
       says = λ text known opened slice all bytes is may.
-          let here = lines_here c.args.table c.into_lines-pages.result.0 c.into_lines-pages.result.1 claim text slice all is c.into_lines-pages.ensures.lines opened may in
-          subst (IsLineTable slice) (found_none slice all is.lines text c.open.new.pages _ c.in_default.is (lines.says text known slice all is.lines here.0 here.1 is.are_lines)) is.are_lines;
+          let here = lines_here c.args.table c.into_lines-pages.result.0 c.into_lines-pages.result.1 claim text slice
+          all is c.into_lines-pages.ensures.lines opened may in
+          subst (IsLineTable slice) (found_none slice all is.lines text c.open.new.pages _ c.in_default.is
+          (lines.says text known slice all is.lines here.0 here.1 is.are_lines)) is.are_lines;
       keeps = lines.keeps;
       counts = lines.counts;
     }
@@ -36,9 +40,12 @@ returns-in_err-lists g c =
     let lines = c.in_ok-lines.ensures.read in
     passed_on _ _ _ _ _ _ _ _ _ _ _ c.in_err-lists.was c.from_residual-in_err-lists.ensures.1
     (λ text known absent opened slice all is stored.
-    let here = lines_here c.args.table c.into_lines-pages.result.0 c.into_lines-pages.result.1 claim text slice all is c.into_lines-pages.ensures.lines opened (may_be text all claim stored) in
-    let found = found_some slice all is.lines text c.open.new.pages _ c.in-Some.lines c.in-Some.is (lines.says text known slice all is.lines here.0 here.1 is.are_lines) in
-    absent slice all found.0 (subst (λ fields. AreStored text (claim_view fields) all) (sym (c.in_ok-lines.ensures.claim ∙ c.into_lines-pages.ensures.claim)) stored) found.1 found.2)
+    let here = lines_here c.args.table c.into_lines-pages.result.0 c.into_lines-pages.result.1 claim text slice all is
+    c.into_lines-pages.ensures.lines opened (may_be text all claim stored) in
+    let found = found_some slice all is.lines text c.open.new.pages _ c.in-Some.lines c.in-Some.is
+    (lines.says text known slice all is.lines here.0 here.1 is.are_lines) in
+    absent slice all found.0 (subst (λ fields. AreStored text (claim_view fields) all)
+    (sym (c.in_ok-lines.ensures.claim ∙ c.into_lines-pages.ensures.claim)) stored) found.1 found.2)
     (after_ok _ _ _ _ _ _ _ _ lines.keeps lines.counts c.frames_of_each.ensures)
 
 pub returns : goal.returns
@@ -49,8 +56,10 @@ returns g c =
     record {
       says = λ text known opened.
           zip_as _ _ c.args.asked.now _ (λ place frames told slice all bytes base is may.
-          let here = lines_here c.args.table c.into_lines-pages.result.0 c.into_lines-pages.result.1 claim text slice all is c.into_lines-pages.ensures.lines opened may in
-          let found = found_some slice all is.lines text c.open.new.pages _ c.in-Some.lines c.in-Some.is (lines.says text known slice all is.lines here.0 here.1 is.are_lines) in
+          let here = lines_here c.args.table c.into_lines-pages.result.0 c.into_lines-pages.result.1 claim text slice
+          all is c.into_lines-pages.ensures.lines opened may in
+          let found = found_some slice all is.lines text c.open.new.pages _ c.in-Some.lines c.in-Some.is
+          (lines.says text known slice all is.lines here.0 here.1 is.are_lines) in
           told slice all found.0 found.1 base found.2) (lists.says text known);
       keeps = lists.keeps;
       counts = lists.counts;

@@ -15,8 +15,11 @@ use Rattle.index_lookup.proofs.Columns.{zip_viewed}
 use Rattle.index_lookup.proofs.lines.frames_of_each.Goals as goal
 
 -- a table that is opened stays so while its pages are kept
-still : (table : LineTable) (old new : Pages) (text all : List ℕ) (steps : List StepRecord) → (ArePagesOf old text all → ArePagesOf new text all) → IsOpened table old text all steps → IsOpened table new text all steps
-still table old new text all steps keeps opened = record { are_pages = keeps opened.are_pages; stands = opened.stands; widths = opened.widths; head = opened.head }
+still : (table : LineTable) (old new : Pages) (text all : List ℕ) (steps : List StepRecord)
+    → (ArePagesOf old text all → ArePagesOf new text all) → IsOpened table old text all steps
+    → IsOpened table new text all steps
+still table old new text all steps keeps opened = record
+    { are_pages = keeps opened.are_pages; stands = opened.stands; widths = opened.widths; head = opened.head }
 
 pub asked-preserved : goal.asked-preserved
 asked-preserved g c =
@@ -27,21 +30,31 @@ asked-preserved g c =
       unfailed = own.read.counts ∙ c.asked.invariant.unfailed;
       keeps = λ text all known pages. own.keeps text all (c.asked.invariant.whole ∙ known) (c.asked.invariant.keeps text all known pages);
       told = λ text known.
-          zip_viewed (AreFramesOpened c.args.table.now c.args.pages.now c.args.base text) list_in c.args.asked.now c.asked.place-index (get_or c.args.asked.now c.asked.place-index (File 0)) c.asked.lists.items c.push.new.self.items c.in_ok-frames.frames c.asked-test.true (get_or_default c.args.asked.now c.asked.place-index (File 0) _ c.asked-test.true) c.in_default.ensures.items
+          zip_viewed (AreFramesOpened c.args.table.now c.args.pages.now c.args.base text) list_in c.args.asked.now
+          c.asked.place-index (get_or c.args.asked.now c.asked.place-index (File 0)) c.asked.lists.items
+          c.push.new.self.items c.in_ok-frames.frames c.asked-test.true
+          (get_or_default c.args.asked.now c.asked.place-index (File 0) _ c.asked-test.true)
+          c.in_default.ensures.items
           (c.asked.invariant.told text known)
-          (λ slice all steps are base opened. own.read.says text (c.asked.invariant.whole ∙ known) slice all steps are base (still c.args.table.now c.args.pages.now c.asked.pages text all steps (c.asked.invariant.keeps text all known) opened));
+          (λ slice all steps are base opened. own.read.says text (c.asked.invariant.whole ∙ known) slice all steps are
+          base (still c.args.table.now c.args.pages.now c.asked.pages text all steps
+          (c.asked.invariant.keeps text all known) opened));
     }
 
 pub returns-in_err-frames : goal.returns-in_err-frames
 returns-in_err-frames g c =
     passed_on _ _ _ _ _ _ _ _ _ _ _ c.in_err-frames.was c.from_residual.ensures.1
     (λ text known absent slice all steps stored are opened.
-    absent slice all steps (subst (λ claim. AreStored text (claim_view claim) all) (sym c.asked.invariant.claim) stored) are (still c.args.table.now c.args.pages.now c.asked.pages text all steps (c.asked.invariant.keeps text all known) opened))
+    absent slice all steps (subst (λ claim. AreStored text (claim_view claim) all) (sym c.asked.invariant.claim) stored)
+    are (still c.args.table.now c.args.pages.now c.asked.pages text all steps
+    (c.asked.invariant.keeps text all known) opened))
     (after_ok _ _ _ _ _ _ _ _ c.asked.invariant.whole c.asked.invariant.unfailed c.frames_of.ensures.read)
 
 pub returns : goal.returns
 returns g c = record {
-  says = λ text known. subst (λ xs. AllZip (AreFramesOpened c.args.table.now c.args.pages.now c.args.base text) xs (map list_in c.asked.lists.items)) (take_all c.asked.place-index c.args.asked.now (omega (arith, c.asked-test.false))) (c.asked.invariant.told text known);
+  says = λ text known. subst (λ xs. AllZip (AreFramesOpened c.args.table.now c.args.pages.now c.args.base text) xs
+      (map list_in c.asked.lists.items)) (take_all c.asked.place-index c.args.asked.now
+      (omega (arith, c.asked-test.false))) (c.asked.invariant.told text known);
   keeps = c.asked.invariant.whole;
   counts = c.asked.invariant.unfailed;
 }

@@ -11,5 +11,7 @@ invariant-asked g l = record {
   whole : g.P.Placed.whole l.device ≡ g.P.Placed.whole l.initial.device;
   unfailed : g.P.Placed.failures l.device ≡ g.P.Placed.failures l.initial.device;
   keeps : (text all : List ℕ) → g.P.Placed.whole l.initial.device ≡ Some text → ArePagesOf l.initial.pages text all → ArePagesOf l.pages text all;
-  told : (text : List ℕ) → g.P.Placed.whole l.initial.device ≡ Some text → AllZip (AreFramesOpened l.table l.initial.pages l.base text) (take l.place-index l.asked) (map list_in l.lists.items);
+  told : (text : List ℕ) → g.P.Placed.whole l.initial.device ≡ Some text
+      → AllZip (AreFramesOpened l.table l.initial.pages l.base text) (take l.place-index l.asked)
+      (map list_in l.lists.items);
 }

@@ -18,11 +18,13 @@ returns c =
     let indexes = c.args.indexes.now in
     let live = c.in_ok-live.live.items in
     let any : has_live_companion prefix (all_of indexes) ≡ c.has_companion.result =
-    sym (companion_is prefix indexes) ∙ ap (list_any (λ (x : EntryAt). is_companion x.entry)) (sym c.in_ok-live.ensures) ∙ any_map (λ (x : EntryAt). is_companion x.entry) entry_at live
+    sym (companion_is prefix indexes) ∙ ap (list_any (λ (x : EntryAt). is_companion x.entry)) (sym c.in_ok-live.ensures)
+    ∙ any_map (λ (x : EntryAt). is_companion x.entry) entry_at live
     ∙ ap (list_any (λ (n : Numbered). is_companion (entry_bytes n.entry))) (sym c.deref.ensures.value) ∙ sym c.has_companion.ensures in
     elim c.if-has_companion.branch [
       | then-has_companion w ↦
-          ap (λ v. map entry_at v.items) w.live-is ∙ ap (map entry_at) w.keep_companions.ensures ∙ sym (filter_map_swap (λ (x : EntryAt). is_companion x.entry) entry_at live)
+          ap (λ v. map entry_at v.items) w.live-is ∙ ap (map entry_at) w.keep_companions.ensures
+          ∙ sym (filter_map_swap (λ (x : EntryAt). is_companion x.entry) entry_at live)
           ∙ ap (filter (λ (x : EntryAt). is_companion x.entry)) c.in_ok-live.ensures ∙ found_companions prefix indexes (any ∙ w.if-has_companion.true)
       | else-has_companion w ↦ ap (λ v. map entry_at v.items) w.live-is ∙ c.in_ok-live.ensures ∙ found_all prefix indexes (any ∙ w.if-has_companion.false)
     ]

@@ -18,4 +18,5 @@ indexes-preserved c =
 pub returns : goal.returns
 returns c =
     let p : EntryAt → Bool = λ x. lives_by c.args.prefix.now c.args.retired.now x.entry in
-    c.indexes.invariant ∙ ap (λ (es : List (List (List ℕ))). filter p (all_at 0 es)) (take_all c.indexes.input c.args.indexes.now (omega (arith, c.indexes-test.false)))
+    c.indexes.invariant ∙ ap (λ (es : List (List (List ℕ))). filter p (all_at 0 es))
+    (take_all c.indexes.input c.args.indexes.now (omega (arith, c.indexes-test.false)))

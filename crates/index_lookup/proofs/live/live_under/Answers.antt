@@ -13,4 +13,6 @@ returns c =
     let retired = c.deref.result.now in
     let same = ap is_retired c.deref.ensures.value ∙ c.in_ok-retired.ensures.same in
     subst (λ (xs : List EntryAt). IfOk c.live_besides.result (λ live. map entry_at live.items ≡ xs))
-    (filter_agree (λ (x : EntryAt). lives_by prefix retired x.entry) (λ x. lives_under prefix (all_of indexes) x.entry) (λ x. lives_is prefix (all_of indexes) retired c.requires same x.entry) (all_at 0 indexes)) c.live_besides.ensures
+    (filter_agree (λ (x : EntryAt). lives_by prefix retired x.entry) (λ x. lives_under prefix (all_of indexes) x.entry)
+    (λ x. lives_is prefix (all_of indexes) retired c.requires same x.entry) (all_at 0 indexes))
+    c.live_besides.ensures

@@ -16,8 +16,15 @@ live-preserved c =
     let i = c.live.numbered-index in
     let n = c.numbered-item.result in
     let other : digest_at (entry_at n) ≢ c.args.digest.now.0 = λ e.
-    cc (c.if-eq.false, c.eq.ensures, (bytes_eq-Decides c.named_by-named.result.row.digest.0 c.args.digest.now.0).1 (c.named_by-named.ensures.row.digest_is ∙ e)) in
-    others_more c.args.digest.now.0 xs i (entry_at n) (map_within entry_at c.args.live.now i n c.live-test.true c.numbered-item.is) (read_map entry_at c.args.live.now i n c.live-test.true c.numbered-item.is) c.live.invariant other
+    cc (
+      c.if-eq.false,
+      c.eq.ensures,
+      (bytes_eq-Decides c.named_by-named.result.row.digest.0 c.args.digest.now.0).1
+          (c.named_by-named.ensures.row.digest_is ∙ e),
+    ) in
+    others_more c.args.digest.now.0 xs i (entry_at n) (map_within entry_at c.args.live.now i n c.live-test.true
+    c.numbered-item.is) (read_map entry_at c.args.live.now i n c.live-test.true c.numbered-item.is) c.live.invariant
+    other
 
 pub returns-then-eq : goal.returns-then-eq
 returns-then-eq c = (
@@ -30,4 +37,6 @@ returns-then-eq c = (
 pub returns : goal.returns
 returns c =
     let xs = map entry_at c.args.live.now in
-    subst (λ (ys : List EntryAt). (x : EntryAt) → Contains ys x → digest_at x ≢ c.args.digest.now.0) (take_all c.live.numbered-index xs (omega (arith, length-map c.args.live.now entry_at, c.live-test.false))) c.live.invariant
+    subst (λ (ys : List EntryAt). (x : EntryAt) → Contains ys x → digest_at x ≢ c.args.digest.now.0)
+    (take_all c.live.numbered-index xs (omega (arith, length-map c.args.live.now entry_at, c.live-test.false)))
+    c.live.invariant

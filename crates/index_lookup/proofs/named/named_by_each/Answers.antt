@@ -14,9 +14,17 @@ entries-preserved c =
     let ns = c.args.entries.now in
     let i = c.entries.numbered-index in
     let n = c.numbered-item.result in
-    zip_more Names (map entry_at ns) i (entry_at n) c.entries.named.items c.push.new.self.items c.named_by.result (map_within entry_at ns i n c.entries-test.true c.numbered-item.is) (read_map entry_at ns i n c.entries-test.true c.numbered-item.is) c.in_ok-push.ensures.items c.entries.invariant c.named_by.ensures
+    zip_more Names (map entry_at ns) i (entry_at n) c.entries.named.items c.push.new.self.items c.named_by.result
+    (map_within entry_at ns i n c.entries-test.true c.numbered-item.is)
+    (read_map entry_at ns i n c.entries-test.true c.numbered-item.is) c.in_ok-push.ensures.items c.entries.invariant
+    c.named_by.ensures
 
 pub returns : goal.returns
 returns c =
     let xs = map entry_at c.args.entries.now in
-    subst (λ (es : List EntryAt). AllZip Names es c.entries.named.items) (take_all c.entries.numbered-index xs (omega (arith, length-map c.args.entries.now entry_at, c.entries-test.false))) c.entries.invariant
+    subst (λ (es : List EntryAt). AllZip Names es c.entries.named.items)
+    (take_all c.entries.numbered-index xs (omega (
+      arith,
+      length-map c.args.entries.now entry_at,
+      c.entries-test.false,
+    ))) c.entries.invariant

@@ -10,5 +10,7 @@ pub returns : goal.returns
 returns c =
     let digest = c.args.digest.now.0 in
     let indexes = c.args.indexes.now in
-    subst (λ (f : List ℕ). MatchOption c.first_with.result ((x : EntryAt) → LivesAmong f digest indexes x → ⊥) (λ named. (x : EntryAt) × LivesAmong f digest indexes x × Names x named)) c.key_prefix.ensures
-    (with_digest c.key_prefix.result digest indexes (map entry_at c.deref.result.now) (ap (map entry_at) c.deref.ensures.value ∙ c.in_ok-live.ensures) c.first_with.result c.first_with.ensures)
+    subst (λ (f : List ℕ). MatchOption c.first_with.result ((x : EntryAt) → LivesAmong f digest indexes x → ⊥)
+    (λ named. (x : EntryAt) × LivesAmong f digest indexes x × Names x named)) c.key_prefix.ensures
+    (with_digest c.key_prefix.result digest indexes (map entry_at c.deref.result.now)
+    (ap (map entry_at) c.deref.ensures.value ∙ c.in_ok-live.ensures) c.first_with.result c.first_with.ensures)

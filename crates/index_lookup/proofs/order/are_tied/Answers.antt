@@ -14,7 +14,10 @@ use Rattle.index_lookup.proofs.order.are_tied.Goals as goal
 pub entries-init : goal.entries-init
 entries-init c = none_passed (map entry_at c.args.entries.now) (entry_at c.in-Some.first.now)
     (omega (arith, length-map c.args.entries.now entry_at, slice_get_within c.args.entries.now 0 c.in-Some.first.now (sym c.in-Some.ensures.value)))
-    (λ d. sym (get_or-map entry_at c.args.entries.now 0 c.in-Some.first.now d (slice_get_within c.args.entries.now 0 c.in-Some.first.now (sym c.in-Some.ensures.value)) ∙ ap entry_at (get_or_from_slice_get c.args.entries.now 0 c.in-Some.first.now c.in-Some.first.now (sym c.in-Some.ensures.value))))
+    (λ d. sym (get_or-map entry_at c.args.entries.now 0 c.in-Some.first.now d
+    (slice_get_within c.args.entries.now 0 c.in-Some.first.now (sym c.in-Some.ensures.value))
+    ∙ ap entry_at (get_or_from_slice_get c.args.entries.now 0 c.in-Some.first.now c.in-Some.first.now
+    (sym c.in-Some.ensures.value))))
 
 pub entries-preserved-then-not-have_one_length : goal.entries-preserved-then-not-have_one_length
 entries-preserved-then-not-have_one_length c =
@@ -37,7 +40,8 @@ returns-then-ties c =
     let same = eqb-true (length_in (entry_at n).entry) (length_in first.entry) (sym c.have_one_length.ensures ∙ c.if-not-have_one_length.false) in
     let some = and_parts c.differ_now-differ.result (has_same_length_elsewhere (entry_at n) first) (sym c.ties.ensures ∙ c.if-ties.true) in
     tied (map entry_at ns) i first c.entries.differ (entry_at n) c.requires lt is c.entries.invariant
-    same (bytes_eq (take 57 first.entry) (take 57 (entry_at n).entry)) refl (sym c.differ_now-differ.ensures ∙ some.0) (elsewhere_parts (entry_at n) first some.1).1
+    same (bytes_eq (take 57 first.entry) (take 57 (entry_at n).entry)) refl (sym c.differ_now-differ.ensures ∙ some.0)
+    (elsewhere_parts (entry_at n) first some.1).1
 
 pub entries-preserved : goal.entries-preserved
 entries-preserved c =
@@ -50,8 +54,10 @@ entries-preserved c =
     let same = eqb-true (length_in (entry_at n).entry) (length_in first.entry) (sym c.have_one_length.ensures ∙ c.if-not-have_one_length.false) in
     let not_tied = sym c.ties.ensures ∙ c.if-ties.false in
     subst (ArePassed (map entry_at ns) (i + 1) first) (sym c.differ_now-differ.ensures)
-    (alike_more (map entry_at ns) i first c.entries.differ (entry_at n) c.requires lt is c.entries.invariant same (bytes_eq (take 57 first.entry) (take 57 (entry_at n).entry)) refl
-    (λ some. same_index (entry_at n) first (here c.differ_now-differ.result (has_same_length_elsewhere (entry_at n) first) not_tied (c.differ_now-differ.ensures ∙ some)) same))
+    (alike_more (map entry_at ns) i first c.entries.differ (entry_at n) c.requires lt is c.entries.invariant same
+    (bytes_eq (take 57 first.entry) (take 57 (entry_at n).entry)) refl
+    (λ some. same_index (entry_at n) first (here c.differ_now-differ.result
+    (has_same_length_elsewhere (entry_at n) first) not_tied (c.differ_now-differ.ensures ∙ some)) same))
   where
     here : (d e : Bool) → (d && e) ≡ false → d ≡ true → e ≡ false
     here d e off on = grind arith
@@ -59,4 +65,5 @@ entries-preserved c =
 pub returns : goal.returns
 returns c =
     let xs = map entry_at c.args.entries.now in
-    all_passed xs c.entries.next-index (entry_at c.entries.first) c.entries.differ (omega (arith, c.entries-test.false, length-map c.args.entries.now entry_at)) c.entries.invariant
+    all_passed xs c.entries.next-index (entry_at c.entries.first) c.entries.differ
+    (omega (arith, c.entries-test.false, length-map c.args.entries.now entry_at)) c.entries.invariant

@@ -6,5 +6,6 @@ use Rattle.index_lookup.proofs.order.keep_first_index.Goals as goal
 
 pub returns : goal.returns
 returns c =
-    let once = dedup_same _ (λ x y. has_same_length_elsewhere (entry_at x) (entry_at y)) _ (λ x y b f x' y' called. search rules) _ _ c.dedup_by.ensures.filtered in
+    let once = dedup_same _ (λ x y. has_same_length_elsewhere (entry_at x) (entry_at y)) _
+    (λ x y b f x' y' called. search rules) _ _ c.dedup_by.ensures.filtered in
     ap (map entry_at) once ∙ dedup_map has_same_length_elsewhere entry_at c.args.entries.now.items

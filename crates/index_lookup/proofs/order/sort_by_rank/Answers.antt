@@ -15,4 +15,6 @@ returns-clause-moved c = IsPermutation-map entry_at _ _ c.sort_unstable_by.ensur
 pub returns-clause-sorted : goal.returns-clause-sorted
 returns-clause-sorted c =
     sorted_map entry_at (λ a b. is_lt (slice_cmp nat_cmp (rank_in a) (rank_in b))) c.sort_unstable_by.new.self.items
-    (c.sort_unstable_by.ensures.sorted (λ x y. is_lt (slice_cmp nat_cmp (rank_in (entry_at x)) (rank_in (entry_at y)))) (ranks_by nat_list_cmp_total (λ (x : Numbered). rank_in (entry_at x))) (always_returns_same _ _ _ (λ a r f called. (search rules, search rules))))
+    (c.sort_unstable_by.ensures.sorted (λ x y. is_lt (slice_cmp nat_cmp (rank_in (entry_at x)) (rank_in (entry_at y))))
+    (ranks_by nat_list_cmp_total (λ (x : Numbered). rank_in (entry_at x)))
+    (always_returns_same _ _ _ (λ a r f called. (search rules, search rules))))

@@ -16,4 +16,5 @@ indexes-preserved c =
 
 pub returns : goal.returns
 returns c =
-    c.indexes.invariant ∙ ap (λ (es : List (List (List ℕ))). retired_of c.args.prefix.now (all_of es)) (take_all c.indexes.index-index c.args.indexes.now (omega (arith, c.indexes-test.false)))
+    c.indexes.invariant ∙ ap (λ (es : List (List (List ℕ))). retired_of c.args.prefix.now (all_of es))
+    (take_all c.indexes.index-index c.args.indexes.now (omega (arith, c.indexes-test.false)))

@@ -12,4 +12,6 @@ returns-clause-same c = retired_sorted _ _ c.sort_unstable_by.ensures.permutatio
 
 pub returns-clause-sorted : goal.returns-clause-sorted
 returns-clause-sorted c =
-    c.sort_unstable_by.ensures.sorted (λ x y. is_lt (slice_cmp nat_cmp x y)) (ranks_by nat_list_cmp_total (λ (subject : List ℕ). subject)) (always_returns_same _ _ _ (λ a r f called. (search rules, search rules)))
+    c.sort_unstable_by.ensures.sorted (λ x y. is_lt (slice_cmp nat_cmp x y))
+    (ranks_by nat_list_cmp_total (λ (subject : List ℕ). subject))
+    (always_returns_same _ _ _ (λ a r f called. (search rules, search rules)))

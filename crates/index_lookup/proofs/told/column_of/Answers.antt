@@ -14,7 +14,8 @@ use Rattle.index_lookup.proofs.told.column_of.Goals as goal
 pub returns-in_err-table-clause-read : goal.returns-in_err-table-clause-read
 returns-in_err-table-clause-read g c =
     passed_on _ _ _ _ _ _ _ _ _ _ _ c.in_err-table.was c.from_residual.ensures.1
-    (λ text known absent long slice all is stored. absent long slice all is (subst (λ claim. AreStored text claim all) c.args.numbered.now.fields.claim_is stored))
+    (λ text known absent long slice all is stored. absent long slice all is
+    (subst (λ claim. AreStored text claim all) c.args.numbered.now.fields.claim_is stored))
     c.owns_by_claim.ensures.read
 
 pub returns-in_err-frames-clause-read : goal.returns-in_err-frames-clause-read
@@ -24,7 +25,8 @@ returns-in_err-frames-clause-read g c =
     passed_on _ _ _ _ _ _ _ _ _ _ _ c.in_err-frames.was c.from_residual-in_err-frames.ensures.1
     (λ text known absent long slice all is stored.
     absent (subst (λ (fields : Claim). IsTableBy text (claim_view fields) c.in_ok-table.table) named (owns.says text known).0) slice all is
-    (subst (λ (fields : Claim). AreStored text (claim_view fields) all) named (subst (λ claim. AreStored text claim all) c.args.numbered.now.fields.claim_is stored)))
+    (subst (λ (fields : Claim). AreStored text (claim_view fields) all) named
+    (subst (λ claim. AreStored text claim all) c.args.numbered.now.fields.claim_is stored)))
     (after_ok _ _ _ _ _ _ _ _ owns.keeps owns.counts c.frames_if.ensures.read)
 
 pub returns-in_default-clause-read : goal.returns-in_default-clause-read
@@ -49,13 +51,18 @@ returns-clause-read g c =
       says = λ text known.
           let told = owns.says text known in
           let opened = subst (λ (fields : Claim). IsTableBy text (claim_view fields) c.in_ok-table.table) (sym named) told.0 in
-          let has = subst (λ (fields : Claim). AllZip (AreFramesBased c.in_ok-table.base text (claim_view fields)) c.args.asked.now (map list_in c.in-Some.frames.items)) named in
+          let has = subst (λ (fields : Claim). AllZip (AreFramesBased c.in_ok-table.base text (claim_view fields))
+          c.args.asked.now (map list_in c.in-Some.frames.items)) named in
           record {
             digest_is = c.digest_in-digest.ensures ∙ ap (λ (b : List ℕ). take 32 (drop 25 b)) c.bytes.ensures;
-            owns = subst (λ claim. AllZip (IsToldBy text claim) c.args.asked.now (map told_view c.in_ok-table.owns.items)) (sym c.args.numbered.now.fields.claim_is) told.2;
+            owns = subst (λ claim. AllZip (IsToldBy text claim) c.args.asked.now
+                (map told_view c.in_ok-table.owns.items)) (sym c.args.numbered.now.fields.claim_is) told.2;
             frames = λ wanted.
-                subst (λ claim. AllZip (AreFramesToldBy text claim) c.args.asked.now (map list_in c.in-Some.frames.items)) (sym c.args.numbered.now.fields.claim_is)
-                (zip_as _ _ c.args.asked.now _ (λ place list one slice all bytes is may. one slice all bytes (told.1 slice all bytes is may) is may) (has (MatchOption-at_some _ _ _ c.in-Some.is (frames.says text known opened) wanted)));
+                subst (λ claim. AllZip (AreFramesToldBy text claim) c.args.asked.now
+                (map list_in c.in-Some.frames.items)) (sym c.args.numbered.now.fields.claim_is)
+                (zip_as _ _ c.args.asked.now _ (λ place list one slice all bytes is may. one slice all bytes
+                (told.1 slice all bytes is may) is may)
+                (has (MatchOption-at_some _ _ _ c.in-Some.is (frames.says text known opened) wanted)));
           };
       keeps = frames.keeps;
       counts = frames.counts;

@@ -10,7 +10,8 @@ use Rattle.index_lookup.proofs.told.owns_by_claim.Goals as goal
 pub returns-in_err-table-clause-read : goal.returns-in_err-table-clause-read
 returns-in_err-table-clause-read g c =
     passed_on _ _ _ _ _ _ _ _ _ _ _ c.in_err-table.was c.from_residual.ensures.1
-    (λ text known absent long slice all is stored. absent long is.is_table.0 is.is_table.2 (subst (AreStored text (claim_view c.args.claim)) is.is_table.3 stored)) c.open.ensures.read
+    (λ text known absent long slice all is stored. absent long is.is_table.0 is.is_table.2
+    (subst (AreStored text (claim_view c.args.claim)) is.is_table.3 stored)) c.open.ensures.read
 
 pub returns-in_err-owns-clause-read : goal.returns-in_err-owns-clause-read
 returns-in_err-owns-clause-read g c =
@@ -33,7 +34,9 @@ returns-clause-read g c =
             let here = opened.says text known is.is_table.0 is.is_table.2 (subst (MayBeStored text (claim_view c.args.claim)) is.is_table.3 may) in
             c.text_base-base.ensures ∙ here.head.base ∙ is.is_table.1.base,
         zip_as _ _ c.args.asked.now _ (λ place own told slice all bytes is may.
-            told slice is.is_table.0 bytes is.is_table.1 (opened.says text known is.is_table.0 is.is_table.2 (subst (MayBeStored text (claim_view c.args.claim)) is.is_table.3 may))) (asked.says text known),
+            told slice is.is_table.0 bytes is.is_table.1
+            (opened.says text known is.is_table.0 is.is_table.2
+            (subst (MayBeStored text (claim_view c.args.claim)) is.is_table.3 may))) (asked.says text known),
       );
       keeps = asked.keeps;
       counts = asked.counts;

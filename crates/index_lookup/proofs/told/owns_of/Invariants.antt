@@ -12,5 +12,6 @@ invariant-asked g l = record {
   whole : g.P.Placed.whole l.device ≡ g.P.Placed.whole l.initial.device;
   unfailed : g.P.Placed.failures l.device ≡ g.P.Placed.failures l.initial.device;
   keeps : (text : List ℕ) (t : TableParts) → g.P.Placed.whole l.initial.device ≡ Some text → IsOpened l.initial.table text t → IsOpened l.table text t;
-  told : (text : List ℕ) → g.P.Placed.whole l.initial.device ≡ Some text → AllZip (IsOwnOpened l.initial.table text) (take l.place-index l.asked) (map told_view l.owns.items);
+  told : (text : List ℕ) → g.P.Placed.whole l.initial.device ≡ Some text
+      → AllZip (IsOwnOpened l.initial.table text) (take l.place-index l.asked) (map told_view l.owns.items);
 }

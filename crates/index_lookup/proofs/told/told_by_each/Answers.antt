@@ -11,23 +11,31 @@ use Rattle.index_lookup.proofs.told.told_by_each.Goals as goal
 
 pub answering-preserved : goal.answering-preserved
 answering-preserved g c =
-    one_told g.P.Placed.whole g.P.Placed.failures c.args.lines c.args.asked.now c.args.answering.now c.answering.numbered-index c.numbered-item.result c.answering-test.true c.numbered-item.is _ _ _ c.answering.invariant
+    one_told g.P.Placed.whole g.P.Placed.failures c.args.lines c.args.asked.now c.args.answering.now
+    c.answering.numbered-index c.numbered-item.result c.answering-test.true c.numbered-item.is _ _ _
+    c.answering.invariant
     c.told_at.new.devices _ c.in_ok-column.column c.in_default.ensures.items c.in_ok-column.ensures
 
 pub told_at-requires : goal.told_at-requires
 told_at-requires g c =
-    there_here g.P.Placed.whole g.P.Placed.failures c.args.lines c.args.asked.now c.args.answering.now c.answering.numbered-index c.numbered-item.result c.answering-test.true c.numbered-item.is _ _ _ c.answering.invariant c.requires
+    there_here g.P.Placed.whole g.P.Placed.failures c.args.lines c.args.asked.now c.args.answering.now
+    c.answering.numbered-index c.numbered-item.result c.answering-test.true c.numbered-item.is _ _ _
+    c.answering.invariant c.requires
 
 pub returns-in_err-column : goal.returns-in_err-column
 returns-in_err-column g c =
     let p = err_from_is_err_and c.from_residual.result c.from_residual.ensures.1 in
     rw (p.1, p.2)
-    (none_more g.P.Placed.whole g.P.Placed.failures c.args.lines c.args.asked.now c.args.answering.now c.answering.numbered-index c.numbered-item.result c.answering-test.true c.numbered-item.is _ _ _ c.answering.invariant
+    (none_more g.P.Placed.whole g.P.Placed.failures c.args.lines c.args.asked.now c.args.answering.now
+    c.answering.numbered-index c.numbered-item.result c.answering-test.true c.numbered-item.is _ _ _
+    c.answering.invariant
     c.told_at.new.devices c.in_err-column.field-0.0 _ c.in_err-column.ensures)
 
 pub returns-in-Err : goal.returns-in-Err
 returns-in-Err g c =
-    no_memory g.P.Placed.whole g.P.Placed.failures c.args.lines c.args.asked.now c.args.answering.now c.answering.numbered-index c.numbered-item.result c.answering-test.true c.numbered-item.is _ _ _ c.answering.invariant
+    no_memory g.P.Placed.whole g.P.Placed.failures c.args.lines c.args.asked.now c.args.answering.now
+    c.answering.numbered-index c.numbered-item.result c.answering-test.true c.numbered-item.is _ _ _
+    c.answering.invariant
     c.told_at.new.devices c.in_ok-column.column _ c.in_ok-column.ensures
 
 pub returns : goal.returns
@@ -36,7 +44,9 @@ returns g c =
     let told = c.answering.invariant in
     record {
       says = λ texts have.
-          subst (λ (es : List EntryAt). AllZip (IsColumnAt texts c.args.lines c.args.asked.now) es c.answering.columns.items) (take_all c.answering.numbered-index xs (omega (arith, length-map c.args.answering.now entry_at, c.answering-test.false))) (told.says texts have);
+          subst (λ (es : List EntryAt). AllZip (IsColumnAt texts c.args.lines c.args.asked.now) es
+          c.answering.columns.items) (take_all c.answering.numbered-index xs
+          (omega (arith, length-map c.args.answering.now entry_at, c.answering-test.false))) (told.says texts have);
       keeps = told.keeps;
       counts = told.counts;
     }

@@ -40,7 +40,9 @@ all_put P u (v ∷ vs) p all = cond_both (bytes_eq u v) _ _ (AllByRecursion P) (
 
 off_put : (P : List ℕ → Type 0) (u : List ℕ) (vs : List (List ℕ)) → AllByRecursion P (put u vs) → P u × AllByRecursion P vs
 off_put P u [] all = all
-off_put P u (v ∷ vs) all = cond_both (bytes_eq u v) (v ∷ vs) (u ∷ v ∷ vs) (λ ws. AllByRecursion P ws → P u × AllByRecursion P (v ∷ vs)) (λ e h. (subst P (sym ((bytes_eq-Decides u v).0 e)) h.0, h)) (λ e h. h) all
+off_put P u (v ∷ vs) all = cond_both (bytes_eq u v) (v ∷ vs) (u ∷ v ∷ vs)
+    (λ ws. AllByRecursion P ws → P u × AllByRecursion P (v ∷ vs))
+    (λ e h. (subst P (sym ((bytes_eq-Decides u v).0 e)) h.0, h)) (λ e h. h) all
 
 from_rows : (P : List ℕ → Type 0) (rows : List FindRow) → AllByRecursion (λ row. P row.key.uuid) rows → AllByRecursion P (uuids_of rows)
 from_rows P [] all = tt
@@ -60,7 +62,8 @@ all_above : (u v : List ℕ) → slice_cmp nat_cmp u v ≡ Less → (ws : List (
 all_above u v less [] above = tt
 all_above u v less (w ∷ ws) above = (nat_list_cmp_total.trans u v w less above.0, all_above u v less ws above.1)
 
-ascending_put : (u : List ℕ) (vs : List (List ℕ)) → AllByRecursion (λ v. slice_cmp nat_cmp u v ≢ Greater) vs → IsStrictlySortedBy (slice_cmp nat_cmp) vs → IsStrictlySortedBy (slice_cmp nat_cmp) (put u vs)
+ascending_put : (u : List ℕ) (vs : List (List ℕ)) → AllByRecursion (λ v. slice_cmp nat_cmp u v ≢ Greater) vs
+    → IsStrictlySortedBy (slice_cmp nat_cmp) vs → IsStrictlySortedBy (slice_cmp nat_cmp) (put u vs)
 unfolding IsStrictlySortedBy
 ascending_put u [] low up = (tt, tt)
 ascending_put u (v ∷ vs) low up = cond_both (bytes_eq u v) _ _ (IsStrictlySortedBy (slice_cmp nat_cmp)) (λ e. up)
@@ -69,7 +72,8 @@ ascending_put u (v ∷ vs) low up = cond_both (bytes_eq u v) _ _ (IsStrictlySort
 ascending_uuids : (rows : List FindRow) → Ascend rows → IsStrictlySortedBy (slice_cmp nat_cmp) (uuids_of rows)
 unfolding IsStrictlySortedBy
 ascending_uuids [] up = tt
-ascending_uuids (row ∷ rows) up = ascending_put row.key.uuid (uuids_of rows) (from_rows (λ v. slice_cmp nat_cmp row.key.uuid v ≢ Greater) rows up.0) (ascending_uuids rows up.1)
+ascending_uuids (row ∷ rows) up = ascending_put row.key.uuid (uuids_of rows)
+    (from_rows (λ v. slice_cmp nat_cmp row.key.uuid v ≢ Greater) rows up.0) (ascending_uuids rows up.1)
 
 -- a UUID differs from those above it
 differs : (u v : List ℕ) → slice_cmp nat_cmp u v ≡ Less → bytes_eq u v ≡ false
@@ -79,13 +83,15 @@ differs_back : (u v : List ℕ) → slice_cmp nat_cmp u v ≡ Less → bytes_eq 
 differs_back u v e = sym (is_eq-slice_cmp v u) ∙ ap is_eq (nat_list_cmp_total.antisymm v u ∙ ap ordering_reverse e)
 
 -- a row changes nothing of the rows of UUIDs above its own
-passed : (row : FindRow) (rows : List FindRow) (vs : List (List ℕ)) → Above row.key.uuid vs → flat_map (λ v. rows_under v (row ∷ rows)) vs ≡ flat_map (λ v. rows_under v rows) vs
+passed : (row : FindRow) (rows : List FindRow) (vs : List (List ℕ)) → Above row.key.uuid vs
+    → flat_map (λ v. rows_under v (row ∷ rows)) vs ≡ flat_map (λ v. rows_under v rows) vs
 passed row rows [] above = refl
 passed row rows (v ∷ vs) above = λ i. cond (differs row.key.uuid v above.0 i) (row ∷ rows_under v rows) (rows_under v rows) ++ passed row rows vs above.1 i
 
 none_under : (u : List ℕ) (rows : List FindRow) → AllByRecursion (λ row. slice_cmp nat_cmp u row.key.uuid ≡ Less) rows → rows_under u rows ≡ []
 none_under u [] above = refl
-none_under u (row ∷ rows) above = ap (λ b. cond b (row ∷ rows_under u rows) (rows_under u rows)) (differs_back u row.key.uuid above.0) ∙ none_under u rows above.1
+none_under u (row ∷ rows) above = ap (λ b. cond b (row ∷ rows_under u rows) (rows_under u rows))
+    (differs_back u row.key.uuid above.0) ∙ none_under u rows above.1
 
 own_under : (row : FindRow) (rows : List FindRow) → rows_under row.key.uuid (row ∷ rows) ≡ row ∷ rows_under row.key.uuid rows
 own_under row rows = ap (λ b. cond b (row ∷ rows_under row.key.uuid rows) (rows_under row.key.uuid rows)) ((bytes_eq-Decides row.key.uuid row.key.uuid).1 refl)
@@ -101,13 +107,15 @@ one_more row rows [] is whole up low =
 one_more row rows (v ∷ vs) is whole up low = cond_both (bytes_eq row.key.uuid v) _ _ (λ ws. flat_map (λ w. rows_under w (row ∷ rows)) ws ≡ row ∷ rows)
     (λ e.
     let same : row.key.uuid ≡ v = (bytes_eq-Decides row.key.uuid v).0 e in
-    let front : rows_under v (row ∷ rows) ≡ row ∷ rows_under v rows = subst (λ w. rows_under w (row ∷ rows) ≡ row ∷ rows_under w rows) same (own_under row rows) in
+    let front : rows_under v (row ∷ rows) ≡ row ∷ rows_under v rows =
+    subst (λ w. rows_under w (row ∷ rows) ≡ row ∷ rows_under w rows) same (own_under row rows) in
     let rest = passed row rows vs (subst (λ w. Above w vs) (sym same) up.0) in
     (λ i. front i ++ rest i) ∙ ap (λ rs. row ∷ rs) whole)
     (λ e.
     let less = less_by row.key.uuid v (slice_cmp nat_cmp row.key.uuid v) refl low.0 e in
     let above : Above row.key.uuid (v ∷ vs) = (less, all_above row.key.uuid v less vs up.0) in
-    let none : rows_under row.key.uuid rows ≡ [] = none_under row.key.uuid rows (to_rows (λ w. slice_cmp nat_cmp row.key.uuid w ≡ Less) rows (subst (Above row.key.uuid) (sym is) above)) in
+    let none : rows_under row.key.uuid rows ≡ [] = none_under row.key.uuid rows
+    (to_rows (λ w. slice_cmp nat_cmp row.key.uuid w ≡ Less) rows (subst (Above row.key.uuid) (sym is) above)) in
     let front : rows_under row.key.uuid (row ∷ rows) ≡ row ∷ [] = own_under row rows ∙ ap (λ rs. row ∷ rs) none in
     let rest = passed row rows (v ∷ vs) above in
     (λ i. front i ++ rest i) ∙ ap (λ rs. row ∷ rs) whole)
@@ -115,7 +123,8 @@ one_more row rows (v ∷ vs) is whole up low = cond_both (bytes_eq row.key.uuid 
 whole_by_uuid : (rows : List FindRow) → Ascend rows → flat_map (λ u. rows_under u rows) (uuids_of rows) ≡ rows
 whole_by_uuid [] up = refl
 whole_by_uuid (row ∷ rows) up =
-    one_more row rows (uuids_of rows) refl (whole_by_uuid rows up.1) (ascending_uuids rows up.1) (from_rows (λ v. slice_cmp nat_cmp row.key.uuid v ≢ Greater) rows up.0)
+    one_more row rows (uuids_of rows) refl (whole_by_uuid rows up.1) (ascending_uuids rows up.1)
+    (from_rows (λ v. slice_cmp nat_cmp row.key.uuid v ≢ Greater) rows up.0)
 
 -- the rows of a list ascend by UUID
 not_greater : (o p : Ordering) → ordering_then o p ≡ Less → o ≢ Greater
@@ -126,7 +135,8 @@ unfolding IsStrictlySortedBy
 ascend_from [] up = tt
 ascend_from (x ∷ xs) up = (each xs up.0, ascend_from xs up.1)
   where
-    each : (ys : List Operation) → AllByRecursion (λ y. list_cmp x y ≡ Less) ys → AllByRecursion (λ other. slice_cmp nat_cmp (key_in x).uuid other.key.uuid ≢ Greater) (map row_of ys)
+    each : (ys : List Operation) → AllByRecursion (λ y. list_cmp x y ≡ Less) ys
+        → AllByRecursion (λ other. slice_cmp nat_cmp (key_in x).uuid other.key.uuid ≢ Greater) (map row_of ys)
     each [] g = tt
     each (y ∷ ys) g = (not_greater (slice_cmp nat_cmp (key_in x).uuid (key_in y).uuid) (find_cmp x y) g.0, each ys g.1)
 

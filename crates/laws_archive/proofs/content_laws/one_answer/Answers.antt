@@ -13,7 +13,8 @@ use Rattle.laws_archive.proofs.Given.{one_zipped}
 use Rattle.command_queries.proofs.Sourced.{one_answering}
 use Rattle.laws_archive.proofs.content_laws.one_answer.Goals as goal
 
-module _ (one : (image : List ℕ) (address : ℕ) (found other : Option Tuple) → IsNearest image address found → IsNearest image address other → found ≡ other) where
+module _ (one : (image : List ℕ) (address : ℕ) (found other : Option Tuple) → IsNearest image address found
+    → IsNearest image address other → found ≡ other) where
   -- a slice tells one thing of a place
   one_own : (slice : List ℕ) (at : Option ℕ) (f g : Option FoundRecord)
       → MatchOption at (f ≡ None) (λ address. FindsNearest slice address f) → MatchOption at (g ≡ None) (λ address. FindsNearest slice address g) → f ≡ g
@@ -26,7 +27,8 @@ module _ (one : (image : List ℕ) (address : ℕ) (found other : Option Tuple) 
       let own = one_own slice (file_address slice asked) row.own other.own a.own_is b.own_is in
       λ i. record { digest = digest i; own = own i }
 
-  one_answer_of : (asked : Where) (slices : List (List ℕ)) (answer other : AnswerRecord) → IsAnswerOf asked slices answer → IsAnswerOf asked slices other → answer ≡ other
+  one_answer_of : (asked : Where) (slices : List (List ℕ)) (answer other : AnswerRecord)
+      → IsAnswerOf asked slices answer → IsAnswerOf asked slices other → answer ≡ other
   one_answer_of asked slices Unanswered Unanswered a b = refl
   one_answer_of asked slices Unanswered (Alone own) a b = cc (sym a ∙ b.1)
   one_answer_of asked slices Unanswered (Disputed rows) a b = absurd (omega (arith, ap length a, b.0))
@@ -40,7 +42,8 @@ module _ (one : (image : List ℕ) (address : ℕ) (found other : Option Tuple) 
   one_answer_of asked slices (Disputed rows) (Disputed others) a b =
       ap Disputed (one_zipped (IsOwnRow asked) (IsOwnRow asked) (one_row asked) slices rows others a.1 b.1)
 
-  one_answer : (o : Operations) (key : SliceKey) (asked : Where) (answer other : AnswerRecord) → IsAnswer o key asked answer → IsAnswer o key asked other → answer ≡ other
+  one_answer : (o : Operations) (key : SliceKey) (asked : Where) (answer other : AnswerRecord)
+      → IsAnswer o key asked answer → IsAnswer o key asked other → answer ≡ other
   one_answer o key asked answer other a b =
       let same = one_answering o key a.slices b.slices a.answering b.answering in
       one_answer_of asked a.slices answer other a.answer_is (subst (λ slices. IsAnswerOf asked slices other) (sym same) b.answer_is)

@@ -13,7 +13,8 @@ pub returns : goal.returns
 returns g c = record {
   admit = λ input files o texts content given files_given accepted at why.
       listed_refused input files o texts at why content given IsGiven IsAcceptedFile File IsAccepted IsFileRefused
-      (λ file text fine is. file_accepted c.one_take_fault.ensures.none file file why (text, is, is) (text, fine, gives file text (λ bytes. bytes ≡ text) is refl))
+      (λ file text fine is. file_accepted c.one_take_fault.ensures.none file file why (text, is, is)
+      (text, fine, gives file text (λ bytes. bytes ≡ text) is refl))
       files_given accepted;
   retire = λ key digest input o at why content given refused. archive_alone input o why content given refused.1;
   merge = λ input files o contents content are given files_given at why. merge_refused input files o contents at why content are given files_given;

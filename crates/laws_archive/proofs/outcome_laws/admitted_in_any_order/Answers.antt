@@ -7,7 +7,8 @@ use Rattle.archive_admission.proofs.Resumed.{admitted_alike}
 use Rattle.command_write.specs.Admit.{images_of}
 use Rattle.laws_archive.proofs.outcome_laws.admitted_in_any_order.Goals as goal
 
-same_images : (files others : List (List ℕ)) → ((file : List ℕ) → Contains files file → Contains others file) → (image : List ℕ) → Contains (images_of files) image → Contains (images_of others) image
+same_images : (files others : List (List ℕ)) → ((file : List ℕ) → Contains files file → Contains others file)
+    → (image : List ℕ) → Contains (images_of files) image → Contains (images_of others) image
 same_images files others all image in_all =
     let found = in_flat_map admissible files image in_all in to_flat_map admissible others found.0 image (all found.0 found.1) found.2
 

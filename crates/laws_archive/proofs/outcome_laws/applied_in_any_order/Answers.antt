@@ -22,6 +22,9 @@ returns c =
     let laws = c.takes_in_any_order.ensures in
     record {
       content = λ o operations is_made. laws.union o (map record_bytes operations) is_made;
-      order = λ o operations others is_made same. laws.order o (map record_bytes operations) (map record_bytes others) is_made (same_records operations others same);
-      text = λ o operations others is_made same. ap written (laws.order o (map record_bytes operations) (map record_bytes others) is_made (same_records operations others same));
+      order = λ o operations others is_made same. laws.order o (map record_bytes operations) (map record_bytes others)
+          is_made (same_records operations others same);
+      text = λ o operations others is_made same. ap written
+          (laws.order o (map record_bytes operations) (map record_bytes others) is_made
+          (same_records operations others same));
     }

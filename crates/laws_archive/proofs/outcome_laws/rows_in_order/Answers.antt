@@ -1,4 +1,5 @@
-use Rattle.std.proofs.Common.{◌≡◌, ℕ, ◌+◌, List, [], ◌∷◌, ◌++◌, length, length-take, take, take-append-drop, drop, drop-cons, Some, refl, sym, ap, ◌∙◌, add-one, arith, slice_get, append-nil}
+use Rattle.std.proofs.Common.{◌≡◌, ℕ, ◌+◌, List, [], ◌∷◌, ◌++◌, length, length-take, take, take-append-drop, drop}
+use Rattle.std.proofs.Common.{drop-cons, Some, refl, sym, ap, ◌∙◌, add-one, arith, slice_get, append-nil}
 use Rattle.std.proofs.lemmas.Option.{get_or_from_slice_get, slice_get_within}
 use Rattle.std.proofs.lemmas.Grind.{flat_map-append}
 use Rattle.archive_core.specs.Content.{Operations}
@@ -15,13 +16,15 @@ use Rattle.laws_archive.proofs.outcome_laws.rows_in_order.Goals as goal
 cut_at : (files : List (List ℕ)) (place : ℕ) (file : List ℕ) → slice_get files place ≡ Some file → files ≡ take place files ++ file ∷ drop (place + 1) files
 cut_at files place file is =
     let lt = slice_get_within files place file is in
-    sym (take-append-drop place files) ∙ ap (λ (fs : List (List ℕ)). take place files ++ fs) (rw (add-one, drop-cons files place [] lt, get_or_from_slice_get files place file [] is) refl)
+    sym (take-append-drop place files) ∙ ap (λ (fs : List (List ℕ)). take place files ++ fs)
+    (rw (add-one, drop-cons files place [] lt, get_or_from_slice_get files place file [] is) refl)
 
 from_start : (files : List (List ℕ)) (place : ℕ) (file : List ℕ) → slice_get files place ≡ Some file → 0 + length (take place files) ≡ place
 from_start files place file is = omega (arith, length-take place files, slice_get_within files place file is)
 
 -- the rows of a file, and of those after it
-rows_from : (o : Operations) (place : ℕ) (file : List ℕ) (rest : List (List ℕ)) → admit_rows o place (file ∷ rest) ≡ file_rows place 0 (taken_rows o (parts file)) ++ admit_rows (admitted o (admissible file)) (place + 1) rest
+rows_from : (o : Operations) (place : ℕ) (file : List ℕ) (rest : List (List ℕ)) → admit_rows o place (file ∷ rest)
+    ≡ file_rows place 0 (taken_rows o (parts file)) ++ admit_rows (admitted o (admissible file)) (place + 1) rest
 unfolding admit_rows
 rows_from o place file rest = refl
 
@@ -39,4 +42,9 @@ returns c = λ o files place file is.
     let behind = drop (place + 1) files in
     ap (λ (fs : List (List ℕ)). admit_rows o 0 fs) (cut_at files place file is)
     ∙ admit_rows-append o 0 before (file ∷ behind)
-    ∙ ap (λ (rows : List AdmitRow). admit_rows o 0 before ++ rows) (rw (from_start files place file is, rows_from (admitted o (images_of before)) place file behind, content_to o files place file is) refl)
+    ∙ ap (λ (rows : List AdmitRow). admit_rows o 0 before ++ rows)
+    (rw (
+      from_start files place file is,
+      rows_from (admitted o (images_of before)) place file behind,
+      content_to o files place file is,
+    ) refl)

@@ -14,9 +14,12 @@ returns g c = record {
   retire = λ input other key digest alike. one_archive input other alike;
   merge = λ input other files others alike each.
       let first = one_first IsArchive IsArchiveRefused IsArchive IsArchiveRefused archives_agree further_name files others each in
-      one_in_turn input other alike (IsFirstRefused further_name IsArchive IsArchiveRefused files) (IsFirstRefused further_name IsArchive IsArchiveRefused others) first;
+      one_in_turn input other alike (IsFirstRefused further_name IsArchive IsArchiveRefused files)
+      (IsFirstRefused further_name IsArchive IsArchiveRefused others) first;
   migrate = λ input other alike. one_archive input other alike;
-  apply = λ input other ops others alike each. one_in_turn input other alike (IsRefusedOps ops) (IsRefusedOps others) (one_at OperationsFile Ops ops others each);
+  apply = λ input other ops others alike each. one_in_turn input other alike (IsRefusedOps ops) (IsRefusedOps others)
+      (one_at OperationsFile Ops ops others each);
   summary = λ archive other alike. one_archive archive other alike;
-  delta = λ archive other named others alike each. one_in_turn archive other alike (IsRefusedSummary named) (IsRefusedSummary others) (one_at SummaryFile Summary named others each);
+  delta = λ archive other named others alike each. one_in_turn archive other alike (IsRefusedSummary named)
+      (IsRefusedSummary others) (one_at SummaryFile Summary named others each);
 }

@@ -10,14 +10,17 @@ use Rattle.command_common.specs.declared.faults.Status.{Status}
 use Rattle.command_common.specs.declared.faults.Why.{Why}
 use Rattle.command_common.specs.Archives.{AreRefused, AreUnfailed, HoldTogether, further_name, merged}
 use Rattle.command_common.specs.Ends.{Query}
-use Rattle.command_common.specs.Inputs.{Reader, EachUntouched, HoldsArchive, IsArchive, IsArchiveRefused, IsDeviceFault, IsFirstRefused, IsGivenArchive, IsRefusedInOrder, IsRefusedInTurn}
+use Rattle.command_common.specs.Inputs.{Reader, EachUntouched, HoldsArchive, IsArchive, IsArchiveRefused, IsDeviceFault}
+use Rattle.command_common.specs.Inputs.{IsFirstRefused, IsGivenArchive, IsRefusedInOrder, IsRefusedInTurn}
 use Rattle.command_common.specs.Outputs.{Takes}
 use Rattle.command_queries.specs.Frames.{MakesFramed, RefusesFrames, TellsFramesWith, frames}
 use Rattle.laws_archive.specs.Joins.{IsGivenJoin, TellOne}
 use Rattle.laws_archive.specs.Refusals.{ArchivesHoldAlike, EachHoldAlike, EndAlike, HoldAlike, RefuseOne}
 use Rattle.laws_archive.proofs.Given.{is_given, one_value}
 use Rattle.laws_archive.proofs.Joins.{told_of_join, found_once, listed_once, named_once}
-use Rattle.laws_archive.proofs.Refusals.{all_good, archives_agree, carried, each_swapped, frames_accepted, good_in_turn, one_first, one_frames, one_in_turn, swapped, one_archive, one_script, script_accepted}
+use Rattle.laws_archive.proofs.Refusals.{all_good, archives_agree, carried, each_swapped, frames_accepted, good_in_turn}
+use Rattle.laws_archive.proofs.Refusals.{one_first, one_frames, one_in_turn, swapped, one_archive, one_script}
+use Rattle.laws_archive.proofs.Refusals.{script_accepted}
 use Rattle.text_inputs.specs.Script.{acts, script_of}
 use Rattle.command_common.specs.Found.{TellsFound}
 use Rattle.command_queries.specs.List.{list}
@@ -52,11 +55,13 @@ ends_alike query other made one left right report another d ended a b going goin
 
 -- ---- archives
 
-in_turn : {S : Type 0} (x : Reader S) (Untouched : Type 0) (Behind : InputName → Why → Type 0) (at : InputName) (why : Why) → IsRefusedInOrder x Untouched Behind at why → IsRefusedInTurn x Behind at why
+in_turn : {S : Type 0} (x : Reader S) (Untouched : Type 0) (Behind : InputName → Why → Type 0) (at : InputName)
+    (why : Why) → IsRefusedInOrder x Untouched Behind at why → IsRefusedInTurn x Behind at why
 in_turn x Untouched Behind at why (inl p) = inl p.0
 in_turn x Untouched Behind at why (inr p) = inr p
 
-given_others : {R S : Type 0} (xs : List (Reader R)) (ys : List (Reader S)) (contents : List Operations) → EachHoldAlike xs ys → AllZip HoldsArchive xs contents → AllZip IsGivenArchive ys contents
+given_others : {R S : Type 0} (xs : List (Reader R)) (ys : List (Reader S)) (contents : List Operations)
+    → EachHoldAlike xs ys → AllZip HoldsArchive xs contents → AllZip IsGivenArchive ys contents
 given_others [] [] [] alike holds = tt
 given_others [] [] (o ∷ contents) alike holds = absurd holds
 given_others (x ∷ xs) (y ∷ ys) [] alike holds = absurd holds
@@ -64,16 +69,19 @@ given_others (x ∷ xs) (y ∷ ys) (o ∷ contents) alike holds =
     let c = carried x y (IsArchiveOf o) alike.0 holds.0 in ((c.0, c.3, c.2), given_others xs ys contents alike.1 holds.1)
 given_others _ _ contents alike holds = absurd alike
 
-are_archives : {R : Type 0} (xs : List (Reader R)) (contents : List Operations) → AllByRecursion IsContent contents → AllZip HoldsArchive xs contents → AllByRecursion IsArchive xs
+are_archives : {R : Type 0} (xs : List (Reader R)) (contents : List Operations) → AllByRecursion IsContent contents
+    → AllZip HoldsArchive xs contents → AllByRecursion IsArchive xs
 are_archives [] [] are holds = tt
 are_archives (x ∷ xs) (o ∷ contents) are holds = ((o, are.0, holds.0), are_archives xs contents are.1 holds.1)
 are_archives _ _ are holds = absurd holds
 
-module _ {Q R S T : Type 0} (archive : Reader Q) (others : List (Reader R)) (also : Reader S) (more : List (Reader T)) (alike : ArchivesHoldAlike archive others also more) where
+module _ {Q R S T : Type 0} (archive : Reader Q) (others : List (Reader R)) (also : Reader S) (more : List (Reader T))
+    (alike : ArchivesHoldAlike archive others also more) where
   one_of_archives : RefuseOne (AreRefused archive others) (AreRefused also more)
   one_of_archives at other why another a b alone alone_too =
       let behind = one_first IsArchive IsArchiveRefused IsArchive IsArchiveRefused archives_agree further_name others more alike.1 in
-      one_in_turn archive also alike.0 (IsFirstRefused further_name IsArchive IsArchiveRefused others) (IsFirstRefused further_name IsArchive IsArchiveRefused more) behind at other why another
+      one_in_turn archive also alike.0 (IsFirstRefused further_name IsArchive IsArchiveRefused others)
+      (IsFirstRefused further_name IsArchive IsArchiveRefused more) behind at other why another
       (in_turn archive (EachUntouched others) (IsFirstRefused further_name IsArchive IsArchiveRefused others) at why a)
       (in_turn also (EachUntouched more) (IsFirstRefused further_name IsArchive IsArchiveRefused more) other another b) alone alone_too
 
@@ -95,15 +103,18 @@ module _ {Q R S T : Type 0} (archive : Reader Q) (others : List (Reader R)) (als
   both_tell IsTrue IsSo held also_held =
       (merged held.content held.contents, held.is_true, told_of_join also more (merged held.content held.contents) (given_together IsTrue held) IsSo also_held)
 
-  held_fails : (IsTrue : Operations → Type 0) (at : InputName) (why : Why) → HoldTogether archive others IsTrue → AreRefused also more at why → IsDeviceFault why
+  held_fails : (IsTrue : Operations → Type 0) (at : InputName) (why : Why) → HoldTogether archive others IsTrue
+      → AreRefused also more at why → IsDeviceFault why
   held_fails IsTrue at why held refused =
       let good = are_archives others held.contents held.are_contents held.others_are in
-      good_in_turn archive also alike.0 (IsFirstRefused further_name IsArchive IsArchiveRefused others) (IsFirstRefused further_name IsArchive IsArchiveRefused more) at why
+      good_in_turn archive also alike.0 (IsFirstRefused further_name IsArchive IsArchiveRefused others)
+      (IsFirstRefused further_name IsArchive IsArchiveRefused more) at why
       (held.content, held.is_content, held.archive_is)
       (λ first. all_good IsArchive IsArchiveRefused IsArchive IsArchiveRefused archives_agree further_name others more at why alike.1 good first)
       (in_turn also (EachUntouched more) (IsFirstRefused further_name IsArchive IsArchiveRefused more) at why refused)
 
-alike_too : {Q R S T : Type 0} (archive : Reader Q) (others : List (Reader R)) (also : Reader S) (more : List (Reader T)) → ArchivesHoldAlike archive others also more → ArchivesHoldAlike also more archive others
+alike_too : {Q R S T : Type 0} (archive : Reader Q) (others : List (Reader R)) (also : Reader S)
+    (more : List (Reader T)) → ArchivesHoldAlike archive others also more → ArchivesHoldAlike also more archive others
 alike_too archive others also more alike = (swapped archive also alike.0, each_swapped others more alike.1)
 
 -- what their join tells
@@ -114,8 +125,10 @@ put_together archive others Tells = record {
   Unfailed = AreUnfailed archive others;
 }
 
-asked_alike : {Q R S T : Type 0} (archive : Reader Q) (others : List (Reader R)) (also : Reader S) (more : List (Reader T)) (Tells : Operations → Status → List ℕ → Type 0)
-    → ((o : Operations) → TellOne (Tells o) (Tells o)) → ArchivesHoldAlike archive others also more → EndAlike (put_together archive others Tells) (put_together also more Tells)
+asked_alike : {Q R S T : Type 0} (archive : Reader Q) (others : List (Reader R)) (also : Reader S)
+    (more : List (Reader T)) (Tells : Operations → Status → List ℕ → Type 0)
+    → ((o : Operations) → TellOne (Tells o) (Tells o)) → ArchivesHoldAlike archive others also more
+    → EndAlike (put_together archive others Tells) (put_together also more Tells)
 asked_alike archive others also more Tells one alike =
     ends_alike (put_together archive others Tells) (put_together also more Tells)
     (λ status other_status text other_text a b.
@@ -133,11 +146,16 @@ module _ {O P Q R S T : Type 0} (input : Reader O) (archive : Reader Q) (others 
   one_of_frames at name why another (inl a) (inl b) alone alone_too = (a.0.0 ∙ sym b.0.0, one_frames input also why another alike a.0.1 b.0.1 alone alone_too)
   one_of_frames at name why another (inl a) (inr b) alone alone_too = absurd (alone (frames_accepted also input why (swapped input also alike) b.0 a.0.1))
   one_of_frames at name why another (inr a) (inl b) alone alone_too = absurd (alone_too (frames_accepted input also another alike a.0 b.0.1))
-  one_of_frames at name why another (inr a) (inr b) alone alone_too = one_of_archives archive others other more archives at name why another a.2 b.2 alone alone_too
+  one_of_frames at name why another (inr a) (inr b) alone alone_too =
+      one_of_archives archive others other more archives at name why another a.2 b.2 alone alone_too
 
-  framed_fails : (lines slices : Bool) (status : Status) (text : List ℕ) (at : InputName) (why : Why) → MakesFramed lines slices input archive others status text → RefusesFrames also other more at why → IsDeviceFault why
+  framed_fails : (lines slices : Bool) (status : Status) (text : List ℕ) (at : InputName) (why : Why)
+      → MakesFramed lines slices input archive others status text → RefusesFrames also other more at why
+      → IsDeviceFault why
   framed_fails lines slices status text at why makes (inl b) = frames_accepted input also why alike (makes.listed, makes.frames_are) b.0.1
-  framed_fails lines slices status text at why makes (inr b) = held_fails archive others other more archives (λ o. TellsFramesWith lines slices o makes.listed status text) at why makes.tells b.2
+  framed_fails lines slices status text at why makes (inr b) =
+      held_fails archive others other more archives (λ o. TellsFramesWith lines slices o makes.listed status text) at
+      why makes.tells b.2
 
 pub returns : goal.returns
 returns g c = record {
@@ -155,11 +173,13 @@ returns g c = record {
   symbolicate = λ archive others also more key load lines slices addresses.
       asked_alike archive others also more (λ o status text. TellsAddressesWith o key load lines slices addresses status text)
       (λ o. addresses_once (one_told c.one_answer.ensures.one c.one_list_of_frames.ensures) o key load lines slices addresses);
-  frames = λ lines slices input archive others also other more alike archives. ends_alike (frames lines slices input archive others) (frames lines slices also other more)
+  frames = λ lines slices input archive others also other more alike archives. ends_alike
+      (frames lines slices input archive others) (frames lines slices also other more)
       (λ status other_status text other_text a b.
       let k = carried input also (λ bytes. frames_of bytes ≡ Ok a.listed) alike a.frames_are in
       let same = one_value (frames_of k.0) b.listed a.listed (is_given also k.0 (λ bytes. frames_of bytes ≡ Ok b.listed) k.2 b.frames_are) k.3 in
-      let both = both_tell archive others other more archives (λ o. TellsFramesWith lines slices o a.listed status text) (λ o. TellsFramesWith lines slices o b.listed other_status other_text) a.tells b.tells in
+      let both = both_tell archive others other more archives (λ o. TellsFramesWith lines slices o a.listed status text)
+      (λ o. TellsFramesWith lines slices o b.listed other_status other_text) a.tells b.tells in
       frames_once (one_frame_told c.one_answer.ensures.one c.one_list_of_frames.ensures) lines slices both.0 a.listed status other_status text other_text both.1
       (subst (λ (s : List Frame). TellsFramesWith lines slices both.0 s other_status other_text) same both.2))
       (one_of_frames input archive others also other more alike archives)

@@ -12,7 +12,17 @@ returns g c = record {
   symbolicate = λ archive others file key load lines slices addresses m status text.
       as_merged archive others file m (λ p. TellsAddressesWith p key load lines slices addresses status text);
   frames = λ lines slices input archive others file m status text. (
-    λ t. record { listed = t.listed; frames_are = t.frames_are; tells = (as_merged archive others file m (λ p. TellsFramesWith lines slices p t.listed status text)).0 t.tells },
-    λ t. record { listed = t.listed; frames_are = t.frames_are; tells = (as_merged archive others file m (λ p. TellsFramesWith lines slices p t.listed status text)).1 t.tells },
+    λ t. record {
+      listed = t.listed;
+      frames_are = t.frames_are;
+      tells =
+          (as_merged archive others file m (λ p. TellsFramesWith lines slices p t.listed status text)).0 t.tells;
+    },
+    λ t. record {
+      listed = t.listed;
+      frames_are = t.frames_are;
+      tells =
+          (as_merged archive others file m (λ p. TellsFramesWith lines slices p t.listed status text)).1 t.tells;
+    },
   );
 }

@@ -12,7 +12,8 @@ returns g c = record {
   list = λ archive other o content given also_given. listed_once c.one_list.ensures.one archive other o content given also_given;
   name = λ archive others also more o sought. told_once archive others also more o (λ p. TellsNamed p sought) (c.one_telling.ensures.name o sought);
   symbolicate = λ archive others also more o key load lines slices addresses.
-      told_once archive others also more o (λ p. TellsAddressesWith p key load lines slices addresses) (c.one_telling.ensures.symbolicate o key load lines slices addresses);
+      told_once archive others also more o (λ p. TellsAddressesWith p key load lines slices addresses)
+      (c.one_telling.ensures.symbolicate o key load lines slices addresses);
   frames = λ lines slices input archive others also other more bytes o given also_given join also_join status other_status text other_text.
       one_made c.one_answer.ensures.one c.one_list_of_frames.ensures lines slices input archive others also other more bytes o
       status other_status text other_text given also_given join also_join;

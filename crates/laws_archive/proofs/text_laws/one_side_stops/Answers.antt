@@ -6,7 +6,8 @@ use Rattle.laws_archive.proofs.text_laws.one_side_stops.Goals as goal
 side : (left right : List ℕ) (lefts rights : List (List ℕ)) → LeftStops left right lefts rights → RightStops left right lefts rights → ⊥
 side left right lefts rights l r = by l.first r.first
   where
-    by : (HasMagic left → ⊥) ⊎ (HasMagic right × (IsArchiveText right ⊎ (EndsBelow rights lefts → ⊥))) → (HasMagic right → ⊥) ⊎ IsArchiveText left ⊎ EndsBelow rights lefts → ⊥
+    by : (HasMagic left → ⊥) ⊎ (HasMagic right × (IsArchiveText right ⊎ (EndsBelow rights lefts → ⊥)))
+        → (HasMagic right → ⊥) ⊎ IsArchiveText left ⊎ EndsBelow rights lefts → ⊥
     by (inl n) y = n r.magic_left
     by (inr x) (inl n) = n x.0
     by (inr x) (inr (inl a)) = l.faulty a

@@ -11,7 +11,8 @@ returns g c = λ input archive o uuid status text long (index, given, file) make
     let is = entries_are input o makes.entries (index, given, file) makes.index_of.index_is in
     record {
       rows = told.rows;
-      finds = found_of_index o uuid told.rows long file.content (have_keys o index file) file.archive_fits (subst (λ (s : Entries). AreIndexRows uuid s told.rows) is told.are_rows);
+      finds = found_of_index o uuid told.rows long file.content (have_keys o index file) file.archive_fits
+          (subst (λ (s : Entries). AreIndexRows uuid s told.rows) is told.are_rows);
       status_is = told.status_is;
       text_is = told.text_is;
     }

@@ -33,7 +33,8 @@ returns-then-before_nul-size c =
     let size = c.pieces.size in
     let own = c.pieces.own.now in
     let others = c.pieces.others.now in
-    let same : take size own ≡ take size others = sym c.split_piece.ensures.piece ∙ alike _ _ (sym c.ne.ensures ∙ c.if-ne.false) ∙ c.split_piece-in-pieces.ensures.piece in
+    let same : take size own ≡ take size others = sym c.split_piece.ensures.piece
+    ∙ alike _ _ (sym c.ne.ensures ∙ c.if-ne.false) ∙ c.split_piece-in-pieces.ensures.piece in
     let front = c.before_nul-in-pieces.ensures ∙ ap (before_first (λ b. b == 0)) c.split_piece.ensures.piece in
     let short : length (before_first (λ b. b == 0) (take size own)) < size = omega (arith, c.if-before_nul-size.true, ap length front) in
     sym (names_same size own others same short) ∙ c.pieces.invariant.same
@@ -59,7 +60,8 @@ pieces-preserved c =
     let size = c.pieces.size in
     let own = c.pieces.own.now in
     let others = c.pieces.others.now in
-    let same : take size own ≡ take size others = sym c.split_piece.ensures.piece ∙ alike _ _ (sym c.ne.ensures ∙ c.if-ne.false) ∙ c.split_piece-in-pieces.ensures.piece in
+    let same : take size own ≡ take size others = sym c.split_piece.ensures.piece
+    ∙ alike _ _ (sym c.ne.ensures ∙ c.if-ne.false) ∙ c.split_piece-in-pieces.ensures.piece in
     let front = c.before_nul-in-pieces.ensures ∙ ap (before_first (λ b. b == 0)) c.split_piece.ensures.piece in
     let long : size ≤ length (before_first (λ b. b == 0) (take size own)) = omega (arith, c.if-before_nul-size.false, ap length front) in
     record {

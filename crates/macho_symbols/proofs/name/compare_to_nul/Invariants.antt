@@ -6,7 +6,8 @@ use Rattle.macho_symbols.proofs.name.compare_to_nul.Given as goal
 
 abbrev pub invariant-pieces : goal.invariant-pieces
 invariant-pieces l = record {
-  same : slice_cmp nat_cmp (before_first (λ b. b == 0) l.own) (before_first (λ b. b == 0) l.others) ≡ slice_cmp nat_cmp (before_first (λ b. b == 0) l.name) (before_first (λ b. b == 0) l.other);
+  same : slice_cmp nat_cmp (before_first (λ b. b == 0) l.own) (before_first (λ b. b == 0) l.others)
+      ≡ slice_cmp nat_cmp (before_first (λ b. b == 0) l.name) (before_first (λ b. b == 0) l.other);
   some : 0 < l.size;
   most : l.size ≤ 4096;
 }

@@ -6,7 +6,8 @@ pub loop-section-preserved : goal.loop-section-preserved
 loop-section-preserved c =
     let before = c.loop-section.section-iterator in
     let after = c.next.new.self in
-    section_added _ c.loop-section.all.items c.push.new.self.items c.in-Some.section (take_count before) (take_count after) (take_source before) (take_source after)
+    section_added _ c.loop-section.all.items c.push.new.self.items c.in-Some.section (take_count before)
+    (take_count after) (take_source before) (take_source after)
     c.loop-section.invariant c.in-Some.ensures.steps.1 c.in-Some.ensures.steps.0 c.in_ok-push.ensures.items
 
 pub returns : goal.returns

@@ -8,7 +8,8 @@ pub loop-section-preserved : goal.loop-section-preserved
 loop-section-preserved c =
     let before = c.loop-section.section-iterator in
     let after = c.next.new.self in
-    place_added _ c.loop-section.places.items c.push.new.self.items c.in-Some.section.offset (take_count before) (take_count after) (section_view c.in-Some.section) (take_source before) (take_source after)
+    place_added _ c.loop-section.places.items c.push.new.self.items c.in-Some.section.offset (take_count before)
+    (take_count after) (section_view c.in-Some.section) (take_source before) (take_source after)
     c.loop-section.invariant c.in-Some.ensures.steps.1 c.in-Some.ensures.steps.0 refl c.in_ok-push.ensures.items
 
 pub returns : goal.returns

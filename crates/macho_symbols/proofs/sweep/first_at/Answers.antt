@@ -18,11 +18,13 @@ sections-preserved c = λ image candidates count of strings are firsts up above 
       | then-is_inside w ↦
           subst (IsLeastOrNone (strings_of image) (Seen image sections candidates c.args.address of are c.args.best (index + 1)))
           (sym (w.best-is ∙ w.first_of-best.ensures ∙ ap (λ s. first_of s c.sections.best (get_or c.args.firsts.now index None)) strings))
-          (seen_inside image sections candidates c.args.address of are c.args.best c.sections.best c.args.firsts.now index count _ c.sections-test.true c.requires (sym c.is_inside.ensures ∙ w.if-is_inside.true)
+          (seen_inside image sections candidates c.args.address of are c.args.best c.sections.best c.args.firsts.now
+          index count _ c.sections-test.true c.requires (sym c.is_inside.ensures ∙ w.if-is_inside.true)
           (subst (λ s. AreFirstsOf s candidates count c.args.firsts.now) strings firsts) up above so_far)
       | else-is_inside w ↦
           subst (IsLeastOrNone (strings_of image) (Seen image sections candidates c.args.address of are c.args.best (index + 1))) (sym w.best-is)
-          (seen_outside image sections candidates c.args.address of are c.args.best c.sections.best index _ c.sections-test.true (sym c.is_inside.ensures ∙ w.if-is_inside.false) so_far)
+          (seen_outside image sections candidates c.args.address of are c.args.best c.sections.best index _
+          c.sections-test.true (sym c.is_inside.ensures ∙ w.if-is_inside.false) so_far)
     ]
 
 pub returns : goal.returns

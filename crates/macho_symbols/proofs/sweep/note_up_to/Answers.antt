@@ -13,7 +13,12 @@ note-requires-clause-some c =
 
 pub note-requires-clause-within : goal.note-requires-clause-within
 note-requires-clause-within c =
-    omega (arith, (c.requires.numbered c.in-Some.candidate (contained c.args.candidates.now c.noting.index c.in-Some.candidate c.in-Some.ensures.0)).1, c.noting.auto.firsts)
+    omega (
+      arith,
+      (c.requires.numbered c.in-Some.candidate
+          (contained c.args.candidates.now c.noting.index c.in-Some.candidate c.in-Some.ensures.0)).1,
+      c.noting.auto.firsts,
+    )
 
 pub noting-smaller : goal.noting-smaller
 noting-smaller c = omega (arith, slice_get_within c.args.candidates.now c.noting.index c.in-Some.candidate c.in-Some.ensures.0)
@@ -27,12 +32,16 @@ noting-preserved c =
     record {
       within = omega (arith, slice_get_within cs c.noting.index k at);
       firsts = subst (AreFirstsOf c.args.names.now cs (c.noting.index + 1)) (sym c.note.ensures)
-          (firsts_noted c.args.names.now cs c.noting.index c.noting.firsts k at named.0 (omega (arith, named.1, c.noting.auto.firsts)) c.noting.invariant.firsts);
+          (firsts_noted c.args.names.now cs c.noting.index c.noting.firsts k at named.0
+          (omega (arith, named.1, c.noting.auto.firsts)) c.noting.invariant.firsts);
       below = λ up. up_to_noted cs c.noting.index c.args.address k at c.in-Some.ensures.1 (c.noting.invariant.below up);
       best = elim c.if-candidate-address.branch [
-        | then-candidate-address w ↦ subst (λ o. IfSome o (λ (b : Candidate). Contains cs b × (b.value ≡ c.args.address))) (sym (w.best-is ∙ w.first_of-best.ensures))
-            (first_is_one c.args.names.now (λ (b : Candidate). Contains cs b × (b.value ≡ c.args.address)) c.noting.best k c.noting.invariant.best (contained cs c.noting.index k at, w.if-candidate-address.true))
-        | else-candidate-address w ↦ subst (λ o. IfSome o (λ (b : Candidate). Contains cs b × (b.value ≡ c.args.address))) (sym w.best-is) c.noting.invariant.best
+        | then-candidate-address w ↦ subst (λ o. IfSome o
+            (λ (b : Candidate). Contains cs b × (b.value ≡ c.args.address))) (sym (w.best-is ∙ w.first_of-best.ensures))
+            (first_is_one c.args.names.now (λ (b : Candidate). Contains cs b × (b.value ≡ c.args.address)) c.noting.best
+            k c.noting.invariant.best (contained cs c.noting.index k at, w.if-candidate-address.true))
+        | else-candidate-address w ↦ subst (λ o. IfSome o
+            (λ (b : Candidate). Contains cs b × (b.value ≡ c.args.address))) (sym w.best-is) c.noting.invariant.best
       ];
     }
 

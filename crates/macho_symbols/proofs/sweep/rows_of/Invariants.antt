@@ -8,7 +8,8 @@ abbrev pub invariant-turns : goal.invariant-turns
 invariant-turns l = record {
   within : l.noted ≤ length l.candidates;
   firsts : AreFirstsOf l.names l.candidates l.noted l.firsts;
-  below : (image : List ℕ) → AreSwept image l.names l.sections l.candidates l.turns → l.start-index < length l.turns → AreUpTo l.candidates l.noted (slice_index l.turns l.start-index);
+  below : (image : List ℕ) → AreSwept image l.names l.sections l.candidates l.turns → l.start-index < length l.turns
+      → AreUpTo l.candidates l.noted (slice_index l.turns l.start-index);
   starts : map (λ r. r.start) l.rows.items ≡ take l.start-index l.turns;
   each : (image : List ℕ) → AreSwept image l.names l.sections l.candidates l.turns → All (λ r. SaysNearest image r.start r) l.rows.items;
 }

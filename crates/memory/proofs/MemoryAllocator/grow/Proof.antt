@@ -15,7 +15,8 @@ use contract.BorrowLft.{◌⊑◌, ⊑_trans}
 use contract.Monad.{Fun}
 use contract.Running.{tables, tables_of}
 use sound.WpLaws.{fm_of, WpFn-mono}
-use types.Kit.{Item, ‵, raw, ◌⊛◌, ⋆, some, later, given, at_ret, ◌$◌, ◌∵◌, !, qed, by, move, keep, use0, use1, use2, split, split3, join, pick, learn, fsplit, fjoin, suffices, await, done}
+use types.Kit.{Item, ‵, raw, ◌⊛◌, ⋆, some, later, given, at_ret, ◌$◌, ◌∵◌, !, qed, by, move, keep, use0, use1, use2}
+use types.Kit.{split, split3, join, pick, learn, fsplit, fjoin, suffices, await, done}
 use types.Part.{agg}
 use types.Run.{stop, fld, addr, lit, un, size_word, no_more, and_then, first, branches, skips, exec, returns, returns_within, enter}
 use types.ByLocal.{alloc_all, pass_all, free_all, look_at, get, through, sets, lands_as, env}
@@ -37,7 +38,8 @@ use denote.Triple.Table.{entered, cited}
 use denote.Triple.Walked.{Stays, stay_dropped, walk_of, ends_at, walked, Goes-dropped, walk_Meets}
 use Rattle.std.specs.Allocator.{block_with_items, resized_if_ok}
 use Rattle.std.proofs.alloc.Calls.{Al, α, seen, token, Answer, answer_val, Answer-typed}
-use Rattle.std.proofs.alloc.Resizes.{Grows as Enlarges, resize_key, Resizes, at_resizes, left_by, Resizes-goes, Resizes-gives, result_of, result_own, asked, heard_all}
+use Rattle.std.proofs.alloc.Resizes.{Grows as Enlarges, resize_key, Resizes, at_resizes, left_by, Resizes-goes}
+use Rattle.std.proofs.alloc.Resizes.{Resizes-gives, result_of, result_own, asked, heard_all}
 use Rattle.std.proofs.VecSteps.Shapes.{after}
 use Rattle.memory.proofs.Growth.{Left, Grows, at_grows, Grows-goes, Grows-gives}
 use Rattle.memory.proofs.take_growth.Symbol as grow_symbol
@@ -62,9 +64,23 @@ module _ (Z : Al) (X : RattleType) where
   ended = F.ended Z.row X Z.g Z.d Z.drops
 
   abbrev stayed : Stays ended.signature.params ended.kept
-  stayed = (stay_dropped self yes, (stay_dropped (plain (λ _. RawPtr)) yes, (stay_dropped (plain (λ _. usize)) yes, (stay_dropped (plain (λ _. usize)) yes, (stay_dropped (plain (λ _. usize)) yes, tt)))))
+  stayed = (
+    stay_dropped self yes,
+    (
+      stay_dropped (plain (λ _. RawPtr)) yes,
+      (
+        stay_dropped (plain (λ _. usize)) yes,
+        (
+          stay_dropped (plain (λ _. usize)) yes,
+          (stay_dropped (plain (λ _. usize)) yes, tt),
+        ),
+      ),
+    ),
+  )
 
-module _ (Z : Al) (X : RattleType) {M : Type 1} {𝓤 : Ura M} (𝓛 : Logic 𝓤) (at_mem : Memory → SProp 𝓤) (run : Routine → Fun 𝓤) (𝓣 : Tables 𝓤 𝓛.H) (resizes : Triple 𝓤 (𝓣.C (resize_key Z X 2)) (Resizes Z X (Enlarges X) 𝓛 at_mem run)) (grows : Triple 𝓤 (𝓣.C grow_symbol.name) (Grows 𝓛 at_mem run)) where
+module _ (Z : Al) (X : RattleType) {M : Type 1} {𝓤 : Ura M} (𝓛 : Logic 𝓤) (at_mem : Memory → SProp 𝓤)
+    (run : Routine → Fun 𝓤) (𝓣 : Tables 𝓤 𝓛.H) (resizes : Triple 𝓤 (𝓣.C (resize_key Z X 2))
+    (Resizes Z X (Enlarges X) 𝓛 at_mem run)) (grows : Triple 𝓤 (𝓣.C grow_symbol.name) (Grows 𝓛 at_mem run)) where
   open 𝓛 use {H}
 
   abbrev held : Clauses 𝓤 (ended Z X)
@@ -76,7 +92,16 @@ module _ (Z : Al) (X : RattleType) {M : Type 1} {𝓤 : Ura M} (𝓛 : Logic �
   -- κ₁ is the lifetime of the `&`, and κ₂ and κ₃ what the type parameters live for
   module _ (κ₁ κ₂ κ₃ : Lft) (q₁ q₂ q₃ : Share) (within : κ₁ ⊑ κ₂) (r : Bor (handle.the_row Z.row).Denot) (len old new : ℕ) (xs : List X.Denot) where
     abbrev bound : Ptr → (walk_of 𝓛 (ended Z X) (stayed Z X) held).Ghost
-    bound x = (((κ₁, (κ₂, (κ₃, tt))), (q₁, (q₂, (q₃, tt))), (within, tt), (r, (x, (len, (old, (new, tt))))), (shr_vals r, (rawptr_vals x, (vint w64 len ∷ [], (vint w64 old ∷ [], (vint w64 new ∷ [], tt)))))), xs)
+    bound x = (
+      (
+        (κ₁, (κ₂, (κ₃, tt))),
+        (q₁, (q₂, (q₃, tt))),
+        (within, tt),
+        (r, (x, (len, (old, (new, tt))))),
+        (shr_vals r, (rawptr_vals x, (vint w64 len ∷ [], (vint w64 old ∷ [], (vint w64 new ∷ [], tt))))),
+      ),
+      xs,
+    )
 
     abbrev vs : Ptr → List Val
     vs x = vptr r.ref_ptr.0 r.ref_ptr.1 ∷ ptr_val x ∷ vint w64 len ∷ vint w64 old ∷ vint w64 new ∷ []
@@ -85,7 +110,8 @@ module _ (Z : Al) (X : RattleType) {M : Type 1} {𝓤 : Ura M} (𝓛 : Logic �
     Post x = (walk_of 𝓛 (ended Z X) (stayed Z X) held).post (bound x)
 
     abbrev entry : Ptr → Item 𝓤
-    entry x = (‵ (flft κ₁ q₁) ⊛ ‵ (flft κ₂ q₂) ⊛ ‵ (flft κ₃ q₃) ⊛ ‵ ftrue) ⊛ ‵ (owns (types_at (ended Z X).signature.params (bound x).0.0) (bound x).0.3 (bound x).0.4)
+    entry x = (‵ (flft κ₁ q₁) ⊛ ‵ (flft κ₂ q₂) ⊛ ‵ (flft κ₃ q₃) ⊛ ‵ ftrue) ⊛ ‵
+        (owns (types_at (ended Z X).signature.params (bound x).0.0) (bound x).0.3 (bound x).0.4)
 
     abbrev block : Ptr → Fml
     block x = block_with_items (token Z r.now.inner) (param 1 X) x len old xs
@@ -93,15 +119,19 @@ module _ (Z : Al) (X : RattleType) {M : Type 1} {𝓤 : Ura M} (𝓛 : Logic �
     abbrev left : Ptr → Answer.Denot → Fml
     left x = resized_if_ok (token Z r.now.inner) (param 1 X) x len old new xs
 
-    exits : (x : Ptr) (granted : Bool) (b o : ℕ) → ent 𝓤 (⋆ 𝓛 (‵ (left x (result_of granted b o)) ∷ ‵ (flft κ₁ q₁) ∷ ‵ (flft κ₂ q₂) ∷ ‵ (flft κ₃ q₃) ∷ [])) (Post x (answer_val granted b o))
+    exits : (x : Ptr) (granted : Bool) (b o : ℕ) → ent 𝓤
+        (⋆ 𝓛 (‵ (left x (result_of granted b o)) ∷ ‵ (flft κ₁ q₁) ∷ ‵ (flft κ₂ q₂) ∷ ‵ (flft κ₃ q₃) ∷ []))
+        (Post x (answer_val granted b o))
     exits x granted b o =
         qed 𝓛 (‵ (left x (result_of granted b o)) ∷ ‵ (flft κ₁ q₁) ∷ ‵ (flft κ₂ q₂) ∷ ‵ (flft κ₃ q₃) ∷ []) ∵
-        suffices ! _ (ends_at 𝓛 (ended Z X) (stayed Z X) held (bound x) (answer_val granted b o) (result_of granted b o) (tt, (tt, (tt, (tt, (tt, tt))))) (tt, (tt, (tt, (tt, (tt, tt)))))) $
+        suffices ! _ (ends_at 𝓛 (ended Z X) (stayed Z X) held (bound x) (answer_val granted b o) (result_of granted b o)
+        (tt, (tt, (tt, (tt, (tt, tt))))) (tt, (tt, (tt, (tt, (tt, tt)))))) $
         use0 𝓛 (‵ (Answer.own_val (result_of granted b o) (answer_val granted b o ∷ []))) (result_own 𝓛 granted b o) $
         nothing ! $ nothing ! $ fjoin ! $ nothing ! $ fjoin ! $ nothing ! $ fjoin ! $ nothing ! $ fjoin ! $ nothing ! $ fjoin ! $ join ! $
         nothing ! $ move ! (5 ∷ 0 ∷ []) $ join ! $ move ! (4 ∷ 0 ∷ []) $ join ! $ move ! (3 ∷ 0 ∷ []) $ join ! $ join ! $ done !
 
-    walk : len < 2 ^ 64 → old < 2 ^ 64 → new < 2 ^ 64 → (x : Ptr) → ent 𝓤 ((walk_of 𝓛 (ended Z X) (stayed Z X) held).pre (bound x)) (WpFn 𝓤 H 𝓣.C 𝓣.Λ (here Z X) (vs x) (Post x))
+    walk : len < 2 ^ 64 → old < 2 ^ 64 → new < 2 ^ 64 → (x : Ptr)
+        → ent 𝓤 ((walk_of 𝓛 (ended Z X) (stayed Z X) held).pre (bound x)) (WpFn 𝓤 H 𝓣.C 𝓣.Λ (here Z X) (vs x) (Post x))
     -- no block lies at null
     walk fl fo fn null_ptr =
         qed 𝓛 (entry null_ptr ∷ raw (asked 𝓛 (κ₂ ⊑ Z.row.lives) (κ₃ ⊑ X.lives) (Enlarges X len old new) (block null_ptr)) ∷ []) ∵ move ! (1 ∷ []) $
@@ -119,21 +149,37 @@ module _ (Z : Al) (X : RattleType) {M : Type 1} {𝓤 : Ura M} (𝓛 : Logic �
         split ! $ split3 ! $ move ! (2 ∷ []) $ split ! $ move ! (4 ∷ []) $ fsplit ! $ fsplit ! $ move ! (1 ∷ []) $ unhide ! $ fsplit ! $ fsplit ! $
         use1 𝓛 (‵ (seen Z κ₁ p inner)) (id⊢ 𝓤 _) $ move ! (1 ∷ []) $ fsplit ! $ keep ! (0 ∷ 8 ∷ 6 ∷ 2 ∷ 10 ∷ 9 ∷ []) $
         -- [the `&` to the count; the tokens of κ₁ and κ₃; the `&` to the inner handle; the block; the token of κ₂]
-        enter ! 𝓣.C 𝓣.Λ (here Z X) (vs x) _ $ alloc_all ! (λ l. pass_all ! refl ((tt, tt), ((tt, tt), ((tt, record { fits = fl }), ((tt, record { fits = fo }), ((tt, record { fits = fn }), tt))))) $
+        enter ! 𝓣.C 𝓣.Λ (here Z X) (vs x) _ $ alloc_all !
+        (λ l. pass_all ! refl (
+          (tt, tt),
+          (
+            (tt, tt),
+            ((tt, record { fits = fl }), ((tt, record { fits = fo }), ((tt, record { fits = fn }), tt))),
+          ),
+        ) $
         let E : Env 𝓤 H = env (here Z X).locals l in
         sets ! (addr ! (through ! refl (fld ! refl (stop !)))) refl (tt, tt) $
-        use2 𝓛 (raw ((Grows 𝓛 at_mem run).pre (at_grows 𝓛 at_mem run κ₁ q₁ c counts new s))) (Grows-goes 𝓛 at_mem run κ₁ q₁ c counts new s fn (capped_fits (size (layout X)))) $
-        calls_at ! (fm_of 𝓤 H 𝓛.laws 𝓣) (Grows 𝓛 at_mem run) grows (at_grows 𝓛 at_mem run κ₁ q₁ c counts new s) (and_then ! (get ! refl) (and_then ! (get ! refl) (and_then ! (size_word !) (no_more !)))) (λ u.
-        use1 𝓛 (later (some (λ (granted : Bool). given (u ≡ vbool granted) (‵ (flft κ₁ q₁))))) (Grows-gives 𝓛 at_mem run κ₁ q₁ c counts new s u) $ await ! tt $ pick ! (λ granted. learn ! (λ is_granted.
+        use2 𝓛 (raw ((Grows 𝓛 at_mem run).pre (at_grows 𝓛 at_mem run κ₁ q₁ c counts new s)))
+        (Grows-goes 𝓛 at_mem run κ₁ q₁ c counts new s fn (capped_fits (size (layout X)))) $
+        calls_at ! (fm_of 𝓤 H 𝓛.laws 𝓣) (Grows 𝓛 at_mem run) grows (at_grows 𝓛 at_mem run κ₁ q₁ c counts new s)
+        (and_then ! (get ! refl) (and_then ! (get ! refl) (and_then ! (size_word !) (no_more !)))) (λ u.
+        use1 𝓛 (later (some (λ (granted : Bool). given (u ≡ vbool granted) (‵ (flft κ₁ q₁)))))
+        (Grows-gives 𝓛 at_mem run κ₁ q₁ c counts new s u) $ await ! tt $ pick ! (λ granted. learn ! (λ is_granted.
         lands_as ! is_granted refl (tt, tt) $ sets ! (un ! (get ! refl) tt) refl (tt, tt) $ first ! $ branches ! (get ! refl)
-        (λ refused. sets ! (agg ! (no_more !)) refl (tt, tt) $ sets ! (agg ! (and_then ! (lit ! tt) (and_then ! (get ! refl) (no_more !)))) refl (Answer-typed false 0 0) $
+        (λ refused. sets ! (agg ! (no_more !)) refl (tt, tt) $ sets !
+        (agg ! (and_then ! (lit ! tt) (and_then ! (get ! refl) (no_more !)))) refl (Answer-typed false 0 0) $
         returns_within ! (Post x) refl (look_at ! 0 refl) $ free_all ! refl $ keep ! (3 ∷ 0 ∷ 4 ∷ 1 ∷ []) $ by ! (exits x false 0 0))
         (λ passed_on. skips ! $ exec ! 𝓣.C 𝓣.Λ E (after 4 (here Z X).body) (at_ret E (Post x)) $
         sets ! (addr ! (through ! refl (fld ! refl (stop !)))) refl (tt, tt) $
         join ! $ move ! (1 ∷ 0 ∷ []) $ join ! $ move ! (1 ∷ 0 ∷ []) $ join ! $
-        use1 𝓛 (raw (Called.pre y)) (Resizes-goes Z X (Enlarges X) 𝓛 at_mem run κ₁ κ₃ q₁ q₃ p inner b o len old new xs (⊑_trans κ₁ κ₂ Z.row.lives within lives) lives' sizes fl fo fn) $
-        calls_at ! (fm_of 𝓤 H 𝓛.laws 𝓣) Called resizes y (and_then ! (get ! refl) (and_then ! (get ! refl) (and_then ! (get ! refl) (and_then ! (get ! refl) (and_then ! (get ! refl) (no_more !)))))) (λ v.
-        use1 𝓛 (later (some (λ (c : Bool × (ℕ × ℕ)). given (v ≡ answer_val c.0 c.1.0 c.1.1) (‵ (left_by Z X (Enlarges X) 𝓛 at_mem run κ₁ κ₃ q₁ q₃ p inner b o len old new xs (result_of c.0 c.1.0 c.1.1)))) ⊛ ‵ (flft κ₁ q₁) ⊛ ‵ (flft κ₃ q₃)))
+        use1 𝓛 (raw (Called.pre y)) (Resizes-goes Z X (Enlarges X) 𝓛 at_mem run κ₁ κ₃ q₁ q₃ p inner b o len old new xs
+        (⊑_trans κ₁ κ₂ Z.row.lives within lives) lives' sizes fl fo fn) $
+        calls_at ! (fm_of 𝓤 H 𝓛.laws 𝓣) Called resizes y
+        (and_then ! (get ! refl) (and_then ! (get ! refl)
+        (and_then ! (get ! refl) (and_then ! (get ! refl) (and_then ! (get ! refl) (no_more !)))))) (λ v.
+        use1 𝓛 (later (some (λ (c : Bool × (ℕ × ℕ)). given (v ≡ answer_val c.0 c.1.0 c.1.1)
+        (‵ (left_by Z X (Enlarges X) 𝓛 at_mem run κ₁ κ₃ q₁ q₃ p inner b o len old new xs
+        (result_of c.0 c.1.0 c.1.1)))) ⊛ ‵ (flft κ₁ q₁) ⊛ ‵ (flft κ₃ q₃)))
         (Resizes-gives Z X (Enlarges X) 𝓛 at_mem run κ₁ κ₃ q₁ q₃ p inner b o len old new xs v) $ await ! tt $ split3 ! $ pick ! (λ answer. learn ! (λ is_answer.
         lands_as ! is_answer refl (Answer-typed answer.0 answer.1.0 answer.1.1) $ returns ! (look_at ! 0 refl) $ free_all ! refl $
         move ! (0 ∷ 1 ∷ 3 ∷ 2 ∷ []) $ by ! (exits x answer.0 answer.1.0 answer.1.1))))))))))
@@ -147,7 +193,17 @@ grow_spec 𝓤 𝓛 𝓜 𝓡 wired B X laws laws' g d drops met _ =
     let Runs = WpFn 𝓤 𝓛.H 𝓣.C 𝓣.Λ (here Z X) in
     let number = Goes-dropped 𝓛 3 (plain (λ _. usize)) yes (λ κs x f. refl) in
     let grows = cited 𝓤 𝓛.H _ 𝓜 𝓡 𝓡.env grow_symbol.name (𝓡.env grow_symbol.name) refl (grow_met.met 𝓤 𝓛 𝓜 𝓡 (code.calls-memory::take_growth 𝓡.env wired)) in
-    entered 𝓤 𝓛.H (triple_of 𝓛 (F.signature B X) (F.spec B X g d drops 𝓛 𝓜.mem 𝓡.returns)) 𝓣.C 𝓣.Λ (key.name (args Z X)) (here Z X) (code.unfolded 𝓤 𝓛.H 𝓜 𝓡 wired (B, (X, tt)) d drops)
-    (walk_Meets 𝓛 (ended Z X) (stayed Z X) (Goes-dropped 𝓛 3 (self Z X) yes (λ κs x f. refl), (Goes-dropped 𝓛 3 (plain (λ _. RawPtr)) yes (λ κs x f. refl), (number, (number, (number, tt))))) c Runs (WpFn-mono 𝓤 𝓛.H 𝓛.laws 𝓣 (here Z X))
-    (walked 𝓛 (ended Z X) (stayed Z X) c Runs (λ κs. (shr_vals, (rawptr_vals, (uint_vals w64, (uint_vals w64, (uint_vals w64, tt)))))) (λ κs. ((λ r vs shared. shared.0), (rawptr_Tells, (uint_Tells w64, (uint_Tells w64, (uint_Tells w64, tt))))))
-    (λ κs qs bounds a xs are. walk Z X 𝓛 𝓜.mem 𝓡.returns 𝓣 (met.grow drops X laws') grows κs.0 κs.1.0 κs.1.1.0 qs.0 qs.1.0 qs.1.1.0 bounds.0 a.0 a.1.1.0 a.1.1.1.0 a.1.1.1.1.0 xs are.1.1.0.1 are.1.1.1.0.1 are.1.1.1.1.0.1 a.1.0)))
+    entered 𝓤 𝓛.H (triple_of 𝓛 (F.signature B X) (F.spec B X g d drops 𝓛 𝓜.mem 𝓡.returns)) 𝓣.C 𝓣.Λ (key.name (args Z X))
+    (here Z X) (code.unfolded 𝓤 𝓛.H 𝓜 𝓡 wired (B, (X, tt)) d drops)
+    (walk_Meets 𝓛 (ended Z X) (stayed Z X) (
+      Goes-dropped 𝓛 3 (self Z X) yes (λ κs x f. refl),
+      (Goes-dropped 𝓛 3 (plain (λ _. RawPtr)) yes (λ κs x f. refl), (number, (number, (number, tt)))),
+    ) c Runs
+    (WpFn-mono 𝓤 𝓛.H 𝓛.laws 𝓣 (here Z X))
+    (walked 𝓛 (ended Z X) (stayed Z X) c Runs (λ κs. (
+      shr_vals,
+      (rawptr_vals, (uint_vals w64, (uint_vals w64, (uint_vals w64, tt)))),
+    ))
+    (λ κs. ((λ r vs shared. shared.0), (rawptr_Tells, (uint_Tells w64, (uint_Tells w64, (uint_Tells w64, tt))))))
+    (λ κs qs bounds a xs are. walk Z X 𝓛 𝓜.mem 𝓡.returns 𝓣 (met.grow drops X laws') grows κs.0 κs.1.0 κs.1.1.0 qs.0
+    qs.1.0 qs.1.1.0 bounds.0 a.0 a.1.1.0 a.1.1.1.0 a.1.1.1.1.0 xs are.1.1.0.1 are.1.1.1.0.1 are.1.1.1.1.0.1 a.1.0)))

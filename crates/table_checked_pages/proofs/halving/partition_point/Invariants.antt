@@ -12,9 +12,11 @@ invariant-halving g l = record {
   whole : g.P.Placed.whole l.device ≡ g.P.Placed.whole l.initial.device;
   unfailed : g.P.Placed.failures l.device ≡ g.P.Placed.failures l.initial.device;
   keeps : (text all : List ℕ) → g.P.Placed.whole l.initial.device ≡ Some text → ArePagesOf l.initial.pages text all → ArePagesOf l.pages text all;
-  before : (text all : List ℕ) (rows : g.S.Sought.Rows) → g.P.Placed.whole l.initial.device ≡ Some text → ArePagesOf l.initial.pages text all → g.S.Sought.stand l.sought rows all
+  before : (text all : List ℕ) (rows : g.S.Sought.Rows) → g.P.Placed.whole l.initial.device ≡ Some text
+      → ArePagesOf l.initial.pages text all → g.S.Sought.stand l.sought rows all
       → l.from < l.low → g.S.Sought.is_below l.sought rows (l.low - 1);
-  at : (text all : List ℕ) (rows : g.S.Sought.Rows) → g.P.Placed.whole l.initial.device ≡ Some text → ArePagesOf l.initial.pages text all → g.S.Sought.stand l.sought rows all
+  at : (text all : List ℕ) (rows : g.S.Sought.Rows) → g.P.Placed.whole l.initial.device ≡ Some text
+      → ArePagesOf l.initial.pages text all → g.S.Sought.stand l.sought rows all
       → l.high < l.to → g.S.Sought.is_below l.sought rows l.high → ⊥;
 }
 

@@ -17,11 +17,26 @@ steps-preserved c =
       ];
       is = elim c.if-ends_run.branch [
         | then-ends_run w ↦
-            omega (arith, w.count-is, counted_end starts index c.steps.count (length (runs_after 0 starts)) inside (sym c.ends_run.ensures ∙ w.if-ends_run.true) c.steps.invariant.is)
+            omega (
+              arith,
+              w.count-is,
+              counted_end starts index c.steps.count (length (runs_after 0 starts)) inside
+                  (sym c.ends_run.ensures ∙ w.if-ends_run.true) c.steps.invariant.is,
+            )
         | else-ends_run w ↦
-            omega (arith, w.count-is, counted_join starts index c.steps.count (length (runs_after 0 starts)) inside (sym c.ends_run.ensures ∙ w.if-ends_run.false) c.steps.invariant.is)
+            omega (
+              arith,
+              w.count-is,
+              counted_join starts index c.steps.count (length (runs_after 0 starts)) inside
+                  (sym c.ends_run.ensures ∙ w.if-ends_run.false) c.steps.invariant.is,
+            )
       ];
     }
 
 pub returns : goal.returns
-returns c = omega (arith, c.steps.invariant.is, ap length (runs_none (step_starts c.args.steps.now) c.steps.index (omega (arith, starts_long c.args.steps.now))))
+returns c = omega (
+  arith,
+  c.steps.invariant.is,
+  ap length
+      (runs_none (step_starts c.args.steps.now) c.steps.index (omega (arith, starts_long c.args.steps.now))),
+)

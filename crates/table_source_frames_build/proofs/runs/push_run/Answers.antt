@@ -16,5 +16,7 @@ returns c =
     let starts = step_starts c.args.steps.now in
     let inside : c.args.index < length starts = omega (arith, c.requires.inside, starts_long c.args.steps.now) in
     on_ok_weaker c.push_u32-2.result
-    (run_pushed starts c.args.index c.upper_half.result (c.args.index + 1) c.args.text.now.items c.push_u32.new.text.items c.push_u32-2.new.text.items inside (sym c.ends_run.ensures ∙ c.if-not-ends_run.false)
-    (c.upper_half.ensures ∙ ap upper_half (sym (start_at c.args.steps.now c.args.index (record { start = 0; location = 0 }) c.requires.inside))) refl c.in_ok-push_u32.ensures) c.push_u32-2.ensures
+    (run_pushed starts c.args.index c.upper_half.result (c.args.index + 1) c.args.text.now.items
+    c.push_u32.new.text.items c.push_u32-2.new.text.items inside (sym c.ends_run.ensures ∙ c.if-not-ends_run.false)
+    (c.upper_half.ensures ∙ ap upper_half (sym (start_at c.args.steps.now c.args.index
+    (record { start = 0; location = 0 }) c.requires.inside))) refl c.in_ok-push_u32.ensures) c.push_u32-2.ensures

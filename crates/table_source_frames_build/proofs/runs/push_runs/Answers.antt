@@ -10,4 +10,6 @@ steps-preserved c = c.in_ok-push_run.ensures ∙ c.steps.invariant
 
 pub returns : goal.returns
 returns c =
-    runs_pushed (step_starts c.args.steps.now) c.steps.index c.steps.text.items (c.args.text.now.items ++ flat_map run_bytes (runs_after 0 (step_starts c.args.steps.now))) (omega (arith, starts_long c.args.steps.now)) c.steps.invariant
+    runs_pushed (step_starts c.args.steps.now) c.steps.index c.steps.text.items
+    (c.args.text.now.items ++ flat_map run_bytes (runs_after 0 (step_starts c.args.steps.now)))
+    (omega (arith, starts_long c.args.steps.now)) c.steps.invariant

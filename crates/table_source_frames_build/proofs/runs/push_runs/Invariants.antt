@@ -6,4 +6,5 @@ use Rattle.table_source_frames_build.proofs.runs.push_runs.Given as goal
 
 abbrev pub invariant-steps : goal.invariant-steps
 invariant-steps l =
-    l.text.items ++ flat_map run_bytes (runs_after l.index (drop l.index (step_starts l.steps))) ≡ l.fn.text.items ++ flat_map run_bytes (runs_after 0 (step_starts l.steps))
+    l.text.items ++ flat_map run_bytes (runs_after l.index (drop l.index (step_starts l.steps))) ≡ l.fn.text.items
+    ++ flat_map run_bytes (runs_after 0 (step_starts l.steps))

@@ -10,9 +10,11 @@ returns-then-part-n-clause-read g c = record {
       let long : length c.read.new.buf ≡ n = c.read.auto.buf ∙ length-take n _ ∙ omega (arith, c.min-n.ensures) in
       let within : c.pieces.at + n ≤ length strings = omega (arith, size, c.min-n.ensures, c.pieces-test.true) in
       let came : c.read.new.buf ≡ take n (drop c.pieces.at strings) =
-      c.in_ok-read.ensures.read.says text (c.pieces.invariant.whole ∙ is) all (c.pieces.invariant.keeps text all is pages) ∙ ap (λ k. take k (drop (c.args.first + c.pieces.at) all)) long
+      c.in_ok-read.ensures.read.says text (c.pieces.invariant.whole ∙ is) all
+      (c.pieces.invariant.keeps text all is pages) ∙ ap (λ k. take k (drop (c.args.first + c.pieces.at) all)) long
       ∙ part_stands all strings c.args.first c.pieces.at n stands within in
-      piece_last strings c.read.new.buf c.pieces.name.items c.push_all.new.name.items c.before_nul-part.result.now _ c.pieces.at n came within c.before_nul-part.ensures c.if-part-n.true
+      piece_last strings c.read.new.buf c.pieces.name.items c.push_all.new.name.items c.before_nul-part.result.now _
+      c.pieces.at n came within c.before_nul-part.ensures c.if-part-n.true
       c.in_ok-push_all.ensures.pushed (c.pieces.invariant.came text all strings is pages stands size);
   keeps = c.in_ok-read.ensures.read.keeps ∙ c.pieces.invariant.whole;
   counts = c.in_ok-read.ensures.read.counts ∙ c.pieces.invariant.unfailed;
@@ -29,8 +31,10 @@ pieces-preserved g c = record {
       let long : length c.read.new.buf ≡ n = c.read.auto.buf ∙ length-take n _ ∙ omega (arith, c.min-n.ensures) in
       let within : c.pieces.at + n ≤ length strings = omega (arith, size, c.min-n.ensures, c.pieces-test.true) in
       let came : c.read.new.buf ≡ take n (drop c.pieces.at strings) =
-      c.in_ok-read.ensures.read.says text (c.pieces.invariant.whole ∙ is) all (c.pieces.invariant.keeps text all is pages) ∙ ap (λ k. take k (drop (c.args.first + c.pieces.at) all)) long
+      c.in_ok-read.ensures.read.says text (c.pieces.invariant.whole ∙ is) all
+      (c.pieces.invariant.keeps text all is pages) ∙ ap (λ k. take k (drop (c.args.first + c.pieces.at) all)) long
       ∙ part_stands all strings c.args.first c.pieces.at n stands within in
-      piece_more strings c.read.new.buf c.pieces.name.items c.push_all.new.name.items c.before_nul-part.result.now _ c.pieces.at n came within c.before_nul-part.ensures c.if-part-n.false
+      piece_more strings c.read.new.buf c.pieces.name.items c.push_all.new.name.items c.before_nul-part.result.now _
+      c.pieces.at n came within c.before_nul-part.ensures c.if-part-n.false
       c.in_ok-push_all.ensures.pushed (c.pieces.invariant.came text all strings is pages stands size);
 }

@@ -10,7 +10,8 @@ invariant-pieces g l = record {
   whole : g.P.Placed.whole l.device ≡ g.P.Placed.whole l.initial.device;
   unfailed : g.P.Placed.failures l.device ≡ g.P.Placed.failures l.initial.device;
   keeps : (text all : List ℕ) → g.P.Placed.whole l.initial.device ≡ Some text → ArePagesOf l.initial.table text all → ArePagesOf l.table text all;
-  came : (text all strings : List ℕ) → g.P.Placed.whole l.initial.device ≡ Some text → ArePagesOf l.initial.table text all → Stands all l.first strings → length strings ≡ l.size
+  came : (text all strings : List ℕ) → g.P.Placed.whole l.initial.device ≡ Some text
+      → ArePagesOf l.initial.table text all → Stands all l.first strings → length strings ≡ l.size
       → before_first (λ b. b == 0) (drop l.offset strings) ≡ l.name.items ++ before_first (λ b. b == 0) (drop l.at strings);
 }
 

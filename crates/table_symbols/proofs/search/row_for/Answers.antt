@@ -37,7 +37,8 @@ returns-clause-read g c =
       says = λ text known all rows pages are long stands.
           let edge = end.says text known all rows pages (are, long, stands) in
           let there = c.in_ok-end.ensures.within.1 in
-          last_of_edge rows c.args.address c.in_ok-end.end c.in_ok-row.row are (omega (arith, c.if-end-eq0.false)) (edge.before (omega (arith, c.if-end-eq0.false))) (λ m. edge.at (omega (arith, m, long)))
+          last_of_edge rows c.args.address c.in_ok-end.end c.in_ok-row.row are (omega (arith, c.if-end-eq0.false))
+          (edge.before (omega (arith, c.if-end-eq0.false))) (λ m. edge.at (omega (arith, m, long)))
           (row.says text known all rows (c.in_ok-end.ensures.keeps text all known pages) are stands (omega (arith, c.if-end-eq0.false, there, long)));
       keeps = row.keeps;
       counts = row.counts;

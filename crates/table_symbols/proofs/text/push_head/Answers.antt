@@ -13,5 +13,6 @@ returns-clause-pushed c =
     let rows = to_be_bytes w64 c.args.rows in
     let strings = to_be_bytes w64 c.args.strings in
     let lines = to_be_bytes w64 c.args.lines in
-    pushed_five (old ++ flag) base sections rows strings lines _ _ _ _ _ c.in_ok-push_base.ensures c.in_ok-push_u64.ensures c.in_ok-push_u64-2.ensures c.in_ok-push_u64-3.ensures c.in_ok-push_u64-4.ensures
+    pushed_five (old ++ flag) base sections rows strings lines _ _ _ _ _ c.in_ok-push_base.ensures
+    c.in_ok-push_u64.ensures c.in_ok-push_u64-2.ensures c.in_ok-push_u64-3.ensures c.in_ok-push_u64-4.ensures
     ∙ append_assoc old flag (base ++ (sections ++ (rows ++ (strings ++ lines))))

@@ -16,7 +16,8 @@ pub returns-then-len-ge-MOST_EVENTS-clause-err : goal.returns-then-len-ge-MOST_E
 returns-then-len-ge-MOST_EVENTS-clause-err c =
     let means = sym (ap (option_map act_of) c.in-Some.is) ∙ c.in_ok-event.ensures in
     subst (IsErrorOf (events_of 0 (seen c.args.lines.now))) (sym c.faulty-then-len-ge-MOST_EVENTS.ensures)
-    (too_many c.args.lines.now c.lines.line-index _ _ (acts c.lines.events.items) _ (omega arith) means (omega (arith, c.lines.events.ok.0)) c.lines.invariant.sequel)
+    (too_many c.args.lines.now c.lines.line-index _ _ (acts c.lines.events.items) _ (omega arith) means
+    (omega (arith, c.lines.events.ok.0)) c.lines.invariant.sequel)
 
 pub lines-preserved : goal.lines-preserved
 lines-preserved c =

@@ -10,4 +10,5 @@ pub returns : goal.returns
 returns c = all_written _ _ _ _ c.in_default.ensures.value c.groups.invariant
 
 pub groups-smaller : goal.groups-smaller
-groups-smaller c = fewer_behind c.in-Some.first.now c.groups.rest.now c.split_at.result.1.now _ c.in-Some.ensures.value c.group_len.ensures.len c.split_at.ensures.back
+groups-smaller c = fewer_behind c.in-Some.first.now c.groups.rest.now c.split_at.result.1.now _ c.in-Some.ensures.value
+    c.group_len.ensures.len c.split_at.ensures.back

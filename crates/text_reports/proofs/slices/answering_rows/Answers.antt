@@ -23,4 +23,6 @@ pub returns-clause-ascending : goal.returns-clause-ascending
 returns-clause-ascending c =
     let once = dedup_same _ (eq_by_cmp slice_row_cmp) _ (λ x y b f x' y' called. search rules) _ _ c.dedup_by.ensures.filtered in
     once_ascends row_key (AnswersAmong c.args.pool.now) rows_total _ _ once
-    (c.sort_unstable_by.ensures.sorted (λ (a b : FindRow). is_lt (slice_row_cmp a b)) (ranks_by rows_total (λ (row : FindRow). row)) (always_returns_same _ _ _ (λ a r g called. (search rules, search rules))))
+    (c.sort_unstable_by.ensures.sorted (λ (a b : FindRow). is_lt (slice_row_cmp a b))
+    (ranks_by rows_total (λ (row : FindRow). row))
+    (always_returns_same _ _ _ (λ a r g called. (search rules, search rules))))

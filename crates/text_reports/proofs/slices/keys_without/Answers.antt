@@ -10,9 +10,11 @@ keys-preserved c =
     let without = λ (key : SliceKey). HasKey c.args.rows.now key → ⊥ in
     elim c.if-not-has_key.branch [
       | then-not-has_key+in_ok-push w ↦
-          let items : c.if-not-has_key.absent.items ≡ c.keys.absent.items ++ c.key-item.result ∷ [] = (λ i. (w.absent-is i).items) ∙ w.in_ok-push.ensures.items in
+          let items : c.if-not-has_key.absent.items ≡ c.keys.absent.items ++ c.key-item.result
+          ∷ [] = (λ i. (w.absent-is i).items) ∙ w.in_ok-push.ensures.items in
           subst (λ (l : List SliceKey). AreOfFirst own_key without c.args.keys.now (c.keys.key-index + 1) l) (sym items)
-          (kept_more own_key without c.args.keys.now c.keys.absent.items c.keys.key-index c.key-item.result c.keys-test.true c.key-item.is c.keys.invariant c.has_key.ensures.key
+          (kept_more own_key without c.args.keys.now c.keys.absent.items c.keys.key-index c.key-item.result
+          c.keys-test.true c.key-item.is c.keys.invariant c.has_key.ensures.key
           (λ has. cc (c.has_key.ensures.is.1 has, w.if-not-has_key.true)))
       | else-not-has_key w ↦
           let items : c.if-not-has_key.absent.items ≡ c.keys.absent.items = λ i. (w.absent-is i).items in
@@ -22,4 +24,5 @@ keys-preserved c =
     ]
 
 pub returns : goal.returns
-returns c = kept_all own_key (λ (key : SliceKey). HasKey c.args.rows.now key → ⊥) c.args.keys.now c.keys.absent.items c.keys.key-index (omega (arith, c.keys-test.false)) c.keys.invariant
+returns c = kept_all own_key (λ (key : SliceKey). HasKey c.args.rows.now key → ⊥) c.args.keys.now c.keys.absent.items
+    c.keys.key-index (omega (arith, c.keys-test.false)) c.keys.invariant

@@ -15,11 +15,13 @@ rows-preserved c =
       | then-lives_beside+in_ok-push w ↦
           let items : c.if-lives_beside.live.items ≡ c.rows.live.items ++ c.row-item.result ∷ [] = (λ i. (w.live-is i).items) ∙ w.in_ok-push.ensures.items in
           subst (λ (l : List FindRow). AreOfFirst row_key (LivesBeside beside) c.args.pool.now (c.rows.row-index + 1) l) (sym items)
-          (kept_more row_key (LivesBeside beside) c.args.pool.now c.rows.live.items c.rows.row-index c.row-item.result c.rows-test.true c.row-item.is c.rows.invariant c.lives_beside.ensures.key (is.0 w.if-lives_beside.true))
+          (kept_more row_key (LivesBeside beside) c.args.pool.now c.rows.live.items c.rows.row-index c.row-item.result
+          c.rows-test.true c.row-item.is c.rows.invariant c.lives_beside.ensures.key (is.0 w.if-lives_beside.true))
       | else-lives_beside w ↦
           let items : c.if-lives_beside.live.items ≡ c.rows.live.items = λ i. (w.live-is i).items in
           subst (λ (l : List FindRow). AreOfFirst row_key (LivesBeside beside) c.args.pool.now (c.rows.row-index + 1) l) (sym items)
-          (kept_same row_key (LivesBeside beside) c.args.pool.now c.rows.live.items c.rows.row-index c.row-item.result c.rows-test.true c.row-item.is c.rows.invariant (λ one. cc (is.1 one, w.if-lives_beside.false)))
+          (kept_same row_key (LivesBeside beside) c.args.pool.now c.rows.live.items c.rows.row-index c.row-item.result
+          c.rows-test.true c.row-item.is c.rows.invariant (λ one. cc (is.1 one, w.if-lives_beside.false)))
     ]
 
 pub returns : goal.returns

@@ -18,7 +18,8 @@ returns c =
     let rows = c.in_ok-rows.rows.items in
     let absent = c.in_ok-absent.absent.items in
     let without = rw c.deref.ensures.value at c.in_ok-absent.ensures.exactly in
-    tells (AnswersAmong c.args.pool.now) rows c.args.keys.now absent _ c.in_ok-rows.ensures.exactly c.in_ok-rows.ensures.ascending without c.in_ok-absent.ensures.ascending
+    tells (AnswersAmong c.args.pool.now) rows c.args.keys.now absent _ c.in_ok-rows.ensures.exactly
+    c.in_ok-rows.ensures.ascending without c.in_ok-absent.ensures.ascending
     (c.in_ok-push_absent.ensures
     ∙ ap (λ (l : List SliceKey). string_bytes c.push_rows.new.text ++ flat_map (λ key. line (absent_text key)) l) c.deref-3.ensures.value
     ∙ ap (λ (bytes : List ℕ). bytes ++ flat_map (λ key. line (absent_text key)) absent)

@@ -3,7 +3,9 @@ use Rattle.std.proofs.lemmas.Bool.{not-false, not-true}
 use Rattle.text_values.specs.Words.{arch_key_of}
 use Rattle.text_values.proofs.Forms.{other_length, other_middle, other_start, two_numbers}
 use Rattle.text_values.proofs.archs.read_cpu.Goals as goal
-use Rattle.text_values.proofs.archs.read_cpu.Goals.{then-text-ne21-via-then-text-ne21, then-text-ne21-via-else-text-ne21+then-not-starts_with, then-text-ne21-via-else-text-ne21+else-not-starts_with+then-ne}
+use Rattle.text_values.proofs.archs.read_cpu.Goals.{then-text-ne21-via-then-text-ne21}
+use Rattle.text_values.proofs.archs.read_cpu.Goals.{then-text-ne21-via-else-text-ne21+then-not-starts_with}
+use Rattle.text_values.proofs.archs.read_cpu.Goals.{then-text-ne21-via-else-text-ne21+else-not-starts_with+then-ne}
 
 pub returns-then-text-ne21 : goal.returns-then-text-ne21
 returns-then-text-ne21 c =

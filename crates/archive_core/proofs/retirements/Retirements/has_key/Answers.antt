@@ -10,4 +10,9 @@ returns-else-has_prefix c = λ digest long there.
     let prefix = retirement_prefix c.args.key.now digest c.prefix_of-prefix.ensures.long ∙ sym c.prefix_of-prefix.ensures.prefix in
     let none = nothing_there c.deref.result.now it c.has_prefix.result (c.has_prefix.ensures it prefix) c.if-has_prefix.false in
     let other = in_second c.self.inside.ascending.items c.self.inside.others.keys c.args.self.now it c.self.view_is (rw c.deref.ensures.value at none) in
-    c.has_other_prefix.ensures it prefix (omega (arith, length-append (key_bytes c.args.key.now) digest, c.prefix_of-prefix.ensures.long, long)) (sym other ∙ there)
+    c.has_other_prefix.ensures it prefix (omega (
+      arith,
+      length-append (key_bytes c.args.key.now) digest,
+      c.prefix_of-prefix.ensures.long,
+      long,
+    )) (sym other ∙ there)

@@ -12,12 +12,16 @@ returns-then-not-first c old all rest parting =
     let kept = c.in_ok-first.ensures.kept ∙ ap (set.insert (from_list c.args.seen.now)) c.retirement_bytes.ensures in
     let seen = from_list c.args.seen.now in
     let retired = record_bytes (Retire c.args.key c.args.digest) in
-    let known : contains seen retired ≡ true = not-false (contains seen retired) (sym (rw c.retirement_bytes.ensures at c.in_ok-first.ensures.first) ∙ c.if-not-first.true) in
-    rw kept (retirement_passed old all rest c.args.self.now.admissions.items c.args.self.now.retirements.items seen (Retire c.args.key c.args.digest) parting refl known)
+    let known : contains seen retired ≡ true = not-false (contains seen retired)
+    (sym (rw c.retirement_bytes.ensures at c.in_ok-first.ensures.first) ∙ c.if-not-first.true) in
+    rw kept (retirement_passed old all rest c.args.self.now.admissions.items c.args.self.now.retirements.items seen
+    (Retire c.args.key c.args.digest) parting refl known)
 
 pub returns : goal.returns
 returns c old all rest parting =
     let kept = c.in_ok-first.ensures.kept ∙ ap (set.insert (from_list c.args.seen.now)) c.retirement_bytes.ensures in
-    let put = retirement_put old all rest c.args.self.now.admissions.items c.args.self.now.retirements.items (from_list c.args.seen.now) (Retire c.args.key c.args.digest) parting refl c.retirement.ensures.operation in
-    parting_as old all rest c.args.self.now.admissions.items c.args.self.now.retirements.items c.push.new.self.items _ (from_list c.keep.new.self) (Retire c.args.key c.args.digest) c.retirement.result put
+    let put = retirement_put old all rest c.args.self.now.admissions.items c.args.self.now.retirements.items
+    (from_list c.args.seen.now) (Retire c.args.key c.args.digest) parting refl c.retirement.ensures.operation in
+    parting_as old all rest c.args.self.now.admissions.items c.args.self.now.retirements.items c.push.new.self.items _
+    (from_list c.keep.new.self) (Retire c.args.key c.args.digest) c.retirement.result put
     c.in_ok-push.ensures.items c.retirement.ensures.is kept

@@ -16,9 +16,11 @@ operations-preserved c =
     let before = held_among c.args.key.now c.args.dsym (take i operations) in
     elim c.match-held.branch [
       | in-Some w ↦
-          let grown = one_more c.args.key.now c.args.dsym operations i a c.operations-test.true c.operation-item.is c.held.result w.in-Some.slice c.held.ensures w.in-Some.is in
+          let grown = one_more c.args.key.now c.args.dsym operations i a c.operations-test.true c.operation-item.is
+          c.held.result w.in-Some.slice c.held.ensures w.in-Some.is in
           rw (w.answering-is, grown) (w.and-answering.ensures before c.operations.invariant)
       | in_default w ↦
-          let same = none_more c.args.key.now c.args.dsym operations i a c.operations-test.true c.operation-item.is c.held.result c.held.ensures w.in_default.is in
+          let same = none_more c.args.key.now c.args.dsym operations i a c.operations-test.true c.operation-item.is
+          c.held.result c.held.ensures w.in_default.is in
           rw (w.answering-is, same) c.operations.invariant
     ]

@@ -18,8 +18,10 @@ operations-preserved c =
     let told = ap (λ o. changes o (record_bytes a)) (sym c.lend-borrowed.ensures.borrowed) in
     elim c.if-not-knows.branch [
       | then-not-knows+in_ok-copy+in_ok-push w ↦
-          one_kept test operations i a c.operations-test.true c.operation-item.is old new w.in_ok-copy.copy (told ∙ w.if-not-knows.ensures.changes) c.operations.invariant w.in_ok-copy.ensures
+          one_kept test operations i a c.operations-test.true c.operation-item.is old new w.in_ok-copy.copy
+          (told ∙ w.if-not-knows.ensures.changes) c.operations.invariant w.in_ok-copy.ensures
           (ap (λ v. v.items) w.missing-is ∙ w.in_ok-push.ensures.items)
       | else-not-knows w ↦
-          one_left_out test operations i a c.operations-test.true c.operation-item.is old new (told ∙ w.if-not-knows.ensures.changes) c.operations.invariant (ap (λ v. v.items) w.missing-is)
+          one_left_out test operations i a c.operations-test.true c.operation-item.is old new
+          (told ∙ w.if-not-knows.ensures.changes) c.operations.invariant (ap (λ v. v.items) w.missing-is)
     ]

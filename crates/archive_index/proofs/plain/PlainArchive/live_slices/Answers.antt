@@ -16,9 +16,13 @@ operations-preserved c =
     let a = c.operation-item.result in
     elim c.match-held.branch [
       | in-Some+in_ok-push w ↦
-          let grown = one_more c.args.key.now c.args.dsym operations i a c.operations-test.true c.operation-item.is c.held.result w.in-Some.asked c.held.ensures w.in-Some.is in
-          ap (map (λ slice. slice.now)) (ap (λ v. v.items) w.slices-is ∙ w.in_ok-push.ensures.items) ∙ map-append (λ slice. slice.now) c.operations.slices.items (w.slice.result ∷ []) ∙ (λ j. c.operations.invariant j ++ w.slice.ensures j ∷ []) ∙ sym grown
+          let grown = one_more c.args.key.now c.args.dsym operations i a c.operations-test.true c.operation-item.is
+          c.held.result w.in-Some.asked c.held.ensures w.in-Some.is in
+          ap (map (λ slice. slice.now)) (ap (λ v. v.items) w.slices-is ∙ w.in_ok-push.ensures.items)
+          ∙ map-append (λ slice. slice.now) c.operations.slices.items (w.slice.result ∷ [])
+          ∙ (λ j. c.operations.invariant j ++ w.slice.ensures j ∷ []) ∙ sym grown
       | in_default w ↦
-          let same = none_more c.args.key.now c.args.dsym operations i a c.operations-test.true c.operation-item.is c.held.result c.held.ensures w.in_default.is in
+          let same = none_more c.args.key.now c.args.dsym operations i a c.operations-test.true c.operation-item.is
+          c.held.result c.held.ensures w.in_default.is in
           ap (λ v. map (λ slice. slice.now) v.items) w.slices-is ∙ c.operations.invariant ∙ sym same
     ]

@@ -17,9 +17,12 @@ operations-preserved c =
     let before = held_among c.args.key.now c.args.dsym (take i operations) in
     elim c.match-held.branch [
       | in-Some+in_ok-push w ↦
-          let grown = one_more c.args.key.now c.args.dsym operations i a c.operations-test.true c.operation-item.is c.held.result w.in-Some.slice c.held.ensures w.in-Some.is in
-          rw grown (rows_more c.args.asked before c.operations.rows.items rows w.in-Some.slice w.row.result c.operations.invariant w.row.ensures (ap (λ v. v.items) w.rows-is ∙ w.in_ok-push.ensures.items))
+          let grown = one_more c.args.key.now c.args.dsym operations i a c.operations-test.true c.operation-item.is
+          c.held.result w.in-Some.slice c.held.ensures w.in-Some.is in
+          rw grown (rows_more c.args.asked before c.operations.rows.items rows w.in-Some.slice w.row.result
+          c.operations.invariant w.row.ensures (ap (λ v. v.items) w.rows-is ∙ w.in_ok-push.ensures.items))
       | in_default w ↦
-          let same = none_more c.args.key.now c.args.dsym operations i a c.operations-test.true c.operation-item.is c.held.result c.held.ensures w.in_default.is in
+          let same = none_more c.args.key.now c.args.dsym operations i a c.operations-test.true c.operation-item.is
+          c.held.result c.held.ensures w.in_default.is in
           rw (same, w.rows-is) c.operations.invariant
     ]

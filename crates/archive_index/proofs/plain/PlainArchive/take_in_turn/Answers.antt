@@ -18,7 +18,8 @@ operations-preserved c =
     record {
       can = tt;
       finite = tt;
-      way = one_taken c.args.self.now at.self c.take.new.self (into_iter_items c.into_iter-operation-iterator.result) left rest c.in-Some.operation at.invariant.way steps c.in_ok-take.ensures.taken;
+      way = one_taken c.args.self.now at.self c.take.new.self (into_iter_items c.into_iter-operation-iterator.result)
+          left rest c.in-Some.operation at.invariant.way steps c.in_ok-take.ensures.taken;
       content = content_with at.self c.take.new.self c.in-Some.operation at.invariant.content (search rules) c.in_ok-take.ensures.taken;
       long = omega (arith, at.invariant.long, c.in-Some.ensures.steps.1, ap length steps);
     }
@@ -26,5 +27,7 @@ operations-preserved c =
 pub returns-in_err-take : goal.returns-in_err-take
 returns-in_err-take c =
     let p = err_from_is_err_and c.from_residual.result c.from_residual.ensures.1 in
-    let part = taken_in_part c.args.self.now c.operations.self c.take.new.self (into_iter_items c.into_iter-operation-iterator.result) (into_iter_items c.operations.operation-iterator) c.operations.invariant.content c.operations.invariant.way c.in_err-take.ensures.refused in
+    let part = taken_in_part c.args.self.now c.operations.self c.take.new.self
+    (into_iter_items c.into_iter-operation-iterator.result) (into_iter_items c.operations.operation-iterator)
+    c.operations.invariant.content c.operations.invariant.way c.in_err-take.ensures.refused in
     rw (p.1, ← c.into_iter-operation-iterator.ensures.into_iter_gives.0) part

@@ -20,7 +20,10 @@ returns-then-is_empty c =
     let key = c.args.key.now in
     let operations = c.self.inside.operations.items in
     let under = c.under-admissions.ensures.range ∙ ap (filter (is_under_key Admission key)) c.deref.ensures.value in
-    let nothing : c.in_ok-companions.companions.items ≡ [] = nil_from_length c.in_ok-companions.companions.items (sym c.in_ok-companions.companions.ok.0 ∙ eqb-true c.in_ok-companions.companions.len 0 (sym c.is_empty.ensures ∙ c.if-is_empty.true)) in
+    let nothing : c.in_ok-companions.companions.items ≡ [] =
+    nil_from_length c.in_ok-companions.companions.items
+    (sym c.in_ok-companions.companions.ok.0 ∙ eqb-true c.in_ok-companions.companions.len 0
+    (sym c.is_empty.ensures ∙ c.if-is_empty.true)) in
     let none : held_among key true operations ≡ [] =
     sym (live_under key true operations) ∙ ap (held_among key true) (sym under) ∙ sym c.in_ok-companions.ensures ∙ ap (map (λ slice. slice.now)) nothing in
     let answering = images_answer o key operations c.self.invariant c.self.view_is c.under-admissions.ensures.key none in

@@ -15,9 +15,18 @@ returns c =
     let uuid = c.args.uuid.now in
     let operations = c.self.inside.operations.items in
     let hashed = c.sort_unstable_by.new.self.items in
-    let sorted = c.sort_unstable_by.ensures.sorted (λ x y. is_lt (find_cmp x y)) (ranks_by find_total (λ x. x)) (always_returns_same _ _ _ (λ a r g called. (search rules, search rules))) in
-    let held = rw (c.in_ok-gather.ensures, c.new-hashed.ensures.items, c.under_uuid-retirements.ensures, c.under_uuid-admissions.ensures, c.deref.ensures.value, c.deref-2.ensures.value) at c.in_ok-gather-2.ensures in
+    let sorted = c.sort_unstable_by.ensures.sorted (λ x y. is_lt (find_cmp x y)) (ranks_by find_total (λ x. x))
+    (always_returns_same _ _ _ (λ a r g called. (search rules, search rules))) in
+    let held = rw (
+      c.in_ok-gather.ensures,
+      c.new-hashed.ensures.items,
+      c.under_uuid-retirements.ensures,
+      c.under_uuid-admissions.ensures,
+      c.deref.ensures.value,
+      c.deref-2.ensures.value,
+    ) at c.in_ok-gather-2.ensures in
     let gathered = held ∙ two_runs uuid operations c.self.invariant.ascending in
     let permuted = rw gathered at c.sort_unstable_by.ensures.permutation in
     let finds = finds_sorted o uuid operations hashed c.self.invariant c.self.view_is permuted sorted in
-    IfOk-weaker c.rows_of.result (λ rows. rows.items ≡ map row_of hashed) (λ rows. IsFinds o uuid rows.items) (λ rows is. subst (IsFinds o uuid) (sym is) finds) (rw (c.deref-3.ensures.value) at c.rows_of.ensures)
+    IfOk-weaker c.rows_of.result (λ rows. rows.items ≡ map row_of hashed) (λ rows. IsFinds o uuid rows.items)
+    (λ rows is. subst (IsFinds o uuid) (sym is) finds) (rw (c.deref-3.ensures.value) at c.rows_of.ensures)

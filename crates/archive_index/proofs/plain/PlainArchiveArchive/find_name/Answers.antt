@@ -7,4 +7,5 @@ pub returns : goal.returns
 returns c =
     let operations = c.self.inside.operations.items in
     let gathered = c.in_ok-rows.ensures ∙ ap (names_among c.args.name.now) c.deref.ensures.value in
-    names_put c.args.self.now c.args.name.now operations c.self.invariant c.self.view_is _ _ gathered c.put_in_order.ensures.ascending c.put_in_order.ensures.same
+    names_put c.args.self.now c.args.name.now operations c.self.invariant c.self.view_is _ _ gathered
+    c.put_in_order.ensures.ascending c.put_in_order.ensures.same

@@ -19,7 +19,8 @@ returns-in-Nothing c =
     let answering = images_answer o key operations c.self.invariant c.self.view_is c.under-admissions.ensures.key none in
     record {
       answer =
-          IfOk-weaker c.answer_of.result (λ answer. IsAnswerOf c.args.asked slices (answer_view answer)) (λ answer. IsAnswer o key c.args.asked (answer_view answer))
+          IfOk-weaker c.answer_of.result (λ answer. IsAnswerOf c.args.asked slices (answer_view answer))
+          (λ answer. IsAnswer o key c.args.asked (answer_view answer))
           (λ answer is. record { slices = slices; answering = answering; answer_is = is })
           (rw (under, live_under key false operations) at c.answer_of.ensures.answer);
       memory =
@@ -40,7 +41,8 @@ returns-in_default c =
     let answering = companions_answer o key operations c.self.invariant c.self.view_is c.under-admissions.ensures.key some in
     record {
       answer =
-          IfOk-weaker c.answer_of-in_default.result (λ answer. IsAnswerOf c.args.asked slices (answer_view answer)) (λ answer. IsAnswer o key c.args.asked (answer_view answer))
+          IfOk-weaker c.answer_of-in_default.result (λ answer. IsAnswerOf c.args.asked slices (answer_view answer))
+          (λ answer. IsAnswer o key c.args.asked (answer_view answer))
           (λ answer is. record { slices = slices; answering = answering; answer_is = is })
           (rw (under, live_under key true operations) at c.answer_of-in_default.ensures.answer);
       memory =

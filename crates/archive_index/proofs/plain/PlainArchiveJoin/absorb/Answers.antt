@@ -16,8 +16,14 @@ returns-then-len-min c =
     let mine_is = subst IsContent c.self.view_is (content_of_held c.self.inside.operations.items c.self.invariant) in
     let theirs_is = subst IsContent c.other.view_is (content_of_held theirs c.other.invariant) in
     record {
-      joined = MatchResult-weaker c.take_in_turn.result c.take_in_turn.ensures (λ _ taken. joined c.args.self.now c.args.other _ mine_is theirs_is (taken ∙ taken_are_joined c.args.self.now (map record_bytes theirs) mine_is.itself ∙ ap (λ s. joined_of c.args.self.now (content_of s)) c.other.view_is ∙ ap (joined_of c.args.self.now) theirs_is.itself)) (λ _ _. tt);
-      refused = MatchResult-weaker c.take_in_turn.result c.take_in_turn.ensures (λ _ _. tt) (λ _. taken_towards c.args.self.now c.args.other _ (map record_bytes theirs) mine_is theirs_is.itself c.other.view_is);
+      joined = MatchResult-weaker c.take_in_turn.result c.take_in_turn.ensures
+          (λ _ taken. joined c.args.self.now c.args.other _ mine_is theirs_is
+          (taken ∙ taken_are_joined c.args.self.now (map record_bytes theirs) mine_is.itself
+          ∙ ap (λ s. joined_of c.args.self.now (content_of s)) c.other.view_is
+          ∙ ap (joined_of c.args.self.now) theirs_is.itself)) (λ _ _. tt);
+      refused = MatchResult-weaker c.take_in_turn.result c.take_in_turn.ensures (λ _ _. tt)
+          (λ _. taken_towards c.args.self.now c.args.other _ (map record_bytes theirs) mine_is theirs_is.itself
+          c.other.view_is);
     }
 
 pub returns : goal.returns

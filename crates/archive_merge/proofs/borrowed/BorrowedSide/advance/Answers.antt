@@ -6,7 +6,8 @@ use Rattle.archive_merge.proofs.borrowed.BorrowedSide.advance.Goals as goal
 pub returns-then-not-stands_behind : goal.returns-then-not-stands_behind
 returns-then-not-stands_behind c =
     let now = c.args.self.now in
-    nothing_taken (last_bytes now.last) now.count now.offset (c.args.shared.now ++ now.retired) now.dropped (left_of c.args.text.now) c.refused.result c.refused.ensures c.requires.few
+    nothing_taken (last_bytes now.last) now.count now.offset (c.args.shared.now ++ now.retired) now.dropped
+    (left_of c.args.text.now) c.refused.result c.refused.ensures c.requires.few
 
 pub returns-in-Some : goal.returns-in-Some
 returns-in-Some c = rw c.in-Some.ensures.some (c.take.ensures (left_of c.take_next.new.self))

@@ -17,7 +17,11 @@ returns-in_err-finish-in-End-clause-stands g c = λ a done h.
     let step = rw c.in-End.is at c.in_ok-advance_beside.ensures in
     let file = c.args.self.now.reader.file in
     let e = c.in_err-finish-in-End.ensures in
-    rw (p.1, p.2) (e.stopped_beside (Some c.args.shared.now) file a done (counts_of file c.requires.archive) (HasReadAll-grows file a _ _ done (side_with c.args.shared.now c.args.self.now).reader _ h step.0), λ memory. absurd (e.memory memory))
+    rw (p.1, p.2) (
+      e.stopped_beside (Some c.args.shared.now) file a done (counts_of file c.requires.archive)
+          (HasReadAll-grows file a _ _ done (side_with c.args.shared.now c.args.self.now).reader _ h step.0),
+      λ memory. absurd (e.memory memory),
+    )
 
 pub returns-in-Item-clause-stands : goal.returns-in-Item-clause-stands
 returns-in-Item-clause-stands g c = λ a done h.

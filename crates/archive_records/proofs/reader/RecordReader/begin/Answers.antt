@@ -15,7 +15,8 @@ returns-clause-read g c =
     let magic = c.in-Ok-read_magic.ensures.magic.1 in
     record {
       file_is = refl;
-      taken = subst (Consumes (g.R.Source.left c.args.r.now) (g.R.Source.left c.read_magic.new.r)) (magic ∙ sym (append-nil (magic_of file))) (filled_first refl c.read_magic.ensures.fills);
+      taken = subst (Consumes (g.R.Source.left c.args.r.now) (g.R.Source.left c.read_magic.new.r))
+          (magic ∙ sym (append-nil (magic_of file))) (filled_first refl c.read_magic.ensures.fills);
       ordered = tt;
       apart = apart_none file;
       last_is = c.clear.ensures.items;
@@ -27,7 +28,15 @@ returns-clause-read g c =
 
 pub returns-in_default : goal.returns-in_default
 returns-in_default g c =
-    rw c.out_of_memory.ensures (record { read = tt; kind = tt; start = refl; stops = ([], Consumes-none (g.R.Source.left c.args.r.now), λ format is. inr (inr (refl, omega arith))); reader = memory_blames g.R.Source.left g.R.Source.failures c.args.r.now c.args.r.now refl })
+    rw c.out_of_memory.ensures (record {
+      read = tt;
+      kind = tt;
+      start = refl;
+      stops =
+          ([], Consumes-none (g.R.Source.left c.args.r.now), λ format is. inr (inr (refl, omega arith)));
+      reader =
+          memory_blames g.R.Source.left g.R.Source.failures c.args.r.now c.args.r.now refl;
+    })
 
 pub returns-in-Err-clause-stops : goal.returns-in-Err-clause-stops
 returns-in-Err-clause-stops g c = (bytes_so_far c.read_magic.new.buffer, filled_first refl c.read_magic.ensures.fills, c.in-Err.ensures.stops)

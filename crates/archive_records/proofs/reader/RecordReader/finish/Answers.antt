@@ -15,4 +15,5 @@ returns-in-Ok-false-clause-stopped_beside g c =
     rw (← c.self.view_is) (λ shared file a records counts h. Stopped-behind file counts a _ _ records more.0 _ h more.1)
 
 pub returns-in-Err-clause-stopped_beside : goal.returns-in-Err-clause-stopped_beside
-returns-in-Err-clause-stopped_beside g c = rw (← c.self.view_is) (λ shared file a records counts h. Stopped-end file counts a _ _ records _ h c.in-Err.ensures.err)
+returns-in-Err-clause-stopped_beside g c = rw (← c.self.view_is)
+    (λ shared file a records counts h. Stopped-end file counts a _ _ records _ h c.in-Err.ensures.err)

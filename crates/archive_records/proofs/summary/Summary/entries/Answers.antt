@@ -9,4 +9,5 @@ use Rattle.archive_core.proofs.Made.{bytes_same}
 pub returns : goal.returns
 returns c =
     ap (map entry_bytes) c.deref.ensures.value
-    ∙ sym (sym (ap listing c.self.view_is) ∙ listing_ascending nat_list_cmp_total bytes_same (map entry_bytes c.self.inside.entries.items) c.self.invariant.ascending)
+    ∙ sym (sym (ap listing c.self.view_is) ∙ listing_ascending nat_list_cmp_total bytes_same
+    (map entry_bytes c.self.inside.entries.items) c.self.invariant.ascending)

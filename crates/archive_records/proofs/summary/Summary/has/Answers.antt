@@ -13,8 +13,10 @@ returns c =
     let facts = c.binary_search_by.ensures in
     let key = entry_bytes c.args.entry.now in
     let items = c.deref.result.now in
-    let by_bytes = facts.position (λ held. slice_cmp nat_cmp (entry_bytes held) key) (always_returns_same _ _ _ (λ a r g called. (search rules, search rules))) in
+    let by_bytes = facts.position (λ held. slice_cmp nat_cmp (entry_bytes held) key)
+    (always_returns_same _ _ _ (λ a r g called. (search rules, search rules))) in
     let bound = facts.bound in
     let listed = rw (← c.deref.ensures.value) at c.self.invariant in
     let found = searched_by nat_list_cmp_total entry_bytes key items c.binary_search_by.result listed.ascending bound by_bytes in
-    c.is_ok.ensures.value ∙ found_is (map entry_bytes items) key c.binary_search_by.result found ∙ rw (c.deref.ensures.value) (ap (λ s. set.contains s key) c.self.view_is)
+    c.is_ok.ensures.value ∙ found_is (map entry_bytes items) key c.binary_search_by.result found
+    ∙ rw (c.deref.ensures.value) (ap (λ s. set.contains s key) c.self.view_is)

@@ -15,9 +15,11 @@ returns-clause-told g c = λ o all left count same told.
     let place : Where = asked_of one.frame.load one.frame.address in
     let content = g.A.Join.content c.args.archive.now in
     let now : ToldFrame = record { from = c.len-from.result; to = c.len.result; is_symbol = c.is_symbol.result } in
-    let answered = answered_by content one.frame.key c.args.self.now.lines place c.asked_of-place.result (answer_view c.in_ok-answer.answer) c.args.sources.now.found.items (lists_view c.deref.result.now)
+    let answered = answered_by content one.frame.key c.args.self.now.lines place c.asked_of-place.result
+    (answer_view c.in_ok-answer.answer) c.args.sources.now.found.items (lists_view c.deref.result.now)
     c.asked_of-place.ensures c.in_ok-answer.ensures.answer c.requires (ap lists_view c.deref.ensures.value ∙ c.in_ok-frames.ensures) in
     let is = told_now c.args.self.now.lines o _ _ one.frame c.in_ok-answer.answer (lists_view c.deref.result.now) now
     (sourced_as content o one.frame.key c.args.self.now.lines place (answer_view c.in_ok-answer.answer) (lists_view c.deref.result.now) same answered)
-    c.in_ok-push_answer.ensures (omega (arith, c.len-from.ensures, c.args.self.now.text.bytes.ok.0)) (omega (arith, c.len.ensures, c.push_answer.new.text.bytes.ok.0)) c.is_symbol.ensures in
+    c.in_ok-push_answer.ensures (omega (arith, c.len-from.ensures, c.args.self.now.text.bytes.ok.0))
+    (omega (arith, c.len.ensures, c.push_answer.new.text.bytes.ok.0)) c.is_symbol.ensures in
     rw c.put_at.ensures (told_more c.args.self.now.lines o all one left count _ _ told _ _ c.in_ok-push_answer.ensures now is)

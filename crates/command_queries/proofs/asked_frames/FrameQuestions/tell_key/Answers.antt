@@ -8,7 +8,8 @@ pub tell-requires : goal.tell-requires
 tell-requires g c =
     let one : AskedFrame = c.asked-item.result in
     let key : SliceKey = c.in-Some.first.now.frame.key in
-    let there = in_run key c.args.self.now.left.now c.split_at.result.0.now c.run_len.result c.run.asked-index one c.run_len.ensures.len c.split_at.ensures.front (omega arith) c.asked-item.is in
+    let there = in_run key c.args.self.now.left.now c.split_at.result.0.now c.run_len.result c.run.asked-index one
+    c.run_len.ensures.len c.split_at.ensures.front (omega arith) c.asked-item.is in
     rw (there.0, c.run.invariant.lines) (c.in_ok-sources.ensures one there.1)
 
 pub run-preserved : goal.run-preserved
@@ -16,12 +17,15 @@ run-preserved g c =
     let content = g.A.Join.content c.args.archive.now in
     let one : AskedFrame = c.asked-item.result in
     let key : SliceKey = c.in-Some.first.now.frame.key in
-    let there = in_run key c.args.self.now.left.now c.split_at.result.0.now c.run_len.result c.run.asked-index one c.run_len.ensures.len c.split_at.ensures.front (omega arith) c.asked-item.is in
+    let there = in_run key c.args.self.now.left.now c.split_at.result.0.now c.run_len.result c.run.asked-index one
+    c.run_len.ensures.len c.split_at.ensures.front (omega arith) c.asked-item.is in
     record {
       lines = c.in_ok-tell.ensures.lines ∙ c.run.invariant.lines;
       left = c.in_ok-tell.ensures.left ∙ c.run.invariant.left;
       told = λ o all count same told.
-          run_told content o c.args.self.now.lines c.run.self.lines all c.args.self.now.left.now c.run.asked-index count one key _ _ _ _ c.run.invariant.lines there.3 there.2 there.0 (first_is c.in-Some.first.now c.args.self.now.left.now c.in-Some.ensures.value)
+          run_told content o c.args.self.now.lines c.run.self.lines all c.args.self.now.left.now c.run.asked-index count
+          one key _ _ _ _ c.run.invariant.lines there.3 there.2 there.0
+          (first_is c.in-Some.first.now c.args.self.now.left.now c.in-Some.ensures.value)
           c.in_ok-tell.ensures.told same (c.run.invariant.told o all count same told);
     }
 

@@ -11,12 +11,14 @@ returns-in_ok-taken-in-Some-clause-came c = rw c.in-Some.is (always c.push_row.r
 pub returns-in_ok-taken-in-Some-clause-rows : goal.returns-in_ok-taken-in-Some-clause-rows
 unfolding file_rows slice_rows
 returns-in_ok-taken-in-Some-clause-rows c =
-    rw c.in-Some.is (then_ok c.push_row.result c.push_row.ensures.rows (λ pushed. pushed ∙ rw (c.in_ok-taken-in-Some.ensures.rows, c.in_ok-taken-in-Some.ensures.taken) refl))
+    rw c.in-Some.is (then_ok c.push_row.result c.push_row.ensures.rows
+    (λ pushed. pushed ∙ rw (c.in_ok-taken-in-Some.ensures.rows, c.in_ok-taken-in-Some.ensures.taken) refl))
 
 pub returns-in_ok-taken-in-Some-clause-are_first : goal.returns-in_ok-taken-in-Some-clause-are_first
 returns-in_ok-taken-in-Some-clause-are_first c =
     rw c.in-Some.is (then_ok c.push_row.result c.push_row.ensures.rows (λ pushed records are_first.
-    rw (c.push_row.ensures.came, c.push_row.ensures.first_rows, pushed, c.in_ok-taken-in-Some.ensures.rows) (c.in_ok-taken-in-Some.ensures.are_first records _ refl are_first)))
+    rw (c.push_row.ensures.came, c.push_row.ensures.first_rows, pushed, c.in_ok-taken-in-Some.ensures.rows)
+    (c.in_ok-taken-in-Some.ensures.are_first records _ refl are_first)))
 
 pub returns-in-None-clause-came : goal.returns-in-None-clause-came
 returns-in-None-clause-came c = rw c.in-None.is (always c.push_row-in-None.result c.push_row-in-None.ensures.came)

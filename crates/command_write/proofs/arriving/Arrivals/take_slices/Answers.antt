@@ -9,7 +9,8 @@ use Rattle.command_write.proofs.arriving.Arrivals.take_slices.Goals as goal
 pub slices-init : goal.slices-init
 slices-init c =
     let gives = c.into_iter-part-iterator.ensures.into_iter_gives in
-    let long : into_iter_len c.into_iter-part-iterator.result ≡ length (into_iter_items c.into_iter-part-iterator.result) = omega (arith, gives.1, ap length gives.0) in
+    let long : into_iter_len c.into_iter-part-iterator.result
+    ≡ length (into_iter_items c.into_iter-part-iterator.result) = omega (arith, gives.1, ap length gives.0) in
     record {
       can = tt;
       finite = tt;
@@ -42,14 +43,27 @@ slices-preserved c =
       are_first = (
         seen ++ part ∷ [],
         rw append_assoc (rw steps at at.invariant.are_first.1),
-        λ records are_first. rw (map-append record_in seen (part ∷ []), ← append_assoc records (map record_in seen) (record_in part ∷ [])) (took.are_first (records ++ map record_in seen) (at.invariant.are_first.2 records are_first)),
+        λ records are_first. rw (
+          map-append record_in seen (part ∷ []),
+          ← append_assoc records (map record_in seen) (record_in part ∷ []),
+        )
+            (took.are_first (records ++ map record_in seen) (at.invariant.are_first.2 records are_first)),
       );
     }
 
 pub overflow_add-number : goal.overflow_add-number
 overflow_add-number c =
     let steps = ap length c.in-Some.ensures.steps.0 in
-    omega (arith, c.slices.invariant.long, c.slices.invariant.numbered, steps, ap length c.into_iter-part-iterator.ensures.into_iter_gives.0, c.args.slices.ok.0, c.args.slices.ok.1, c.args.slices.small)
+    omega (
+      arith,
+      c.slices.invariant.long,
+      c.slices.invariant.numbered,
+      steps,
+      ap length c.into_iter-part-iterator.ensures.into_iter_gives.0,
+      c.args.slices.ok.0,
+      c.args.slices.ok.1,
+      c.args.slices.small,
+    )
 
 pub returns-clause-came : goal.returns-clause-came
 returns-clause-came c =

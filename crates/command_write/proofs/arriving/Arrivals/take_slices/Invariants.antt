@@ -12,7 +12,8 @@ invariant-slices l = record {
   finite : goal.iterator-slices.is_finite l.part-iterator;
   long : into_iter_len l.part-iterator ≡ length (into_iter_items l.part-iterator);
   numbered : l.number + into_iter_len l.part-iterator ≡ length (into_iter_items l.initial.part-iterator);
-  came : admitted l.self.came (images_in (into_iter_items l.part-iterator)) ≡ admitted l.initial.self.came (images_in (into_iter_items l.initial.part-iterator));
+  came : admitted l.self.came (images_in (into_iter_items l.part-iterator))
+      ≡ admitted l.initial.self.came (images_in (into_iter_items l.initial.part-iterator));
   rows : l.self.rows.items ++ part_rows l.file l.number (slice_rows l.self.came (into_iter_items l.part-iterator))
       ≡ l.initial.self.rows.items ++ part_rows l.file 0 (slice_rows l.initial.self.came (into_iter_items l.initial.part-iterator));
   are_first : (seen : List (Option (List ℕ))) × (into_iter_items l.initial.part-iterator ≡ seen ++ into_iter_items l.part-iterator)

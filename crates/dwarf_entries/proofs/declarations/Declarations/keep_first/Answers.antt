@@ -5,4 +5,5 @@ use Rattle.dwarf_entries.proofs.declarations.Declarations.keep_first.Goals as go
 
 pub returns : goal.returns
 returns c =
-    on_ok_weaker c.put.result (kept_first c.args.self.now c.put.new.self c.args.table c.args.code c.args.declaration (sym c.has.ensures ∙ c.if-has.false)) c.put.ensures
+    on_ok_weaker c.put.result (kept_first c.args.self.now c.put.new.self c.args.table c.args.code c.args.declaration
+    (sym c.has.ensures ∙ c.if-has.false)) c.put.ensures

@@ -19,8 +19,12 @@ pub returns-then-number-eq0-clause-told : goal.returns-then-number-eq0-clause-to
 returns-then-number-eq0-clause-told g c = record {
   paths = c.in_ok-alone.ensures.kept;
   callers = c.requires.told.callers;
-  linked = linked_still (g.T.FrameTaker.tells_name c.args.taker.now) (g.T.FrameTaker.tells_name c.frames_of_row.new.taker) (g.T.FrameTaker.tells_frames c.args.taker.now) (g.T.FrameTaker.tells_frames c.frames_of_row.new.taker)
-      c.frames_of_row.ensures.names c.frames_of_row.ensures.frames (lines_view c.args.lines.now) (links_view c.args.self.now.links.links.items) (length c.args.self.now.links.links.items) c.args.self.now.linked.items c.requires.told.linked;
+  linked = linked_still (g.T.FrameTaker.tells_name c.args.taker.now)
+      (g.T.FrameTaker.tells_name c.frames_of_row.new.taker) (g.T.FrameTaker.tells_frames c.args.taker.now)
+      (g.T.FrameTaker.tells_frames c.frames_of_row.new.taker)
+      c.frames_of_row.ensures.names c.frames_of_row.ensures.frames (lines_view c.args.lines.now)
+      (links_view c.args.self.now.links.links.items) (length c.args.self.now.links.links.items)
+      c.args.self.now.linked.items c.requires.told.linked;
 }
 
 pub frames-requires : goal.frames-requires
@@ -29,8 +33,18 @@ frames-requires g c = λ κs.
     let told = c.requires.told.linked in
     let within : n < length c.args.self.now.linked.items = omega (arith, told.count_is, c.requires.within, c.if-number-eq0.false) in
     let inside : n < length c.args.self.now.links.links.items = omega (arith, c.requires.within, c.if-number-eq0.false) in
-    let of = numbers_of (g.T.FrameTaker.tells_name c.args.taker.now) (g.T.FrameTaker.tells_frames c.args.taker.now) (lines_view c.args.lines.now) c.args.self.now.links.links.items (length c.args.self.now.links.links.items) c.args.self.now.linked.items n c.index-of.result.now told within c.index-of.ensures inside in
-    ((refl, tt), ((of.0.name, c.number.ensures.names _ _ of.2.name), ((path_in (lines_view c.args.lines.now) c.of_row-place.result.file, c.in_ok-path.ensures.is), (of.2.outer, c.number.ensures.frames _ _ of.2.callers))))
+    let of = numbers_of (g.T.FrameTaker.tells_name c.args.taker.now) (g.T.FrameTaker.tells_frames c.args.taker.now)
+    (lines_view c.args.lines.now) c.args.self.now.links.links.items (length c.args.self.now.links.links.items)
+    c.args.self.now.linked.items n c.index-of.result.now told within c.index-of.ensures inside in (
+      (refl, tt),
+      (
+        (of.0.name, c.number.ensures.names _ _ of.2.name),
+        (
+          (path_in (lines_view c.args.lines.now) c.of_row-place.result.file, c.in_ok-path.ensures.is),
+          (of.2.outer, c.number.ensures.frames _ _ of.2.callers),
+        ),
+      ),
+    )
 
 pub returns-clause-is : goal.returns-clause-is
 returns-clause-is g c =
@@ -41,14 +55,18 @@ returns-clause-is g c =
     let told = c.requires.told.linked in
     let within : n < length c.args.self.now.linked.items = omega (arith, told.count_is, c.requires.within, c.if-number-eq0.false) in
     let inside : n < length c.args.self.now.links.links.items = omega (arith, c.requires.within, c.if-number-eq0.false) in
-    let of = numbers_of (g.T.FrameTaker.tells_name c.args.taker.now) (g.T.FrameTaker.tells_frames c.args.taker.now) lines c.args.self.now.links.links.items (length c.args.self.now.links.links.items) c.args.self.now.linked.items n c.index-of.result.now told within c.index-of.ensures inside in
+    let of = numbers_of (g.T.FrameTaker.tells_name c.args.taker.now) (g.T.FrameTaker.tells_frames c.args.taker.now)
+    lines c.args.self.now.links.links.items (length c.args.self.now.links.links.items) c.args.self.now.linked.items
+    n c.index-of.result.now told within c.index-of.ensures inside in
     let place : ◌≡◌ {A = SourceLocation} c.of_row-place.result (location_of_row c.args.row) = c.of_row-place.ensures in
     let frames = frame_at_place lines of.0.name c.of_row-place.result ∷ of.2.outer in
-    let are : AreFramesOfLink lines links (location_of_row c.args.row) c.args.number frames = subst (λ (p : SourceLocation). AreFramesOfLink lines links p c.args.number frames) place
+    let are : AreFramesOfLink lines links (location_of_row c.args.row) c.args.number frames =
+    subst (λ (p : SourceLocation). AreFramesOfLink lines links p c.args.number frames) place
     (frames_of_link lines links c.of_row-place.result c.args.number n of.0 of.2.outer some of.1 (c.requires.told.callers n of.0 of.1) of.2.are_outer) in (
       frames,
       frames_with_link lines links c.args.row c.args.number n frames some are,
-      c.in_ok-found.ensures.is of.0.name (path_in lines c.of_row-place.result.file) of.2.outer (c.number.ensures.names _ _ of.2.name) c.in_ok-path.ensures.is (c.number.ensures.frames _ _ of.2.callers),
+      c.in_ok-found.ensures.is of.0.name (path_in lines c.of_row-place.result.file) of.2.outer
+          (c.number.ensures.names _ _ of.2.name) c.in_ok-path.ensures.is (c.number.ensures.frames _ _ of.2.callers),
     )
 
 pub returns-clause-told : goal.returns-clause-told
@@ -62,5 +80,7 @@ returns-clause-told g c =
     record {
       paths = paths_still (Q c.number.new.taker) (Q c.frames.new.self) lines c.number.new.self c.frames.ensures.paths c.in_ok-path.ensures.kept;
       callers = c.requires.told.callers;
-      linked = linked_still (P c.args.taker.now) (P c.frames.new.self) (F c.args.taker.now) (F c.frames.new.self) names frames lines (links_view c.args.self.now.links.links.items) (length c.args.self.now.links.links.items) c.args.self.now.linked.items c.requires.told.linked;
+      linked = linked_still (P c.args.taker.now) (P c.frames.new.self) (F c.args.taker.now) (F c.frames.new.self) names
+          frames lines (links_view c.args.self.now.links.links.items) (length c.args.self.now.links.links.items)
+          c.args.self.now.linked.items c.requires.told.linked;
     }

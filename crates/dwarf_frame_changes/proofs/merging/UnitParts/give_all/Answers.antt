@@ -10,7 +10,12 @@ pub loop-from-init : goal.loop-from-init
 loop-from-init g c = record {
   links = refl;
   told = c.requires.told;
-  given = ([], takes_none (g.T.FrameTaker.has_taken c.args.taker.now), no_turns_yet (parts_of (lines_view c.args.lines.now) c.args.rows.now c.args.self.now.links) c.args.steps.now.starts.items c.args.boundaries.now);
+  given = (
+    [],
+    takes_none (g.T.FrameTaker.has_taken c.args.taker.now),
+    no_turns_yet (parts_of (lines_view c.args.lines.now) c.args.rows.now c.args.self.now.links)
+        c.args.steps.now.starts.items c.args.boundaries.now,
+  );
 }
 
 pub loop-from-preserved : goal.loop-from-preserved
@@ -25,15 +30,20 @@ loop-from-preserved g c =
     let from = get_or froms i 0 in
     let same : ◌≡◌ {A = Links} c.loop-from.self.links J = c.loop-from.invariant.links in
     let given = c.in_ok-give_between.ensures.given in
-    let are : AreTurnsBetween parts from c.after-end.result given.0 = subst (λ (l : Links). AreTurnsBetween (parts_of lines rows l) from c.after-end.result given.0) same given.2 in
+    let are : AreTurnsBetween parts from c.after-end.result given.0 =
+    subst (λ (l : Links). AreTurnsBetween (parts_of lines rows l) from c.after-end.result given.0) same given.2 in
     let next : IsNextAbove starts from c.after-end.result = c.after-end.ensures c.requires.starts in
     record {
       links = c.in_ok-give_between.ensures.links ∙ same;
       told = c.in_ok-give_between.ensures.told;
       given = (
         c.loop-from.invariant.given.0 ++ given.0,
-        takes_more (g.T.FrameTaker.has_taken c.args.taker.now) (g.T.FrameTaker.has_taken c.loop-from.taker) (g.T.FrameTaker.has_taken c.give_between.new.taker) c.loop-from.invariant.given.0 given.0 c.loop-from.invariant.given.1 given.1,
-        turns_so_far_more parts starts froms i c.loop-from.invariant.given.0 given.0 from c.after-end.result (omega (arith, c.loop-from-test.true)) refl c.requires.rising c.requires.stand c.loop-from.invariant.given.2 next are,
+        takes_more (g.T.FrameTaker.has_taken c.args.taker.now) (g.T.FrameTaker.has_taken c.loop-from.taker)
+            (g.T.FrameTaker.has_taken c.give_between.new.taker) c.loop-from.invariant.given.0 given.0
+            c.loop-from.invariant.given.1 given.1,
+        turns_so_far_more parts starts froms i c.loop-from.invariant.given.0 given.0 from c.after-end.result
+            (omega (arith, c.loop-from-test.true)) refl c.requires.rising c.requires.stand c.loop-from.invariant.given.2
+            next are,
       );
     }
 
@@ -43,7 +53,8 @@ give_between-requires g c = λ κs.
     let same : ◌≡◌ {A = Links} c.args.self.now.links c.loop-from.self.links = sym c.loop-from.invariant.links in (
       (refl, tt),
       (
-        below_after c.args.steps.now.starts.items (get_or c.args.boundaries.now c.loop-from.from-index 0) c.after-end.result (c.after-end.ensures c.requires.starts),
+        below_after c.args.steps.now.starts.items (get_or c.args.boundaries.now c.loop-from.from-index 0)
+            c.after-end.result (c.after-end.ensures c.requires.starts),
         (
           subst (λ (l : Links). AreSteps (parts_of lines c.args.rows.now l)) same c.requires.steps,
           c.loop-from.invariant.told,
@@ -55,5 +66,7 @@ pub returns : goal.returns
 returns g c = (
   c.loop-from.invariant.given.0,
   c.loop-from.invariant.given.1,
-  all_turns_given (parts_of (lines_view c.args.lines.now) c.args.rows.now c.args.self.now.links) c.args.steps.now.starts.items c.args.boundaries.now c.loop-from.from-index c.loop-from.invariant.given.0 (omega (arith, c.loop-from-test.false)) c.loop-from.invariant.given.2,
+  all_turns_given (parts_of (lines_view c.args.lines.now) c.args.rows.now c.args.self.now.links)
+      c.args.steps.now.starts.items c.args.boundaries.now c.loop-from.from-index c.loop-from.invariant.given.0
+      (omega (arith, c.loop-from-test.false)) c.loop-from.invariant.given.2,
 )

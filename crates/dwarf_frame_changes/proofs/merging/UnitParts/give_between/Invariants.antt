@@ -15,7 +15,8 @@ invariant-turns g l = record {
   row : IfSome l.address (λ at. IsCountBelow l.rows.starts.items at l.row);
   link : IfSome l.address (λ at. IsCountBelow l.fn.self.links.starts.items at l.link);
   here : IfSome l.address (λ at. IsMerged (parts_of (lines_view l.lines) l.rows l.fn.self.links) l.from l.end at);
-  given : (given : List TurnRecord) × Takes (g.T.FrameTaker.has_taken l.fn.taker) (g.T.FrameTaker.has_taken l.taker) given × AreTurnsBelow (parts_of (lines_view l.lines) l.rows l.fn.self.links) l.from l.end l.address given;
+  given : (given : List TurnRecord) × Takes (g.T.FrameTaker.has_taken l.fn.taker) (g.T.FrameTaker.has_taken l.taker)
+      given × AreTurnsBelow (parts_of (lines_view l.lines) l.rows l.fn.self.links) l.from l.end l.address given;
 }
 
 abbrev pub decreases-turns : goal.decreases-turns

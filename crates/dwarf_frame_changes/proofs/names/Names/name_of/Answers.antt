@@ -10,7 +10,8 @@ index-requires g c =
     let links = c.args.links.now in
     let names = c.args.self.now in
     let there = link_read links c.args.index c.index-link.result.now c.requires.index c.index-link.ensures in
-    let w = slot_within (g.T.FrameTaker.tells_name c.args.taker.now) links names c.args.index c.index-link.result.now c.requires.numbered c.requires.known there in omega (arith, w, names.by_number.ok.0)
+    let w = slot_within (g.T.FrameTaker.tells_name c.args.taker.now) links names c.args.index c.index-link.result.now
+    c.requires.numbered c.requires.known there in omega (arith, w, names.by_number.ok.0)
 
 pub returns-in-Some : goal.returns-in-Some
 returns-in-Some g c =
@@ -21,7 +22,8 @@ returns-in-Some g c =
     let there = link_read links c.args.index link c.requires.index c.index-link.ensures in
     record {
       is = λ other is. same_link P links c.args.index c.in-Some.known link other there is
-          (known_name P links names c.args.index c.in-Some.known link c.index.result.now c.requires.numbered c.requires.known there c.index.ensures c.in-Some.is);
+          (known_name P links names c.args.index c.in-Some.known link c.index.result.now c.requires.numbered
+          c.requires.known there c.index.ensures c.in-Some.is);
       known = c.requires.known;
       names = λ number told h. h;
       paths = λ number told h. h;
@@ -34,7 +36,8 @@ index_mut-requires g c =
     let links = c.args.links.now in
     let names = c.args.self.now in
     let there = link_read links c.args.index c.index-link.result.now c.requires.index c.index-link.ensures in
-    let w = slot_within (g.T.FrameTaker.tells_name c.args.taker.now) links names c.args.index c.index-link.result.now c.requires.numbered c.requires.known there in omega (arith, w, names.by_number.ok.0)
+    let w = slot_within (g.T.FrameTaker.tells_name c.args.taker.now) links names c.args.index c.index-link.result.now
+    c.requires.numbered c.requires.known there in omega (arith, w, names.by_number.ok.0)
 
 pub returns : goal.returns
 returns g c =
@@ -48,7 +51,8 @@ returns g c =
     let next : Names = record { by_number = with_item names.by_number link.name_number (Some number) } in
     record {
       is = λ other is. same_link Q links c.args.index number link other there is c.in_ok-number.ensures.is;
-      known = names_more P Q links names next c.args.index number link c.requires.numbered c.name.ensures.names c.requires.known there c.in_ok-number.ensures.is refl;
+      known = names_more P Q links names next c.args.index number link c.requires.numbered c.name.ensures.names
+          c.requires.known there c.in_ok-number.ensures.is refl;
       names = c.name.ensures.names;
       paths = c.name.ensures.paths;
       frames = c.name.ensures.frames;

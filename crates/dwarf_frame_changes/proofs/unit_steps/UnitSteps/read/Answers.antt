@@ -7,5 +7,6 @@ pub returns : goal.returns
 returns c = record {
   rising = c.in_ok-starts.ensures.rising;
   all = c.in_ok-starts.ensures.same;
-  units = subst (λ (xs : List ℕ). AreUnitsOf (sections_view c.args.info.now.sections) xs c.in_ok-places.places.items) c.deref.ensures.value c.in_ok-places.ensures;
+  units = subst (λ (xs : List ℕ). AreUnitsOf (sections_view c.args.info.now.sections) xs c.in_ok-places.places.items)
+      c.deref.ensures.value c.in_ok-places.ensures;
 }

@@ -24,7 +24,8 @@ pub returns-clause-closed : goal.returns-clause-closed
 returns-clause-closed c =
     elim c.opened-test.branch [
       | then-opened-test+else-index-depth w ↦
-          closes_shallow c.args.depth c.opened.left c.args.opened.now.items c.truncate.new.self.items c.args.self.now.functions.items c.opened.self.functions.items
+          closes_shallow c.args.depth c.opened.left c.args.opened.now.items c.truncate.new.self.items
+          c.args.self.now.functions.items c.opened.self.functions.items
           w.index.result.now c.truncate.ensures.items w.opened-test.true w.index.ensures w.if-index-depth.false c.opened.invariant.so_far
       | else-opened-test w ↦
           closes_all c.args.depth c.opened.left c.args.opened.now.items c.truncate.new.self.items c.args.self.now.functions.items c.opened.self.functions.items

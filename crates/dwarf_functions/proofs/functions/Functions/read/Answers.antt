@@ -23,7 +23,9 @@ loop-placed-init c =
       can = tt;
       ends = tt;
       named = named_none s c.new.result.items c.in_ok-new.field-0 c.new.ensures.items c.in_ok-new.ensures;
-      so_far = read_none s unit (asked_scopes asked (scopes_of s unit)) (asked_scopes asked rest) c.new.result.items c.new-2.result.items c.new-opened.result.items (ap (asked_scopes asked) same) c.new.ensures.items c.new-2.ensures.items c.new-opened.ensures.items;
+      so_far = read_none s unit (asked_scopes asked (scopes_of s unit)) (asked_scopes asked rest) c.new.result.items
+          c.new-2.result.items c.new-opened.result.items (ap (asked_scopes asked) same) c.new.ensures.items
+          c.new-2.ensures.items c.new-opened.ensures.items;
     }
 
 pub loop-placed-preserved : goal.loop-placed-preserved
@@ -36,8 +38,11 @@ loop-placed-preserved c =
       can = tt;
       ends = tt;
       named = c.in_ok-take.ensures.named;
-      so_far = read_next s unit (functions_from 0 (asked_scopes asked (scopes_of s unit))) asked (ranges_view c.unit_ranges-ranges.result) before.left c.take.new.left (placed_view c.in-Some.placed) before.placed-iterator c.next.new.self
-          before.opened.items c.take.new.opened.items before.all.functions.items c.take.new.self.functions.items before.all.ranges.items c.take.new.self.ranges.items
+      so_far = read_next s unit (functions_from 0 (asked_scopes asked (scopes_of s unit))) asked
+          (ranges_view c.unit_ranges-ranges.result) before.left c.take.new.left (placed_view c.in-Some.placed)
+          before.placed-iterator c.next.new.self
+          before.opened.items c.take.new.opened.items before.all.functions.items c.take.new.self.functions.items
+          before.all.ranges.items c.take.new.self.ranges.items
           c.in-Some.ensures.steps c.in_ok-take.ensures.left c.in_ok-take.ensures.ranges c.in_ok-take.ensures.taken before.invariant.so_far;
     }
 
@@ -58,7 +63,9 @@ returns c =
     let asked = option_map (λ a. a.now) c.args.asked in
     let before = c.loop-placed in record {
       are = rw (ap (λ v. v.items) c.close.ensures.ranges)
-          (read_all s unit (asked_scopes asked (scopes_of s unit)) asked (ranges_view c.unit_ranges-ranges.result) before.left before.placed-iterator before.opened.items c.close.new.opened.items
-          before.all.functions.items c.close.new.self.functions.items before.all.ranges.items c.in-None.ensures.steps.0 c.close.ensures.closed before.invariant.so_far);
+          (read_all s unit (asked_scopes asked (scopes_of s unit)) asked (ranges_view c.unit_ranges-ranges.result)
+          before.left before.placed-iterator before.opened.items c.close.new.opened.items
+          before.all.functions.items c.close.new.self.functions.items before.all.ranges.items c.in-None.ensures.steps.0
+          c.close.ensures.closed before.invariant.so_far);
       numbered = numbered_closed 0 _ _ _ _ c.close.ensures.closed before.invariant.named.numbered;
     }

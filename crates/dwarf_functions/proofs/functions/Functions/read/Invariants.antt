@@ -16,5 +16,6 @@ invariant-loop-placed l = record {
   named : AreNamed (sections_view l.info.sections) l.all.functions.items l.all.origins;
   so_far : AreReadTo (sections_view l.info.sections) (unit_view l.unit)
       (functions_from 0 (asked_scopes (option_map (λ a. a.now) l.asked) (scopes_of (sections_view l.info.sections) (unit_view l.unit))))
-      (asked_scopes (option_map (λ a. a.now) l.asked) (scopes_from (ranges_view l.ranges) l.left l.placed-iterator)) l.all.functions.items l.all.ranges.items l.opened.items;
+      (asked_scopes (option_map (λ a. a.now) l.asked) (scopes_from (ranges_view l.ranges) l.left l.placed-iterator))
+      l.all.functions.items l.all.ranges.items l.opened.items;
 }

@@ -22,14 +22,17 @@ returns-then-not-is_function c =
     record {
       left = none_taken u c.args.left.now entry none;
       ranges = ap (λ v. v.items) c.close.ensures.ranges ∙ none_pushed asked u c.args.left.now entry ranges none;
-      taken = takes_none (sections_view c.args.info.now.sections) (unit_view c.args.unit.now) asked u c.args.left.now c.args.depth entry _ _ _ _ _ none c.close.ensures.closed;
-      named = rw c.close.ensures.origins (named_closed c.args.depth _ _ _ _ c.close.ensures.closed (sections_view c.args.info.now.sections) c.args.self.now.origins c.requires.named);
+      taken = takes_none (sections_view c.args.info.now.sections) (unit_view c.args.unit.now) asked u c.args.left.now
+          c.args.depth entry _ _ _ _ _ none c.close.ensures.closed;
+      named = rw c.close.ensures.origins (named_closed c.args.depth _ _ _ _ c.close.ensures.closed
+          (sections_view c.args.info.now.sections) c.args.self.now.origins c.requires.named);
     }
 
 pub push_entry-requires : goal.push_entry-requires
 push_entry-requires c = record {
   asked = c.requires.asked;
-  named = rw c.close.ensures.origins (named_closed c.args.depth _ _ _ _ c.close.ensures.closed (sections_view c.args.info.now.sections) c.args.self.now.origins c.requires.named);
+  named = rw c.close.ensures.origins (named_closed c.args.depth _ _ _ _ c.close.ensures.closed
+      (sections_view c.args.info.now.sections) c.args.self.now.origins c.requires.named);
 }
 
 pub returns : goal.returns
@@ -40,8 +43,13 @@ returns c =
     let read = entry_view c.read-entry.result in
     let kept = ap (λ v. v.items) c.close.ensures.ranges in
     record {
-      left = on_ok_weaker c.push_entry.result (λ more. c.scope_ranges-own.ensures.left ∙ ap (left_after_scope u c.args.left.now) c.read-entry.ensures) c.push_entry.ensures.ranges;
-      ranges = on_ok_weaker c.push_entry.result (λ more. ranges_added asked u c.args.left.now entry read _ _ _ _ c.read-entry.ensures c.scope_ranges-own.ensures.ranges kept more) c.push_entry.ensures.ranges;
-      taken = on_ok_weaker c.push_entry.result (λ added. takes_added (sections_view c.args.info.now.sections) (unit_view c.args.unit.now) asked u c.args.left.now c.args.depth entry read _ _ _ _ _ _ _ _ c.read-entry.ensures c.scope_ranges-own.ensures.ranges c.close.ensures.closed added) c.push_entry.ensures.added;
+      left = on_ok_weaker c.push_entry.result (λ more. c.scope_ranges-own.ensures.left
+          ∙ ap (left_after_scope u c.args.left.now) c.read-entry.ensures) c.push_entry.ensures.ranges;
+      ranges = on_ok_weaker c.push_entry.result (λ more. ranges_added asked u c.args.left.now entry read _ _ _ _
+          c.read-entry.ensures c.scope_ranges-own.ensures.ranges kept more) c.push_entry.ensures.ranges;
+      taken = on_ok_weaker c.push_entry.result (λ added. takes_added (sections_view c.args.info.now.sections)
+          (unit_view c.args.unit.now) asked u c.args.left.now c.args.depth entry read _ _ _ _ _ _ _ _
+          c.read-entry.ensures c.scope_ranges-own.ensures.ranges c.close.ensures.closed added)
+          c.push_entry.ensures.added;
       named = c.push_entry.ensures.named;
     }

@@ -33,5 +33,7 @@ returns c =
     let asked : List ℕ = c.args.addresses.now in
     let links : Links = c.in_ok-links.links in
     links_asked sections unit asked scopes (links_view links.links.items) links.numbers.items
-    (subst (λ (starts : List ℕ). AreLinksAmong sections unit (asked_scopes (Some asked) scopes) (links_view links.links.items) starts links.numbers.items) (c.in_ok-starts.ensures.items_if_clones_equal (λ x y q. q))
+    (subst (λ (starts : List ℕ). AreLinksAmong sections unit (asked_scopes (Some asked) scopes)
+    (links_view links.links.items) starts links.numbers.items)
+    (c.in_ok-starts.ensures.items_if_clones_equal (λ x y q. q))
     (c.in_ok-links.ensures.among sections unit (asked_scopes (Some asked) scopes) c.in_ok-functions.ensures.are))

@@ -26,7 +26,8 @@ returns-clause-among c = λ sections unit scopes are.
     λ i h. ap (λ (ns : List ℕ). get_or ns i 0) zeros ∙ get_or-replicate c.len-count.result i 0 0 (search rules) in
     let waits : (i : ℕ) → i < length starts → slice_index c.in_ok-waiting.waiting.next.items i ≡ i = λ i h. c.in_ok-waiting.ensures.all i (search rules) in
     let up_to = c.in_ok-take_all.ensures.takes of (are_of sections unit scopes functions ranges are)
-    (λ i h. up_to_first of c.new-2.result.items (slice_index c.in_ok-waiting.waiting.next.items i ≡ i) (slice_index starts i) (get_or c.in_ok-vec.field-0.items i 0) (zero i h) (waits i h)) in
+    (λ i h. up_to_first of c.new-2.result.items (slice_index c.in_ok-waiting.waiting.next.items i ≡ i)
+    (slice_index starts i) (get_or c.in_ok-vec.field-0.items i 0) (zero i h) (waits i h)) in
     subst (λ (s : List ℕ). AreLinksAmong sections unit scopes (links_view now.making.links.items) s now.numbers.items) same_starts
     (links_among sections unit scopes functions ranges now.making.links.items now.making.last now.starts.items now.numbers.items now.waiting.next.items are
     (subst (λ (fs : List Function). AreMade fs now.making.links.items now.making.last) same_functions taking.made)
@@ -38,4 +39,5 @@ returns-clause-names c =
     let now = c.take_all.new.self in
     let same_functions : now.making.all.now.functions.items ≡ functions = λ j. (c.take_all.ensures.same.all j).now.functions.items in
     names_numbered functions now.making.links.items now.making.last c.len.result c.requires.numbered
-    (subst (λ (fs : List Function). AreMade fs now.making.links.items now.making.last) same_functions c.in_ok-take_all.ensures.taking.made) (omega (arith, c.args.all.now.functions.ok.0))
+    (subst (λ (fs : List Function). AreMade fs now.making.links.items now.making.last) same_functions
+    c.in_ok-take_all.ensures.taking.made) (omega (arith, c.args.all.now.functions.ok.0))

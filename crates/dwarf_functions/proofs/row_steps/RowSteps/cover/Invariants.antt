@@ -18,7 +18,8 @@ invariant-starts l = record {
   only : (i : ℕ) → i < length l.fn.waiting.next.items → Waits l.waiting.next.items i → Waits l.fn.waiting.next.items i;
   before_first : (i : ℕ) → i < l.first → get_or l.self.rows.items i None ≡ get_or l.fn.self.rows.items i None;
   behind : (i : ℕ) → l.end ≤ i → get_or l.self.rows.items i None ≡ get_or l.fn.self.rows.items i None;
-  done : (i : ℕ) → i < length l.fn.self.rows.items → slice_index l.fn.waiting.next.items i ≢ i → get_or l.self.rows.items i None ≡ get_or l.fn.self.rows.items i None;
+  done : (i : ℕ) → i < length l.fn.self.rows.items → slice_index l.fn.waiting.next.items i ≢ i
+      → get_or l.self.rows.items i None ≡ get_or l.fn.self.rows.items i None;
 }
 
 abbrev pub decreases-starts : goal.decreases-starts

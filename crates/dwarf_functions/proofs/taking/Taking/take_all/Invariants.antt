@@ -11,7 +11,9 @@ invariant-loop-index l = record {
   same : HasSame l.fn.self l.self;
   within : l.begin ≤ length l.fn.self.making.all.now.ranges.items;
   part : (f : Function) → slice_get l.fn.self.making.all.now.functions.items l.index ≡ Some f → l.begin ≤ f.ranges_end;
-  begins : (of : List FunctionRecord) → AreOf of l.fn.self.making.all.now.functions.items l.fn.self.making.all.now.ranges.items → l.begin ≡ length (flat_map (λ r. r.ranges) (take l.index of));
+  begins : (of : List FunctionRecord) → AreOf of l.fn.self.making.all.now.functions.items
+      l.fn.self.making.all.now.ranges.items → l.begin ≡ length (flat_map (λ r. r.ranges) (take l.index of));
   takes : (of : List FunctionRecord) → AreOf of l.fn.self.making.all.now.functions.items l.fn.self.making.all.now.ranges.items
-      → ((i : ℕ) → i < length l.fn.self.starts.items → HasBefore of l.fn.self 0 i) → (i : ℕ) → i < length l.fn.self.starts.items → HasBefore of l.self l.index i;
+      → ((i : ℕ) → i < length l.fn.self.starts.items → HasBefore of l.fn.self 0 i) → (i : ℕ)
+      → i < length l.fn.self.starts.items → HasBefore of l.self l.index i;
 }

@@ -12,7 +12,9 @@ invariant-starts l = record {
   from : l.first ≤ l.at;
   within : l.at < length l.fn.self.starts.items + 1;
   here : Waits l.self.waiting.next.items l.at;
-  takes : (of : List FunctionRecord) (f : FunctionRecord) → AreOf of l.fn.self.making.all.now.functions.items l.fn.self.making.all.now.ranges.items → slice_get of l.index ≡ Some f
+  takes : (of : List FunctionRecord) (f : FunctionRecord)
+      → AreOf of l.fn.self.making.all.now.functions.items l.fn.self.making.all.now.ranges.items → slice_get of l.index
+      ≡ Some f
       → ((a : ℕ) → in_ranges a (l.fn.range ∷ []) ≡ true → in_ranges a f.ranges ≡ true) → Takes of l.index (λ i. (l.first ≤ i) × (i < l.at)) l.fn.self l.self;
 }
 

@@ -20,13 +20,15 @@ loop-range-preserved c =
       taking = c.in_ok-take_range.ensures.taking;
       same = same_trans c.args.self.now c.loop-range.self c.take_range.new.self i.same c.take_range.ensures.same;
       takes = λ of f are there is.
-          takes_weaker of c.args.index (λ k. (in_ranges (slice_index starts k) (take r ranges) ≡ true) ⊎ (in_ranges (slice_index c.loop-range.self.starts.items k) (range ∷ []) ≡ true))
+          takes_weaker of c.args.index (λ k. (in_ranges (slice_index starts k) (take r ranges) ≡ true)
+          ⊎ (in_ranges (slice_index c.loop-range.self.starts.items k) (range ∷ []) ≡ true))
           (λ k. in_ranges (slice_index starts k) (take (r + 1) ranges) ≡ true) c.args.self.now c.take_range.new.self
           (λ k h has. elim (in_take (slice_index starts k) ranges r none c.loop-range-test.true has) [
             | inl before ↦ inl before
             | inr now ↦ inr (subst (λ a. in_ranges a (range ∷ []) ≡ true) (sym (same k)) now)
           ])
-          (takes_trans of c.args.index (λ k. in_ranges (slice_index starts k) (take r ranges) ≡ true) (λ k. in_ranges (slice_index c.loop-range.self.starts.items k) (range ∷ []) ≡ true)
+          (takes_trans of c.args.index (λ k. in_ranges (slice_index starts k) (take r ranges) ≡ true)
+          (λ k. in_ranges (slice_index c.loop-range.self.starts.items k) (range ∷ []) ≡ true)
           c.args.self.now c.loop-range.self c.take_range.new.self i.same (i.takes of f are there is)
           (c.in_ok-take_range.ensures.takes of f (are_same of c.args.self.now c.loop-range.self i.same are) there
           (λ a has. is a (in_one a ranges r range (slice_get-get_or ranges r none c.loop-range-test.true) has))));
@@ -36,4 +38,6 @@ pub returns-clause-takes : goal.returns-clause-takes
 returns-clause-takes c = λ of f are there is.
     let ranges = c.args.ranges.now in
     let all : take c.loop-range.range-index ranges ≡ ranges = take_all c.loop-range.range-index ranges (search rules) in
-    subst (λ (rs : List CodeRange). Takes of c.args.index (λ i. in_ranges (slice_index c.args.self.now.starts.items i) rs ≡ true) c.args.self.now c.loop-range.self) all (c.loop-range.invariant.takes of f are there is)
+    subst (λ (rs : List CodeRange). Takes of c.args.index
+    (λ i. in_ranges (slice_index c.args.self.now.starts.items i) rs ≡ true) c.args.self.now c.loop-range.self) all
+    (c.loop-range.invariant.takes of f are there is)

@@ -10,7 +10,9 @@ sets-preserved c = one_set _ _ _ _ _ _ _ (sym c.in_default.ensures) c.in_ok-set.
 
 pub returns-in_err-set-clause-steps : goal.returns-in_err-set-clause-steps
 returns-in_err-set-clause-steps c =
-    let none = no_first_tuples c.sets.self-inside.debug_info_offset c.sets.self-inside.tuples.now c.sets.self-inside.sets.now (sym c.in_default.ensures) ∙ sets_end c.sets.self-inside.sets.now (sym c.in_err-set.ensures) in
+    let none = no_first_tuples c.sets.self-inside.debug_info_offset c.sets.self-inside.tuples.now
+    c.sets.self-inside.sets.now (sym c.in_default.ensures)
+    ∙ sets_end c.sets.self-inside.sets.now (sym c.in_err-set.ensures) in
     rw c.from_residual.ensures (sym c.sets.invariant ∙ none, none)
 
 pub returns-in-Some-clause-steps : goal.returns-in-Some-clause-steps

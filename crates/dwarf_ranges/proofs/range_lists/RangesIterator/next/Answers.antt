@@ -7,7 +7,8 @@ use Rattle.dwarf_ranges.proofs.range_lists.RangesIterator.next.Goals as goal
 pub entries-preserved : goal.entries-preserved
 entries-preserved c = record {
   first = c.entries.invariant.first;
-  ranges = step _ _ _ _ _ _ _ None _ c.entries-test.true c.in_ok-entry.ensures (sym c.if-is_end.ensures) c.base_after-self-inside.ensures c.in_default-range.ensures c.entries.invariant.ranges;
+  ranges = step _ _ _ _ _ _ _ None _ c.entries-test.true c.in_ok-entry.ensures (sym c.if-is_end.ensures)
+      c.base_after-self-inside.ensures c.in_default-range.ensures c.entries.invariant.ranges;
 }
 
 pub returns-in_err-entry-clause-steps : goal.returns-in_err-entry-clause-steps
@@ -25,12 +26,14 @@ returns-then-is_end-clause-steps c =
 
 pub returns-in-Some-range-clause-steps : goal.returns-in-Some-range-clause-steps
 returns-in-Some-range-clause-steps c =
-    let here = step _ _ _ _ _ _ _ (Some c.in-Some-range.range) _ c.entries-test.true c.in_ok-entry.ensures (sym c.if-is_end.ensures) c.base_after-self-inside.ensures c.in-Some-range.ensures c.entries.invariant.ranges in
+    let here = step _ _ _ _ _ _ _ (Some c.in-Some-range.range) _ c.entries-test.true c.in_ok-entry.ensures
+    (sym c.if-is_end.ensures) c.base_after-self-inside.ensures c.in-Some-range.ensures c.entries.invariant.ranges in
     sym here ∙ ap (λ rest. c.in-Some-range.range ∷ rest) (sym (no_first _ _ c.entries.invariant.first))
 
 pub returns-in-Some-range-clause-goes : goal.returns-in-Some-range-clause-goes
 returns-in-Some-range-clause-goes c =
-    let here = step _ _ _ _ _ _ _ (Some c.in-Some-range.range) _ c.entries-test.true c.in_ok-entry.ensures (sym c.if-is_end.ensures) c.base_after-self-inside.ensures c.in-Some-range.ensures c.entries.invariant.ranges in
+    let here = step _ _ _ _ _ _ _ (Some c.in-Some-range.range) _ c.entries-test.true c.in_ok-entry.ensures
+    (sym c.if-is_end.ensures) c.base_after-self-inside.ensures c.in-Some-range.ensures c.entries.invariant.ranges in
     let whole = sym here ∙ ap (λ rest. c.in-Some-range.range ∷ rest) (sym (no_first _ _ c.entries.invariant.first)) in
     record { on = λ ends. (tt, tt, omega (arith, ap length whole)); keeps = tt; rests = λ ends. tt }
 

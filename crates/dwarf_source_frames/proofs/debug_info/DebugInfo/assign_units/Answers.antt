@@ -24,7 +24,9 @@ units-preserved c =
       was_pending = λ a waits. known.was_pending a (assigns.was_pending a waits);
       blank = λ a waits. assigns.left_is a waits ∙ known.blank a (assigns.was_pending a waits);
       found = λ a all gone. elim (cases_Bool (tree_set.contains nat_cmp c.units.pending a)) [
-        | inl waited ↦ assigns.given a waited gone ∙ sym (unit_hit sections a size _ _ _ c.in-Some.ensures.value (assigns.given_within a waited gone)) ∙ known.left a waited
+        | inl waited ↦ assigns.given a waited gone ∙ sym
+            (unit_hit sections a size _ _ _ c.in-Some.ensures.value (assigns.given_within a waited gone))
+            ∙ known.left a waited
         | inr not_waited ↦ assigns.others a not_waited ∙ known.found a all not_waited
       ];
       others = λ a none. elim (cases_Bool (tree_set.contains nat_cmp c.units.pending a)) [

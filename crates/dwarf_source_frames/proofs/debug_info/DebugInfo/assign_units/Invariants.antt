@@ -10,10 +10,13 @@ use Rattle.dwarf_source_frames.proofs.debug_info.DebugInfo.assign_units.Given as
 abbrev pub invariant-units : goal.invariant-units
 invariant-units l = record {
   within : length l.rest ≤ length l.section;
-  left : (a : ℕ) → tree_set.contains nat_cmp l.pending a ≡ true → place_from (sections_view l.self.sections) a (length l.section) l.rest ≡ place_by_ranges (sections_view l.self.sections) a;
+  left : (a : ℕ) → tree_set.contains nat_cmp l.pending a ≡ true
+      → place_from (sections_view l.self.sections) a (length l.section) l.rest
+      ≡ place_by_ranges (sections_view l.self.sections) a;
   was_pending : (a : ℕ) → tree_set.contains nat_cmp l.pending a ≡ true → tree_set.contains nat_cmp l.fn.pending a ≡ true;
   blank : (a : ℕ) → tree_set.contains nat_cmp l.pending a ≡ true → tree_map.get nat_cmp l.places a ≡ None;
-  found : (a : ℕ) → tree_set.contains nat_cmp l.fn.pending a ≡ true → tree_set.contains nat_cmp l.pending a ≡ false → tree_map.get nat_cmp l.places a ≡ place_by_ranges (sections_view l.self.sections) a;
+  found : (a : ℕ) → tree_set.contains nat_cmp l.fn.pending a ≡ true → tree_set.contains nat_cmp l.pending a ≡ false
+      → tree_map.get nat_cmp l.places a ≡ place_by_ranges (sections_view l.self.sections) a;
   others : (a : ℕ) → tree_set.contains nat_cmp l.fn.pending a ≡ false → tree_map.get nat_cmp l.places a ≡ tree_map.get nat_cmp l.fn.places a;
 }
 

@@ -20,9 +20,11 @@ placed_in-requires-clause-kind c = kind_front c.args.bytes.now c.requires.kind
 
 pub returns-clause-bytes : goal.returns-clause-bytes
 returns-clause-bytes c =
-    entry_of_parts c.args.bytes.now _ c.placed_in.ensures.bytes (ap (λ (claim : Claim). claim_bytes (claim_view claim)) c.placed_in.ensures.claim_is ∙ c.claim_in.ensures.bytes)
+    entry_of_parts c.args.bytes.now _ c.placed_in.ensures.bytes
+    (ap (λ (claim : Claim). claim_bytes (claim_view claim)) c.placed_in.ensures.claim_is ∙ c.claim_in.ensures.bytes)
 
 pub returns-clause-fields : goal.returns-clause-fields
 returns-clause-fields c =
-    fields_of c.args.bytes.now _ c.requires.long (returns-clause-bytes c) c.placed_in.ensures.offset_is c.placed_in.ensures.length_is (ap claim_view c.placed_in.ensures.claim_is ∙ c.claim_in.ensures.is)
+    fields_of c.args.bytes.now _ c.requires.long (returns-clause-bytes c) c.placed_in.ensures.offset_is
+    c.placed_in.ensures.length_is (ap claim_view c.placed_in.ensures.claim_is ∙ c.claim_in.ensures.is)
     (subst IsPlacedEntry (sym c.placed_in.ensures.bytes) (placed_front c.args.bytes.now c.requires.long c.requires.tag c.requires.kind c.requires.length_is))

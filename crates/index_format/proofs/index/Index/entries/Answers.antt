@@ -27,4 +27,5 @@ returns-clause-placed c =
     ∙ ap (λ (es : List (List ℕ)). listing (placed_of es)) c.self.view_is
 
 pub returns-clause-indexed : goal.returns-clause-indexed
-returns-clause-indexed c = subst (λ (es : List IndexEntry). AreIndexed (map placed_bytes es)) (sym c.deref.ensures.value) (are_indexed c.self.inside.entries.items c.self.invariant)
+returns-clause-indexed c = subst (λ (es : List IndexEntry). AreIndexed (map placed_bytes es))
+    (sym c.deref.ensures.value) (are_indexed c.self.inside.entries.items c.self.invariant)

@@ -20,5 +20,6 @@ pub returns-clause-entries : goal.returns-clause-entries
 returns-clause-entries c =
     let items : List IndexEntry = c.self.inside.entries.items in
     let fields = recursion_from_All HasItsFields items c.self.invariant.fields in
-    let are : AllByRecursion IsPlacedEntry (map (take 74) (map entry_bytes items)) = subst (AllByRecursion IsPlacedEntry) (fronts items fields) (each_placed items fields) in
+    let are : AllByRecursion IsPlacedEntry (map (take 74) (map entry_bytes items)) =
+    subst (AllByRecursion IsPlacedEntry) (fronts items fields) (each_placed items fields) in
     subst (λ (xs : List (List ℕ)). AreIndexEntries (placed_of xs)) c.self.view_is (are_listed (map (take 74) (map entry_bytes items)) are)

@@ -16,4 +16,5 @@ returns-else-starts_with c =
     let from = c.args.self.now.from.now in
     let needle = c.args.bytes.now in
     let ends = length (before_first (λ b. b == 0) (take (length needle + 1) from)) == length needle in
-    c.if-starts_with.false ∙ sym (name_is from needle (length needle + 1) (omega arith) ∙ ap (λ b. b && ends) (sym c.starts_with.ensures.value ∙ c.if-starts_with.false))
+    c.if-starts_with.false ∙ sym (name_is from needle (length needle + 1) (omega arith)
+    ∙ ap (λ b. b && ends) (sym c.starts_with.ensures.value ∙ c.if-starts_with.false))

@@ -21,7 +21,8 @@ returns-then-not-is c =
     let candidate = c.in_ok-candidate.candidate in
     let is : c.candidate.result ≡ Some candidate = search rules in
     let name = c.at.ensures ∙ ap (λ strings. name_of strings candidate.n_strx) (c.strings.ensures.is ∙ ap strings_of c.self.view_is) in
-    sym (named_other image c.args.name.now (tuple_of (strings_of image) candidate) _ (sym c.candidate.ensures.tuple ∙ ap (option_map (tuple_of (strings_of image))) is)
+    sym (named_other image c.args.name.now (tuple_of (strings_of image) candidate) _
+    (sym c.candidate.ensures.tuple ∙ ap (option_map (tuple_of (strings_of image))) is)
     (ap (λ own. pointwise nat_eq own c.args.name.now) (sym name) ∙ sym c.is.ensures ∙ c.if-not-is.true))
 
 pub returns : goal.returns
@@ -32,5 +33,6 @@ returns c =
     let is : c.candidate.result ≡ Some candidate = search rules in
     let name = c.at.ensures ∙ ap (λ strings. name_of strings candidate.n_strx) (c.strings.ensures.is ∙ ap strings_of c.self.view_is) in
     ap (λ found. found ∷ []) c.found.ensures
-    ∙ sym (named_one image c.args.name.now (tuple_of (strings_of image) candidate) _ (sym c.candidate.ensures.tuple ∙ ap (option_map (tuple_of (strings_of image))) is)
+    ∙ sym (named_one image c.args.name.now (tuple_of (strings_of image) candidate) _
+    (sym c.candidate.ensures.tuple ∙ ap (option_map (tuple_of (strings_of image))) is)
     (ap (λ own. pointwise nat_eq own c.args.name.now) (sym name) ∙ sym c.is.ensures ∙ c.if-not-is.false))

@@ -8,17 +8,20 @@ use Rattle.macho_symbols.proofs.symbols.Symbols.entries.Goals as goal
 
 pub new-requires : goal.new-requires
 new-requires c =
-    let count : c.self.inside.table.nsyms ≡ (table_of c.args.self.now).nsyms = ap (λ t. t.nsyms) c.self.invariant.table_is ∙ ap (λ b. (table_of b).nsyms) c.self.view_is in
+    let count : c.self.inside.table.nsyms ≡ (table_of c.args.self.now).nsyms =
+    ap (λ t. t.nsyms) c.self.invariant.table_is ∙ ap (λ b. (table_of b).nsyms) c.self.view_is in
     omega (arith, count, c.entry_bytes.ensures.room)
 
 pub returns-clause-all : goal.returns-clause-all
 returns-clause-all c =
-    let count : c.self.inside.table.nsyms ≡ (table_of c.args.self.now).nsyms = ap (λ t. t.nsyms) c.self.invariant.table_is ∙ ap (λ b. (table_of b).nsyms) c.self.view_is in
+    let count : c.self.inside.table.nsyms ≡ (table_of c.args.self.now).nsyms =
+    ap (λ t. t.nsyms) c.self.invariant.table_is ∙ ap (λ b. (table_of b).nsyms) c.self.view_is in
     c.new.ensures ∙ ap (λ n. entries n c.entry_bytes.result.now) count ∙ c.entry_bytes.ensures.value
 
 pub returns-clause-each : goal.returns-clause-each
 returns-clause-each c =
-    subst (AllByRecursion IsEntry) c.entry_bytes.ensures.value (entries_long (table_of c.args.self.now).nsyms c.entry_bytes.result.now c.entry_bytes.ensures.room)
+    subst (AllByRecursion IsEntry) c.entry_bytes.ensures.value
+    (entries_long (table_of c.args.self.now).nsyms c.entry_bytes.result.now c.entry_bytes.ensures.room)
 
 pub returns-clause-fit : goal.returns-clause-fit
 returns-clause-fit c =
@@ -27,6 +30,7 @@ returns-clause-fit c =
 
 pub returns-clause-few : goal.returns-clause-few
 returns-clause-few c =
-    let count : c.self.inside.table.nsyms ≡ (table_of c.args.self.now).nsyms = ap (λ t. t.nsyms) c.self.invariant.table_is ∙ ap (λ b. (table_of b).nsyms) c.self.view_is in
+    let count : c.self.inside.table.nsyms ≡ (table_of c.args.self.now).nsyms =
+    ap (λ t. t.nsyms) c.self.invariant.table_is ∙ ap (λ b. (table_of b).nsyms) c.self.view_is in
     let few : c.self.inside.table.nsyms < 2 ^ 32 = search rules in
     omega (arith, count, few, length-entries (table_of c.args.self.now).nsyms (drop (table_of c.args.self.now).symoff c.args.self.now))

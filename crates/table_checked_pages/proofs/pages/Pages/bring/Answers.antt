@@ -20,12 +20,16 @@ returns-clause-keeps g c = λ text all is are.
     let kept = c.make_room.new.self.kept.items in
     let before : List (List ℕ) = map (λ page. page.items) kept in
     let inside : c.args.index < length before = omega (arith, c.in_default.ensures.room, length-map kept (λ page. page.items)) in
-    let stored : MayBeStored text (claim_view c.make_room.new.self.claim) all = subst (λ claim. MayBeStored text (claim_view claim) all) (sym c.in_default.ensures.claim) are.stored in
+    let stored : MayBeStored text (claim_view c.make_room.new.self.claim) all =
+    subst (λ claim. MayBeStored text (claim_view claim) all) (sym c.in_default.ensures.claim) are.stored in
     let digests : c.make_room.new.self.digests.items ≡ page_digests all = ap (λ digests. digests.items) c.in_default.ensures.digests ∙ are.digests in
     let room : AreKept before all = c.in_default.ensures.keeps all are.kept in
-    let page : c.in_ok-page.page.items ≡ page_of all c.args.index = c.in_ok-page.ensures.read.says text is all (record { stored = stored; digests = digests; kept = room }) in
+    let page : c.in_ok-page.page.items ≡ page_of all c.args.index =
+    c.in_ok-page.ensures.read.says text is all (record { stored = stored; digests = digests; kept = room }) in
     record {
       stored = stored;
       digests = digests;
-      kept = subst (λ (pages : List (List ℕ)). AreKept pages all) (sym (map-set (λ page. page.items) kept c.args.index c.in_ok-page.page)) (kept_more before all c.in_ok-page.page.items c.args.index inside page room);
+      kept = subst (λ (pages : List (List ℕ)). AreKept pages all)
+          (sym (map-set (λ page. page.items) kept c.args.index c.in_ok-page.page))
+          (kept_more before all c.in_ok-page.page.items c.args.index inside page room);
     }

@@ -14,4 +14,5 @@ returns-in_default-clause-read g c = record {
 pub returns-in_err-digests-clause-read : goal.returns-in_err-digests-clause-read
 returns-in_err-digests-clause-read g c =
     passed_on _ _ _ _ _ _ _ _ _ _ _ c.in_err-digests.was c.from_residual.ensures.1
-    (λ text known absent long all are. digests_are_there text all (claim_view c.args.claim) c.in-Some.len are c.in-Some.ensures.len absent) c.read_checked.ensures.read
+    (λ text known absent long all are. digests_are_there text all (claim_view c.args.claim) c.in-Some.len are
+    c.in-Some.ensures.len absent) c.read_checked.ensures.read

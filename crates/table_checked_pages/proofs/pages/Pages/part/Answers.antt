@@ -13,12 +13,15 @@ returns-clause-read g c = record {
       let some : 0 < length here = omega (arith, c.in_ok-bring.ensures.long, c.requires.page) in
       let page : here ≡ page_of all c.args.index = (c.in_ok-bring.ensures.keeps text all is are).kept c.args.index some in
       let same : c.deref.result.now ≡ here =
-      c.deref.ensures.value ∙ ap (λ page. page.items) c.index-page.ensures ∙ sym (get_or-map (λ page. page.items) c.bring.new.self.kept.items c.args.index c.index-page.result.now [] c.in_ok-bring.ensures.room) in
+      c.deref.ensures.value ∙ ap (λ page. page.items) c.index-page.ensures
+      ∙ sym (get_or-map (λ page. page.items) c.bring.new.self.kept.items c.args.index c.index-page.result.now []
+      c.in_ok-bring.ensures.room) in
       let size : c.args.skip + n - c.args.skip ≡ n = omega arith in
       let copied : c.copy_from_slice.new.self ≡ take (c.args.skip + n - c.args.skip) (drop c.args.skip c.deref.result.now) = c.copy_from_slice.ensures.after in
       let long : length c.copy_from_slice.new.self ≡ n = c.copy_from_slice.auto.self in
       let inside : c.args.skip + n ≤ 16384 = omega (arith, c.requires.inside) in
-      copied ∙ ap (λ k. take k (drop c.args.skip c.deref.result.now)) size ∙ ap (λ p. take n (drop c.args.skip p)) (same ∙ page) ∙ part_of_page all c.args.index c.args.skip n inside
+      copied ∙ ap (λ k. take k (drop c.args.skip c.deref.result.now)) size
+      ∙ ap (λ p. take n (drop c.args.skip p)) (same ∙ page) ∙ part_of_page all c.args.index c.args.skip n inside
       ∙ ap (λ k. take k (drop (16384 * c.args.index + c.args.skip) all)) (sym long);
   keeps = c.in_ok-bring.ensures.read.keeps;
   counts = c.in_ok-bring.ensures.read.counts;

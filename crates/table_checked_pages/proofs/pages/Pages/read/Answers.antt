@@ -23,7 +23,8 @@ pages-preserved g c =
           c.in_ok-part.ensures.read.says text (c.pages.invariant.whole ∙ is) all (c.pages.invariant.keeps text all is are)
           ∙ ap (λ k. take k (drop (16384 * (place / 16384) + place % 16384) all)) long ∙ ap (λ k. take n (drop k all)) there in
           take-put_mid c.pages.done _ c.pages.buf c.part.new.buf (c.pages.done + n) (omega (arith, long)) (omega (arith, c.pages-test.true))
-          ∙ more_came all (take c.pages.done c.pages.buf) c.part.new.buf c.args.offset place c.pages.done n c.in-Some.ensures.1 (c.pages.invariant.came text all is are) part;
+          ∙ more_came all (take c.pages.done c.pages.buf) c.part.new.buf c.args.offset place c.pages.done n
+          c.in-Some.ensures.1 (c.pages.invariant.came text all is are) part;
     }
 
 pub returns-clause-read : goal.returns-clause-read

@@ -10,7 +10,8 @@ invariant-pages g l = record {
   whole : g.P.Placed.whole l.device ≡ g.P.Placed.whole l.initial.device;
   unfailed : g.P.Placed.failures l.device ≡ g.P.Placed.failures l.initial.device;
   keeps : (text all : List ℕ) → g.P.Placed.whole l.initial.device ≡ Some text → ArePagesOf l.initial.self text all → ArePagesOf l.self text all;
-  came : (text all : List ℕ) → g.P.Placed.whole l.initial.device ≡ Some text → ArePagesOf l.initial.self text all → take l.done l.buf ≡ take l.done (drop l.offset all);
+  came : (text all : List ℕ) → g.P.Placed.whole l.initial.device ≡ Some text → ArePagesOf l.initial.self text all
+      → take l.done l.buf ≡ take l.done (drop l.offset all);
 }
 
 abbrev pub decreases-pages : goal.decreases-pages

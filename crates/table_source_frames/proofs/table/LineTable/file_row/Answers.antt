@@ -20,7 +20,8 @@ returns-in_err-read-clause-read g c =
 pub returns-clause-read : goal.returns-clause-read
 returns-clause-read g c = record {
   says = λ text known all steps path opened is.
-      file_read _ _ _ _ _ opened c.read.new.buf c.args.number c.in-Some.index (length c.read.new.buf) _ _ path is c.in-Some.ensures.is c.read.auto.buf (omega (arith, c.first_file.ensures))
+      file_read _ _ _ _ _ opened c.read.new.buf c.args.number c.in-Some.index (length c.read.new.buf) _ _ path is
+      c.in-Some.ensures.is c.read.auto.buf (omega (arith, c.first_file.ensures))
       (c.in_ok-read.ensures.read.says text known all opened.are_pages) c.u32_be_at.ensures c.u32_be_at-2.ensures c.u32_be_at-3.ensures;
   keeps = c.in_ok-read.ensures.read.keeps;
   counts = c.in_ok-read.ensures.read.counts;

@@ -22,7 +22,8 @@ returns-in_err-frames-clause-read g c =
     let found = location.says text known all steps are.rising opened in
     let right = c.frames_by_step.ensures image steps c.args.address found.0 c.ranges.address.fits are found.1 in
     absent all steps (frames_at steps found.0) (subst (λ claim. AreStored text (claim_view claim) all) (sym c.in_ok-location.ensures.claim) stored)
-    (kept _ _ _ _ _ _ opened (c.in_ok-location.ensures.keeps text all known opened.are_pages)) found.2 (few_frames image c.args.address (frames_at steps found.0) right))
+    (kept _ _ _ _ _ _ opened (c.in_ok-location.ensures.keeps text all known opened.are_pages)) found.2
+    (few_frames image c.args.address (frames_at steps found.0) right))
     (after_ok _ _ _ _ _ _ _ _ location.keeps location.counts c.frames_from.ensures.read)
 
 pub returns-clause-read : goal.returns-clause-read
@@ -33,7 +34,8 @@ returns-clause-read g c =
       says = λ text known image all steps are opened.
           let found = location.says text known all steps are.rising opened in
           let right = c.frames_by_step.ensures image steps c.args.address found.0 c.ranges.address.fits are found.1 in
-          let told = frames.says text known all steps (frames_at steps found.0) (kept _ _ _ _ _ _ opened (c.in_ok-location.ensures.keeps text all known opened.are_pages)) found.2
+          let told = frames.says text known all steps (frames_at steps found.0)
+          (kept _ _ _ _ _ _ opened (c.in_ok-location.ensures.keeps text all known opened.are_pages)) found.2
           (few_frames image c.args.address (frames_at steps found.0) right) in
           subst (AreFramesOf image c.args.address) (sym told) right;
       keeps = frames.keeps;

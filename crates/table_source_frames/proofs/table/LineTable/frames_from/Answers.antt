@@ -71,14 +71,22 @@ callers-preserved g c =
       whole = frame.keeps;
       unfailed = frame.counts;
       keeps = λ text all known pages.
-          c.in_ok-frame.ensures.keeps text all (row.keeps ∙ known) (c.in_ok-row.ensures.keeps text all (c.callers.invariant.whole ∙ known) (c.callers.invariant.keeps text all known pages));
+          c.in_ok-frame.ensures.keeps text all (row.keeps ∙ known)
+          (c.in_ok-row.ensures.keeps text all (c.callers.invariant.whole ∙ known)
+          (c.callers.invariant.keeps text all known pages));
       told = λ text all steps chain known opened is few.
           let told = c.callers.invariant.told text all steps chain known opened is few in
           let next = maybe_cons (parts_of steps) c.callers.number told.0 c.callers-test.true told.1 in
           let mid = kept _ _ _ _ _ _ opened (c.callers.invariant.keeps text all known opened.are_pages) in
           let here = row.says text known all steps next.0 next.1 mid next.3 in
-          let view = frame.says text known all steps next.0 next.1 (kept _ _ _ _ _ _ mid (c.in_ok-row.ensures.keeps text all (c.callers.invariant.whole ∙ known) mid.are_pages)) here.0 in
-          (next.1, here.0.caller, pushed c.callers.frames.items _ c.in_ok-frame.frame next.0 next.1 told.0 chain c.in_ok-push.ensures.pushed view next.2 told.2);
+          let view = frame.says text known all steps next.0 next.1
+          (kept _ _ _ _ _ _ mid (c.in_ok-row.ensures.keeps text all (c.callers.invariant.whole ∙ known)
+          mid.are_pages)) here.0 in (
+            next.1,
+            here.0.caller,
+            pushed c.callers.frames.items _ c.in_ok-frame.frame next.0 next.1 told.0 chain
+                c.in_ok-push.ensures.pushed view next.2 told.2,
+          );
     }
 
 pub returns-clause-read : goal.returns-clause-read

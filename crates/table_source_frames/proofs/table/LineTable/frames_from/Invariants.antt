@@ -14,8 +14,10 @@ invariant-callers g l = record {
   whole : g.P.Placed.whole l.device ≡ g.P.Placed.whole l.initial.device;
   unfailed : g.P.Placed.failures l.device ≡ g.P.Placed.failures l.initial.device;
   keeps : (text all : List ℕ) → g.P.Placed.whole l.initial.device ≡ Some text → ArePagesOf l.initial.pages text all → ArePagesOf l.pages text all;
-  told : (text all : List ℕ) (steps : List StepRecord) (chain : List FrameRecord) → g.P.Placed.whole l.initial.device ≡ Some text → IsOpened l.self l.initial.pages text all steps
-      → IsMaybeChain (parts_of steps) l.location chain → length chain ≤ 256 → (rest : List FrameRecord) × IsMaybeChain (parts_of steps) l.number rest × (owned_frames l.frames.items ++ rest ≡ chain);
+  told : (text all : List ℕ) (steps : List StepRecord) (chain : List FrameRecord) → g.P.Placed.whole l.initial.device
+      ≡ Some text → IsOpened l.self l.initial.pages text all steps
+      → IsMaybeChain (parts_of steps) l.location chain → length chain ≤ 256 → (rest : List FrameRecord)
+      × IsMaybeChain (parts_of steps) l.number rest × (owned_frames l.frames.items ++ rest ≡ chain);
 }
 
 abbrev pub decreases-callers : goal.decreases-callers

@@ -5,7 +5,8 @@ use Rattle.table_source_frames.proofs.table.LineTable.location.Goals as goal
 
 pub returns-in_default-clause-read : goal.returns-in_default-clause-read
 returns-in_default-clause-read g c = record {
-  says = λ text known all steps f fs stored opened is. c.index_of.ensures.none c.in_default.is is.some (chain_number _ _ _ _ _ opened c.args.number (f ∷ fs) is);
+  says = λ text known all steps f fs stored opened is. c.index_of.ensures.none c.in_default.is is.some
+      (chain_number _ _ _ _ _ opened c.args.number (f ∷ fs) is);
   keeps = refl;
   counts = refl;
 }
@@ -20,8 +21,10 @@ returns-in_err-read-clause-read g c =
 pub returns-clause-read : goal.returns-clause-read
 returns-clause-read g c = record {
   says = λ text known all steps f fs opened is.
-      location_read _ _ _ _ _ opened c.read.new.buf c.args.number c.in-Some.index (length c.read.new.buf) _ _ f fs is c.in-Some.ensures.is c.read.auto.buf (omega (arith, c.locations_offset.ensures))
-      (c.in_ok-read.ensures.read.says text known all opened.are_pages) c.u32_be_at.ensures c.u32_be_at-2.ensures c.u32_be_at-3.ensures c.u32_be_at-4.ensures c.u32_be_at-5.ensures;
+      location_read _ _ _ _ _ opened c.read.new.buf c.args.number c.in-Some.index (length c.read.new.buf) _ _ f fs is
+      c.in-Some.ensures.is c.read.auto.buf (omega (arith, c.locations_offset.ensures))
+      (c.in_ok-read.ensures.read.says text known all opened.are_pages) c.u32_be_at.ensures c.u32_be_at-2.ensures
+      c.u32_be_at-3.ensures c.u32_be_at-4.ensures c.u32_be_at-5.ensures;
   keeps = c.in_ok-read.ensures.read.keeps;
   counts = c.in_ok-read.ensures.read.counts;
 }

@@ -14,7 +14,8 @@ returns-in_err-count-clause-read g c =
 
 pub returns-then-count-eq0-clause-read : goal.returns-then-count-eq0-clause-read
 returns-then-count-eq0-clause-read g c = record {
-  says = λ text known all steps rising opened. no_step_for steps c.args.address c.in_ok-count.count c.if-count-eq0.true (c.in_ok-count.ensures.read.says text known all steps rising opened);
+  says = λ text known all steps rising opened. no_step_for steps c.args.address c.in_ok-count.count c.if-count-eq0.true
+      (c.in_ok-count.ensures.read.says text known all steps rising opened);
   keeps = c.in_ok-count.ensures.read.keeps;
   counts = c.in_ok-count.ensures.read.counts;
 }
@@ -33,8 +34,10 @@ returns-clause-read g c =
     let count = c.in_ok-count.ensures.read in
     record {
       says = λ text known all steps rising opened.
-          let row = c.in_ok-step.ensures.read.says text (count.keeps ∙ known) all steps (kept _ _ _ _ _ _ opened (c.in_ok-count.ensures.keeps text all known opened.are_pages)) in
-          last_step_for steps c.args.address c.in_ok-count.count (c.in_ok-count.count - 1) c.in_ok-step.step (omega (arith, c.if-count-eq0.false)) (count.says text known all steps rising opened) row;
+          let row = c.in_ok-step.ensures.read.says text (count.keeps ∙ known) all steps
+          (kept _ _ _ _ _ _ opened (c.in_ok-count.ensures.keeps text all known opened.are_pages)) in
+          last_step_for steps c.args.address c.in_ok-count.count (c.in_ok-count.count - 1) c.in_ok-step.step
+          (omega (arith, c.if-count-eq0.false)) (count.says text known all steps rising opened) row;
       keeps = c.in_ok-step.ensures.read.keeps ∙ count.keeps;
       counts = c.in_ok-step.ensures.read.counts ∙ count.counts;
     }

@@ -38,7 +38,9 @@ returns-clause-read g c =
     record {
       says = λ text known all steps told opened is.
           let some = some_file (parts_of steps) c.args.number told c.if-number-eq0.false is in
-          ap Some (path.says text known all steps some.0 (kept _ _ _ _ _ _ opened (c.in_ok-row.ensures.keeps text all known opened.are_pages)) (row.says text known all steps some.0 opened some.2)) ∙ sym some.1;
+          ap Some (path.says text known all steps some.0
+          (kept _ _ _ _ _ _ opened (c.in_ok-row.ensures.keeps text all known opened.are_pages))
+          (row.says text known all steps some.0 opened some.2)) ∙ sym some.1;
       keeps = path.keeps;
       counts = path.counts;
     }

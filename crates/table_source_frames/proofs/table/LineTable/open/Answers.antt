@@ -14,7 +14,8 @@ pub returns-then-head-eq0-clause-read : goal.returns-then-head-eq0-clause-read
 returns-then-head-eq0-clause-read g c = record {
   says = λ text known image all bytes pages stands is.
       let e = c.head_of-head.ensures in
-      let head = head_read all bytes c.read.new.buf _ c.args.offset c.head_of-head.result stands c.read.auto.buf (c.in_ok-read.ensures.read.says text known all pages)
+      let head = head_read all bytes c.read.new.buf _ c.args.offset c.head_of-head.result stands c.read.auto.buf
+      (c.in_ok-read.ensures.read.says text known all pages)
       (record { lines = e.lines; runs = e.runs; steps = e.steps; locations = e.locations; files = e.files; texts = e.texts; bytes_of = e.bytes }) in
       opens_none image bytes c.head_of-head.result is head c.if-head-eq0.true;
   keeps = c.in_ok-read.ensures.read.keeps;
@@ -25,7 +26,8 @@ pub returns-in_default-clause-read : goal.returns-in_default-clause-read
 returns-in_default-clause-read g c = record {
   says = λ text known image all bytes stored pages stands is.
       let e = c.head_of-head.ensures in
-      let head = head_read all bytes c.read.new.buf _ c.args.offset c.head_of-head.result stands c.read.auto.buf (c.in_ok-read.ensures.read.says text known all pages)
+      let head = head_read all bytes c.read.new.buf _ c.args.offset c.head_of-head.result stands c.read.auto.buf
+      (c.in_ok-read.ensures.read.says text known all pages)
       (record { lines = e.lines; runs = e.runs; steps = e.steps; locations = e.locations; files = e.files; texts = e.texts; bytes_of = e.bytes }) in
       opens_not image all bytes c.args.offset c.size.result c.head_of-head.result stands is head c.if-head-eq0.false
       (stored.size ∙ ap (λ claim. claim.size) (sym c.in_ok-read.ensures.claim) ∙ sym c.size.ensures) (c.table.ensures.none c.in_default.is);
@@ -37,11 +39,22 @@ pub returns-clause-read : goal.returns-clause-read
 returns-clause-read g c = record {
   says = λ text known image all bytes pages stands is.
       let e = c.head_of-head.ensures in
-      let head = head_read all bytes c.read.new.buf _ c.args.offset c.head_of-head.result stands c.read.auto.buf (c.in_ok-read.ensures.read.says text known all pages)
+      let head = head_read all bytes c.read.new.buf _ c.args.offset c.head_of-head.result stands c.read.auto.buf
+      (c.in_ok-read.ensures.read.says text known all pages)
       (record { lines = e.lines; runs = e.runs; steps = e.steps; locations = e.locations; files = e.files; texts = e.texts; bytes_of = e.bytes }) in
       let made = c.in-Some.ensures in
-      opens_some image all bytes text _ c.args.offset c.head_of-head.result c.in-Some.table (c.in_ok-read.ensures.keeps text all known pages) stands is head c.if-head-eq0.false
-      (record { offset_is = made.offset; runs = made.runs; steps = made.steps; locations = made.locations; files = made.files; texts = made.texts; bytes = made.bytes });
+      opens_some image all bytes text _ c.args.offset c.head_of-head.result c.in-Some.table
+      (c.in_ok-read.ensures.keeps text all known pages) stands is head c.if-head-eq0.false
+      (record {
+        offset_is = made.offset;
+        runs = made.runs;
+        steps = made.steps;
+        locations = made.locations;
+        files =
+            made.files;
+        texts = made.texts;
+        bytes = made.bytes;
+      });
   keeps = c.in_ok-read.ensures.read.keeps;
   counts = c.in_ok-read.ensures.read.counts;
 }

@@ -26,8 +26,10 @@ returns-in_err-name-clause-read g c =
     let directory = after_ok _ _ _ _ _ _ _ _ base.keeps base.counts c.in_ok-directory.ensures.read in
     passed_on _ _ _ _ _ _ _ _ _ _ _ c.in_err-name.was c.from_residual-in_err-name.ensures.1
     (λ text known absent all steps told stored opened is.
-    absent all steps told.name (subst (λ claim. AreStored text (claim_view claim) all) (sym (c.in_ok-directory.ensures.claim ∙ c.in_ok-base.ensures.claim)) stored)
-    (kept _ _ _ _ _ _ opened (c.in_ok-directory.ensures.keeps text all (base.keeps ∙ known) (c.in_ok-base.ensures.keeps text all known opened.are_pages))) is.name)
+    absent all steps told.name (subst (λ claim. AreStored text (claim_view claim) all)
+    (sym (c.in_ok-directory.ensures.claim ∙ c.in_ok-base.ensures.claim)) stored)
+    (kept _ _ _ _ _ _ opened (c.in_ok-directory.ensures.keeps text all (base.keeps ∙ known)
+    (c.in_ok-base.ensures.keeps text all known opened.are_pages))) is.name)
     (after_ok _ _ _ _ _ _ _ _ directory.keeps directory.counts c.text-3.ensures.read)
 
 pub returns-clause-read : goal.returns-clause-read
@@ -39,7 +41,9 @@ returns-clause-read g c =
       says = λ text known all steps told opened is.
           let second = kept _ _ _ _ _ _ opened (c.in_ok-base.ensures.keeps text all known opened.are_pages) in
           let third = kept _ _ _ _ _ _ second (c.in_ok-directory.ensures.keeps text all (base.keeps ∙ known) second.are_pages) in
-          same_path_parts _ _ _ told (base.says text known all steps told.base opened is.base) (directory.says text known all steps told.directory second is.directory) (name.says text known all steps told.name third is.name);
+          same_path_parts _ _ _ told (base.says text known all steps told.base opened is.base)
+          (directory.says text known all steps told.directory second is.directory)
+          (name.says text known all steps told.name third is.name);
       keeps = name.keeps;
       counts = name.counts;
     }

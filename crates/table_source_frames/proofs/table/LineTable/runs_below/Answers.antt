@@ -9,7 +9,9 @@ pub returns-clause-read : goal.returns-clause-read
 returns-clause-read g c =
     read_as _ _ _ _ _ _ _ _ _
     (λ text known place says all steps rising opened.
-    below_edge (run_halves steps) c.args.limit 0 c.args.self.now.runs place (uppers_rise steps rising) (omega (arith, opened.head.runs, runs_long steps)) (omega arith)
-    (λ j l. absurd (omega (arith, l))) (λ j l m. absurd (omega (arith, l, m, opened.head.runs, runs_long steps))) (says all steps opened.are_pages (text_of _ _ _ _ _ opened)))
+    below_edge (run_halves steps) c.args.limit 0 c.args.self.now.runs place (uppers_rise steps rising)
+    (omega (arith, opened.head.runs, runs_long steps)) (omega arith)
+    (λ j l. absurd (omega (arith, l))) (λ j l m. absurd (omega (arith, l, m, opened.head.runs, runs_long steps)))
+    (says all steps opened.are_pages (text_of _ _ _ _ _ opened)))
     (λ text known absent all steps stored opened. absent all stored opened.are_pages (steps, text_of _ _ _ _ _ opened))
     c.partition_point.ensures.read

@@ -16,7 +16,8 @@ returns-in_err-runs-clause-read g c =
 
 pub returns-then-runs-eq0-clause-read : goal.returns-then-runs-eq0-clause-read
 returns-then-runs-eq0-clause-read g c = record {
-  says = λ text known all steps rising opened. none_below steps c.args.limit c.in_ok-runs.runs rising (c.in_ok-runs.ensures.read.says text known all steps rising opened) c.if-runs-eq0.true;
+  says = λ text known all steps rising opened. none_below steps c.args.limit c.in_ok-runs.runs rising
+      (c.in_ok-runs.ensures.read.says text known all steps rising opened) c.if-runs-eq0.true;
   keeps = c.in_ok-runs.ensures.read.keeps;
   counts = c.in_ok-runs.ensures.read.counts;
 }
@@ -35,7 +36,8 @@ returns-then-count-self-clause-read g c =
     let runs = c.in_ok-runs.ensures.read in
     record {
       says = λ text known all steps stored opened.
-          let row = c.in_ok-last.ensures.read.says text (runs.keeps ∙ known) all steps (kept _ _ _ _ _ _ opened (c.in_ok-runs.ensures.keeps text all known opened.are_pages)) in
+          let row = c.in_ok-last.ensures.read.says text (runs.keeps ∙ known) all steps
+          (kept _ _ _ _ _ _ opened (c.in_ok-runs.ensures.keeps text all known opened.are_pages)) in
           let there : c.in_ok-runs.runs - 1 < length (runs_of steps) = omega (arith, c.in_ok-runs.ensures.within, c.if-runs-eq0.false, opened.head.runs) in
           omega (arith, c.if-count-self.true, c.from-count.ensures, row.count no_run, run_steps steps (c.in_ok-runs.runs - 1) there, opened.head.steps);
       keeps = c.in_ok-last.ensures.read.keeps ∙ runs.keeps;
@@ -47,8 +49,10 @@ returns-clause-read g c =
     let runs = c.in_ok-runs.ensures.read in
     record {
       says = λ text known all steps rising opened.
-          let row = c.in_ok-last.ensures.read.says text (runs.keeps ∙ known) all steps (kept _ _ _ _ _ _ opened (c.in_ok-runs.ensures.keeps text all known opened.are_pages)) in
-          let are = some_below steps c.args.limit c.in_ok-runs.runs (c.in_ok-runs.runs - 1) rising (runs.says text known all steps rising opened) (omega (arith, c.if-runs-eq0.false)) in
+          let row = c.in_ok-last.ensures.read.says text (runs.keeps ∙ known) all steps
+          (kept _ _ _ _ _ _ opened (c.in_ok-runs.ensures.keeps text all known opened.are_pages)) in
+          let are = some_below steps c.args.limit c.in_ok-runs.runs (c.in_ok-runs.runs - 1) rising
+          (runs.says text known all steps rising opened) (omega (arith, c.if-runs-eq0.false)) in
           subst (AreBelow (step_halves steps) c.args.limit) (sym (c.from-count.ensures ∙ row.count no_run)) are;
       keeps = c.in_ok-last.ensures.read.keeps ∙ runs.keeps;
       counts = c.in_ok-last.ensures.read.counts ∙ runs.counts;

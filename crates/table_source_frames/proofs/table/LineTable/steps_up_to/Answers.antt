@@ -31,14 +31,17 @@ returns-clause-read g c =
     (λ text known place says all steps rising opened.
     let first = c.in_ok-low.ensures.keeps text all known opened.are_pages in
     let second = c.in_ok-high.ensures.keeps text all (low.keeps ∙ known) first in
-    let bounds = bounds_are steps c.args.address c.from-upper.result c.in_ok-low.low c.in_ok-high.high (c.from-upper.ensures ∙ c.upper_half.ensures) (low.says text known all steps rising opened)
+    let bounds = bounds_are steps c.args.address c.from-upper.result c.in_ok-low.low c.in_ok-high.high
+    (c.from-upper.ensures ∙ c.upper_half.ensures) (low.says text known all steps rising opened)
     (high.says text (low.keeps ∙ known) all steps rising (kept _ _ _ _ _ _ opened first)) in
-    below_edge (starts_of steps) (c.args.address + 1) c.in_ok-low.low c.in_ok-high.high place rising (bounds_within steps c.args.address c.in_ok-low.low c.in_ok-high.high bounds)
+    below_edge (starts_of steps) (c.args.address + 1) c.in_ok-low.low c.in_ok-high.high place rising
+    (bounds_within steps c.args.address c.in_ok-low.low c.in_ok-high.high bounds)
     (bounds_rise steps c.args.address c.in_ok-low.low c.in_ok-high.high bounds) (bounds_below steps c.args.address c.in_ok-low.low c.in_ok-high.high bounds)
     (bounds_others steps c.args.address c.in_ok-low.low c.in_ok-high.high bounds)
     (bounds_edge steps c.args.address c.in_ok-low.low c.in_ok-high.high bounds place (says all steps second (text_of _ _ _ _ _ opened))))
     (λ text known absent all steps stored opened.
     let first = c.in_ok-low.ensures.keeps text all known opened.are_pages in
     let second = c.in_ok-high.ensures.keeps text all (low.keeps ∙ known) first in
-    absent all (subst (λ claim. AreStored text (claim_view claim) all) (sym (c.in_ok-high.ensures.claim ∙ c.in_ok-low.ensures.claim)) stored) second (steps, text_of _ _ _ _ _ opened))
+    absent all (subst (λ claim. AreStored text (claim_view claim) all)
+    (sym (c.in_ok-high.ensures.claim ∙ c.in_ok-low.ensures.claim)) stored) second (steps, text_of _ _ _ _ _ opened))
     (after_ok _ _ _ _ _ _ _ _ keeps (high.counts ∙ low.counts) c.partition_point.ensures.read)

@@ -38,8 +38,11 @@ returns-clause-read g c =
     let bytes = after_ok _ _ _ _ _ _ _ _ row.keeps row.counts c.in_ok-bytes.ensures.read in
     record {
       says = λ text known all steps told opened is.
-          let there = bytes.says text known all steps c.in-Some.index (kept _ _ _ _ _ _ opened (c.in_ok-row.ensures.keeps text all known opened.are_pages)) (omega (arith, c.in-Some.ensures.inside, opened.head.texts)) (row.says text known all steps opened) in
-          same_Some _ told (sym there ∙ stands_at same_text text_decides (parts_of steps).texts told c.args.number c.in-Some.index is.is is.some c.in-Some.ensures.is);
+          let there = bytes.says text known all steps c.in-Some.index
+          (kept _ _ _ _ _ _ opened (c.in_ok-row.ensures.keeps text all known opened.are_pages))
+          (omega (arith, c.in-Some.ensures.inside, opened.head.texts)) (row.says text known all steps opened) in
+          same_Some _ told (sym there ∙ stands_at same_text text_decides (parts_of steps).texts told c.args.number
+          c.in-Some.index is.is is.some c.in-Some.ensures.is);
       keeps = bytes.keeps;
       counts = bytes.counts;
     }

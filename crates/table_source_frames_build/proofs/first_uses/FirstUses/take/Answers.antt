@@ -14,8 +14,10 @@ invariant_of-self-2 c =
     record {
       are_given =
           subst (λ (l : List ℕ). AreGiven (set c.args.self.now.given.items (c.args.number - 1) c.in-Ok.next) l) (sym c.in_ok-push.ensures.items)
-          (given_more c.args.self.now.given.items c.args.self.now.order.items (c.args.number - 1) c.args.number c.args.self.now.are_given (omega arith) (omega arith)
-          (sym (get_or_read c.args.self.now.given.items (c.args.number - 1) c.index.result.now (omega arith) c.index.ensures 0) ∙ c.if-index-ne0.false) c.in-Ok.next (omega arith) (omega arith));
+          (given_more c.args.self.now.given.items c.args.self.now.order.items (c.args.number - 1) c.args.number
+          c.args.self.now.are_given (omega arith) (omega arith)
+          (sym (get_or_read c.args.self.now.given.items (c.args.number - 1) c.index.result.now (omega arith)
+          c.index.ensures 0) ∙ c.if-index-ne0.false) c.in-Ok.next (omega arith) (omega arith));
     }
 
 pub returns-clause-taken : goal.returns-clause-taken

@@ -4,7 +4,9 @@ use Rattle.table_source_frames_build.proofs.kept.Kept.push_callers.Goals as goal
 
 pub callers-preserved : goal.callers-preserved
 callers-preserved c =
-    let both = pushed_on (kept_view c.args.self.now) c.args.self.now.right c.callers.next c.location_key_of-next.result c.callers.numbers.items c.push.new.self.items _ c.callers-test.true c.callers.invariant.next c.location_key_of-next.ensures c.in_ok-push.ensures.items c.callers.invariant.pushed in
+    let both = pushed_on (kept_view c.args.self.now) c.args.self.now.right c.callers.next c.location_key_of-next.result
+    c.callers.numbers.items c.push.new.self.items _ c.callers-test.true c.callers.invariant.next
+    c.location_key_of-next.ensures c.in_ok-push.ensures.items c.callers.invariant.pushed in
     record { next = both.0; pushed = both.1 }
 
 pub returns : goal.returns

@@ -7,9 +7,13 @@ use Rattle.table_source_frames_build.proofs.kept.Kept.push_files.Goals as goal
 
 pub loop-number-preserved : goal.loop-number-preserved
 loop-number-preserved c =
-    rows_more (λ n. file_row c.args.parts.now.texts.order.items (file_key_at (kept_view c.args.self.now) n)) c.args.numbers.now c.loop-number.number-index 0 c.args.text.now.items c.loop-number.text.items c.push_file.new.text.items c.loop-number-test.true c.in_ok-push_file.ensures
+    rows_more (λ n. file_row c.args.parts.now.texts.order.items (file_key_at (kept_view c.args.self.now) n))
+    c.args.numbers.now c.loop-number.number-index 0 c.args.text.now.items c.loop-number.text.items
+    c.push_file.new.text.items c.loop-number-test.true c.in_ok-push_file.ensures
     c.loop-number.invariant
 
 pub returns : goal.returns
 returns c =
-    rows_end (λ n. file_row c.args.parts.now.texts.order.items (file_key_at (kept_view c.args.self.now) n)) c.args.numbers.now c.loop-number.number-index c.args.text.now.items c.loop-number.text.items (omega arith) c.loop-number.invariant
+    rows_end (λ n. file_row c.args.parts.now.texts.order.items (file_key_at (kept_view c.args.self.now) n))
+    c.args.numbers.now c.loop-number.number-index c.args.text.now.items c.loop-number.text.items (omega arith)
+    c.loop-number.invariant

@@ -4,6 +4,10 @@ use Rattle.table_source_frames_build.proofs.kept.Kept.push_location.Goals as goa
 pub returns : goal.returns
 returns c =
     on_ok_weaker c.push_u32-5.result
-    (location_pushed c.args.parts.now.locations.order.items c.args.parts.now.files.order.items c.args.parts.now.texts.order.items c.location_key_of-key.result _ c.number_of.result c.number_of-2.result c.number_of-3.result c.args.text.now.items c.push_u32.new.text.items
-    c.push_u32-2.new.text.items c.push_u32-3.new.text.items c.push_u32-4.new.text.items c.push_u32-5.new.text.items c.location_key_of-key.ensures c.number_of.ensures c.number_of-2.ensures c.number_of-3.ensures c.in_ok-push_u32.ensures c.in_ok-push_u32-2.ensures
+    (location_pushed c.args.parts.now.locations.order.items c.args.parts.now.files.order.items
+    c.args.parts.now.texts.order.items c.location_key_of-key.result _ c.number_of.result c.number_of-2.result
+    c.number_of-3.result c.args.text.now.items c.push_u32.new.text.items
+    c.push_u32-2.new.text.items c.push_u32-3.new.text.items c.push_u32-4.new.text.items c.push_u32-5.new.text.items
+    c.location_key_of-key.ensures c.number_of.ensures c.number_of-2.ensures c.number_of-3.ensures
+    c.in_ok-push_u32.ensures c.in_ok-push_u32-2.ensures
     c.in_ok-push_u32-3.ensures c.in_ok-push_u32-4.ensures) c.push_u32-5.ensures

@@ -7,10 +7,14 @@ use Rattle.table_source_frames_build.proofs.kept.Kept.push_locations.Goals as go
 
 pub loop-number-preserved : goal.loop-number-preserved
 loop-number-preserved c =
-    rows_more (λ n. location_row c.args.parts.now.locations.order.items c.args.parts.now.files.order.items c.args.parts.now.texts.order.items (location_key_at (kept_view c.args.self.now) n)) c.args.numbers.now c.loop-number.number-index 0 c.args.text.now.items c.loop-number.text.items
+    rows_more (λ n. location_row c.args.parts.now.locations.order.items c.args.parts.now.files.order.items
+    c.args.parts.now.texts.order.items (location_key_at (kept_view c.args.self.now) n)) c.args.numbers.now
+    c.loop-number.number-index 0 c.args.text.now.items c.loop-number.text.items
     c.push_location.new.text.items c.loop-number-test.true c.in_ok-push_location.ensures c.loop-number.invariant
 
 pub returns : goal.returns
 returns c =
-    rows_end (λ n. location_row c.args.parts.now.locations.order.items c.args.parts.now.files.order.items c.args.parts.now.texts.order.items (location_key_at (kept_view c.args.self.now) n)) c.args.numbers.now c.loop-number.number-index c.args.text.now.items c.loop-number.text.items (omega arith)
+    rows_end (λ n. location_row c.args.parts.now.locations.order.items c.args.parts.now.files.order.items
+    c.args.parts.now.texts.order.items (location_key_at (kept_view c.args.self.now) n)) c.args.numbers.now
+    c.loop-number.number-index c.args.text.now.items c.loop-number.text.items (omega arith)
     c.loop-number.invariant

@@ -5,4 +5,5 @@ use Rattle.table_source_frames_build.proofs.kept.Kept.push_locations.Given as go
 
 abbrev pub invariant-loop-number : goal.invariant-loop-number
 invariant-loop-number l =
-    l.text.items ≡ l.fn.text.items ++ location_rows (kept_view l.self) l.parts.locations.order.items l.parts.files.order.items l.parts.texts.order.items (take l.number-index l.numbers)
+    l.text.items ≡ l.fn.text.items ++ location_rows (kept_view l.self) l.parts.locations.order.items
+    l.parts.files.order.items l.parts.texts.order.items (take l.number-index l.numbers)

@@ -14,6 +14,9 @@ pub loop-file-preserved : goal.loop-file-preserved
 loop-file-preserved c = record {
   count = c.take_path.ensures.count ∙ c.loop-file.invariant.count;
   order =
-      after_more (λ n. path_numbers (file_key_at (kept_view c.args.self.now) n)) c.args.files.now c.loop-file.file-index 0 c.args.uses.now.order.items c.loop-file.uses.order.items c.take_path.new.uses.order.items c.loop-file-test.true
-      (c.in_ok-take_path.ensures.taken ∙ ap (λ (key : FileKey). numbered_after nat_eq c.loop-file.uses.order.items (path_numbers key)) c.file_key_of.ensures) c.loop-file.invariant.order;
+      after_more (λ n. path_numbers (file_key_at (kept_view c.args.self.now) n)) c.args.files.now c.loop-file.file-index
+      0 c.args.uses.now.order.items c.loop-file.uses.order.items c.take_path.new.uses.order.items
+      c.loop-file-test.true
+      (c.in_ok-take_path.ensures.taken ∙ ap (λ (key : FileKey). numbered_after nat_eq c.loop-file.uses.order.items
+      (path_numbers key)) c.file_key_of.ensures) c.loop-file.invariant.order;
 }

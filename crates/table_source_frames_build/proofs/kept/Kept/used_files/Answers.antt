@@ -14,6 +14,10 @@ pub loop-location-preserved : goal.loop-location-preserved
 loop-location-preserved c = record {
   count = c.take_some.ensures.count ∙ c.loop-location.invariant.count;
   order =
-      after_more (λ n. some_number (location_key_at (kept_view c.args.self.now) n).file) c.args.locations.now c.loop-location.location-index 0 [] c.loop-location.uses.order.items c.take_some.new.self.order.items c.loop-location-test.true
-      (c.in_ok-take_some.ensures.taken ∙ ap (λ (key : LocationKey). numbered_after nat_eq c.loop-location.uses.order.items (some_number key.file)) c.location_key_of.ensures) c.loop-location.invariant.order;
+      after_more (λ n. some_number (location_key_at (kept_view c.args.self.now) n).file) c.args.locations.now
+      c.loop-location.location-index 0 [] c.loop-location.uses.order.items c.take_some.new.self.order.items
+      c.loop-location-test.true
+      (c.in_ok-take_some.ensures.taken ∙ ap (λ (key : LocationKey). numbered_after nat_eq
+      c.loop-location.uses.order.items (some_number key.file)) c.location_key_of.ensures)
+      c.loop-location.invariant.order;
 }

@@ -15,13 +15,19 @@ loop-step-init c = record {
 
 pub take_back-requires : goal.take_back-requires
 take_back-requires c =
-    callers_all (kept_view c.args.self.now) c.args.self.now.right _ _ c.loop-step.callers.items _ (c.requires c.loop-step.step-index (record { start = 0; location = 0 }) c.loop-step-test.true) c.loop-step.invariant.empty c.in_ok-push_callers.ensures c.loop-step.invariant.count
+    callers_all (kept_view c.args.self.now) c.args.self.now.right _ _ c.loop-step.callers.items _
+    (c.requires c.loop-step.step-index (record { start = 0; location = 0 }) c.loop-step-test.true)
+    c.loop-step.invariant.empty c.in_ok-push_callers.ensures c.loop-step.invariant.count
 
 pub loop-step-preserved : goal.loop-step-preserved
 loop-step-preserved c = record {
   count = c.take_back.ensures.count ∙ c.loop-step.invariant.count;
   empty = c.in_ok-take_back.ensures.empty;
   order =
-      after_more (λ (s : Step). reverse (callers_of (kept_view c.args.self.now) s.location)) c.args.steps.now c.loop-step.step-index (record { start = 0; location = 0 }) [] c.loop-step.uses.order.items c.take_back.new.self.order.items c.loop-step-test.true
-      (c.in_ok-take_back.ensures.taken ∙ ap (λ (l : List ℕ). numbered_after nat_eq c.loop-step.uses.order.items (reverse l)) (callers_here c.loop-step.callers.items _ _ c.loop-step.invariant.empty c.in_ok-push_callers.ensures)) c.loop-step.invariant.order;
+      after_more (λ (s : Step). reverse (callers_of (kept_view c.args.self.now) s.location)) c.args.steps.now
+      c.loop-step.step-index (record { start = 0; location = 0 }) [] c.loop-step.uses.order.items
+      c.take_back.new.self.order.items c.loop-step-test.true
+      (c.in_ok-take_back.ensures.taken ∙ ap (λ (l : List ℕ). numbered_after nat_eq c.loop-step.uses.order.items
+      (reverse l)) (callers_here c.loop-step.callers.items _ _ c.loop-step.invariant.empty
+      c.in_ok-push_callers.ensures)) c.loop-step.invariant.order;
 }

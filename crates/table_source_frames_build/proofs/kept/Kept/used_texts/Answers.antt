@@ -9,4 +9,5 @@ pub returns-clause-order : goal.returns-clause-order
 returns-clause-order c =
     let k = kept_view c.args.self.now in
     after_both [] c.take_names.new.uses.order.items c.take_paths.new.uses.order.items (name_uses k c.args.locations.now) (path_uses k c.args.files.now)
-    (c.in_ok-take_names.ensures.taken ∙ ap (λ l. numbered_after nat_eq l (name_uses k c.args.locations.now)) c.in_ok-uses.ensures.none) c.in_ok-take_paths.ensures.taken
+    (c.in_ok-take_names.ensures.taken ∙ ap (λ l. numbered_after nat_eq l (name_uses k c.args.locations.now))
+    c.in_ok-uses.ensures.none) c.in_ok-take_paths.ensures.taken

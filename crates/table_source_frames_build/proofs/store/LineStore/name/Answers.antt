@@ -5,8 +5,11 @@ use Rattle.table_source_frames_build.proofs.StoreLemmas.{taken_same, told_before
 use Rattle.table_source_frames_build.proofs.store.LineStore.name.Goals as goal
 
 pub returns-clause-tells : goal.returns-clause-tells
-returns-clause-tells c = told_before (kept_view c.self.inside.kept) (kept_view c.name.new.self) c.self.inside.kept.right c.name.ensures.grows c.args.self.now.kept (ap (λ (s : StoreRecord). s.kept) c.self.view_is)
+returns-clause-tells c = told_before (kept_view c.self.inside.kept) (kept_view c.name.new.self) c.self.inside.kept.right
+    c.name.ensures.grows c.args.self.now.kept (ap (λ (s : StoreRecord). s.kept) c.self.view_is)
 
 pub returns-clause-taken : goal.returns-clause-taken
 returns-clause-taken c =
-    taken_same (kept_view c.self.inside.kept) (kept_view c.name.new.self) c.self.inside.kept.right c.name.ensures.grows c.self.inside.too_wide c.self.inside.steps.items c.args.self.now.taken c.self.invariant (ap (λ (s : StoreRecord). s.taken) c.self.view_is)
+    taken_same (kept_view c.self.inside.kept) (kept_view c.name.new.self) c.self.inside.kept.right c.name.ensures.grows
+    c.self.inside.too_wide c.self.inside.steps.items c.args.self.now.taken c.self.invariant
+    (ap (λ (s : StoreRecord). s.taken) c.self.view_is)

@@ -16,7 +16,9 @@ returns c =
     let long : c.len-2.result ≡ length c.in_ok-rows.rows.items = search rules in
     let lines : c.len-3.result ≡ length c.args.lines.items = search rules in
     text_is image sections c.in_ok-rows.rows.items c.text_base.result _ _ _ _ _ _ _ _ _ _ c.in_ok-sections.ensures
-    (subst (λ b. AreSteps b c.in_ok-rows.rows.items) c.of_read.ensures c.in_ok-rows.ensures) c.text_base.ensures c.strings_of-strings.ensures.is counted long refl lines c.in_ok-push_head.ensures.base
+    (subst (λ b. AreSteps b c.in_ok-rows.rows.items) c.of_read.ensures c.in_ok-rows.ensures) c.text_base.ensures
+    c.strings_of-strings.ensures.is counted long refl lines c.in_ok-push_head.ensures.base
     (subst (All IsRow) c.deref-2.ensures.value c.in_ok-push_rows.ensures.fit) c.new-own.ensures.items c.in_ok-push_head.ensures.pushed
-    (c.in_ok-push_sections.ensures ∙ ap (λ ss. c.push_head.new.text.items ++ flat_map (λ s. section_bytes (names_of (section_view s))) ss) c.deref.ensures.value)
+    (c.in_ok-push_sections.ensures ∙ ap (λ ss. c.push_head.new.text.items
+    ++ flat_map (λ s. section_bytes (names_of (section_view s))) ss) c.deref.ensures.value)
     (c.in_ok-push_rows.ensures.pushed ∙ ap (λ rows. c.push_sections.new.text.items ++ rows_bytes rows) c.deref-2.ensures.value) small

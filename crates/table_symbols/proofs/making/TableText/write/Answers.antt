@@ -16,7 +16,8 @@ returns-in_err-before g c =
     let text : d ++ (f ++ rest) ≡ stored c.args.self.now = (λ i. c.requires.digests i ++ ((λ j. c.deref.ensures.value j ++ rest) ∙ c.self.view_is) i) in
     subst (Puts {T = ℕ} held failures (λ n. n) c.args.w.now c.put-2.new.w c.args.done (stored c.args.self.now)) (sym same)
     (puts_along held failures (λ n. n) c.args.w.now c.put-2.new.w c.args.done (d ++ (f ++ rest)) (stored c.args.self.now) (Err fault) text
-    (puts_then held failures (λ n. n) c.args.w.now c.put.new.w c.put-2.new.w c.args.done c.in_ok-between.between d (f ++ rest) (Err fault) c.in_ok-between.ensures
+    (puts_then held failures (λ n. n) c.args.w.now c.put.new.w c.put-2.new.w c.args.done c.in_ok-between.between d
+    (f ++ rest) (Err fault) c.in_ok-between.ensures
     (stops_before held failures c.put.new.w c.put-2.new.w c.in_ok-between.between fault.written f rest c.in_err-before.ensures)))
 
 pub returns-in_err-after : goal.returns-in_err-after
@@ -32,8 +33,10 @@ returns-in_err-after g c =
     let text : d ++ (f ++ (s ++ l)) ≡ stored c.args.self.now = (λ i. c.requires.digests i ++ ((λ j. c.deref.ensures.value j ++ (s ++ l)) ∙ c.self.view_is) i) in
     subst (Puts {T = ℕ} held failures (λ n. n) c.args.w.now c.put-3.new.w c.args.done (stored c.args.self.now)) (sym same)
     (puts_along held failures (λ n. n) c.args.w.now c.put-3.new.w c.args.done (d ++ (f ++ (s ++ l))) (stored c.args.self.now) (Err fault) text
-    (puts_then held failures (λ n. n) c.args.w.now c.put.new.w c.put-3.new.w c.args.done c.in_ok-between.between d (f ++ (s ++ l)) (Err fault) c.in_ok-between.ensures
-    (puts_then held failures (λ n. n) c.put.new.w c.put-2.new.w c.put-3.new.w c.in_ok-between.between c.in_ok-before.before f (s ++ l) (Err fault) c.in_ok-before.ensures
+    (puts_then held failures (λ n. n) c.args.w.now c.put.new.w c.put-3.new.w c.args.done c.in_ok-between.between d
+    (f ++ (s ++ l)) (Err fault) c.in_ok-between.ensures
+    (puts_then held failures (λ n. n) c.put.new.w c.put-2.new.w c.put-3.new.w c.in_ok-between.between
+    c.in_ok-before.before f (s ++ l) (Err fault) c.in_ok-before.ensures
     (stops_before held failures c.put-2.new.w c.put-3.new.w c.in_ok-before.before fault.written s l c.in_err-after.ensures))))
 
 pub returns : goal.returns
@@ -47,6 +50,9 @@ returns g c =
     let text : d ++ (f ++ (s ++ l)) ≡ stored c.args.self.now =
     (λ i. c.requires.digests i ++ ((λ j. c.deref.ensures.value j ++ (s ++ c.deref-2.ensures.value j)) ∙ c.self.view_is) i) in
     puts_along held failures (λ n. n) c.args.w.now c.put-4.new.w c.args.done (d ++ (f ++ (s ++ l))) (stored c.args.self.now) c.put-4.result text
-    (puts_then held failures (λ n. n) c.args.w.now c.put.new.w c.put-4.new.w c.args.done c.in_ok-between.between d (f ++ (s ++ l)) c.put-4.result c.in_ok-between.ensures
-    (puts_then held failures (λ n. n) c.put.new.w c.put-2.new.w c.put-4.new.w c.in_ok-between.between c.in_ok-before.before f (s ++ l) c.put-4.result c.in_ok-before.ensures
-    (puts_then held failures (λ n. n) c.put-2.new.w c.put-3.new.w c.put-4.new.w c.in_ok-before.before c.in_ok-after.after s l c.put-4.result c.in_ok-after.ensures c.put-4.ensures)))
+    (puts_then held failures (λ n. n) c.args.w.now c.put.new.w c.put-4.new.w c.args.done c.in_ok-between.between d
+    (f ++ (s ++ l)) c.put-4.result c.in_ok-between.ensures
+    (puts_then held failures (λ n. n) c.put.new.w c.put-2.new.w c.put-4.new.w c.in_ok-between.between
+    c.in_ok-before.before f (s ++ l) c.put-4.result c.in_ok-before.ensures
+    (puts_then held failures (λ n. n) c.put-2.new.w c.put-3.new.w c.put-4.new.w c.in_ok-before.before
+    c.in_ok-after.after s l c.put-4.result c.in_ok-after.ensures c.put-4.ensures)))

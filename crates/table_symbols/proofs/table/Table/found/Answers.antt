@@ -12,7 +12,13 @@ returns-clause-read g c =
       says = λ text known image t bytes is opened.
           let said = subst (IsSaid image c.args.address) c.in-Some.is (symbol.says text known image t bytes is opened) in
           let mid = c.in_ok-symbol.ensures.keeps text t known opened in
-          found_said image c.args.address t (record { symbol = c.in-Some.symbol; offset = c.saturating_sub-offset.result; names = c.in_ok-names.names }) is said c.in_ok-names.ensures.fits (names.says text known t mid) c.saturating_sub-offset.ensures;
+          found_said image c.args.address t (record {
+            symbol = c.in-Some.symbol;
+            offset =
+                c.saturating_sub-offset.result;
+            names = c.in_ok-names.names;
+          }) is said c.in_ok-names.ensures.fits
+          (names.says text known t mid) c.saturating_sub-offset.ensures;
       keeps = names.keeps;
       counts = names.counts;
     }

@@ -14,7 +14,8 @@ use Rattle.table_symbols.proofs.table.Table.nearest.Goals as goal
 pub returns-in_err-row-clause-read : goal.returns-in_err-row-clause-read
 returns-in_err-row-clause-read g c =
     passed_on _ _ _ _ _ _ _ _ _ _ _ c.in_err-row.was c.from_residual.ensures.1
-    (λ text known absent t opened stored. absent (table_bytes t) stored opened.pages (omega (arith, length-table t opened.fits, opened.head.rows, opened.head.sections, c.first_row-first.ensures)))
+    (λ text known absent t opened stored. absent (table_bytes t) stored opened.pages
+    (omega (arith, length-table t opened.fits, opened.head.rows, opened.head.sections, c.first_row-first.ensures)))
     c.row_for.ensures.read
 
 pub returns-in_default-clause-read : goal.returns-in_default-clause-read
@@ -32,7 +33,8 @@ returns-then-row-eq0-clause-read g c = record {
   says = λ text known image t bytes is opened.
       let first = rows_stand t c.first_row-first.result opened.fits (omega (arith, c.first_row-first.ensures, opened.head.sections)) in
       let found = c.in_ok-row.ensures.read.says text known (table_bytes t) t.rows opened.pages opened.fits.rows (sym opened.head.rows) first in
-      none_said image c.args.address c.in-Some.row (by_step image t.rows c.args.address (Some c.in-Some.row) bytes c.ranges.address.fits is.rows (subst (IsRowFor t.rows c.args.address) c.in-Some.is found)) c.if-row-eq0.true;
+      none_said image c.args.address c.in-Some.row (by_step image t.rows c.args.address (Some c.in-Some.row) bytes
+      c.ranges.address.fits is.rows (subst (IsRowFor t.rows c.args.address) c.in-Some.is found)) c.if-row-eq0.true;
   keeps = c.in_ok-row.ensures.read.keeps;
   counts = c.in_ok-row.ensures.read.counts;
 }
@@ -55,12 +57,15 @@ returns-clause-read g c =
       says = λ text known image t bytes is opened.
           let first = rows_stand t c.first_row-first.result opened.fits (omega (arith, c.first_row-first.ensures, opened.head.sections)) in
           let found = row.says text known (table_bytes t) t.rows opened.pages opened.fits.rows (sym opened.head.rows) first in
-          let says = by_step image t.rows c.args.address (Some c.in-Some.row) bytes c.ranges.address.fits is.rows (subst (IsRowFor t.rows c.args.address) c.in-Some.is found) in
-          let stands = strings_stand t c.first_string-first.result opened.fits (omega (arith, c.first_string-first.ensures, opened.head.sections, opened.head.rows)) in
+          let says = by_step image t.rows c.args.address (Some c.in-Some.row) bytes c.ranges.address.fits is.rows
+          (subst (IsRowFor t.rows c.args.address) c.in-Some.is found) in
+          let stands = strings_stand t c.first_string-first.result opened.fits
+          (omega (arith, c.first_string-first.ensures, opened.head.sections, opened.head.rows)) in
           let pages = c.in_ok-row.ensures.keeps text (table_bytes t) known opened.pages in
           let named = name.says text known (table_bytes t) t.strings pages stands (sym opened.head.strings) in
           some_said image c.args.address c.in-Some.row c.in_ok-name.name.items says c.if-row-eq0.false
-          (named ∙ ap (λ s. before_first (λ b. b == 0) (drop c.from.result s)) is.strings ∙ ap (λ n. before_first (λ b. b == 0) (drop n (strings_of image))) c.from.ensures);
+          (named ∙ ap (λ s. before_first (λ b. b == 0) (drop c.from.result s)) is.strings
+          ∙ ap (λ n. before_first (λ b. b == 0) (drop n (strings_of image))) c.from.ensures);
       keeps = name.keeps;
       counts = name.counts;
     }

@@ -9,7 +9,8 @@ use Rattle.table_symbols.proofs.table.Table.open.Goals as goal
 
 pub returns-in_err-pages-clause-read : goal.returns-in_err-pages-clause-read
 returns-in_err-pages-clause-read g c =
-    passed_on _ _ _ _ _ _ _ _ _ _ _ c.in_err-pages.was c.from_residual.ensures.1 (λ text known absent long t fits stored. absent long (table_bytes t) stored) c.open.ensures.read
+    passed_on _ _ _ _ _ _ _ _ _ _ _ c.in_err-pages.was c.from_residual.ensures.1
+    (λ text known absent long t fits stored. absent long (table_bytes t) stored) c.open.ensures.read
 
 pub returns-in_err-read-clause-read : goal.returns-in_err-read-clause-read
 returns-in_err-read-clause-read g c =
@@ -17,7 +18,8 @@ returns-in_err-read-clause-read g c =
     passed_on _ _ _ _ _ _ _ _ _ _ _ c.in_err-read.was c.from_residual-in_err-read.ensures.1
     (λ text known absent long t fits stored.
     absent (table_bytes t) (subst (λ claim. AreStored text (claim_view claim) (table_bytes t)) (sym c.in_ok-pages.ensures.claim) stored)
-    (opened.says text known (table_bytes t) (may_be text (table_bytes t) (claim_view c.args.claim) stored)) (omega (arith, length-table t fits, c.read.auto.buf)))
+    (opened.says text known (table_bytes t) (may_be text (table_bytes t) (claim_view c.args.claim) stored))
+    (omega (arith, length-table t fits, c.read.auto.buf)))
     (after_ok _ _ _ _ _ _ _ _ opened.keeps opened.counts c.read.ensures.read)
 
 pub returns-then-not-has_size-clause-read : goal.returns-then-not-has_size-clause-read

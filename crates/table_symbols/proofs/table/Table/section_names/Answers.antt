@@ -23,7 +23,16 @@ returns-in_err-read-clause-read g c =
     passed_on _ _ _ _ _ _ _ _ _ _ _ c.in_err-read.was c.from_residual.ensures.1
     (λ text known absent t opened stored.
     absent (table_bytes t) stored opened.pages
-    (omega (arith, length-table t opened.fits, opened.head.sections, c.if-sect-eq0.false, c.from.ensures, c.from-2.ensures, c.if-from-self.false, c.read.auto.buf)))
+    (omega (
+      arith,
+      length-table t opened.fits,
+      opened.head.sections,
+      c.if-sect-eq0.false,
+      c.from.ensures,
+      c.from-2.ensures,
+      c.if-from-self.false,
+      c.read.auto.buf,
+    )))
     c.read.ensures.read
 
 pub returns-clause-read : goal.returns-clause-read
@@ -31,7 +40,9 @@ returns-clause-read g c =
     let read = c.in_ok-read.ensures.read in
     record {
       says = λ text known t opened.
-          names_read t c.args.sect _ _ c.read.new.buf opened.fits (omega (arith, c.if-sect-eq0.false)) (omega (arith, opened.head.sections, c.from.ensures, c.if-from-self.false)) (omega (arith, c.from-2.ensures, c.if-sect-eq0.false)) c.read.auto.buf
+          names_read t c.args.sect _ _ c.read.new.buf opened.fits (omega (arith, c.if-sect-eq0.false))
+          (omega (arith, opened.head.sections, c.from.ensures, c.if-from-self.false))
+          (omega (arith, c.from-2.ensures, c.if-sect-eq0.false)) c.read.auto.buf
           (read.says text known (table_bytes t) opened.pages);
       keeps = read.keeps;
       counts = read.counts;
