@@ -20,8 +20,8 @@ use Rattle.archive_core.proofs.Compare.{length_key_bytes}
 use Rattle.archive_core.proofs.Members.{in_cons, in_front, in_map, in_rest, to_map}
 use Rattle.archive_core.proofs.Records.{length-key_of, same_parts}
 use Rattle.text_reports.specs.Slices.{AnswersAmong, IsRetiredAmong, LivesAmong}
-use Rattle.command_queries.specs.Slices.{IsAnsweringRow}
-use Rattle.command_queries.specs.InnerSlices.{AreRowsUnder, AreUuidsOf}
+use Rattle.command_queries.specs.Slices.{AreUuidsOf, IsAnsweringRow}
+use Rattle.command_queries.specs.InnerSlices.{AreRowsUnder}
 
 -- ---- rows of one search, and of several
 

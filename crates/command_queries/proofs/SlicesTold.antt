@@ -39,8 +39,8 @@ use Rattle.command_common.specs.Inputs.{Reader}
 use Rattle.command_common.specs.Together.{AreAlikeWhere}
 use Rattle.command_common.proofs.Alike.{answers_alike}
 use Rattle.command_queries.specs.Frames.{IsFrameAnswered, TellsFrames, frame_keys}
-use Rattle.command_queries.specs.Slices.{IsAnsweringRow, TellsSlicesAfter}
-use Rattle.command_queries.specs.InnerSlices.{AreRowsUnder, AreUuidsOf, TellsRowsAfter, WithRows, is_under_one}
+use Rattle.command_queries.specs.Slices.{AreUuidsOf, IsAnsweringRow, TellsSlicesAfter}
+use Rattle.command_queries.specs.InnerSlices.{AreRowsUnder, TellsRowsAfter, WithRows, is_under_one}
 use Rattle.command_queries.specs.Symbolicate.{Answered, TellsAddresses, TellsAddressesWith, asked_of}
 use Rattle.command_queries.proofs.Answered.{told_alike}
 use Rattle.command_queries.proofs.RowsAnswering.{answer_answers, answers_answer}

@@ -1,5 +1,5 @@
 -- The rows under UUIDs that a content has: the words of inner functions. No contract of a public one has them.
-use Rattle.std.specs.Prelude.{◌≡◌, ◌↔◌, ℕ, List, ◌++◌, Bool, true, false, Contains, drop, take}
+use Rattle.std.specs.Prelude.{◌≡◌, ℕ, List, ◌++◌, Bool, true, false, drop, take}
 use Rattle.std.specs.List.{AllZip, flat_map, list_any}
 use Rattle.std.specs.Str.{bytes_eq}
 use Rattle.archive_core.specs.Content.{Operations}
@@ -12,11 +12,6 @@ use Rattle.command_common.specs.declared.faults.Status.{Status}
 -- the bytes after the tag of a record begin with one of these UUIDs
 abbrev pub is_under_one : List (List ℕ) → List ℕ → Bool
 is_under_one uuids r = list_any (λ uuid. bytes_eq uuid (take 16 (drop 1 r))) uuids
-
--- these are the UUIDs of these keys, in any order and with any repeats
-abbrev pub AreUuidsOf : List SliceKey → List (List ℕ) → Type 0
-AreUuidsOf keys uuids = (uuid : List ℕ)
-    → Contains uuids uuid ↔ ((key : SliceKey) × Contains keys key × (key.uuid ≡ uuid))
 
 -- Rows that searches of the content tell under these UUIDs, one search after another.
 pub record AreRowsUnder (o : Operations) (uuids : List (List ℕ)) (pool : List FindRow) : Type 0 where

@@ -1,5 +1,5 @@
 -- The lines of the slices that answer under the UUIDs of keys, where these are wanted after answers.
-use Rattle.std.specs.Prelude.{◌≡◌, ℕ, List, ◌++◌, Bool, true, false, Contains}
+use Rattle.std.specs.Prelude.{◌≡◌, ◌↔◌, ℕ, List, ◌++◌, Bool, true, false, Contains}
 use Rattle.archive_core.specs.Content.{Operations, IsAnswering}
 use Rattle.archive_core.specs.Find.{row_of}
 use Rattle.archive_core.specs.declared.find.FindRow.{FindRow}
@@ -7,6 +7,11 @@ use Rattle.archive_core.specs.declared.keys.SliceKey.{SliceKey}
 use Rattle.archive_core.specs.declared.operations.Operation.TheVariants.{Admit}
 use Rattle.text_reports.specs.Slices.{TellsSlices}
 use Rattle.command_common.specs.declared.faults.Status.{Status}
+
+-- these are the UUIDs of these keys, in any order and with any repeats
+abbrev pub AreUuidsOf : List SliceKey → List (List ℕ) → Type 0
+AreUuidsOf keys uuids = (uuid : List ℕ)
+    → Contains uuids uuid ↔ ((key : SliceKey) × Contains keys key × (key.uuid ≡ uuid))
 
 -- one of these keys has the UUID of this one
 abbrev pub HaveUuidOf : List SliceKey → SliceKey → Type 0

@@ -8,7 +8,7 @@ ghost use Rattle.command_common.specs.Inputs.{reader, readers};
 ghost use Rattle.command_common.specs.Outputs.{writer};
 
 use crate::asked_frames::{AskedKeys, FrameQuestions, in_key_order};
-use crate::slices::{UnderUuids, keys_of, slices_under, uuids_of};
+use crate::slices::{UnderUuids, frame_keys, slices_under, uuids_of};
 use archive_core::{Archive, SliceKey};
 use byte_device::{Sink, Source};
 use command_common::{
@@ -94,7 +94,7 @@ fn tell_with_slices<A: Archive + Drop, R: Source>(
         (readers R.left R.failures others.old others.new) result
         (λ told o. TellsFramesWith lines true o frames.now told.0 told.1.items) }
 {
-    let keys = keys_of(heap.share(), frames)?;
+    let keys = frame_keys(heap.share(), frames)?;
     let uuids = uuids_of(heap.share(), &keys)?;
     let kept: A = read_parts(heap.share(), &UnderUuids { uuids: &uuids }, archive, others)?;
     let told = tell_kept(heap, &kept, &uuids, &keys, frames, lines)?;

@@ -26,4 +26,5 @@ pub use find::run_find;
 pub use frames::{answer_frames, run_frames};
 pub use list::run_list;
 pub use name::{NameAnswer, answer_name};
+pub use slices::{frame_keys, uuids_of};
 pub use symbolicate::{answer_each, asked_of, places_of, run_symbolicate, status_after};

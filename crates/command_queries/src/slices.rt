@@ -5,7 +5,8 @@ ghost use Rattle.std.specs.Ordering.{nat_cmp};
 ghost use Rattle.std.specs.Cmp.Lexicographic.{slice_cmp};
 ghost use Rattle.archive_core.specs.Key.{IsKey};
 ghost use Rattle.command_queries.specs.Frames.{frame_keys};
-ghost use Rattle.command_queries.specs.InnerSlices.{AreRowsUnder, AreUuidsOf, TellsRowsUnder};
+ghost use Rattle.command_queries.specs.InnerSlices.{AreRowsUnder, TellsRowsUnder};
+ghost use Rattle.command_queries.specs.Slices.{AreUuidsOf};
 
 use archive_core::{Archive, FindRow, SliceKey};
 use archive_read::Selects;
@@ -44,7 +45,7 @@ fn whole_key(key: SliceKey) -> SliceKey
 }
 
 /// The key of each frame.
-pub(crate) fn keys_of(heap: Heap, frames: &[Frame]) -> Result<Vec<SliceKey, Heap>, NoMemory>
+pub fn frame_keys(heap: Heap, frames: &[Frame]) -> Result<Vec<SliceKey, Heap>, NoMemory>
     ensures are { IfOk result (λ keys. keys.items ≡ frame_keys frames.now) }
     ensures keyed { IfOk result (λ keys. All IsKey keys.items) }
 {
@@ -69,7 +70,7 @@ fn each_uuid(heap: Heap, keys: &[SliceKey]) -> Result<Vec<Uuid, Heap>, NoMemory>
 }
 
 /// The UUIDs of keys, each once, in the order of their bytes.
-pub(crate) fn uuids_of(heap: Heap, keys: &[SliceKey]) -> Result<Vec<Uuid, Heap>, NoMemory>
+pub fn uuids_of(heap: Heap, keys: &[SliceKey]) -> Result<Vec<Uuid, Heap>, NoMemory>
     ensures are { IfOk result (λ uuids. AreUuidsOf keys.now uuids.items) }
     ensures sorted { IfOk result (λ uuids. IsSortedByKey (λ uuid. uuid) (slice_cmp nat_cmp) uuids.items) }
 {
