@@ -3,11 +3,13 @@ advice if ARCHIVE is last. No archive is made for nothing."""
 import gzip
 import os
 import pathlib
+import struct
 import subprocess
 
 from .support.cases import same
 from .support.made_images import EXECUTE, archive, image, line, slice_words, symbols_outside, thirty_two_bit
 from .support.made_images import universal, without_uuid
+from .support.packed_files import zipped
 from .support.program import TOP, call, symarch
 from .support.rooms import RoomCase, today_of
 
@@ -144,6 +146,60 @@ class Cut(RoomCase):
         made = symbols_outside(5)
         told = f"Slice(0, Symbols(SymbolsOutside)): its commands promise {4096 + 16} bytes, and there are {len(made)}"
         self.refused(made, told)
+
+
+class FaultyTables(RoomCase):
+    """Universal files whose tables are faulty: the program finds the faults of all at once."""
+
+    seconds = 3
+
+    def test_one_call(self) -> None:
+        """In folders and in a packed file, each is refused by its own fault, and the others are added."""
+        two, counted = universal([image(1), image(2)]), struct.pack(">II", 0xCAFEBABE, 33)
+        cut = f"Fat(SliceOutside(1)): part 1 is bytes 128 to 184 by the table, and the file has {len(two) - 1}"
+        table = "Fat(TableTruncated): its table takes 48 bytes, and the file has 20"
+        header = "Fat(HeaderTruncated): its header takes 8 bytes, and the file has 5"
+        places = {
+            "many/count": (counted + bytes(33 * 20), "Fat(TooManyArches(33))"),
+            "many/cut": (two[:-1], cut),
+            "many/lower/table": (two[:20], table),
+            "many/short": (counted, "Fat(TooManyArches(33)): its table takes 668 bytes, and the file has 8"),
+        }
+        for name, (content, _) in places.items():
+            self.room.file(name, content)
+        self.room.file("many/one", image(3))
+        self.room.file("many/packed.zip", zipped({"header": two[:5], "table": two[:20], "four": image(4)}))
+        wanted = [f"{name}: {fault}" for name, (_, fault) in places.items()]
+        wanted[3:3] = [f"many/packed.zip: {name}: {fault}" for name, fault in (("header", header), ("table", table))]
+        counting = self.room.program(f'echo "$1" >>{self.folder}/calls\nexec "$symarch" "$@"')
+        said, errors = self.room.add("many", status=2, environment=counting)
+        same("errors", errors[:6], [f"symarch-keep: {one}" for one in wanted])
+        same("lines", said, [line("added", image(3), "many/one"), line("added", image(4), "many/packed.zip: four")])
+        self.room.has(archive([image(3), image(4)]))
+        same("calls of admit", (self.folder / "calls").read_text().split("\n").count("admit"), 1)
+
+    def test_no_memory(self) -> None:
+        """One that does not fit into the memory of the program keeps no other one out."""
+        self.room.file("many/small", universal([image(1)])[:20])
+        self.room.file("many/one", image(3))
+        os.truncate(self.room.file("many/large", struct.pack(">II", 0xCAFEBABE, 33)), 200 << 20)
+        narrow = self.room.program('[ "$1" != admit ] || ulimit -v 65536\nexec "$symarch" "$@"')
+        said, errors = self.room.add("many", status=2, environment=narrow)
+        same("refused", errors[:2], [
+            "symarch-keep: many/large: symarch: out of memory",
+            "symarch-keep: many/small: Fat(TableTruncated): its table takes 28 bytes, and the file has 20",
+        ])
+        same("lines", said, [line("added", image(3), "many/one")])
+
+    def test_no_fault(self) -> None:
+        """One of which the program reports no fault is refused too."""
+        self.room.file("many/cut", universal([image(1)])[:20])
+        self.room.file("many/one", image(3))
+        silent = self.room.program('[ "$1" != admit ] || exit 0\nexec "$symarch" "$@"')
+        said, errors = self.room.add("many", status=2, environment=silent)
+        told = "symarch-keep: many/cut: its table cannot be followed, but symarch reports no fault"
+        same("refused", errors[0], told)
+        same("lines", said, [line("added", image(3), "many/one")])
 
 
 class Order(RoomCase):

@@ -80,9 +80,9 @@ def symbols(name: str) -> Page:
         raise Refusal(400, "a name has no character 0")
     words = ["name", "--", site().settings.archive, name]
     with site().rooms.room() as room, site().keep(words, room, site().long_workers) as work:
-        status, said = work.members["status"], work.said()
+        status = work.members["status"]
         if status not in (0, 1):
-            raise Refusal(400 if status == 3 else 503, said[0] if said else "the archive could not be asked", said[1:])
+            raise work.refusal(400 if status == 3 else 503)
         if not wants_page():
             if status:
                 raise Refusal(404, "no slice has a symbol of this name")
@@ -96,7 +96,6 @@ def symbols(name: str) -> Page:
 def lines_of(words: List[str]) -> Response:
     """What a word prints, whatever its status."""
     with site().rooms.room() as room, site().keep(words, room) as work:
-        said = work.said()
         if work.members["status"] not in (0, 2):
-            raise Refusal(503, said[0] if said else "the archive could not be asked", said[1:])
-        return text([*work.printed().splitlines(), *said])
+            raise work.refusal()
+        return text([*work.printed().splitlines(), *work.said()])

@@ -13,7 +13,7 @@ from .control import Members
 from .forms import arch_of, argument, checked_words, hex_uuid_of, refuse_others, uuid_of
 from .refusals import Refusal
 from .segments import BLOCK, Segments
-from .site import SMALL
+from .site import SMALL, Work
 
 routes = Blueprint("fetching", __name__)
 BINARY = "application/octet-stream"
@@ -150,18 +150,19 @@ def dsym(word: str) -> Response:
         checked_words({"digest": digest})
     with site().rooms.room() as room:
         with site().work("bundle", room, site().long_workers, uuid=number, digests=digests) as work:
-            refuse_bundle(number, work.members, work.printed().splitlines(), work.said())
+            refuse_bundle(number, work)
             return sent(tar_of(room, work.members["pieces"]), "application/x-tar")
 
 
-def refuse_bundle(number: str, found: Members, printed: List[str], said: List[str]) -> None:
-    conflicts = [line.partition(" ")[2] for line in printed if line.startswith("conflict ")]
-    if found["status"] not in (0, 1):
-        raise Refusal(503, said[0] if said else "the archive could not be asked", said[1:])
+def refuse_bundle(number: str, work: Work) -> None:
+    if work.members["status"] not in (0, 1):
+        raise work.refusal()
+    lines = work.printed().splitlines()
+    conflicts = [line.partition(" ")[2] for line in lines if line.startswith("conflict ")]
     if conflicts:
         raise Refusal(409, f"several slices answer for {number}: ?digest= chooses one", conflicts)
-    if found["status"] or not found["has_dsym"]:
-        raise Refusal(404, f"the archive has no dSYM of {number}", said)
+    if work.members["status"] or not work.members["has_dsym"]:
+        raise Refusal(404, f"the archive has no dSYM of {number}", work.said())
 
 
 def tar_of(room: str, pieces: List[Members]) -> Segments:

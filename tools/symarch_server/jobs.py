@@ -12,11 +12,11 @@ from typing import Any, Dict, Iterator, List, NamedTuple, Optional, Sequence, Tu
 
 from symarch_tools import keep as tool
 from symarch_tools.commands.list import Listed, fits, listed
-from symarch_tools.console.escapes import shown, unshown
+from symarch_tools.console.escapes import shown
 from symarch_tools.console.faults import Failed
 from symarch_tools.console.json_lines import encoded
 from symarch_tools.console.screen import Screen
-from symarch_tools.formats.builds import UNKNOWN, Build, BuildLines, Named, field, field_shown
+from symarch_tools.formats.builds import BuildLines, Named, field, field_shown
 from symarch_tools.formats.contents import digest_in
 from symarch_tools.formats.packed_files import DESCRIPTORS
 from symarch_tools.reports.archives import with_levels
@@ -155,13 +155,9 @@ def held(job: Members, _: List[int]) -> Members:
 
 
 def slice_members(one: KeptSlice, digest: bytes, lines: Sequence[Named]) -> Members:
-    names = [{"day": it.day or None, **build_members(it.build)} for it in lines]
+    names = [{"day": it.day or None, **it.build.members()} for it in lines]
     kind = "dsym" if one.is_companion else "image"
     return {"kind": kind, "digest": digest.hex(), "bytes": one.length, "builds": names}
-
-
-def build_members(build: Build) -> Members:
-    return {name: None if it == UNKNOWN else unshown(field_shown(it)) for name, it in build._asdict().items()}
 
 
 def architecture(arch: str, slices: List[Members], retired: List[str]) -> Members:
@@ -201,8 +197,7 @@ def slice_of(job: Members, descriptors: List[int]) -> Members:
 def is_as_it_came(descriptor: int, one: KeptSlice, digest: bytes) -> bool:
     """Whether the bytes of a slice in an open file have its digest. They are not read again within a minute, as for the
     ranges of one download, unless somebody wrote to the file."""
-    found = os.fstat(descriptor)
-    state = found.st_dev, found.st_ino, found.st_size, found.st_mtime_ns, found.st_ctime_ns, one.at, one.length, digest
+    state = (*lock.state_in(os.fstat(descriptor)), one.at, one.length, digest)
     now = time.monotonic()
     if now - compared.get(state, -math.inf) < REMEMBERED:
         return True

@@ -9,6 +9,7 @@ from typing import Optional, Sequence
 
 from symarch_tools.console.escapes import shown
 from symarch_tools.console.faults import Failed, system_text
+from symarch_tools.formats.contents import MAGIC, MAGICS
 from symarch_tools.store.program import Program
 
 from .settings import NAME, Settings, settings_of
@@ -58,7 +59,7 @@ def read_files(settings: Settings) -> None:
     """Fails if the archive is none, or a file of tokens cannot be read, or there is no program."""
     Program()
     with open(settings.archive, "rb") as file:
-        if file.read(8) not in (b"MSYMARC1", b"MSYMARC2"):
+        if file.read(MAGIC) not in MAGICS:
             raise Failed(f"{shown(settings.archive)} is no archive", 2)
     for path in filter(None, (settings.readers, settings.uploads)):
         Tokens(path).lines()

@@ -34,6 +34,7 @@ LONG_WAITING, MOST_WAITING = 4, 1_000
 MOST_SENDING, SMALL = 16 << 30, 1 << 20
 # So much is read of what a word says on standard error.
 MOST_SAID = 100_000
+NOT_ASKED = "the archive could not be asked"
 
 
 class Work(NamedTuple):
@@ -50,6 +51,11 @@ class Work(NamedTuple):
         """The lines on standard error."""
         with open(self.path(ERR), "rb") as file:
             return file.read(MOST_SAID).decode(errors="replace").splitlines()
+
+    def refusal(self, status: int = 503) -> Refusal:
+        """That the archive could not be asked, as the lines on standard error say it."""
+        said = self.said()
+        return Refusal(status, said[0] if said else NOT_ASKED, said[1:])
 
     def printed(self) -> str:
         with open(self.path(OUT), "rb") as file:
@@ -145,7 +151,7 @@ def refuse_fault(answer: Members) -> None:
     if answer.get("is_bug"):
         raise Refusal(500, "the server has a fault, which its log describes")
     status = answer.get("status")
-    raise Refusal(400 if status == 3 else 503, fault or "the archive could not be asked")
+    raise Refusal(400 if status == 3 else 503, fault or NOT_ASKED)
 
 
 def log_fault() -> None:

@@ -12,6 +12,7 @@ from dataclasses import dataclass, field
 from typing import List, Optional, Tuple
 
 from symarch_tools.console.escapes import shown
+from symarch_tools.store.lock import state_in
 
 # The name stands in the log, and in the paths of what is uploaded.
 LINE = re.compile(rb"([A-Za-z0-9_][A-Za-z0-9_-]{0,63})[ \t]+([0-9a-f]{64})")
@@ -50,8 +51,7 @@ class Tokens:
     def lines(self) -> List[Tuple[str, bytes]]:
         """The names, each with its digest. OSError or BadTokens if they cannot be read."""
         with self.lock:
-            found = os.stat(self.path)
-            state = found.st_dev, found.st_ino, found.st_size, found.st_mtime_ns, found.st_ctime_ns
+            state = state_in(os.stat(self.path))
             if state != self.state:
                 self.known, self.state = self.read(), state
             return self.known

@@ -16,6 +16,7 @@ from .console.json_lines import Members, path_members
 from .console.signals import Stopped, signals
 from .console.streams import drop, encoded, note, printing, say
 from .console.unforeseen_faults import debugging, guarded
+from .formats.files import identity_of
 from .reports.account import Account, print_end, print_objects
 from .reports.archives import Archives, with_levels
 from .reports.arguments import NAME, Options, is_folder, is_point, is_zip, options_of
@@ -183,9 +184,7 @@ def given_images(options: Options) -> List[GivenImage]:
     return given
 
 
-def print_missing(reports: Iterable[Report], is_counted: bool) -> None:
-    found = wanted_in(reports)
-    lines = [one.counted_line() for one in most_wanted(found)] if is_counted else [one.line() for one in found]
+def print_lines(lines: Iterable[str]) -> None:
     with printing() as stream:
         stream.write(encoded("".join(lines)))
 
@@ -200,13 +199,6 @@ def show_names(options: Options, symbols: Names, functions: Names) -> bool:
     made = demangled([*symbols.shown, *functions.shown], options.is_demangled)
     symbols.shown, functions.shown = made[: len(symbols.shown)], made[len(symbols.shown) :]
     return lacks_swift(made)
-
-
-def print_groups(reports: Iterable[Report]) -> None:
-    from .reports.groups import group_lines
-
-    with printing() as stream:
-        stream.write(encoded("".join(group_lines(reports))))
 
 
 def print_report(report: Report) -> None:
@@ -246,7 +238,7 @@ def mask() -> int:
 def clash(places: Sequence[Tuple[str, str]], others: Iterable[str], out: str) -> Optional[str]:
     """What would be written twice, or over a file that is read, if anything would be, of the paths of reports and their
     places in the folder. The others are read too."""
-    read_files = {identity(path): path for path in [*(path for path, _ in places), *others]}
+    read_files = {identity_of(path): path for path in [*(path for path, _ in places), *others]}
     read_files.pop(None, None)
     seen: Dict[str, str] = {}
     folders = {folder: path for path, place in places for folder in folders_of(place)}
@@ -256,8 +248,8 @@ def clash(places: Sequence[Tuple[str, str]], others: Iterable[str], out: str) ->
             return f"{shown(path)}: no file"
         if place in seen:
             return f"{shown(seen[place])} and {shown(path)} would both be written to {shown(target)}"
-        if identity(target) in read_files:
-            return f"{shown(path)} would be written over {shown(read_files[identity(target)])}, which is read"
+        if identity_of(target) in read_files:
+            return f"{shown(path)} would be written over {shown(read_files[identity_of(target)])}, which is read"
         if place in folders:
             return f"{shown(path)} would be written where {shown(folders[place])} needs a folder, {shown(target)}"
         seen[place] = path
@@ -280,15 +272,6 @@ def refuse_clash(options: Options, places: Sequence[Tuple[str, str]], packed: Se
     fault = clash(places, [*packed, *archives], options.out) if options.out is not None else None
     if fault:
         raise Failure(fault, Status.BAD_ARGUMENTS)
-
-
-def identity(path: str) -> Optional[Tuple[int, int]]:
-    """What is one for all paths of a file; None where there is none."""
-    try:
-        found = os.stat(path)
-    except OSError:
-        return None
-    return found.st_dev, found.st_ino
 
 
 # ---- the whole
@@ -338,18 +321,23 @@ def carry_out(options: Options, reader: Optional[Reader] = None) -> int:
 
 def say_missing(options: Options, reader: Reader, status: int) -> int:
     """Prints the images that lack a dSYM, and returns the status."""
+    found = wanted_in(reader.found)
     if options.is_json:
-        print_objects([*(one.members() for one in most_wanted(wanted_in(reader.found))), *reader.refused])
+        print_objects([*(one.members() for one in most_wanted(found)), *reader.refused])
         print_end(len(reader.found), None, status)
+    elif options.has_counts:
+        print_lines(one.counted_line() for one in most_wanted(found))
     else:
-        print_missing(reader.found, options.has_counts)
+        print_lines(one.line() for one in found)
     return status
 
 
 def say_named(options: Options, reader: Reader) -> None:
     """Prints or writes the reports with their names, unless they are printed as JSON."""
     if options.is_group:
-        print_groups(reader.found)
+        from .reports.groups import group_lines
+
+        print_lines(group_lines(reader.found))
     elif options.out is not None:
         os.makedirs(options.out, exist_ok=True)
         for report in reader.found:

@@ -7,7 +7,7 @@ import os
 import shutil
 import sys
 import tempfile
-from typing import Dict, Iterable, Iterator, List, Sequence, Set, Tuple, Union
+from typing import Dict, Iterator, List, Sequence, Set, Tuple, Union
 
 from ..console.escapes import shown
 from ..console.faults import SliceRefused
@@ -16,10 +16,10 @@ from ..formats.builds import Builds, Sight, days_of
 from ..formats.contents import Content
 from ..formats.packed_files import DESCRIPTORS
 from ..store.archive import Archive
-from ..store.archive_file import NO_UUID
 from ..store.draft import Draft, News
-from ..store.program import Program, Run
-from ..store.slices import Finder, Slice, compared, promised
+from ..store.program import Program
+from ..store.refusals import promised, read_records, refusals, refuse_faulty
+from ..store.slices import Finder, Slice, compared
 
 DESCRIPTION = """\
 Adds the Mach-O images and dSYMs of files and folders to ARCHIVE, and makes ARCHIVE if there is something to add.
@@ -44,8 +44,6 @@ two hex digits. ARCHIVE.builds keeps the name of the file, the day, and the app,
 USAGE = "symarch-keep add [--quiet] [--wait SECONDS] [--json] [--verbose] [--dry-run] [--dsyms-only] ARCHIVE PATH..."
 ABOUT = "add images and dSYMs to an archive"
 STANDARD_INPUT = b"-"
-# A call that reads slices as files has so many bytes and files of them.
-MOST_OF_CALL, MOST_FILES = 256 << 20, 10_000
 WORDS = ("added", "known", "retired")
 KEYS = (*WORDS, "refused", "passed_over", "made", "dry_run")
 
@@ -144,53 +142,6 @@ def put_new(
         return [first, *refusals(program, [one for one in new if one is not first.one])]
 
 
-def refusals(program: Program, slices: Iterable[Slice]) -> List[SliceRefused]:
-    """Why some of the slices are refused: those that cannot be read, and those of which the program says it."""
-    found: List[SliceRefused] = []
-    for some in calls_for(slices):
-        if len(some) > 1:
-            found += refused_files(program, some)
-            continue
-        try:
-            read_records(program, some)
-        except SliceRefused as refused:
-            found.append(refused)
-    return found
-
-
-def read_records(program: Program, slices: Sequence[Slice]) -> None:
-    """Has the program read slices as records of an archive, so that it holds one of them. Raises the first refusal."""
-    program.run(Run(["find", "/dev/stdin", NO_UUID], slices))
-
-
-def refused_files(program: Program, slices: Iterable[Slice]) -> List[SliceRefused]:
-    """Why some of the slices are refused, which the program reads as files, and holds together."""
-    found: List[SliceRefused] = []
-    files: List[Slice] = []
-    with tempfile.TemporaryDirectory(prefix="symarch-keep.") as room:
-        for one in slices:
-            try:
-                with open(os.path.join(room, str(len(files))), "wb") as file:
-                    file.writelines(one.chunks())
-                files.append(one)
-            except SliceRefused as refused:
-                found.append(refused)
-        return found + program.refused(files, os.fsencode(room))
-
-
-def calls_for(slices: Iterable[Slice]) -> Iterator[List[Slice]]:
-    """Slices in parts, for each of which the program is called once: a long one alone."""
-    some: List[Slice] = []
-    size = 0
-    for one in slices:
-        if some and (size + one.length > MOST_OF_CALL or len(some) == MOST_FILES):
-            yield some
-            some, size = [], 0
-        some.append(one)
-        size += one.length
-    yield some
-
-
 def standard_input(ends: contextlib.ExitStack) -> bytes:
     """A path of what standard input has, since each slice is read more than once."""
     copy = ends.enter_context(tempfile.TemporaryFile())
@@ -210,6 +161,7 @@ def carry_out(arguments: argparse.Namespace) -> int:
         if STANDARD_INPUT in paths:
             finder.places[STANDARD_INPUT] = standard_input(ends)
         finder.find(paths)
+        refuse_faulty(program, finder.faulty, screen)
         readable = read_all(finder.slices, screen)
         finder.name_builds()
         # Where nothing was found nothing is made next to an archive that is not there.

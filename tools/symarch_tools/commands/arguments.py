@@ -14,7 +14,7 @@ ARCHITECTURES = "x86_64, x86_64h, arm64, arm64e or cpu:CCCCCCCC/00SSSSSS"
 HELP = {"ARCH": f"the architecture: {ARCHITECTURES}"}
 DIGEST, SIZE = re.compile("[0-9a-fA-F]{64}"), re.compile("([0-9]{1,15})([kMGT]?)")
 DECIMAL = re.compile("[0-9]{1,20}")
-HEX, DAY = re.compile("(0x)?[0-9a-fA-F]{1,16}"), re.compile("[0-9]{4}-[0-9]{2}-[0-9]{2}", re.ASCII)
+HEX = re.compile("(0x)?[0-9a-fA-F]{1,16}")
 SECONDS = re.compile(r"[0-9]{1,9}(\.[0-9]{1,9})?")
 # Where the high byte of the cpusubtype stands in what an ARCH means. No slice has a bit in it.
 HIGH_BYTE = 4
@@ -111,6 +111,6 @@ def app_of(argument: str) -> str:
 
 def day_of(argument: str) -> str:
     """A day of UTC, as it is kept."""
-    if not DAY.fullmatch(argument) or not is_day(os.fsencode(argument)):
+    if not is_day(os.fsencode(argument)):
         raise other_form("DATE", argument, "a day as YYYY-MM-DD")
     return argument

@@ -2,17 +2,17 @@
 import argparse
 import contextlib
 import os
-from typing import BinaryIO, List, NamedTuple, Optional, Tuple
+from typing import List, Tuple
 
 from ..console.escapes import shown
 from ..console.faults import Failed
 from ..console.screen import Screen, screen_of
 from ..exchange.signatures import SIGNERS, Remembered
 from ..formats.contents import MAGICS, Content
-from ..formats.indexes import Index, held_against
+from ..formats.indexes import held_against
 from ..store.archive import Archive
 from ..store.archive_file import ArchiveFile
-from ..store.changes import Findings, index_read, keep_changed, line_of_file, line_of_row, line_of_table, told_apart
+from ..store.changes import Examined, index_read, keep_changed, line_of_file, line_of_row, told_apart
 from ..store.file_names import INDEX, strangers_beside
 from ..store.losses import changed_line, file_line, lost_lines
 from ..store.program import Program
@@ -77,41 +77,21 @@ def strangers_of(archive: Archive) -> List[bytes]:
     return [path for path in paths if ArchiveFile(path, b"").magic() in MAGICS]
 
 
-class Examined(NamedTuple):
-    """A file that is looked through, its index, and both as they were when they were opened."""
-
-    file: ArchiveFile
-    made: Index
-    opened: BinaryIO
-    tables: Optional[BinaryIO]
-
-    def size(self) -> int:
-        return sum(os.fstat(it.fileno()).st_size for it in (self.opened, self.tables) if it)
-
-
 def look_through(archive: Archive, files: List[ArchiveFile], screen: Screen) -> List[str]:
     """The lines of what changed in files, by their indexes. Other commands may write meanwhile."""
     lines: List[str] = []
     with contextlib.ExitStack() as ends:
-        found = [opened_by_index(file, file.index, ends) for file in files if file.index]
-        kept = [line_of_file(file, index, opened) for file, index, opened, _ in found]
+        found = [Examined.of(file, file.index, ends) for file in files if file.index]
+        kept = [line_of_file(one.file, one.made, one.opened) for one in found]
         archive.release_lock()
         screen.begin("reading", sum(one.size() for one in found))
         for one in found:
-            findings = Findings(one.file.path, one.made)
-            findings.look_through(one.opened, screen.moved)
-            if one.tables:
-                findings.look_at_tables(one.tables, screen.moved)
+            findings = one.findings(screen.moved)
             lines += findings.lines()
-            kept += [line_of_row(one.file, row) for row in findings.changed]
-            kept += [line_of_table(one.file, row) for row in findings.tables]
+            kept += [line_of_row("changed", one.file, row) for row in findings.changed]
+            kept += [line_of_row("table", one.file, row) for row in findings.tables]
     keep_changed(archive.path, kept)
     return lines
-
-
-def opened_by_index(file: ArchiveFile, index: Index, ends: contextlib.ExitStack) -> Examined:
-    opened = ends.enter_context(open(file.path, "rb"))
-    return Examined(file, index, opened, ends.enter_context(open(index.path, "rb")) if index.path else None)
 
 
 def carry_out(arguments: argparse.Namespace) -> int:
@@ -126,7 +106,7 @@ def carry_out(arguments: argparse.Namespace) -> int:
         more, lost = more + lines, lost.joined(its_lost)
     content, strangers = archive.files.joined(), strangers_of(archive)
     more += [file_line("unknown", path) for path in strangers]
-    lines = look_through(archive, same, screen) + more + lost_lines(lost.beyond(content))
+    lines = [*look_through(archive, same, screen), *more, *lost_lines(lost.beyond(content))]
     screen.show(lines)
     for file in archive.files:
         if f"unknown {shown(file.path)}" in lines:

@@ -5,7 +5,6 @@ from typing import Dict, Optional, Sequence, Tuple
 
 from ..console.escapes import shown
 from ..console.faults import Failed
-from ..console.json_lines import Members, line_of
 from ..console.screen import screen_of
 from ..exchange.exchange import Exchange
 from ..exchange.identity import Identity, refuse_name
@@ -14,7 +13,7 @@ from ..exchange.signatures import SIGNERS, Keys, Senders
 from ..store.archive import Archive
 from ..store.losses import lost_lines
 from ..store.program import Program
-from .arguments import size_in
+from .arguments import define_archive, size_in
 
 DESCRIPTION = """\
 Exchanges with the other sites over FOLDER, a disk that all mount or a folder that is copied. NAME is that of this
@@ -51,9 +50,7 @@ def define(parser: argparse.ArgumentParser) -> None:
     parser.add_argument("--key", metavar="FILE", help="sign with this key, whose private half may be in an agent")
     parser.add_argument("--signers", metavar="FILE", help="accept only files that a key of these sites signed")
     parser.add_argument("--most", metavar="BYTES", help="accept no longer file of FOLDER, and send no more")
-    parser.add_argument("archive", metavar="ARCHIVE")
-    parser.add_argument("folder", metavar="FOLDER")
-    parser.add_argument("name", metavar="NAME")
+    define_archive(parser, "FOLDER", "NAME")
 
 
 def met(
@@ -94,7 +91,7 @@ def carry_out(arguments: argparse.Namespace) -> int:
         exchange.carry_out(identity, arguments.take_name)
     logged = [line for line in exchange.lines if line.startswith(("took ", "asked ", "answered ", "named ", "told "))]
     archive.folder.log.note(logged, screen)
-    screen.show(map(with_object, exchange.lines))
+    screen.show(exchange.lines)
     exchange.say_what_is_lost()
     refused, counts = screen.refused + folder.named_before, counts_of(exchange.lines)
     told = ", ".join(f"{number} {kind}" for kind, number in counts.items())
@@ -106,17 +103,3 @@ def carry_out(arguments: argparse.Namespace) -> int:
 def counts_of(lines: Sequence[str]) -> Dict[str, int]:
     """How many slices and retirements came, and how many answers went."""
     return {kind: sum(line.startswith(f"{kind} ") for line in lines) for kind in KEYS[:3]}
-
-
-def with_object(line: str) -> str:
-    """A line with its object: a record with the site that it came from, names of builds, or files of the folder."""
-    kind, *words = line.split(" ")
-    record = {"added": "slice", "retired": "retirement"}.get(kind)
-    members: Members = {"file": words[-1]}
-    if record:
-        members = {"record": record, **dict(zip(("uuid", "arch", "digest", "site"), words))}
-    elif kind == "answered":
-        members = {"site": words[0], **members}
-    elif kind == "named":
-        members = {"site": words[1], "names": int(words[0])}
-    return line_of(line, kind, **members)

@@ -5,9 +5,10 @@ from typing import List, NoReturn, Optional, Sequence
 
 from ..console.escapes import shown
 from ..console.faults import Failed
+from ..formats.files import beginning
 from ..formats.packed_files import ZIP
 from ..formats.universal_files import UNIVERSAL
-from ..store.file_names import beginning, is_archive
+from ..store.file_names import is_archive
 from ..store.slices import THIN, is_dsym
 
 # In a call standard input; and in place of ARCHIVE, if no argument may be that.
@@ -16,7 +17,7 @@ STANDARD_INPUT, ARCHIVE = "-", "ARCHIVE"
 
 def is_input(path: str) -> bool:
     """Whether an argument names what `add` puts into an archive."""
-    return path == STANDARD_INPUT or os.path.isdir(path) or beginning(path)[:4] in (THIN, ZIP, *UNIVERSAL)
+    return path == STANDARD_INPUT or os.path.isdir(path) or beginning(path, len(THIN)) in (THIN, ZIP, *UNIVERSAL)
 
 
 def archive_in(command: str, names: Sequence[str]) -> Optional[str]:

@@ -2,7 +2,6 @@
 import argparse
 import contextlib
 import functools
-import hashlib
 import os
 from dataclasses import dataclass
 from typing import Dict, Iterable, List, NamedTuple, Optional, Sequence
@@ -18,7 +17,7 @@ from ..formats.indexes import HEAD, TAIL, Index, IndexRow, index_at, index_by
 from ..formats.tables import Tables, write_index
 from ..store.archive import Archive, index_made, is_to_be_indexed
 from ..store.archive_file import ArchiveFile
-from ..store.changes import Findings, Found, forget_changed, told_apart
+from ..store.changes import Examined, Findings, Found, forget_changed, told_apart
 from ..store.file_names import INDEX, TODAY, level_ending, numbers_beside, refuse_other
 from ..store.program import Program, Run
 from ..store.slices import Slice, compared
@@ -106,16 +105,14 @@ def mend(written: int, findings: Findings, places: Dict[IndexRow, SliceSource]) 
 
 
 def put_slice(written: int, row: IndexRow, place: SliceSource) -> None:
-    with open(place.path, "rb") as file:
-        file.seek(place.at)
-        os.lseek(written, row.at + HEAD, os.SEEK_SET)
-        left, digest = row.length - HEAD, hashlib.sha256()
-        while left > 0 and (chunk := file.read(min(left, CHUNK))):
+    one = slice_at(place, row)
+    one.digest = place.digest or None
+    os.lseek(written, row.at + HEAD, os.SEEK_SET)
+    try:
+        for chunk in one.chunks():
             write(written, chunk)
-            digest.update(chunk)
-            left -= len(chunk)
-    if place.digest not in (b"", digest.digest()):
-        raise Failed(f"{shown(place.path)}: changed while it was read")
+    except SliceRefused as refused:
+        raise Failed(f"{shown(place.path)}: {refused}") from None
 
 
 def in_order(
@@ -259,14 +256,10 @@ class Repair:
 
     def looked_through(self, file: ArchiveFile, index: Index) -> Findings:
         """What changed in a file and in its index, by what `check` found, or by all of both."""
-        findings, known, screen = Findings(file.path, index), Found.at(self.archive.path), self.screen
         with contextlib.ExitStack() as ends:
-            opened = ends.enter_context(open(file.path, "rb"))
-            tables = ends.enter_context(open(index.path, "rb")) if index.path else None
-            screen.begin("reading", sum(os.fstat(it.fileno()).st_size for it in (opened, tables) if it))
-            findings.look_through(opened, screen.moved, known.rows(file, index, opened))
-            if tables:
-                findings.look_at_tables(tables, screen.moved, known.rows(file, index, opened, "table"))
+            examined = Examined.of(file, index, ends)
+            self.screen.begin("reading", examined.size())
+            findings = examined.findings(self.screen.moved, Found.at(self.archive.path))
         return findings
 
 

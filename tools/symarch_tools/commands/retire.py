@@ -4,7 +4,7 @@ import os
 from dataclasses import dataclass
 from typing import Dict, Iterable, List, NamedTuple, Optional, Sequence, Tuple
 
-from ..console.escapes import shown, unshown
+from ..console.escapes import shown
 from ..console.faults import Failed
 from ..console.json_lines import line_of
 from ..console.screen import Screen, screen_of
@@ -166,9 +166,7 @@ def told(kind: str, found: Dict[bytes, Named]) -> List[str]:
 
 def told_line(kind: str, entry: bytes, one: Named) -> str:
     text = f"{kind} {words_of(entry)} {one.day} {' '.join(map(field_shown, one.build))}"
-    said: List[Optional[str]] = [None if it == UNKNOWN else unshown(field_shown(it)) for it in one.build]
-    names = dict(zip(("app", "version", "build", "name"), said))
-    return line_of(text, kind, **record_members(entry), day=one.day, **names)
+    return line_of(text, kind, **record_members(entry), day=one.day, **one.build.members())
 
 
 def record_line(kind: str, entry: bytes) -> str:

@@ -1,18 +1,17 @@
 """`status`: prints what an archive has, in numbers."""
 import argparse
 import collections
+import contextlib
 import os
 from dataclasses import dataclass, field
-from typing import Counter, Dict, List, NamedTuple, Sequence
+from typing import Counter, Dict, List, NamedTuple, Sequence, Tuple
 
 from ..console.escapes import shown
-from ..console.faults import Failed
 from ..console.json_lines import Line, Members, path_members
 from ..console.screen import Screen, screen_of
 from ..exchange.memory import Exchanged
 from ..formats.builds import NEXT_BUILDS
-from ..formats.contents import DIGEST, KEY, RETIREMENT, Content, Malformed, digest_in, head_of, record_size, records_in
-from ..formats.contents import words_of
+from ..formats.contents import DIGEST, KEY, RETIREMENT, Content, digest_in, head_of, record_size, records_in, words_of
 from ..formats.indexes import HEAD, is_companion
 from ..store.archive import Archive
 from ..store.archive_file import ArchiveFile
@@ -76,7 +75,7 @@ def carry_out(arguments: argparse.Namespace) -> int:
     numbers.update({"bytes": main, "today": today, "levels": sum(levels), "waiting": files.bytes_waiting()})
     lost, sites, left = lost_lines(lost_of(archive, asked, seen)), sites_of(asked), left_of(archive)
     if screen.is_json:
-        found = [site_members(note) for note in sites], conflicts, [members_of_lost(line) for line in lost]
+        found = list(map(members_of_site, asked.sites.items())), conflicts, [members_of_lost(line) for line in lost]
         lists = [*found, [path_members(path) for path in left]]
         screen.faults += [str(line) for line in lost]
         return screen.end(2 if lost else 0, {**numbers, **dict(zip(KEYS[len(numbers):], lists))})
@@ -87,16 +86,14 @@ def carry_out(arguments: argparse.Namespace) -> int:
     return screen.status(2 if lost else 0)
 
 
-def site_members(note: str) -> Members:
-    """What a note says of a site. A date of what never was is null."""
-    _, name, *pairs = note.split(" ")
-    dates = dict(zip(pairs[::2], pairs[1::2]))
+def members_of_site(site: Tuple[str, Dict[str, str]]) -> Members:
+    """A site and its dates. One of what never was is null."""
+    name, dates = site
     return {"name": name, **{key: dates.get(key) for key in DATES}}
 
 
-def members_of_lost(line: str) -> Members:
-    members = line.members if isinstance(line, Line) else {}
-    return {name: members[name] for name in ("record", "uuid", "arch", "digest")}
+def members_of_lost(line: Line) -> Members:
+    return {name: line.members[name] for name in ("record", "uuid", "arch", "digest")}
 
 
 def accept(archive: Archive, content: Content, screen: Screen) -> None:
@@ -188,17 +185,11 @@ def lost_of(archive: Archive, asked: Exchanged, seen: Sequence[Seen]) -> Content
 def read(archive_file: ArchiveFile) -> List[Record]:
     """The records that an archive file has by its bytes; none if it is not there."""
     records = []
-    try:
-        with open(archive_file.path, "rb") as file:
-            for head, after in records_in(file):
-                at = after - len(head)
-                is_slice = head[:1] != RETIREMENT
-                records.append(Record(head, is_slice and bool(is_companion(file, at)), archive_file.path, at))
-    except FileNotFoundError:
-        pass
-    except Malformed as fault:
-        archive_file.look_through(Program())
-        raise Failed(f"{shown(archive_file.path)}: {fault}") from None
+    with contextlib.suppress(FileNotFoundError), archive_file.opened() as file:
+        for head, after in records_in(file):
+            at = after - len(head)
+            is_slice = head[:1] != RETIREMENT
+            records.append(Record(head, is_slice and bool(is_companion(file, at)), archive_file.path, at))
     return records
 
 

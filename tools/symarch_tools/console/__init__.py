@@ -8,6 +8,7 @@
 - streams             the standard streams of symbolicate-report
 - demangler           names as people write them
 - signals             the signals that end a tool
+- processes           processes that end with a tool
 - unforeseen_faults   what no part of a tool foresaw, in one line
 - program_path        where the program symarch is
 - version             the version of the tools

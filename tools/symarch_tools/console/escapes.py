@@ -2,7 +2,7 @@
 import json
 import os
 import re
-from typing import Union
+from typing import Optional, Union
 
 ESCAPED = re.compile(rb"\\x([0-9a-f]{2})")
 # What JSON has no escape for need not be, but a terminal obeys some of it.
@@ -23,6 +23,11 @@ def shown_character(character: str) -> str:
 def unshown(text: str) -> str:
     """What a text was before it was shown."""
     return os.fsdecode(ESCAPED.sub(lambda found: bytes([int(found[1], 16)]), os.fsencode(text)))
+
+
+def one_line(text: Optional[str]) -> str:
+    """A text with one space in place of each end of a line, and of several spaces."""
+    return " ".join((text or "").split())
 
 
 def line_shown(text: str) -> str:

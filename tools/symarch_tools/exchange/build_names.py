@@ -3,6 +3,7 @@ of the others. A file is read only if it has other bytes than ARCHIVE.builds, an
 from dataclasses import dataclass, field
 from typing import List
 
+from ..console.json_lines import line_of
 from ..console.screen import Screen
 from ..formats.builds import MOST_OF_LINE, Days, add_line, earliest, is_framed, line_in, lines_of
 from ..store.archive import Archive
@@ -40,7 +41,7 @@ class Telling:
             more = self.names_in(its, digest)
             self.folder.look_at(its, self.screen)
             new = [rest for rest, day in more.items() if day < min(builds.known.get(rest, b"~"), came.get(rest, b"~"))]
-            self.lines += [f"named {len(new)} {site}"] * bool(new)
+            self.lines += [line_of(f"named {len(new)} {site}", "named", site=site, names=len(new))] * bool(new)
             came = earliest(came, more)
         builds.news = came
         self.archive.folder.keep_builds(self.screen)
@@ -102,7 +103,7 @@ class Telling:
         if text and not there:
             there = [timed_name(self.folder.site, "builds", self.asked.next_time(), digest)]
             self.folder.put([text], there[0], len(text))
-            self.lines.append(f"told {there[0]}")
+            self.lines.append(line_of(f"told {there[0]}", "told", file=there[0]))
         self.kept = set(there[:1])
 
 

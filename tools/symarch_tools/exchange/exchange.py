@@ -8,6 +8,7 @@ from typing import BinaryIO, Dict, Iterator, List, Optional, Sequence, Set, Tupl
 
 from ..console.escapes import shown
 from ..console.faults import Failed, about, system_text
+from ..console.json_lines import line_of
 from ..console.screen import Screen
 from ..formats.contents import ADMISSION, Content, Malformed, chunks_in, content_in, content_of, digest_in, entries_in
 from ..formats.contents import summary_of
@@ -91,8 +92,8 @@ class Exchange:
         for question in self.folder.questions:
             if question.site == self.folder.site:
                 data = self.own_question(question, question.digest in digests)
-                if data is not None and is_summary(data):
-                    lacking = lacking.joined(content_of(entries_in(data)).beyond(self.content))
+                had = None if data is None else content_of_summary(data)
+                lacking = lacking.joined(had.beyond(self.content)) if had else lacking
         return lacking
 
     def own_question(self, question: TimedFile, is_known: bool) -> Optional[bytes]:
@@ -141,7 +142,7 @@ class Exchange:
         identity.keep(self.room)
         self.folder.put([identity.text], name, len(identity.text))
         self.kept.add(name)
-        self.lines += [f"took {name}"] * (takes and last not in ("", identity.digest()))
+        self.lines += [line_of(f"took {name}", "took", file=name)] * (takes and last not in ("", identity.digest()))
 
     # ---- what is asked
 
@@ -159,7 +160,7 @@ class Exchange:
         name = timed_name(self.folder.site, "asks", *last)
         if not any(one.name == name and self.is_asked(one) for one in self.questions):
             self.folder.put([summary], name, len(summary))
-            self.lines.append(f"asked {name}")
+            self.lines.append(line_of(f"asked {name}", "asked", file=name))
         self.kept.add(name)
 
     def is_behind(self, last: Tuple[str, str]) -> bool:
@@ -232,10 +233,11 @@ class Exchange:
         known = self.asked.lacks.get(question.digest) or self.asked.lacks_before.get(question.digest)
         if known is None or self.folder.check_size(question, MOST_OF_QUESTION) != known.size:
             data = self.copied(question)
-            if not is_summary(data):
+            theirs = content_of_summary(data)
+            if theirs is None:
                 raise Unfit("is no summary")
             known = Lacks(len(data))
-            lacking = self.content.beyond(content_of(entries_in(data)))
+            lacking = self.content.beyond(theirs)
             if len(lacking):
                 known = Lacks(len(data), digest_of(lacking.summary())[:SHORT], lacking.size())
             else:
@@ -290,7 +292,7 @@ class Exchange:
             self.folder.put(self.moved_chunks(file), name, lacking.size())
         self.kept.add(name)
         self.asked.note(question.site, "answered", time.gmtime())
-        self.lines.append(f"answered {question.site} {name}")
+        self.lines.append(line_of(f"answered {question.site} {name}", "answered", site=question.site, file=name))
 
     def is_answer(self, answer: Answer, question: TimedFile, lacks: Lacks) -> bool:
         """Whether an answer of this site is whole, and has what a question lacks."""
@@ -368,12 +370,11 @@ def summary_with_retired(content: Content) -> bytes:
     return summary_of(sorted(content.entries() + gone))
 
 
-def is_summary(data: bytes) -> bool:
-    try:
-        entries_in(data)
-        return True
-    except Malformed:
-        return False
+def content_of_summary(data: bytes) -> Optional[Content]:
+    """The content of which these bytes are the summary; None if they are none."""
+    with contextlib.suppress(Malformed):
+        return content_of(entries_in(data))
+    return None
 
 
 def write_file(room: bytes, name: bytes, data: bytes) -> None:

@@ -8,11 +8,13 @@ from typing import Callable, Dict, Iterator, List, NamedTuple, Sequence
 
 from ..console.escapes import shown
 from ..console.faults import Failed, SliceRefused
+from ..console.json_lines import line_of
 from ..console.screen import Screen
 from ..formats.contents import KEY, RETIREMENT, Content, Malformed, content_in, head_of, words_of
 from ..store.archive import Archive
 from ..store.archive_file import NO_UUID
 from ..store.draft import Draft, News
+from ..store.losses import record_members
 from ..store.program import Program, Run
 from ..store.slices import Slice, compared
 from .shared_folder import Answer, SharedFolder
@@ -117,5 +119,10 @@ class Joining:
         for came in self.came:
             retired.update({entry: came.answer.site for entry in came.news.retired})
             held.update({entry: came.answer.site for entry in came.news.held})
-        lines = [f"added {words_of(entry)} {held[entry]}" for entry in sorted(held) if entry not in retired]
-        return lines + [f"retired {words_of(entry)} {retired[entry]}" for entry in sorted(retired)]
+        lines = [came_line("added", entry, held[entry]) for entry in sorted(held) if entry not in retired]
+        return lines + [came_line("retired", entry, retired[entry]) for entry in sorted(retired)]
+
+
+def came_line(kind: str, entry: bytes, site: str) -> str:
+    members = record_members(entry, is_retirement=kind == "retired")
+    return line_of(f"{kind} {words_of(entry)} {site}", kind, **members, site=site)

@@ -17,6 +17,7 @@ from typing import Dict, Iterable, List, NamedTuple, Optional, Tuple
 from ..formats.contents import Content, kept_text
 from ..store.archive import ASKED, Archive
 from ..store.log import DATE
+from ..store.upgrades import kept_at
 from .shared_folder import digest_of
 from .times import fault_of_time, time_after
 
@@ -45,7 +46,7 @@ class Exchanged:
     archive: Archive
 
     def __post_init__(self) -> None:
-        self.kept = self.archive.files.main.kept(ASKED)
+        self.kept = kept_at(self.archive.folder.beside(ASKED))
         self.last: Optional[Content] = None
         self.questions: List[Tuple[str, str]] = []
         self.sites: Dict[str, Dict[str, str]] = {}

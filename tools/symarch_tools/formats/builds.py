@@ -45,6 +45,10 @@ class Build(NamedTuple):
     build: str = UNKNOWN
     name: str = UNKNOWN
 
+    def members(self) -> Dict[str, Optional[str]]:
+        """Each text as it was, by its name; None for what is not known."""
+        return {name: None if it == UNKNOWN else os.fsdecode(bytes_of(it)) for name, it in self._asdict().items()}
+
 
 class Sight(NamedTuple):
     """What is known of a file that comes in: its build; the app in which it is, if that is another one; and the day on

@@ -4,10 +4,10 @@ import dataclasses
 import datetime
 import itertools
 import os
-import stat
 from typing import Dict, Iterator, List, NamedTuple, Optional, Tuple
 
 from .builds import UNKNOWN, Build, Sight, field
+from .files import beginning
 
 ENDINGS = (
     b".app", b".appex", b".bundle", b".dSYM", b".dext", b".framework", b".kext", b".plugin", b".systemextension",
@@ -88,17 +88,6 @@ def places_above(path: bytes) -> Iterator[bytes]:
     return (os.path.join(folder, place) for folder in folders_above(path) for place in PLACES)
 
 
-def text_at(path: bytes) -> bytes:
-    """The bytes of an Info.plist that is a file, and one more than are read of it."""
-    try:
-        if stat.S_ISREG(os.stat(path).st_mode):
-            with open(path, "rb") as file:
-                return file.read(MOST_OF_LIST + 1)
-    except (OSError, ValueError):
-        pass
-    return b""
-
-
 @dataclasses.dataclass(eq=False)
 class Bundles:
     """What Info.plist files say, of which each is read once."""
@@ -136,7 +125,7 @@ class Bundles:
 
     def at(self, path: bytes) -> Optional[Stated]:
         if path not in self.of_files:
-            text = text_at(path)
+            text = beginning(path, MOST_OF_LIST + 1)
             self.of_files[path] = stated_in(text) if text else None
         return self.of_files[path]
 

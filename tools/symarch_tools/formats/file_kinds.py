@@ -5,19 +5,23 @@ from typing import Optional, Tuple
 UNPACKED, NO_WORD = "which has to be unpacked first", "which no word takes"
 # How much of a file is looked at: the magic of a tar file stands in its first header.
 MOST_LOOKED_AT, TAR_MAGIC = 512, 257
+# What is packed, by its first bytes.
+PACKED: Tuple[Tuple[bytes, str], ...] = (
+    (b"PK\3\4", "a zip file"),
+    (b"\x1f\x8b", "a gzip file"),
+    (b"BZh", "a bzip2 file"),
+    (b"\xfd7zXZ\0", "an xz file"),
+    (b"\x28\xb5\x2f\xfd", "a zstd file"),
+    (b"7z\xbc\xaf\x27\x1c", "a 7z file"),
+)
 BEGINNINGS: Tuple[Tuple[bytes, str], ...] = (
     (b"MSYMARC1", "an archive, which `symarch merge` takes"),
     (b"MSYMARC2", "an archive, which `symarch merge` takes"),
     (b"MSYMOPS1", "an operations file, which `symarch apply` takes"),
     (b"MSYMSUM1", "a summary, which `symarch delta` takes"),
     (b"MSYMIDX1", "an index, which `symarch index` writes"),
-    (b"PK\3\4", f"a zip file, {UNPACKED}"),
+    *((begins, f"{what}, {UNPACKED}") for begins, what in PACKED),
     (b"PK\5\6", "an empty zip file"),
-    (b"\x1f\x8b", f"a gzip file, {UNPACKED}"),
-    (b"BZh", f"a bzip2 file, {UNPACKED}"),
-    (b"\xfd7zXZ\0", f"an xz file, {UNPACKED}"),
-    (b"\x28\xb5\x2f\xfd", f"a zstd file, {UNPACKED}"),
-    (b"7z\xbc\xaf\x27\x1c", f"a 7z file, {UNPACKED}"),
     (b"xar!", f"a xar file, {UNPACKED}"),
     (b"\x7fELF", f"an ELF file, {NO_WORD}"),
     (b"Microsoft C/C++ ", f"a PDB file, {NO_WORD}"),

@@ -1,7 +1,8 @@
 """Files: their sizes and times, and how bytes are written so that they are on the disk."""
 import contextlib
 import os
-from typing import Iterable
+import stat
+from typing import Iterable, Optional, Tuple, Union
 
 from ..console.faults import about
 from ..console.streams import write
@@ -74,6 +75,24 @@ def linked(path: bytes, new: bytes) -> bool:
     except OSError:
         return False
     return True
+
+
+def beginning(path: Union[str, bytes], size: int) -> bytes:
+    """The first bytes of a file. What is none, as a pipe, is not read."""
+    with contextlib.suppress(OSError, ValueError):
+        if stat.S_ISREG(os.stat(path).st_mode):
+            with open(path, "rb") as file:
+                return file.read(size)
+    return b""
+
+
+def identity_of(path: Union[str, bytes]) -> Optional[Tuple[int, int]]:
+    """What is one for all paths of a file; None where there is none."""
+    try:
+        found = os.stat(path)
+    except OSError:
+        return None
+    return found.st_dev, found.st_ino
 
 
 def size_of(path: bytes) -> int:

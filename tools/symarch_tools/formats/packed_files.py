@@ -79,14 +79,15 @@ def faults_of(kind: str) -> Iterator[None]:
 
 
 @contextlib.contextmanager
-def unnamed() -> Iterator[Tuple[BinaryIO, contextlib.ExitStack]]:
-    """A file without a name, and what closes it at the end."""
+def unnamed() -> Iterator[BinaryIO]:
+    """A file without a name, which is closed where it cannot be written."""
     with contextlib.ExitStack() as ends:
         with signals.later():
             import tempfile
 
             file = cast(BinaryIO, ends.enter_context(tempfile.TemporaryFile()))
-        yield file, ends
+        yield file
+        ends.pop_all()
 
 
 class Member(NamedTuple):
@@ -129,10 +130,9 @@ class Member(NamedTuple):
 
     def unpacked(self, front: bytes) -> BinaryIO:
         """A file of its bytes, of which the first were read."""
-        with unnamed() as (file, ends):
+        with unnamed() as file:
             self.unpack(file, front)
             file.flush()
-            ends.pop_all()
         return file
 
 
@@ -218,11 +218,7 @@ class Packed:
 
 def packed_at(path: bytes) -> Optional[Packed]:
     """The zip or gzipped tar file of a path, if it is one."""
-    return packed_by(functools.partial(opened, path), MOST_TIMES * os.stat(path).st_size + MOST_OF_ALL)
-
-
-def opened(path: bytes) -> BinaryIO:
-    return open(path, "rb")
+    return packed_by(lambda: open(path, "rb"), MOST_TIMES * os.stat(path).st_size + MOST_OF_ALL)
 
 
 def packed_by(opens: Callable[[], BinaryIO], most: int, is_inner: bool = False) -> Optional[Packed]:
@@ -276,8 +272,8 @@ class Inner:
     def take(self, packed: Packed, member: Member, front: bytes) -> Optional[Packed]:
         """The packed file that a member is, of which the first bytes were read; none if it is none."""
         if self.file is None:
-            with unnamed() as (self.file, ends):
-                ends.pop_all()
+            with unnamed() as self.file:
+                pass
         begin = self.file.seek(0, os.SEEK_END)
         try:
             member.unpack(self.file, front)
@@ -295,11 +291,6 @@ class Inner:
         return cast(BinaryIO, io.BufferedReader(Window(self.file, begin, size)))
 
 
-def may_be_packed(name: bytes, front: bytes) -> bool:
-    """Whether a member is taken as a packed file, by its name and its first bytes."""
-    return is_named_as_packed(name) and (front.startswith(ZIP) or front.startswith(GZIP))
-
-
 @dataclass(eq=False)
 class Whole:
     """The members of packed files that were asked for in another order than they stand there: each such file is
@@ -313,8 +304,8 @@ class Whole:
 
     def take(self, packed: Packed, wanted: Container[int]) -> None:
         if self.file is None:
-            with unnamed() as (self.file, ends):
-                ends.pop_all()
+            with unnamed() as self.file:
+                pass
         self.places[packed] = {}
         # What is damaged is missed if it is asked for.
         with contextlib.suppress(Damaged):
@@ -341,13 +332,12 @@ class Whole:
             raise self.faults.get(packed, Damaged(GONE))
         begin, left = self.places[packed][number]
         self.file.seek(begin)
-        with unnamed() as (file, ends):
+        with unnamed() as file:
             while left > 0:
                 chunk = self.file.read(min(left, CHUNK))
                 file.write(chunk)
                 left -= len(chunk)
             file.flush()
-            ends.pop_all()
         return file
 
 

@@ -3,9 +3,8 @@ these slices. A single slice is a file of its own."""
 import os
 import stat
 import struct
-from typing import BinaryIO, Iterator, List, NamedTuple, Sequence, Tuple
+from typing import BinaryIO, Iterator, List, NamedTuple, Optional, Sequence, Tuple
 
-from ..console.faults import SliceRefused
 from .contents import DIGEST, TOO_LARGE, chunks_in, digest_in
 from .indexes import HEAD, IndexRow
 
@@ -127,42 +126,33 @@ def copied_to(target: BinaryIO, at: int, path: bytes) -> None:
 # ---- universal files that are read
 
 
-def count_in(first: bytes) -> int:
+def count_in(front: bytes) -> int:
     """How many parts a file has by its first eight bytes, of which some may be lacking."""
-    return int.from_bytes(first[4:].ljust(4, b"\0"), "big")
+    return int.from_bytes(front[4:8].ljust(4, b"\0"), "big")
 
 
-def parts_in(file: BinaryIO, first: bytes, size: int) -> List[Tuple[int, int]]:
-    """The offset and size of each part of a universal file, of which the first eight bytes were read. The faults are
-    those of docs/FILES.md, in its order: the program would read a whole file to say one. One of a file that was cut has
-    after it what the table promises, and what is there."""
-    layout, count = UNIVERSAL[first[:4]], count_in(first)
-    entries = file.read(count * layout.size) if count <= MOST_PARTS else b""
-    is_whole = len(entries) == count * layout.size
-    parts = [(offset, length) for _, offset, length, *_ in layout.iter_unpack(entries)] if is_whole else []
-    faults = [(len(first) < FAT_HEADER.size, "HeaderTruncated"), (count > MOST_PARTS, f"TooManyArches({count})")]
-    faults.append((len(parts) < count, "TableTruncated"))
-    faults += [(sum(part) > size, f"SliceOutside({number})") for number, part in enumerate(parts)]
-    faults += [(part[1] >= TOO_LARGE, f"TooLarge({number})") for number, part in enumerate(parts)]
-    for is_there, fault in faults:
-        if is_there:
-            is_header = len(first) == FAT_HEADER.size
-            end = len(first) + count * layout.size
-            told = cut(parts, end, size) if is_header else header_cut(FAT_HEADER.size, size, "the file has")
-            raise SliceRefused(f"Fat({fault}){told}")
-    return parts
+def end_of_table(front: bytes) -> int:
+    """Where the table of a universal file ends, by its first eight bytes."""
+    return FAT_HEADER.size + count_in(front) * UNIVERSAL[front[:4]].size
 
 
-def header_cut(wanted: int, size: int, there: str) -> str:
-    return f": its header takes {wanted} bytes, and {there} {size}"
+def front_in(file: BinaryIO, first: bytes) -> bytes:
+    """The header and the table of a universal file, as far as they are there, after its first eight bytes were read. A
+    table of too many parts is not read."""
+    return first + (file.read(end_of_table(first) - FAT_HEADER.size) if count_in(first) <= MOST_PARTS else b"")
 
 
-def cut(parts: Sequence[Tuple[int, int]], end_of_table: int, size: int) -> str:
-    """What a table promises, and what is there, if a file ends before that."""
-    if not parts and size < end_of_table:
-        return f": its table takes {end_of_table} bytes, and the file has {size}"
-    outside = next((number for number, part in enumerate(parts) if sum(part) > size), None)
-    if outside is None:
-        return ""
-    offset, length = parts[outside]
-    return f": part {outside} is bytes {offset} to {offset + length} by the table, and the file has {size}"
+def part_at(front: bytes, number: int) -> Tuple[int, int]:
+    """The offset and the size of the part of a number, by the table."""
+    layout = UNIVERSAL[front[:4]]
+    _, offset, size, *_ = layout.unpack_from(front, FAT_HEADER.size + number * layout.size)
+    return offset, size
+
+
+def parts_in(front: bytes, size: int) -> Optional[List[Tuple[int, int]]]:
+    """The offset and the size of each part of a universal file of so many bytes, by its header and table. None if these
+    are not whole, or a part does not fit into the file or into a record."""
+    if len(front) < end_of_table(front):
+        return None
+    parts = [part_at(front, number) for number in range(count_in(front))]
+    return parts if all(offset + length <= size and length < TOO_LARGE for offset, length in parts) else None

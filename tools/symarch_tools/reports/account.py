@@ -13,16 +13,6 @@ from .frame_objects import frame_objects
 from .images import Image
 from .report import Count, Report
 
-# What answered for an image, as JSON says it.
-WORDS = {
-    Origin.DSYM: "dsym",
-    Origin.IMAGE: "image",
-    Origin.CHANGED: "changed",
-    Origin.OTHERS: "other_architecture",
-    Origin.ABSENT: "absent",
-}
-
-
 # What is said before the images whose lines are too many for their index.
 TOO_MANY_LINES = "without lines, too many for the index"
 # The labels of images, by what is said of them.
@@ -77,7 +67,7 @@ def print_end(reports: Any, frames: Any, status: int) -> None:
 
 def members_of(image: Image) -> Members:
     said = {"name": image.name or None, "uuid": str(image.uuid), "arch": image.arch}
-    return {**said, "answered_by": WORDS[image.origin()], "others": image.others}
+    return {**said, "answered_by": image.origin().word(), "others": image.others}
 
 
 def labels_of(reports: Iterable[Report]) -> Labels:

@@ -27,13 +27,16 @@ NONE, MANY = -1, -2
 
 
 class Origin(enum.Enum):
-    """What answered for an image, as the counts of a report say it."""
+    """What answered for an image, as the counts of a report say it. JSON and the program have the names."""
 
     DSYM = "by dSYM"
     IMAGE = "without dSYM"
     CHANGED = "changed since it came in"
-    OTHERS = "under another architecture"
+    OTHER_ARCHITECTURE = "under another architecture"
     ABSENT = "not in the archive"
+
+    def word(self) -> str:
+        return self.name.lower()
 
 
 @dataclass
@@ -57,9 +60,6 @@ class Said:
         return b"".join(found)
 
 
-ORIGINS = {"dsym": Origin.DSYM, "image": Origin.IMAGE, "absent": Origin.ABSENT}
-
-
 @dataclass
 class KeyLines:
     """What the program prints after the answers: what answers under each key, also under the other architectures of a
@@ -73,7 +73,7 @@ class KeyLines:
         found = slice_in(line)
         key = uuid.UUID(found.uuid), found.arch
         if found.kind is not None:
-            self.origins[key] = ORIGINS[found.kind]
+            self.origins[key] = Origin[found.kind.upper()]
             return
         fault = input_fault(found.reason or "")
         if fault is None or fault.kind != "index":

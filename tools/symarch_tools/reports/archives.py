@@ -16,6 +16,7 @@ from typing import Dict, Iterable, List, Mapping, Optional, Sequence, Set, Tuple
 from ..console.escapes import shown
 from ..console.program_faults import InputFault
 from ..console.streams import note
+from ..formats.files import identity_of
 from ..store import file_names
 from ..store.archive_file import ArchiveFile
 from ..store.file_names import INDEX, NEXT_INDEX
@@ -31,7 +32,7 @@ from .source_lines import Chains
 # What `symarch-keep` has next to an archive: what came in lately.
 TODAY = os.fsdecode(file_names.TODAY)
 # Which files stand at paths.
-Places = List[Tuple[bytes, Optional[int]]]
+Places = List[Tuple[bytes, Optional[Tuple[int, int]]]]
 # What is said of an index that is another one's, or is not there any more, and of a slice whose table has no lines.
 OF_ANOTHER, NO_LINES = ("Stale", "cannot open"), "NoLines"
 
@@ -124,18 +125,10 @@ def refuse_missing(path: str) -> None:
         pass
 
 
-def place_of(path: bytes) -> Tuple[bytes, Optional[int]]:
-    """Which file stands under a path."""
-    try:
-        return path, os.stat(path).st_ino
-    except OSError:
-        return path, None
-
-
 def places_of(paths: Iterable[str]) -> Places:
     """Which files archives and their levels are. A fold makes others; what comes in lately does not."""
-    files = map(files_of, paths)
-    return [place_of(file.path) for its in files for file in (its.main, *filter(ArchiveFile.exists, its.levels))]
+    files = [file for its in map(files_of, paths) for file in (its.main, *filter(ArchiveFile.exists, its.levels))]
+    return [(file.path, identity_of(file.path)) for file in files]
 
 
 @dataclass(eq=False)

@@ -13,7 +13,9 @@ from ..console.escapes import line_shown, shown
 from ..console.streams import printing, say
 from ..console.unforeseen_faults import DEBUG, HELP
 from ..console.version import PrintVersion
-from ..store.file_names import beginning, is_archive
+from ..formats.files import beginning
+from ..formats.packed_files import ZIP
+from ..store.file_names import is_archive
 from .encodings import decoded
 from .faults import Failure, Status
 from .images import GivenImage
@@ -309,7 +311,7 @@ def is_point(path: str) -> bool:
 
 
 def is_zip(path: str) -> bool:
-    return path != STANDARD_INPUT and beginning(path, 4) == b"PK\3\4"
+    return path != STANDARD_INPUT and beginning(path, len(ZIP)) == ZIP
 
 
 def is_dsym(path: str) -> bool:

@@ -5,7 +5,7 @@ import bisect
 import re
 from typing import Any, Dict, Iterable, Iterator, List, Match, NamedTuple, Optional, Pattern, Sequence, Tuple
 
-from ..console.escapes import line_shown
+from ..console.escapes import line_shown, one_line
 from .images import HAD_NAME, IS_INLINED, Frames
 from .json.readable import name_of, text_in
 from .json.report import JsonReport
@@ -97,10 +97,6 @@ def with_inlined(frames: Frames, at: int, own: Frame, said: Sequence[Frame]) -> 
         return [*said, own]
     inlined = frames.answered_lines(at).inlined
     return [*(Frame(one_line(one.name) if one.name else None, own.image, None) for one in inlined), own]
-
-
-def one_line(text: str) -> str:
-    return " ".join(text.split())
 
 
 # ---- JSON

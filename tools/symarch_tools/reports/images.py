@@ -13,11 +13,12 @@ from typing import TypeVar
 from uuid import UUID
 
 from ..console.escapes import line_shown
+from ..formats.contents import NUMBERS
 from .answers import Answers, Origin, Symbol
 from .source_lines import NOTHING, Lines
 
 # The architectures that a report may name, and what reports call the processors that run them.
-ARCHITECTURES = ("x86_64", "x86_64h", "arm64", "arm64e")
+ARCHITECTURES = tuple(NUMBERS)
 PROCESSORS = {"X86-64": "x86_64", "ARM-64": "arm64", "ARM64": "arm64"}
 DIGITS = re.compile("[0-9a-f]{32}")
 # So many offsets are sorted at once.
@@ -81,7 +82,7 @@ class Image:
 
     def origin(self) -> Origin:
         """What answered for it."""
-        absent = Origin.OTHERS if self.others else Origin.ABSENT
+        absent = Origin.OTHER_ARCHITECTURE if self.others else Origin.ABSENT
         return self.answers.origin if self.answers else absent
 
     def has_too_many_lines(self) -> bool:

@@ -5,7 +5,7 @@ import uuid
 from dataclasses import dataclass
 from typing import Dict, Iterable, Iterator, List, Optional
 
-from ..console.escapes import line_shown
+from ..console.escapes import line_shown, one_line
 from ..console.json_lines import Members
 from .answers import Origin
 from .images import Image
@@ -41,10 +41,6 @@ class WantedImage:
         return {"type": "missing", "reports": self.reports, "uuid": str(self.uuid), **said}
 
 
-def one_line(text: Optional[str]) -> str:
-    return " ".join((text or "").split())
-
-
 def wanted_in(reports: Iterable[Report]) -> List[WantedImage]:
     """Each image for which no dSYM answers, unless the report names all its frames, in the order of the reports."""
     found: Dict[uuid.UUID, WantedImage] = {}
@@ -59,7 +55,7 @@ def wanted_in(reports: Iterable[Report]) -> List[WantedImage]:
 
 
 def is_wanted(image: Image) -> bool:
-    return image.lacks_names and image.origin() in (Origin.IMAGE, Origin.OTHERS, Origin.ABSENT)
+    return image.lacks_names and image.origin() in (Origin.IMAGE, Origin.OTHER_ARCHITECTURE, Origin.ABSENT)
 
 
 def most_wanted(wanted: Iterable[WantedImage]) -> Iterator[WantedImage]:

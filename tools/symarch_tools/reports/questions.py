@@ -12,9 +12,9 @@ from typing import IO, List, NamedTuple, Optional, Sequence, Tuple
 
 from ..console.escapes import shown
 from ..console.faults import CutShort, about
+from ..console.processes import begun
 from ..console.program_faults import OWN_WORDS, InputFault, fault_on_standard_error
 from ..console.program_path import found_program, named
-from ..console.signals import signals
 from ..console.streams import noted, say
 from ..store.lock import State, state_of
 from .answers import Answers, KeyLines, Said
@@ -115,15 +115,13 @@ class FramesProgram:
         errors = ends.enter_context(tempfile.TemporaryFile())
         with about(asked.name.encode()):
             write_questions(asked, answers)
-        # A program that has begun is ended before the file that it reads is removed.
-        with signals.later():
-            process = ends.enter_context(self.start([self.path, "frames", asked.name, *words], errors))
-            ends.push(lambda failed, *_: process.kill() if failed else None)
-        return FramesCall(answers, process, errors)
+        # It is ended before the file that it reads is removed.
+        return FramesCall(answers, self.start(ends, ["frames", asked.name, *words], errors), errors)
 
-    def start(self, command: List[str], errors: IO[bytes]) -> subprocess.Popen[bytes]:
+    def start(self, ends: contextlib.ExitStack, words: List[str], errors: IO[bytes]) -> subprocess.Popen[bytes]:
+        how = {"stdin": subprocess.DEVNULL, "stdout": subprocess.PIPE, "stderr": errors}
         try:
-            run = subprocess.Popen(command, stdin=subprocess.DEVNULL, stdout=subprocess.PIPE, stderr=errors)
+            run = begun(ends, [self.path, *words], **how)
         except OSError as error:
             raise self.not_started(error) from None
         assert run.stdout is not None
@@ -136,9 +134,7 @@ class FramesProgram:
         """Has a command make a file of an archive, or of a copy of the one that is named. Its refusal is that of the
         archive."""
         with tempfile.TemporaryFile() as errors, contextlib.ExitStack() as ends:
-            with signals.later():
-                run = ends.enter_context(self.start([self.path, command, archive, out], errors))
-                ends.push(lambda failed, *_: run.kill() if failed else None)
+            run = self.start(ends, [command, archive, out], errors)
             run.communicate()
             errors.seek(0)
             reply = Reply(errors.read(MOST_SAID), run.returncode, None if run.returncode else True, KeyLines())

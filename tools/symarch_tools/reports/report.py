@@ -5,10 +5,11 @@ import os
 import re
 import shlex
 from dataclasses import dataclass
-from typing import TYPE_CHECKING, Iterator, List, Match, Optional, Sequence, Tuple, Union
+from typing import TYPE_CHECKING, Iterator, List, Match, Optional, Sequence, Union
 
 from ..console.escapes import line_shown, shown
 from ..console.streams import standard_input
+from ..formats.file_kinds import PACKED
 from .encodings import decoded
 from .faults import Failure, NoReport, NoStacks, Status
 from .images import HAD_NAME, IS_INLINED, MOST_IMAGES, NO_IMAGE, Frames, GivenImage, Images, one_of
@@ -34,16 +35,6 @@ PASSED_OVER = (b"#", b"\n")
 # A heading between lines of hyphens, after which the same report stands as JSON.
 FULL = re.compile(rb"^-+[ \t]*\r?\nFull Report[ \t]*\r?\n-+[ \t]*\r?\n\s*(?=[{\[])", re.MULTILINE)
 
-
-# What is packed, by its first bytes.
-PACKED: Tuple[Tuple[bytes, str], ...] = (
-    (b"PK\3\4", "a zip file"),
-    (b"\x1f\x8b", "a gzip file"),
-    (b"BZh", "a bzip2 file"),
-    (b"\xfd7zXZ\0", "an xz file"),
-    (b"\x28\xb5\x2f\xfd", "a zstd file"),
-    (b"7z\xbc\xaf\x27\x1c", "a 7z file"),
-)
 # What is called otherwise than by the number of its type.
 KINDS = {"211": "an analytics report", "298": "a jetsam report"}
 # Of so many parts a report is made, and so many of its faults are said.

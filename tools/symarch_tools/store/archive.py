@@ -10,7 +10,7 @@ from ..console.signals import signals
 from ..formats.builds import Builds
 from ..formats.contents import EMPTY, MAGICS, Content
 from ..formats.file_kinds import MOST_LOOKED_AT, look_of
-from ..formats.files import size_of, write_synced
+from ..formats.files import remove, size_of, write_synced
 from ..formats.indexes import Index, held_against, index_at, index_by, index_of
 from ..formats.tables import Tables, write_index
 from . import upgrades
@@ -194,7 +194,7 @@ class Archive:
             with self.folder.room() as room:
                 self.folder.lay(room, self.lost.path, text)
         else:
-            self.folder.drop(LOST)
+            remove(self.lost.path)
         self.lost.written = text
 
     def remove(self, files: Sequence[ArchiveFile], room: bytes, screen: Screen) -> None:

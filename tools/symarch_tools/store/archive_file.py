@@ -5,13 +5,13 @@ import contextlib
 import operator
 import os
 from dataclasses import dataclass, field
-from typing import List, Optional, Tuple
+from typing import BinaryIO, Iterator, List, Optional, Tuple
 
 from ..console.escapes import shown
 from ..console.faults import Failed
 from ..console.screen import Screen
-from ..formats.contents import EMPTY, MAGIC, MAGICS, RETIREMENT, Content, EndsEarly, KeptFile, Malformed, content_in
-from ..formats.contents import heads_in, records_in
+from ..formats.contents import EMPTY, MAGIC, MAGICS, RETIREMENT, Content, EndsEarly, Malformed, content_in, heads_in
+from ..formats.contents import records_in
 from ..formats.files import remove, size_of, time_of
 from ..formats.indexes import Index, OtherKind, changes, index_at
 from . import upgrades
@@ -93,10 +93,6 @@ class ArchiveFile:
         return False
 
     # ---- what is known of it
-
-    def kept(self, ending: bytes) -> Optional[KeptFile]:
-        """What a file next to it has; None where it is not there, or is damaged."""
-        return upgrades.kept_at(self.beside(ending))
 
     def kept_index(self, ending: bytes = INDEX) -> Optional[Index]:
         """The index that a file next to it is; None where it is not there, or is none."""
@@ -214,18 +210,22 @@ class ArchiveFile:
 
     # ---- what it has by its bytes
 
-    def read(self, program: Program, screen: Screen) -> None:
-        """Takes what it has by its bytes; a slice that changed is what it was. The program says why it is no
-        archive."""
+    @contextlib.contextmanager
+    def opened(self, program: Optional[Program] = None) -> Iterator[BinaryIO]:
+        """The file, of which the program says why it is no archive, where that is found out."""
         try:
             with open(self.path, "rb") as file:
-                screen.begin("reading the archive", os.fstat(file.fileno()).st_size)
-                came = content_in(file, screen.moved)
-        except FileNotFoundError:
-            came = Content()
+                yield file
         except Malformed as fault:
-            self.look_through(program)
+            self.look_through(program or Program())
             raise Failed(f"{shown(self.path)}: {fault}") from None
+
+    def read(self, program: Program, screen: Screen) -> None:
+        """Takes what it has by its bytes; a slice that changed is what it was."""
+        came = Content()
+        with contextlib.suppress(FileNotFoundError), self.opened(program) as file:
+            screen.begin("reading the archive", os.fstat(file.fileno()).st_size)
+            came = content_in(file, screen.moved)
         for entry, before in changes(self.content, came)[0].items():
             came.held[before] = came.held.pop(entry)
         self.content = came

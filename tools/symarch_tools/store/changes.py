@@ -10,9 +10,8 @@ It counts for a file that is still that one."""
 import contextlib
 import os
 from dataclasses import dataclass, field
-from typing import BinaryIO, Dict, Iterable, List, Optional, Sequence, Set, Tuple
+from typing import BinaryIO, Dict, Iterable, List, NamedTuple, Optional, Sequence, Set, Tuple
 
-from ..console.escapes import shown
 from ..console.faults import CutShort, Failed
 from ..console.screen import Screen
 from ..formats.contents import ADMISSION, DIGEST, END, KEY, LENGTH, MAGIC, MAGICS, Content, KeptFile, Malformed, Moved
@@ -117,21 +116,15 @@ def told_apart(
 def index_read(file: ArchiveFile, program: Program, screen: Screen) -> Index:
     """The index of a file by its bytes, which are read. Nothing is written for it."""
     rows: List[IndexRow] = []
-    try:
-        with open(file.path, "rb") as opened:
-            screen.begin("reading", os.fstat(opened.fileno()).st_size)
-            for head, after in records_in(opened):
-                at, size = after - len(head), record_size(head)
-                if head[:1] == ADMISSION:
-                    entry = head[: 1 + KEY] + digest_in(opened, after, size - len(head), screen.moved)
-                    rows.append(IndexRow(entry, is_companion(opened, at), at, size))
-                else:
-                    rows.append(IndexRow(head, 0, at, size))
-    except FileNotFoundError:
-        pass
-    except Malformed as fault:
-        file.look_through(program)
-        raise Failed(f"{shown(file.path)}: {fault}") from None
+    with contextlib.suppress(FileNotFoundError), file.opened(program) as opened:
+        screen.begin("reading", os.fstat(opened.fileno()).st_size)
+        for head, after in records_in(opened):
+            at, size = after - len(head), record_size(head)
+            if head[:1] == ADMISSION:
+                entry = head[: 1 + KEY] + digest_in(opened, after, size - len(head), screen.moved)
+                rows.append(IndexRow(entry, is_companion(opened, at), at, size))
+            else:
+                rows.append(IndexRow(head, 0, at, size))
     # Version 1 has slices next to their retirements.
     retired = {row.entry[1:] for row in rows if not row.is_slice()}
     return index_of(row for row in rows if not row.is_slice() or row.entry[1:] not in retired)
@@ -146,12 +139,8 @@ def line_of_file(file: ArchiveFile, index: Index, opened: BinaryIO) -> str:
     return f"file {os.fsdecode(file.name)} {it.st_ino} {it.st_size} {it.st_mtime_ns} {digest}"
 
 
-def line_of_row(file: ArchiveFile, row: IndexRow) -> str:
-    return f"changed {os.fsdecode(file.name)} {row.at}"
-
-
-def line_of_table(file: ArchiveFile, row: IndexRow) -> str:
-    return f"table {os.fsdecode(file.name)} {row.at}"
+def line_of_row(word: str, file: ArchiveFile, row: IndexRow) -> str:
+    return f"{word} {os.fsdecode(file.name)} {row.at}"
 
 
 def keep_changed(path: bytes, lines: Sequence[str]) -> None:
@@ -196,3 +185,28 @@ class Found:
             return None
         places = self.places.get((word, os.fsdecode(file.name)), set())
         return [row for row in index.in_places() if row.at in places]
+
+
+class Examined(NamedTuple):
+    """A file that is looked through, its index, and both as they were when they were opened."""
+
+    file: ArchiveFile
+    made: Index
+    opened: BinaryIO
+    tables: Optional[BinaryIO]
+
+    @classmethod
+    def of(cls, file: ArchiveFile, index: Index, ends: contextlib.ExitStack) -> "Examined":
+        opened = ends.enter_context(open(file.path, "rb"))
+        return cls(file, index, opened, ends.enter_context(open(index.path, "rb")) if index.path else None)
+
+    def size(self) -> int:
+        return sum(os.fstat(it.fileno()).st_size for it in (self.opened, self.tables) if it)
+
+    def findings(self, moved: Moved, known: Found = Found()) -> Findings:
+        """What changed in the file and its index, by what was found before, or by all of both."""
+        found, its = Findings(self.file.path, self.made), (self.file, self.made, self.opened)
+        found.look_through(self.opened, moved, known.rows(*its))
+        if self.tables:
+            found.look_at_tables(self.tables, moved, known.rows(*its, "table"))
+        return found

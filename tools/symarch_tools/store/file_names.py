@@ -8,6 +8,7 @@ from typing import Iterator, List, Optional, Set
 from ..console.escapes import shown
 from ..console.faults import Failed
 from ..formats.contents import MAGIC, MAGICS
+from ..formats.files import beginning
 from .slices import is_dsym
 
 TODAY, LOCK = b".today", b".lock"
@@ -92,29 +93,15 @@ def endings_beside(path: bytes) -> Set[bytes]:
         return {entry[len(name) :] for entry in os.listdir(folder or b".") if entry.startswith(name)}
     except PermissionError:
         # Who may not list a folder may still look names up.
-        return {it for ending in NUMBERS for it in having(ending) if os.path.lexists(path + it)}
+        names = (it for ending in NUMBERS for it in (*with_marks(ending), ending + LOCK))
+        return {it for it in names if os.path.lexists(path + it)}
     except (FileNotFoundError, NotADirectoryError):
         # Who opens the archive says that.
         return set()
 
 
-def having(ending: bytes) -> List[bytes]:
-    return [*with_marks(ending), ending + LOCK]
-
-
-def beginning(path: str, size: int = MAGIC) -> bytes:
-    """The first bytes of a file. What is none, as a pipe, is not read."""
-    try:
-        if stat.S_ISREG(os.stat(path).st_mode):
-            with open(path, "rb") as file:
-                return file.read(size)
-    except (OSError, ValueError):
-        pass
-    return b""
-
-
 def is_archive(path: str) -> bool:
-    return beginning(path) in MAGICS
+    return beginning(path, MAGIC) in MAGICS
 
 
 # ---- paths that are no archive

@@ -17,7 +17,7 @@ from ..console.faults import system_text
 from ..console.screen import Screen
 from ..console.signals import signals
 from ..formats.builds import Builds
-from ..formats.files import remove, size_of, stamp, sync_folder, tell_apart, write_synced
+from ..formats.files import size_of, stamp, sync_folder, tell_apart, write_synced
 from ..formats.indexes import Index
 from .archive_file import ArchiveFile
 from .file_names import INDEX, NEXT_INDEX
@@ -150,10 +150,6 @@ class ArchiveFolder:
         self.give_rights(index.path)
         os.replace(index.path, file.beside(ending))
         index.path = file.beside(ending)
-
-    def drop(self, *endings: bytes) -> None:
-        for ending in endings:
-            remove(self.beside(ending))
 
 
 def watched(screen: Screen, room: bytes) -> Callable[[int], None]:

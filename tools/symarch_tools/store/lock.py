@@ -154,6 +154,10 @@ def state_of(path: bytes) -> State:
         found = os.stat(path)
     except OSError:
         return None
+    return state_in(found)
+
+
+def state_in(found: os.stat_result) -> Tuple[int, int, int, int, int]:
     return found.st_dev, found.st_ino, found.st_size, found.st_mtime_ns, found.st_ctime_ns
 
 

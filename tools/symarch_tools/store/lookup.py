@@ -13,7 +13,7 @@ from ..console.escapes import shown
 from ..console.faults import Failed, about
 from ..formats.contents import ADMISSION, DIGEST, END, KEY, RETIREMENT, Malformed, arch_in, digest_in, numbers_of
 from ..formats.contents import record_size, records_in, words_of
-from ..formats.indexes import FILETYPE, HEAD, INDEX_TAIL, MH_DSYM, ROW, TAIL, IndexRow
+from ..formats.indexes import HEAD, INDEX_TAIL, ROW, TAIL, IndexRow, is_companion
 
 # A UUID and an architecture.
 Key = Tuple[uuid.UUID, str]
@@ -124,9 +124,8 @@ class KeptSlices:
                 if head[:1] == RETIREMENT:
                     self.retired[key].add(head[-DIGEST:])
                 else:
-                    file.seek(at + FILETYPE)
-                    is_companion = file.read(len(MH_DSYM)) == MH_DSYM
-                    self.slices[key].append(KeptSlice(archive, at, record_size(head) - len(head), is_companion, None))
+                    its = record_size(head) - len(head), bool(is_companion(file, at - len(head)))
+                    self.slices[key].append(KeptSlice(archive, at, *its, None))
 
     def has_companion(self, key: Key) -> bool:
         """Whether a companion answers under a key."""

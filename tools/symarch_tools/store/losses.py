@@ -5,7 +5,7 @@ from dataclasses import dataclass, field
 from typing import Iterable, List, Optional
 
 from ..console.escapes import shown
-from ..console.json_lines import NO_PATH, Members, line_of, path_members
+from ..console.json_lines import NO_PATH, Line, Members, line_of, path_members
 from ..formats.contents import KEY, Content, KeptFile, Malformed, arch_in, kept_text, words_of
 from ..formats.indexes import IndexRow
 
@@ -58,7 +58,7 @@ class Lost:
         """Drops what is back."""
         self.content, self.accepted = self.content.beyond(content), self.accepted.beyond(content)
 
-    def accept(self) -> List[str]:
+    def accept(self) -> List[Line]:
         """Takes all as lost, and returns the lines of it."""
         lines = lost_lines(self.content)
         self.content, self.accepted = Content(), self.accepted.joined(self.content)
@@ -95,11 +95,11 @@ def file_line(word: str, path: bytes, is_of_ends: bool = False) -> str:
     return line_of(f"{word} {'ends ' if is_of_ends else ''}{shown(path)}", word, **members)
 
 
-def lost_lines(lost: Content) -> List[str]:
+def lost_lines(lost: Content) -> List[Line]:
     return [*map(lost_line, sorted(lost.held)), *(lost_line(entry, True) for entry in sorted(lost.retired))]
 
 
-def lost_line(entry: bytes, is_retirement: bool = False) -> str:
+def lost_line(entry: bytes, is_retirement: bool = False) -> Line:
     members = {**record_members(entry, is_retirement), "at": None, **NO_PATH}
     return line_of(f"lost {'retired ' if is_retirement else ''}{words_of(entry)}", "lost", **members)
 

@@ -8,6 +8,7 @@ from typing import Dict, List, Mapping, Optional, Sequence, Tuple, Union
 
 from ..console.escapes import shown
 from ..console.faults import CutShort, Failed, SliceRefused
+from ..console.processes import begun
 from ..console.program_faults import OWN_WORDS, fault_on_standard_error
 from ..console.program_path import candidates, named
 from ..console.signals import signals
@@ -73,20 +74,10 @@ class Program:
     def answer(self, run: Run) -> Tuple[bytes, int, bytes]:
         """Carries out a call, and returns what is printed, the status, and what is noted."""
         with contextlib.ExitStack() as ends:
-            # A signal waits until what ends the program is on the stack: one that goes on writes into a folder that is
-            # being removed.
-            with signals.later():
-                process = subprocess.Popen(
-                    [self.path, *run.arguments],
-                    bufsize=0,
-                    cwd=run.folder,
-                    pass_fds=tuple(run.open_files),
-                    stdin=subprocess.PIPE,
-                    stdout=subprocess.PIPE,
-                    stderr=subprocess.PIPE,
-                )
-                ends.enter_context(process)
-                ends.push(lambda failed, *_: process.kill() if failed else None)
+            # One that goes on would write into a folder that is being removed.
+            pipes = dict.fromkeys(("stdin", "stdout", "stderr"), subprocess.PIPE)
+            command, files = [self.path, *run.arguments], tuple(run.open_files)
+            process = begun(ends, command, bufsize=0, cwd=run.folder, pass_fds=files, **pipes)
             assert process.stdin
             with contextlib.suppress(BrokenPipeError):
                 give(process.stdin.fileno(), run.slices, run.moved)
@@ -101,13 +92,14 @@ class Program:
             raise fault(run, said, process.returncode)
         return printed or b"", process.returncode, said
 
-    def refused(self, slices: Sequence[Slice], room: bytes) -> List[SliceRefused]:
-        """Why some slices are refused, of which the room has the bytes as files that are called by their numbers."""
-        names = map(str, range(len(slices)))
+    def refused(self, files: Sequence[object], room: bytes) -> List[SliceRefused]:
+        """Why some slices or files are refused, of which the room has the bytes as files that are called by their
+        numbers."""
+        names = map(str, range(len(files)))
         arguments = ["admit", "--keep-going", "/dev/stdin", "/dev/null", *names]
-        printed = self.run(Run(arguments, folder=room, goes_on=True)) if slices else b""
+        printed = self.run(Run(arguments, folder=room, goes_on=True)) if files else b""
         found = filter(None, map(PASSED_OVER.fullmatch, printed.decode().splitlines()))
-        return [SliceRefused(inner(it[2], OF_FILE), slices[int(it[1])], it[2].startswith(OF_FILE)) for it in found]
+        return [SliceRefused(inner(it[2], OF_FILE), files[int(it[1])], it[2].startswith(OF_FILE)) for it in found]
 
     def merge(self, asked: Merge) -> None:
         """Writes the join of archives and of slices. Those after the first come joined by a pipe, so that nothing is
@@ -161,12 +153,8 @@ class Pipes:
         end, written = os.pipe()
         arguments = [self.program, "merge", *(f"{DESCRIPTORS}/{it}" for it in (opened, written, rest))]
         nothing = subprocess.DEVNULL
-        with signals.later():
-            process = subprocess.Popen(
-                arguments, stdin=nothing, stdout=nothing, stderr=subprocess.PIPE, pass_fds=(opened, written, rest)
-            )
-            self.processes.append(self.ends.enter_context(process))
-            self.ends.push(lambda failed, *_: process.kill() if failed else None)
+        how = {"stdin": nothing, "stdout": nothing, "stderr": subprocess.PIPE, "pass_fds": (opened, written, rest)}
+        self.processes.append(begun(self.ends, arguments, **how))
         os.close(written)
         self.close()
         self.end = end

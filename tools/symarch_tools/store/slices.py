@@ -18,10 +18,10 @@ from ..formats.builds import Build, Sight
 from ..formats.bundles import MOST_OF_LIST, Bundles
 from ..formats.contents import CHUNK, KEY, head_of, words_of
 from ..formats.file_kinds import MOST_LOOKED_AT, ONE, look_of
-from ..formats.mach_images import COMMAND, HEADER, LC_SYMTAB, NLIST, SYMTAB, commands_in
-from ..formats.packed_files import MOST_LEVELS, Allowance, Damaged, DamagedInner, Inner, Member, Packed, TooMuch
-from ..formats.packed_files import Unpacker, is_named_as_packed, is_of_dsym, may_be_packed, packed_at
-from ..formats.universal_files import FAT_HEADER, NARROW, UNIVERSAL, WIDE_ENTRY, count_in, header_cut, parts_in
+from ..formats.mach_images import COMMAND, HEADER
+from ..formats.packed_files import GZIP, MOST_LEVELS, ZIP, Allowance, Damaged, DamagedInner, Inner, Member, Packed
+from ..formats.packed_files import TooMuch, Unpacker, is_named_as_packed, is_of_dsym, packed_at
+from ..formats.universal_files import FAT_HEADER, NARROW, UNIVERSAL, WIDE_ENTRY, count_in, front_in, parts_in
 from .losses import record_members
 
 # A Java class file begins as a universal file, and has its version in place of the number of parts.
@@ -90,6 +90,10 @@ class Slice:
             raise SliceRefused(CHANGED, self)
         self.digest = digest.digest()
 
+    def write_to(self, file: BinaryIO) -> None:
+        """Writes a file of the bytes."""
+        file.writelines(self.chunks())
+
     def entry(self) -> bytes:
         """The key and the digest, which is known once its bytes were read."""
         return self.head[1 : 1 + KEY] + (self.digest or b"")
@@ -97,6 +101,24 @@ class Slice:
     def line(self) -> str:
         members = {**record_members(self.entry()), "bytes": self.length, **path_members(self.name)}
         return line_of(f"{self.word} {words_of(self.entry())} {shown(self.name)}", self.word, **members)
+
+
+@dataclass(eq=False)
+class FaultyFile:
+    """A universal file whose table cannot be followed: its name, its header and table as far as they are there, and its
+    length. The program finds its fault by these."""
+
+    name: bytes
+    front: bytes
+    length: int
+
+    def write_to(self, file: BinaryIO) -> None:
+        """Writes a file with the header and the table, and a hole after them."""
+        try:
+            file.write(self.front)
+            file.truncate(self.length)
+        except OSError as error:
+            raise SliceRefused(str(error.strerror), self) from None
 
 
 def compared(one: Slice, other: Slice) -> int:
@@ -111,12 +133,14 @@ def compared(one: Slice, other: Slice) -> int:
 
 @dataclass(eq=False)
 class Finder:
-    """Finds the slices that paths have, and says what is passed over or refused."""
+    """Finds the slices that paths have, and says what is passed over or refused. Universal files whose tables cannot be
+    followed are kept for the program, which refuses them."""
 
     screen: Screen
     dsyms_only: bool = False
     files: int = 0
     slices: List[Slice] = field(default_factory=list)
+    faulty: List[FaultyFile] = field(default_factory=list)
     # Of the file that is read: its path, its name, what was passed over of it, and what opens it if it is a member.
     path: bytes = b""
     name: bytes = b""
@@ -143,14 +167,18 @@ class Finder:
                     self.take_path(size, is_named)
             except OSError as error:
                 self.screen.refuse(self.name, error.strerror)
-            except (Damaged, SliceRefused) as refused:
-                self.screen.refuse(self.name, refused)
+            except Damaged as damaged:
+                self.screen.refuse(self.name, damaged)
 
     def name_builds(self) -> None:
         """Notes of each slice what is known of its build, once all was found."""
         for one in self.slices:
             path, packed = one.member or (one.name, None)
             one.sight = self.bundles.sight_of(path, packed)
+
+    def found(self) -> int:
+        """How many slices and refused files were found."""
+        return len(self.slices) + len(self.faulty) + self.screen.refused
 
     def begin_file(self, path: bytes, name: bytes) -> None:
         self.files += 1
@@ -166,15 +194,17 @@ class Finder:
 
     def take_whole(self, packed: Packed, is_named: bool) -> None:
         """Takes what a zip or tar file has, and says it if it was named and nothing goes in."""
-        name, before, refused = self.name, len(self.slices), self.screen.refused
+        name, before = self.name, self.found()
         kinds: List[str] = []
         self.take_packed(packed, Allowance(packed.most), 1, kinds)
-        if not is_named and not kinds and len(self.slices) == before and self.screen.refused == refused:
-            self.pass_over("other files")
-        if is_named and len(self.slices) == before and self.screen.refused == refused:
+        if self.found() > before:
+            return
+        if is_named:
             others = "; ".join(ONE.get(it, it) for it in kinds if it not in ("other files", OUTSIDE))
             what = "no dSYM" if self.dsyms_only else "no Mach-O file"
             self.screen.tell(name, f"{packed.kind} that holds {others or what}")
+        elif not kinds:
+            self.pass_over("other files")
 
     def take_packed(self, packed: Packed, allowance: Allowance, level: int, kinds: List[str]) -> bool:
         """Takes the members of a zip or tar file as the files of a folder, and returns whether more may be read of the
@@ -187,14 +217,14 @@ class Finder:
             found, inner = len(self.slices), None
             try:
                 front = member.read(8) if is_named_as_packed(member.name) and level < MOST_LEVELS else b""
-                inner = self.inner.take(packed, member, front) if may_be_packed(member.name, front) else None
+                inner = self.inner.take(packed, member, front) if front.startswith((ZIP, GZIP)) else None
                 if inner:
                     if not self.take_inner(inner, allowance, level + 1, kinds):
                         return False
                 else:
                     self.take_member(member, front)
-            except (Damaged, SliceRefused, OSError) as fault:
-                is_its_own = packed.is_zip or isinstance(fault, (SliceRefused, DamagedInner))
+            except (Damaged, OSError) as fault:
+                is_its_own = packed.is_zip or isinstance(fault, DamagedInner)
                 self.refuse_member(fault, is_last=not is_its_own or isinstance(fault, TooMuch))
                 if not is_its_own or isinstance(fault, TooMuch):
                     return not isinstance(fault, TooMuch)
@@ -282,17 +312,20 @@ class Finder:
 
     def take_file(self, file: BinaryIO, size: int) -> None:
         file.seek(0)
-        first = file.read(8)
+        first = file.read(FAT_HEADER.size)
         if first[:4] not in UNIVERSAL:
             self.take_part(file, None, 0, size, size)
         elif is_java(first):
             self.pass_over("other files")
         else:
-            parts = parts_in(file, first, size)
-            for part, (offset, length) in enumerate(parts):
-                self.take_part(file, part, offset, length, size)
-            if not parts:
+            front = front_in(file, first)
+            parts = parts_in(front, size)
+            if parts is None:
+                self.faulty.append(FaultyFile(self.name, front, size))
+            elif not parts:
                 self.pass_over("universal files without a part")
+            for part, (offset, length) in enumerate(parts or ()):
+                self.take_part(file, part, offset, length, size)
 
     def take_part(self, file: BinaryIO, part: Optional[int], offset: int, length: int, size: int) -> None:
         file.seek(offset)
@@ -326,24 +359,6 @@ def is_dsym(path: bytes) -> bool:
 
 def is_java(first: bytes) -> bool:
     return first[:4] == NARROW and count_in(first) >= LEAST_OF_JAVA
-
-
-def promised(one: Slice) -> str:
-    """What the commands of an image promise, and what is there, if its bytes end before that."""
-    with contextlib.suppress(OSError, struct.error, Damaged), one.open() as file:
-        file.seek(one.offset)
-        front = file.read(min(one.length, HEADER.size))
-        if len(front) < HEADER.size:
-            return header_cut(HEADER.size, len(front), "there are")
-        *_, count, size = HEADER.unpack(front)
-        end, commands = HEADER.size + size, file.read(min(size, one.length - len(front), MOST_OF_COMMANDS))
-        for command, at, _ in commands_in(commands, count):
-            if command == LC_SYMTAB:
-                symbols, number, strings, more = SYMTAB.unpack_from(commands, at)
-                end = max(end, symbols + NLIST.size * number, strings + more)
-        if end > one.length:
-            return f": its commands promise {end} bytes, and there are {one.length}"
-    return ""
 
 
 def key_of(front: bytes, file: BinaryIO, left: int) -> Optional[bytes]:
