@@ -1,5 +1,5 @@
--- What an event makes of a site, of all sites and of a run: the words of inner functions. No contract of a public one
--- has them.
+-- What an event makes of a site, of all sites and of a run: definitions for private functions. No public contract uses
+-- them.
 use Rattle.std.specs.Prelude.{◌≡◌, ℕ, true, suc, ◌≤◌, List, Some, length, slice_get, slice_set}
 use Rattle.std.specs.List.{AllZip}
 use Rattle.std.specs.FinSet as set

@@ -153,7 +153,7 @@ fn happen_at<A: Archive + Drop>(
     }
 }
 
-/// Carries an event out among sites. Want of memory is no outcome.
+/// Carries an event out among sites. A lack of memory is no outcome.
 pub(crate) fn happen<A: Archive + Drop>(
     sites: &mut Vec<Site<A>, Heap>,
     messages: &mut Vec<Message, Heap>,

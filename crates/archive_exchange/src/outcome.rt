@@ -15,7 +15,7 @@ pub enum EventFault {
     NotASummary(RecordFault),
     /// The message to deliver is no archive: what `read_archive` says of it.
     Refused(RecordFault),
-    /// The file is refused. Want of memory is never told here.
+    /// The file is refused. A lack of memory is never told here.
     File(TakeFault),
 }
 

@@ -15,7 +15,7 @@ use crate::world::World;
 use archive_core::{Archive, Digest};
 use archive_records::Sizes;
 use byte_device::{Sink, Source};
-use command_common::{CommandFault, Status, publish_report, read_events};
+use command_common::{CommandFault, Status, read_script_input, write_report};
 use memory::{Heap, NoMemory};
 use sha2::{Digest as _, Sha256};
 use text_inputs::Script;
@@ -75,7 +75,7 @@ pub fn run_rehearse<A: Archive + Drop, S: Source, P: Sink>(
     ensures { EndsReport (rehearse (reader S.left S.failures script.old script.new))
         (writer P.held P.failures report.old report.new) result }
 {
-    let script = read_events(heap.share(), script)?;
+    let script = read_script_input(heap.share(), script)?;
     let text = lines_of::<A>(heap, &script)?;
-    publish_report(Status::Done, &text, report)
+    write_report(Status::Done, &text, report)
 }

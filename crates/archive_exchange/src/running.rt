@@ -56,8 +56,8 @@ fn carry_out<A: Archive + Drop>(
 /// Carries out a list of events on so many sites, which begin empty, and gives the world that they leave and an outcome
 /// an event. Any events, in any order: a refused one changes nothing.
 ///
-/// Each clause speaks of what the events are to the definitions of `specs/World`, as `laws::one_meaning` says of
-/// each list. Want of memory at any event refuses the run.
+/// Each clause speaks of what the events are to the definitions of `specs/World`, as `laws::one_meaning` says of each
+/// list. A lack of memory at any event refuses the run.
 pub fn run<A: Archive + Drop>(
     heap: Heap,
     sites: u32,

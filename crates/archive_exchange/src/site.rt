@@ -89,9 +89,9 @@ fn text_of_delta<A: Archive>(
 
 /// A site: an archive, which holds a content, and the bytes that it saved, which are the text of one.
 ///
-/// Each call that makes or changes a site says so of the one that it leaves (`whole`). So what want of memory leaves of
-/// `take_file` and `deliver` is between the content before the call and the one that was asked for, by their contracts
-/// alone.
+/// Each call that makes or changes a site says so of the one that it leaves (`whole`). So what a lack of memory leaves
+/// of `take_file` and `deliver` is between the content before the call and the one that was asked for, by their
+/// contracts alone.
 #[derive(Drop)]
 pub struct Site<A: Archive> {
     archive: A,
@@ -121,6 +121,7 @@ impl<A: Archive + Drop> Site<A> {
         Ok(Site { archive, saved })
     }
 
+    /// The archive of the site.
     pub fn archive(&self) -> &A
         ensures content { A.content result.now ≡ self.now.held }
         ensures whole { IsWhole self.now }
@@ -128,7 +129,7 @@ impl<A: Archive + Drop> Site<A> {
         &self.archive
     }
 
-    /// Takes the slices of a file, all or none, and gives a row a slice, in the order of the file.
+    /// Admits the slices of a file, all or none, and returns a row for each part, in the order of the file.
     ///
     /// # Errors
     ///
@@ -152,8 +153,8 @@ impl<A: Archive + Drop> Site<A> {
         Ok(rows)
     }
 
-    /// Takes the retirement of the slices under a key that have a digest, and answers whether it is new. Want of memory
-    /// leaves the site as it was.
+    /// Takes the retirement of the slices under a key that have a digest, and answers whether it is new. A lack of
+    /// memory leaves the site as it was.
     pub fn retire(&mut self, key: SliceKey, digest: Digest) -> Result<bool, NoMemory>
         ensures held { OnOk result (self.new.held ≡ with_record self.old.held (retirement_record key digest.0)) }
         ensures new { IfOk result (λ new. new ≡ changes self.old.held (retirement_record key digest.0)) }
@@ -165,13 +166,14 @@ impl<A: Archive + Drop> Site<A> {
         self.archive.take(Operation::Retire(key, digest))
     }
 
+    /// The text of the site's archive. Fails only if memory runs out.
     pub fn full(&self) -> Result<Vec<u8, Heap>, NoMemory>
         ensures { IfOk result (λ text. IsArchiveTextOf text.items self.now.held) }
     {
         archive_text(self.saved.allocator().share(), &self.archive)
     }
 
-    /// Saves, and gives the text of the summary of what it saved. Want of memory may leave it saved.
+    /// Saves, and gives the text of the summary of what it saved. A lack of memory may leave it saved.
     pub fn ask(&mut self) -> Result<Vec<u8, Heap>, NoMemory>
         ensures text { IfOk result (λ text. text.items ≡ summary_text (summary self.old.held)) }
         ensures held { self.new.held ≡ self.old.held }
@@ -216,7 +218,7 @@ impl<A: Archive + Drop> Site<A> {
         Ok(())
     }
 
-    /// Saves the archive: the saved bytes become its text. Want of memory leaves the site as it was.
+    /// Saves the archive: the saved bytes become its text. A lack of memory leaves the site as it was.
     pub fn save(&mut self) -> Result<(), NoMemory>
         ensures held { self.new.held ≡ self.old.held }
         ensures saved { OnOk result (self.new.saved ≡ written self.old.held) }
@@ -227,7 +229,8 @@ impl<A: Archive + Drop> Site<A> {
         Ok(())
     }
 
-    /// Stops, and begins again: the archive becomes what the saved bytes say. Want of memory leaves the site as it was.
+    /// Stops, and begins again: the archive becomes what the saved bytes say. A lack of memory leaves the site as it
+    /// was.
     pub fn stop(&mut self) -> Result<(), NoMemory>
         ensures held { OnOk result (IsArchiveTextOf self.old.saved self.new.held) }
         ensures saved { self.new.saved ≡ self.old.saved }
@@ -235,7 +238,7 @@ impl<A: Archive + Drop> Site<A> {
         ensures whole { IsWhole self.new }
     {
         let heap = self.saved.allocator().share();
-        // The saved bytes are an archive's text, which is refused for want of memory alone.
+        // The saved bytes are an archive's text, so reading them fails only if memory runs out.
         let Ok(archive) = parse_archive(heap, &self.saved) else {
             return Err(NoMemory);
         };

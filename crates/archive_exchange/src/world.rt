@@ -37,12 +37,14 @@ impl<A: Archive> World<A> {
         World { sites, messages }
     }
 
+    /// How many sites there are.
     pub fn sites(&self) -> u32
         ensures { result ≡ length self.now.sites }
     {
         self.sites.len() as u32
     }
 
+    /// The site with this number, counted from 0.
     pub fn site(&self, number: u32) -> &Site<A>
         requires { number < length self.now.sites }
         ensures site { slice_get self.now.sites number ≡ Some result.now }
@@ -58,6 +60,7 @@ impl<A: Archive> World<A> {
         &self.messages
     }
 
+    /// The text of the message with this number, counted from 0 in the order in which messages were sent.
     pub fn message(&self, number: u64) -> &[u8]
         requires { number < length self.now.messages }
         ensures { slice_get self.now.messages number ≡ Some result.now }

@@ -6,9 +6,9 @@ use Rattle.byte_device.specs.Disks.{FileAt, Path}
 use Rattle.byte_device.specs.declared.Source.{Ghosts as Sources}
 use Rattle.byte_device.specs.declared.Placed.{Ghosts as Places}
 use Rattle.archive_core.proofs.Members.{pairs_more as zip_more}
-use Rattle.cli_files.specs.AtTurns.{told_by}
+use Rattle.cli_files.specs.LazyInputs.{told_by}
 use Rattle.cli_files.specs.declared.disks.Disk.{Ghosts as Disks}
-use Rattle.cli_files.specs.declared.input_state.AtTurn.{AtTurn}
+use Rattle.cli_files.specs.declared.input_state.LazyInput.{LazyInput}
 use Rattle.cli_files.specs.InputStates.{AreFirstAsked, IsWaiting, Waiting, bytes_at, left_in, stage_of}
 use Rattle.cli_files.specs.declared.input_state.InputState.{InputState}
 use Rattle.cli_files.specs.declared.input_state.InputState.TheVariants as state
@@ -42,7 +42,7 @@ waits_for left file t is = cc
 
 -- and it waits
 pub is_waiting : {D I P : Type 0} (disk : Disks D I P) (input : Sources I) (places : Places P)
-    (s : AtTurn D I P disk input places) (path : Path) → s.path.now ≡ path → stage_of s.state ≡ Waiting
+    (s : LazyInput D I P disk input places) (path : Path) → s.path.now ≡ path → stage_of s.state ≡ Waiting
     → s.failures ≡ 0 → IsWaiting (told_by disk input places) path s
 is_waiting disk input places s path is waits unfailed = record {
   path_is = is;

@@ -15,7 +15,7 @@ use Rattle.cli_files.proofs.Same.{asked_behind}
 use Rattle.cli_files.specs.Publishing.{draft_name}
 use Rattle.cli_files.specs.Refusals.{IsSaid, is_failure}
 use Rattle.cli_files.specs.declared.replaceable.OutFault.TheVariants.{NotCreated}
-use Rattle.cli_files.specs.declared.replaceable.Replaces.{Replaces}
+use Rattle.cli_files.specs.declared.replaceable.ReplaceRule.{ReplaceRule}
 
 -- two numbers make two paths
 one_number : (target : List ℕ) (process m n : ℕ) → m < 2 ^ 64 → n < 2 ^ 64
@@ -95,7 +95,7 @@ tried_asked process target first calls count tried = (taking tried.taken, all_ta
     all_taken (path ∷ taken) = all_taken taken
 
 -- each was taken
-pub tried_all : (process : ℕ) (target : List ℕ) (first calls : List FileCall) (error : Error) (replaces : Replaces)
+pub tried_all : (process : ℕ) (target : List ℕ) (first calls : List FileCall) (error : Error) (replaces : ReplaceRule)
     → Tried process target first calls 100 → error_kind error ≡ AlreadyExists → IsSaid replaces (NotCreated (Some error)) calls
 tried_all process target first calls error replaces tried kind =
     inr (inr (first, tried.taken, enough tried.counted, kind, tried.calls_are))
@@ -140,7 +140,7 @@ uncreated_failed path AlreadyExists free = absurd (free refl)
 uncreated_failed path kind free = refl
 
 -- one could not be created, and its name is not taken
-pub tried_failed : (path : List ℕ) (calls new : List FileCall) (error : Error) (replaces : Replaces)
+pub tried_failed : (path : List ℕ) (calls new : List FileCall) (error : Error) (replaces : ReplaceRule)
     → error_kind error ≢ AlreadyExists → new ≡ calls ++ uncreated path (error_kind error) ∷ []
     → IsSaid replaces (NotCreated (Some error)) new
 tried_failed path calls new error replaces free is =

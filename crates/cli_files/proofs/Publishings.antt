@@ -23,8 +23,8 @@ use Rattle.cli_files.specs.Publishing.{account, both_give, draft_mode, folder_of
 use Rattle.cli_files.specs.Refusals.{IsRefused}
 use Rattle.cli_files.specs.Replacing.{GivesWay}
 use Rattle.cli_files.specs.declared.found.Found.{Found}
-use Rattle.cli_files.specs.declared.replaceable.Replaces.{Replaces}
-use Rattle.cli_files.specs.declared.replaceable.Replaces.TheVariants.{ArchivesBelow, Summaries, Indexes, SameBytes}
+use Rattle.cli_files.specs.declared.replaceable.ReplaceRule.{ReplaceRule}
+use Rattle.cli_files.specs.declared.replaceable.ReplaceRule.TheVariants.{ArchivesBelow, Summaries, Indexes, SameBytes}
 
 -- the bytes of some calls and of others after them
 pub bytes_append : (xs ys : List FileCall) → bytes_in (xs ++ ys) ≡ bytes_in xs ++ bytes_in ys
@@ -56,7 +56,7 @@ pub writable_probes : (path : List ℕ) (probes : List FileCall) → IsWritable 
 writable_probes path probes (inl (found, file, other)) = ap are_probes other
 writable_probes path probes (inr descriptor) = ap are_probes descriptor.0
 
-pub target_probes : (replaces : Replaces) (path target : List ℕ) (probes : List FileCall)
+pub target_probes : (replaces : ReplaceRule) (path target : List ℕ) (probes : List FileCall)
     → IsTargetOf replaces path target probes → are_probes probes ≡ true
 target_probes replaces path target probes (inl none) = ap are_probes none.1
 target_probes replaces path target probes (inr (found, is, inl file)) =
@@ -76,21 +76,21 @@ pub found_begun : (path : List ℕ) (found : Found) (bytes : List ℕ) (calls op
 found_begun path found bytes calls opened new first after is =
     is ∙ ap (λ cs. cs ++ Begins path bytes ∷ []) (after ∙ append-nil calls ∙ first)
 
-pub finds_replaced : (replaces : Replaces) (path : List ℕ) (found : Found) (bytes : List ℕ) (new : List FileCall)
+pub finds_replaced : (replaces : ReplaceRule) (path : List ℕ) (found : Found) (bytes : List ℕ) (new : List FileCall)
     → found.is_file ≡ true → GivesWay replaces bytes → new ≡ Finds path found ∷ Begins path bytes ∷ []
     → FindsReplaced replaces path new
 finds_replaced replaces path found bytes new file gives is =
     record { found = found; bytes = bytes; is_file = file; gives_way = gives; probes_are = is }
 
 -- OUT is begun
-pub begun_through : (replaces : Replaces) (path : List ℕ) (probes new : List FileCall) → IsWritable path probes → new ≡ probes ++ Opens path ∷ []
+pub begun_through : (replaces : ReplaceRule) (path : List ℕ) (probes new : List FileCall) → IsWritable path probes → new ≡ probes ++ Opens path ∷ []
     → IsSoFar replaces (Some path) Through new × (bytes_in new ≡ [])
 begun_through replaces path probes new writable is = (
   (path, refl, [], record { probes = probes; pieces = []; writable = writable; whole = refl; calls_are = is }),
   ap bytes_in is ∙ bytes_behind probes (Opens path ∷ []) (writable_probes path probes writable),
 )
 
-pub begun_drafted : (replaces : Replaces) (path draft target : List ℕ) (probes new : List FileCall) (taken : List (List ℕ))
+pub begun_drafted : (replaces : ReplaceRule) (path draft target : List ℕ) (probes new : List FileCall) (taken : List (List ℕ))
     → (IsDescriptor path → ⊥) → IsTargetOf replaces path target probes
     → IsBeside draft target → new ≡ probes ++ taking taken ++ Creates draft (draft_mode (there probes)) ∷ []
     → IsSoFar replaces (Some path) (Drafted draft target) new × (bytes_in new ≡ [])
@@ -101,7 +101,7 @@ begun_drafted replaces path draft target probes new taken none led beside is = (
 )
 
 -- whatever the mode of the draft, no bytes went to it
-pub drafted_bytes : (replaces : Replaces) (path target draft : List ℕ) (mode : ℕ) (probes new : List FileCall)
+pub drafted_bytes : (replaces : ReplaceRule) (path target draft : List ℕ) (mode : ℕ) (probes new : List FileCall)
     (taken : List (List ℕ)) → IsTargetOf replaces path target probes
     → new ≡ probes ++ taking taken ++ Creates draft mode ∷ [] → bytes_in new ≡ []
 drafted_bytes replaces path target draft mode probes new taken led is =
@@ -124,7 +124,7 @@ more_through path text bytes calls w = record {
       ∙ ap (λ cs. w.probes ++ Opens path ∷ cs) (sym (map-append Writes w.pieces (bytes ∷ [])));
 }
 
-pub more_drafted : (replaces : Replaces) (path draft target bytes : List ℕ) (calls : List FileCall)
+pub more_drafted : (replaces : ReplaceRule) (path draft target bytes : List ℕ) (calls : List FileCall)
     → IsDrafted replaces path draft target calls → IsDrafted replaces path draft target (calls ++ Writes bytes ∷ [])
 more_drafted replaces path draft target bytes calls d = record {
   probes = d.probes;
@@ -139,7 +139,7 @@ more_drafted replaces path draft target bytes calls d = record {
 }
 
 -- more bytes are written
-pub more_so_far : (replaces : Replaces) (path : Option (List ℕ)) (stage : Stage) (calls : List FileCall)
+pub more_so_far : (replaces : ReplaceRule) (path : Option (List ℕ)) (stage : Stage) (calls : List FileCall)
     (bytes : List ℕ) → takes_bytes stage ≡ true → IsSoFar replaces path stage calls
     → IsSoFar replaces path stage (calls ++ Writes bytes ∷ [])
 more_so_far replaces path Through calls bytes takes so =
@@ -149,7 +149,7 @@ more_so_far replaces path (Drafted draft target) calls bytes takes so =
 more_so_far replaces path stage calls bytes takes so = cc
 
 -- what went through is at the path
-pub hands_on_through : (path : Option (List ℕ)) (replaces : Replaces) (calls : List FileCall)
+pub hands_on_through : (path : Option (List ℕ)) (replaces : ReplaceRule) (calls : List FileCall)
     → IsSoFar replaces path Through calls → HandsOn path replaces calls
 hands_on_through path replaces calls so =
     let w : IsWrittenThrough so.0 so.2 calls = so.3 in (
@@ -170,7 +170,7 @@ pub begins_probes : (path bytes : List ℕ) (calls : List FileCall) → BeginsSo
 begins_probes path bytes calls (inl (none, is)) = ap are_probes is
 begins_probes path bytes calls (inr (found, is)) = ap are_probes is
 
-pub tested_probes : (replaces : Replaces) (draft target : List ℕ) (tests : List FileCall)
+pub tested_probes : (replaces : ReplaceRule) (draft target : List ℕ) (tests : List FileCall)
     → IsTested replaces draft target tests → are_probes tests ≡ true
 tested_probes ArchivesBelow draft target tests (inl none) = begins_probes target [] tests none
 tested_probes ArchivesBelow draft target tests (inr (found, bytes, kind, covers)) = ap are_probes covers
@@ -182,7 +182,7 @@ tested_probes SameBytes draft target tests (inr is) =
     ap are_probes is.calls_are ∙ both_probes draft target is.pieces
 
 -- and so is what was drafted and put in place
-pub hands_on_draft : (path : Option (List ℕ)) (replaces : Replaces) (draft target : List ℕ) (calls new : List FileCall)
+pub hands_on_draft : (path : Option (List ℕ)) (replaces : ReplaceRule) (draft target : List ℕ) (calls new : List FileCall)
     → IsSoFar replaces path (Drafted draft target) calls
     → (tests : List FileCall) × IsTested replaces draft target tests
     × (new ≡ calls ++ tests ++ publishing draft target (folder_of target))
@@ -219,7 +219,7 @@ hands_on_draft path replaces draft target calls new so put =
     )
 
 -- a draft that was put in place has the same bytes
-pub published_bytes : (replaces : Replaces) (draft target folder : List ℕ) (calls new : List FileCall)
+pub published_bytes : (replaces : ReplaceRule) (draft target folder : List ℕ) (calls new : List FileCall)
     → (tests : List FileCall) × IsTested replaces draft target tests × (new ≡ calls ++ tests ++ publishing draft target folder)
     → bytes_in new ≡ bytes_in calls
 published_bytes replaces draft target folder calls new put =
@@ -243,7 +243,7 @@ removed_bytes draft calls new (tests, are, inr (said, probe, synced)) =
         ∙ ap (λ t. t ++ []) (probes_bytes (said ∷ []) (ap (λ b. b && true) probe))
 
 -- a draft that was removed after its calls
-pub taken_back : (replaces : Replaces) (path : Option (List ℕ)) (draft target : List ℕ) (calls new : List FileCall)
+pub taken_back : (replaces : ReplaceRule) (path : Option (List ℕ)) (draft target : List ℕ) (calls new : List FileCall)
     → IsSoFar replaces path (Drafted draft target) calls → IsTakenBack draft calls new → IsRemoved replaces path new
 taken_back replaces path draft target calls new so taken = inr (inr (inl (
   so.0,
@@ -288,7 +288,7 @@ removed_at_once draft calls new is =
 -- ---- states
 
 -- what was refused was so for a reason
-pub so_refused : (replaces : Replaces) (path : Option (List ℕ)) (stage : Stage) (calls : List FileCall)
+pub so_refused : (replaces : ReplaceRule) (path : Option (List ℕ)) (stage : Stage) (calls : List FileCall)
     → ∥ IsSoFar replaces path stage calls ∥₁ → IfSome (fault_of stage) (λ fault. ∥ IsRefused replaces path fault calls ∥₁)
 so_refused replaces path (Refused fault) calls so = ∥∥₁_map so (λ is. is.1)
 so_refused replaces path Untouched calls so = tt
@@ -310,7 +310,7 @@ takes_unsettled (Drafted d t) takes = refl
 takes_unsettled stage takes = cc
 
 -- a draft was created
-drafted_some : (replaces : Replaces) (path : Option (List ℕ)) (stage : Stage) (calls : List FileCall)
+drafted_some : (replaces : ReplaceRule) (path : Option (List ℕ)) (stage : Stage) (calls : List FileCall)
     → is_drafted stage ≡ true → calls ≡ [] → IsSoFar replaces path stage calls → ⊥
 drafted_some replaces path (Drafted d t) calls drafted none so =
     let some = ap length (sym none ∙ so.2.calls_are) ∙ length-append (so.2.probes ++ taking so.2.taken)
@@ -326,7 +326,7 @@ kept_empty old new calls after empty same (inl drafted) without = absurd (drafte
 kept_empty old new calls after empty same (inr is) without = is ∙ empty (sym same ∙ without)
 
 -- and what took nothing has nothing called
-pub kept_first : (replaces : Replaces) (path : Option (List ℕ)) (old : Stage) (calls after : List FileCall) (failures : ℕ)
+pub kept_first : (replaces : ReplaceRule) (path : Option (List ℕ)) (old : Stage) (calls after : List FileCall) (failures : ℕ)
     → ∥ IsSoFar replaces path old calls ∥₁ → (took_nothing (bytes_in calls) failures ≡ true → calls ≡ [])
     → bytes_in after ≡ bytes_in calls → (is_drafted old ≡ true) ⊎ (after ≡ calls)
     → took_nothing (bytes_in after) failures ≡ true → after ≡ []
@@ -337,7 +337,7 @@ kept_first replaces path old calls after failures so first bytes (inr is) none =
     is ∙ first (ap (λ b. took_nothing b failures) (sym bytes) ∙ none)
 
 -- what is handed on is at the path that there is
-pub published_at : (path : Option (List ℕ)) (replaces : Replaces) (p : List ℕ) (calls : List FileCall) → path ≡ Some p
+pub published_at : (path : Option (List ℕ)) (replaces : ReplaceRule) (p : List ℕ) (calls : List FileCall) → path ≡ Some p
     → HandsOn path replaces calls → IsPublished p replaces (bytes_in calls) calls
 published_at path replaces p calls is hands =
     subst (λ q. IsPublished q replaces (bytes_in calls) calls) (some_inj (sym hands.1 ∙ is)) hands.2
@@ -345,13 +345,13 @@ published_at path replaces p calls is hands =
     some_inj : {q r : List ℕ} → Some q ≡ Some r → q ≡ r
     some_inj e = cc
 
-pub none_handed_on : (replaces : Replaces) (calls : List FileCall) → HandsOn None replaces calls → ⊥
+pub none_handed_on : (replaces : ReplaceRule) (calls : List FileCall) → HandsOn None replaces calls → ⊥
 none_handed_on replaces calls hands = let e = hands.1 in cc
 
 -- ---- what OUT takes
 
 -- it took more bytes
-pub more_account : (path : Option (List ℕ)) (replaces : Replaces) (old new : Stage) (calls begun after : List FileCall) (bytes : List ℕ)
+pub more_account : (path : Option (List ℕ)) (replaces : ReplaceRule) (old new : Stage) (calls begun after : List FileCall) (bytes : List ℕ)
     → is_settled new ≡ is_settled old → takes_bytes new ≡ true → bytes_in begun ≡ bytes_in calls
     → after ≡ begun ++ Writes bytes ∷ []
     → draft_account (is_settled new) path replaces after ≡ draft_account (is_settled old) path replaces calls ++ bytes

@@ -11,22 +11,22 @@ use Rattle.cli_files.specs.Refusals.{IsSaid, IsUncompared, IsUnread, is_failure}
 use Rattle.archive_records.specs.Kind.{magic_of}
 use Rattle.archive_records.specs.declared.format.Format.{Format}
 use Rattle.archive_records.specs.declared.format.Format.TheVariants.{Archive, OldArchive, Operations, Summary}
-use Rattle.cli_files.specs.declared.replaceable.Replaces.TheVariants.{ArchivesBelow}
+use Rattle.cli_files.specs.declared.replaceable.ReplaceRule.TheVariants.{ArchivesBelow}
 use Rattle.cli_files.specs.Publishing.{BeginsSo, IsTargetOf}
 use Rattle.cli_files.specs.Replacing.{IsOfKind}
-use Rattle.cli_files.specs.declared.replaceable.{Obstacle.Obstacle, OutFault.OutFault, Replaces.Replaces}
+use Rattle.cli_files.specs.declared.replaceable.{Obstacle.Obstacle, OutFault.OutFault, ReplaceRule.ReplaceRule}
 use Rattle.cli_files.specs.declared.replaceable.Obstacle.TheVariants.{Damaged, Differs, Loses, OtherKind, Refused}
 use Rattle.cli_files.specs.declared.replaceable.OutFault.TheVariants.{NotCreated, NotReplaced, OutOfMemory}
 
 -- nothing is there
-pub absent_fails : (replaces : Replaces) (error : Error) (path : List ℕ) (before calls : List FileCall)
+pub absent_fails : (replaces : ReplaceRule) (error : Error) (path : List ℕ) (before calls : List FileCall)
     → calls ≡ before ++ FindsNothing path ∷ [] → error_kind error ≡ NotFound
     → IsSaid replaces (NotCreated (Some error)) calls
 absent_fails replaces error path before calls is kind =
     inl (before, path, is ∙ ap (λ k. before ++ failed path k ∷ []) (sym kind))
 
 -- a link is there, which leads to nothing
-pub leads_nowhere : (replaces : Replaces) (error : Error) (path : List ℕ) (before old calls : List FileCall)
+pub leads_nowhere : (replaces : ReplaceRule) (error : Error) (path : List ℕ) (before old calls : List FileCall)
     → old ≡ before ++ FindsNothing path ∷ [] → calls ≡ old ++ FindsLink path ∷ [] → error_kind error ≡ NotFound
     → IsSaid replaces (NotCreated (Some error)) calls
 leads_nowhere replaces error path before old calls was is kind =
@@ -39,7 +39,7 @@ leads_nowhere replaces error path before old calls was is kind =
     ))
 
 -- a file of another kind is there
-pub other_kind : (replaces : Replaces) (path : List ℕ) (beginning : Option (List ℕ)) (fault : OutFault) (calls : List FileCall)
+pub other_kind : (replaces : ReplaceRule) (path : List ℕ) (beginning : Option (List ℕ)) (fault : OutFault) (calls : List FileCall)
     → (beginning ≢ None → (before : List FileCall) × (calls ≡ before ++ Begins path (first_bytes beginning) ∷ []))
     → (bytes : List ℕ) × (beginning ≡ Some bytes) × (fault ≡ NotReplaced (OtherKind bytes)) × (IsOfKind replaces bytes → ⊥)
     → IsSaid replaces fault calls
@@ -73,7 +73,7 @@ begun_uncompared target (Some bytes) old new tests some kind (inr (found, is)) a
 )
 
 -- what was said last of a path that a draft may be made for is no failure
-pub target_last : (replaces : Replaces) (path target : List ℕ) (probes : List FileCall) → IsTargetOf replaces path target probes
+pub target_last : (replaces : ReplaceRule) (path target : List ℕ) (probes : List FileCall) → IsTargetOf replaces path target probes
     → (before : List FileCall) × (said : FileCall) × (is_failure said ≡ false) × (probes ≡ before ++ said ∷ [])
 target_last replaces path target probes (inl none) = (FindsNothing path ∷ [], FindsNoLink path, refl, none.1)
 target_last replaces path target probes (inr (found, is, inl file)) = (found, FindsNoLink path, refl, file.1)
@@ -110,7 +110,7 @@ no_difference (Right stop) unread = unread
 no_difference Write unread = unread
 
 -- reading one of two archives stopped, after what was said of them
-pub unread_said : (replaces : Replaces) (stop : MergeCause) (fault : OutFault) (calls : List FileCall)
+pub unread_said : (replaces : ReplaceRule) (stop : MergeCause) (fault : OutFault) (calls : List FileCall)
     → IsUnread stop fault → IsUncompared calls → IsSaid replaces fault calls
 unread_said replaces stop OutOfMemory calls unread last = uncompared_last calls last
 unread_said replaces stop (NotReplaced Damaged) calls unread last = last

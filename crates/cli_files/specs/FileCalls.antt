@@ -12,7 +12,7 @@ use Rattle.cli_files.specs.declared.found.Found.{Found}
 -- link; which path it leads to; which bytes the file there begins with, none if it is empty; and which come next. An
 -- archive is compared with another one, of which it neither has nor covers so many records. A file is created that was
 -- not there, with a mode, or what is there is opened and emptied; it takes bytes, which are synced to the disk; it is
--- renamed, and the folder synced; or it is removed. Or the system refuses a call of a path, for want of memory or
+-- renamed, and the folder synced; or it is removed. Or the system refuses a call of a path, for a lack of memory or
 -- otherwise, or since a file is there where one was to be created.
 pub data FileCall : Type 0 where
   Finds : (path : List ℕ) → (found : Found) → FileCall

@@ -4,7 +4,7 @@ use Rattle.std.specs.declared.io.traits.Read.{Ghosts as Reads}
 use Rattle.std.specs.declared.io.traits.Seek.{Ghosts as Seeks}
 use Rattle.std.specs.declared.io.traits.Write.{Ghosts as Writes}
 use Rattle.cli_files.specs.OutFiles.{Untouched, stage_of}
-use Rattle.cli_files.specs.declared.replaceable.Replaces.TheVariants.{ArchivesBelow}
+use Rattle.cli_files.specs.declared.replaceable.ReplaceRule.TheVariants.{ArchivesBelow}
 use Rattle.cli_files.specs.declared.system_files.SystemFiles.{SystemFiles}
 
 -- No input was compared with OUT, which has no path, may replace archives below it and did not fail, for which

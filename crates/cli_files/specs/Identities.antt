@@ -13,7 +13,7 @@ abbrev pub is_same : Result Found Error → Result Found Error → Bool
 is_same (Ok a) (Ok b) = is_one a b
 is_same _ _ = false
 
--- Of OUT and of each input in turn the system said that they are not one regular file.
+-- Of OUT and of each input, one after another, the system said that they are not one regular file.
 pub data AreApart (out : List ℕ) : List (List ℕ) → List FileCall → Type 0 where
   None : AreApart out [] []
   More : (inputs : List (List ℕ)) (input : List ℕ) (calls : List FileCall) (a b : Result Found Error)

@@ -1,4 +1,4 @@
--- An input that is opened at its turn.
+-- An input that is opened at its first read.
 use Rattle.std.specs.Prelude.{◌≡◌, ◌≢◌, ℕ, List, [], ◌∷◌, ◌++◌, take, Option, Some, None, Ok, Err}
 use Rattle.std.specs.Prelude.{IfSome, ⊤}
 use Rattle.std.specs.List.{AllByRecursion, AllZip}
@@ -24,7 +24,7 @@ stage_of (state.Open input) = Open
 stage_of (state.Placed places) = Open
 stage_of (state.Unopened reason) = Unopened reason
 
--- why it was not opened, if its turn came and it was not
+-- why it was not opened, if it was read and was not
 abbrev pub unopened_in : Stage → Option Reason
 unopened_in Waiting = None
 unopened_in Open = None
@@ -45,15 +45,14 @@ opened_in Waiting path = []
 opened_in Open path = path ∷ []
 opened_in (Unopened reason) path = path ∷ []
 
--- the paths at whose opening memory was wanting, of an input with this path
+-- the paths at whose opening memory ran out, of an input with this path
 abbrev pub wanting_in : Stage → Path → List Path
 wanting_in Waiting path = []
 wanting_in Open path = []
 wanting_in (Unopened (why.Refused refused)) path = []
 wanting_in (Unopened why.OutOfMemory) path = path ∷ []
 
--- The disk says that memory was wanting where that is why an input with this path was not opened, and says it for no
--- other.
+-- The disk says that memory ran out where that is why an input with this path was not opened, and says it for no other.
 abbrev pub SaysWanting : Option (List Path) → Option (List Path) → Stage → Path → Type 0
 SaysWanting old new Waiting path = new ≡ old
 SaysWanting old new Open path = new ≡ old
@@ -108,7 +107,7 @@ GivesPlaces whole failures opened_at file (state.Unopened (why.Refused refused))
 GivesPlaces whole failures opened_at file (state.Unopened why.OutOfMemory) = ⊤
 
 -- An input may be so far, of whose file this is known: what is not there is not open; what is known to be there is not
--- refused, nor is another for want of memory.
+-- refused, nor is another for a lack of memory.
 abbrev pub IsStateOf : FileAt → Stage → Type 0
 IsStateOf Missing Open = ⊥
 IsStateOf (Holding bytes) (Unopened (why.Refused refused)) = ⊥
@@ -117,7 +116,7 @@ IsStateOf _ _ = ⊤
 
 -- What is told of inputs: what each has left, all its bytes, and how often it failed, its path, what is known of its
 -- file, how far it is, and, where that is known, which paths were opened for it, and at which of them the system said
--- that memory is wanting.
+-- that memory runs out.
 pub record Told (S : Type 0) : Type 0 where
   pub left : S → Option (List ℕ)
   pub whole : S → Option (List ℕ)
@@ -132,7 +131,7 @@ pub record Told (S : Type 0) : Type 0 where
 abbrev pub opening_told : {S : Type 0} → Told S → S → Opening
 opening_told told input = opening_in (told.stage input)
 
--- The input has this path, and waits for its turn.
+-- The input has this path, and was not read yet.
 pub record IsWaiting {S : Type 0} (told : Told S) (path : Path) (input : S) : Type 0 where
   pub path_is : told.path input ≡ path
   pub waits : told.stage input ≡ Waiting
@@ -140,9 +139,9 @@ pub record IsWaiting {S : Type 0} (told : Told S) (path : Path) (input : S) : Ty
   pub bytes : told.left input ≡ bytes_at (told.file input)
   pub all : told.whole input ≡ bytes_at (told.file input)
 
--- Of an input no other path is opened than its own, and that once, at its turn; where that is for want of memory the
--- system said so; and where it is not opened it fails.
-pub record IsAtTurn {S : Type 0} (told : Told S) (input : S) : Type 0 where
+-- Of an input no other path is opened than its own, and that once, at its first read; where that is for a lack of
+-- memory the system said so; and where it is not opened it fails.
+pub record IsLazyInput {S : Type 0} (told : Told S) (input : S) : Type 0 where
   pub log : (paths : List Path) → told.opened input ≡ Some paths
       → paths ≡ opened_in (told.stage input) (told.path input)
   pub wants : (paths : List Path) → told.wanting input ≡ Some paths
@@ -155,8 +154,8 @@ abbrev pub AreWaiting : {S : Type 0} → Told S → List Path → List S → Typ
 AreWaiting told paths inputs = AllZip (IsWaiting told) paths inputs
 
 -- So it is with each of these inputs.
-abbrev pub AreAtTurn : {S : Type 0} → Told S → List S → Type 0
-AreAtTurn told inputs = AllByRecursion (IsAtTurn told) inputs
+abbrev pub AreLazyInputs : {S : Type 0} → Told S → List S → Type 0
+AreLazyInputs told inputs = AllByRecursion (IsLazyInput told) inputs
 
 -- Inputs were made for the first of these paths, each once and in their order.
 abbrev pub AreFirstAsked : List Path → List Path → List Path → Type 0

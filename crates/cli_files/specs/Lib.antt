@@ -1,7 +1,7 @@
 pub mod FileCalls
 pub mod Opened
 pub mod InputStates
-pub mod AtTurns
+pub mod LazyInputs
 pub mod Identities
 pub mod OutFiles
 pub mod Refusals

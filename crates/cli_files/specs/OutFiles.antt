@@ -9,9 +9,9 @@ use Rattle.cli_files.specs.declared.out_file.OutState.{OutState}
 use Rattle.cli_files.specs.declared.out_file.OutState.TheVariants as state
 use Rattle.cli_files.specs.declared.published.Published.{Published}
 use Rattle.cli_files.specs.declared.replaceable.OutFault.{OutFault}
-use Rattle.cli_files.specs.declared.replaceable.Replaces.{Replaces}
-use Rattle.cli_files.specs.declared.ways.Way.{Way}
-use Rattle.cli_files.specs.declared.ways.Way.TheVariants as way
+use Rattle.cli_files.specs.declared.replaceable.ReplaceRule.{ReplaceRule}
+use Rattle.cli_files.specs.declared.ways.WriteMode.{WriteMode}
+use Rattle.cli_files.specs.declared.ways.WriteMode.TheVariants as way
 
 -- how far OUT is
 pub data Stage : Type 0 where
@@ -92,13 +92,13 @@ fault_of Removed = None
 fault_of Settled = None
 
 -- OUT is written so, of whose path the system said this, where these files are replaced
-abbrev pub IsWayTo : Replaces → List ℕ → Way → List FileCall → Type 0
+abbrev pub IsWayTo : ReplaceRule → List ℕ → WriteMode → List FileCall → Type 0
 IsWayTo replaces path way.Through probes = IsWritable path probes
 IsWayTo replaces path (way.Beside target found) probes =
     IsTargetOf replaces path (string_bytes target) probes × (found ≡ there probes) × (IsDescriptor path → ⊥)
 
 -- what was called for OUT so far, which has this path, if it has one, and replaces these files
-abbrev pub IsSoFar : Replaces → Option (List ℕ) → Stage → List FileCall → Type 0
+abbrev pub IsSoFar : ReplaceRule → Option (List ℕ) → Stage → List FileCall → Type 0
 IsSoFar replaces path Untouched calls = calls ≡ []
 IsSoFar replaces path Through calls =
     (p : List ℕ) × (path ≡ Some p) × (text : List ℕ) × IsWrittenThrough p text calls
@@ -109,7 +109,7 @@ IsSoFar replaces path Removed calls = IsRemoved replaces path calls
 IsSoFar replaces path Settled calls = calls ≡ []
 
 -- What is known of OUT's draft: the same; and nothing of one that was published.
-abbrev pub draft_account : Bool → Option (List ℕ) → Replaces → List FileCall → List ℕ
+abbrev pub draft_account : Bool → Option (List ℕ) → ReplaceRule → List FileCall → List ℕ
 draft_account true path replaces calls = []
 draft_account false path replaces calls = account path replaces (bytes_in calls)
 

@@ -9,8 +9,8 @@ use Rattle.cli_files.specs.FileCalls.{Gives, Leads, Removes, Syncs, are_probes, 
 use Rattle.cli_files.specs.FileCalls.{publishing, taking, writing}
 use Rattle.cli_files.specs.Identities.{AreApart, IsMet}
 use Rattle.cli_files.specs.declared.found.Found.{Found}
-use Rattle.cli_files.specs.declared.replaceable.Replaces.{Replaces}
-use Rattle.cli_files.specs.declared.replaceable.Replaces.TheVariants.{ArchivesBelow, Summaries, Indexes, SameBytes}
+use Rattle.cli_files.specs.declared.replaceable.ReplaceRule.{ReplaceRule}
+use Rattle.cli_files.specs.declared.replaceable.ReplaceRule.TheVariants.{ArchivesBelow, Summaries, Indexes, SameBytes}
 use Rattle.cli_files.specs.Replacing.{GivesWay, IsOfKind}
 
 -- ---- paths
@@ -54,7 +54,7 @@ pub record IsBeside (draft target : List ℕ) : Type 0 where
 -- ---- calls
 
 -- At a path is a regular file, as the system said, which begins so that it may be replaced.
-pub record FindsReplaced (replaces : Replaces) (path : List ℕ) (probes : List FileCall) : Type 0 where
+pub record FindsReplaced (replaces : ReplaceRule) (path : List ℕ) (probes : List FileCall) : Type 0 where
   pub found : Found
   pub bytes : List ℕ
   pub is_file : found.is_file ≡ true
@@ -63,7 +63,7 @@ pub record FindsReplaced (replaces : Replaces) (path : List ℕ) (probes : List 
 
 -- What a path leads to is replaced at the target, as the system said: nothing, or a regular file that may be replaced,
 -- at the path itself; or one that a link leads to.
-abbrev pub IsTargetOf : Replaces → List ℕ → List ℕ → List FileCall → Type 0
+abbrev pub IsTargetOf : ReplaceRule → List ℕ → List ℕ → List FileCall → Type 0
 IsTargetOf replaces path target probes =
     ((target ≡ path) × (probes ≡ FindsNothing path ∷ FindsNoLink path ∷ []))
     ⊎ ((found : List FileCall) × FindsReplaced replaces path found
@@ -128,7 +128,7 @@ IsEmptyAt path calls =
 -- The draft may take the place of what is at the target, which is nothing, or empty, or of the kind that the draft is;
 -- an archive there is one of which the draft has or covers each record. Where the draft is a slice, what is there has
 -- no other bytes.
-abbrev pub IsTested : Replaces → List ℕ → List ℕ → List FileCall → Type 0
+abbrev pub IsTested : ReplaceRule → List ℕ → List ℕ → List FileCall → Type 0
 IsTested SameBytes draft target tests = IsEmptyAt target tests ⊎ AreSame draft target tests
 IsTested ArchivesBelow draft target tests =
     BeginsSo target [] tests
@@ -145,7 +145,7 @@ IsTakenBack draft old new =
 
 -- Pieces of the text went to a draft beside the target of a path, which is no descriptor, under a name that was not
 -- taken, and the draft, which may replace what is there, was put in its place.
-pub record IsReplaced (path : List ℕ) (replaces : Replaces) (text : List ℕ) (calls : List FileCall) : Type 0 where
+pub record IsReplaced (path : List ℕ) (replaces : ReplaceRule) (text : List ℕ) (calls : List FileCall) : Type 0 where
   pub draft : List ℕ
   pub target : List ℕ
   pub probes : List FileCall
@@ -169,12 +169,12 @@ pub record IsWrittenThrough (path text : List ℕ) (calls : List FileCall) : Typ
   pub calls_are : calls ≡ probes ++ writing path pieces
 
 -- The text is at the path: it was put in the place of what was there, or went to what is there.
-abbrev pub IsPublished : List ℕ → Replaces → List ℕ → List FileCall → Type 0
+abbrev pub IsPublished : List ℕ → ReplaceRule → List ℕ → List FileCall → Type 0
 IsPublished path replaces text calls = IsReplaced path replaces text calls ⊎ IsWrittenThrough path text calls
 
 -- Pieces of a text went to a draft beside the target of a path, which is no descriptor, under a name that was not
 -- taken.
-pub record IsDrafted (replaces : Replaces) (path draft target : List ℕ) (calls : List FileCall) : Type 0 where
+pub record IsDrafted (replaces : ReplaceRule) (path draft target : List ℕ) (calls : List FileCall) : Type 0 where
   pub probes : List FileCall
   pub taken : List (List ℕ)
   pub pieces : List (List ℕ)
@@ -184,7 +184,7 @@ pub record IsDrafted (replaces : Replaces) (path draft target : List ℕ) (calls
   pub calls_are : calls ≡ probes ++ taking taken ++ drafting draft (draft_mode (there probes)) pieces
 
 -- They did, and the draft, which may have been compared and synced before, was removed.
-pub record IsDraftRemoved (replaces : Replaces) (path : List ℕ) (calls : List FileCall) : Type 0 where
+pub record IsDraftRemoved (replaces : ReplaceRule) (path : List ℕ) (calls : List FileCall) : Type 0 where
   pub draft : List ℕ
   pub target : List ℕ
   pub drafted : List FileCall
@@ -193,14 +193,14 @@ pub record IsDraftRemoved (replaces : Replaces) (path : List ℕ) (calls : List 
 
 -- Nothing was called for OUT; or it has this path, and the system was only asked; or it had a draft, which was removed;
 -- or, at this path, it is no regular file, and bytes went to it.
-abbrev pub IsRemoved : Replaces → Option (List ℕ) → List FileCall → Type 0
+abbrev pub IsRemoved : ReplaceRule → Option (List ℕ) → List FileCall → Type 0
 IsRemoved replaces path calls =
     (calls ≡ []) ⊎ ((p : List ℕ) × (path ≡ Some p) × (are_probes calls ≡ true))
     ⊎ ((p : List ℕ) × (path ≡ Some p) × IsDraftRemoved replaces p calls)
     ⊎ ((p : List ℕ) × (path ≡ Some p) × (text : List ℕ) × IsWrittenThrough p text calls)
 
 -- OUT has a path, at which the bytes of these calls are
-abbrev pub HandsOn : Option (List ℕ) → Replaces → List FileCall → Type 0
+abbrev pub HandsOn : Option (List ℕ) → ReplaceRule → List FileCall → Type 0
 HandsOn path replaces calls = (p : List ℕ) × (path ≡ Some p) × IsPublished p replaces (bytes_in calls) calls
 
 -- ---- what is known
@@ -222,7 +222,7 @@ place None = 0 ∷ []
 place (Some path) = suc (length path) ∷ path
 
 -- a number for which files may be replaced
-abbrev pub number_of : Replaces → ℕ
+abbrev pub number_of : ReplaceRule → ℕ
 number_of ArchivesBelow = 0
 number_of Summaries = 1
 number_of Indexes = 2
@@ -230,5 +230,5 @@ number_of SameBytes = 3
 
 -- What is known of OUT: its path, which files may be replaced there, and the bytes that were written for it. A text
 -- that it takes stands after what was known, so that the path and the rule stay with it.
-abbrev pub account : Option (List ℕ) → Replaces → List ℕ → List ℕ
+abbrev pub account : Option (List ℕ) → ReplaceRule → List ℕ → List ℕ
 account path replaces bytes = place path ++ (number_of replaces ∷ bytes)

@@ -12,10 +12,10 @@ use Rattle.cli_files.specs.FileCalls.{Begins, Compares, FileCall, FindsLink, Fin
 use Rattle.cli_files.specs.FileCalls.{Removes, failed, taking}
 use Rattle.cli_files.specs.Publishing.{AreOther}
 use Rattle.cli_files.specs.Replacing.{IsOfKind}
-use Rattle.cli_files.specs.declared.replaceable.{Obstacle.Obstacle, OutFault.OutFault, Replaces.Replaces}
+use Rattle.cli_files.specs.declared.replaceable.{Obstacle.Obstacle, OutFault.OutFault, ReplaceRule.ReplaceRule}
 use Rattle.cli_files.specs.declared.replaceable.Obstacle.TheVariants as obstacle
 use Rattle.cli_files.specs.declared.replaceable.OutFault.TheVariants as fault
-use Rattle.cli_files.specs.declared.replaceable.Replaces.TheVariants.{ArchivesBelow}
+use Rattle.cli_files.specs.declared.replaceable.ReplaceRule.TheVariants.{ArchivesBelow}
 
 -- the last call failed so
 abbrev pub Fails : Error → List FileCall → Type 0
@@ -51,7 +51,7 @@ IsUnread Write (fault.NotReplaced (obstacle.Refused reason)) = Unit {0}
 IsUnread stop refusal = ⊥
 
 -- what is at the target is in the way, as the last calls say
-abbrev pub IsInTheWay : Replaces → Obstacle → List FileCall → Type 0
+abbrev pub IsInTheWay : ReplaceRule → Obstacle → List FileCall → Type 0
 IsInTheWay replaces (obstacle.OtherKind bytes) calls =
     (before : List FileCall) × (path : List ℕ) × (IsOfKind replaces bytes → ⊥)
     × (calls ≡ before ++ Begins path bytes ∷ [])
@@ -66,14 +66,14 @@ IsInTheWay replaces obstacle.Differs calls =
 IsInTheWay replaces (obstacle.Refused None) calls = IsUncompared calls
 IsInTheWay replaces (obstacle.Refused (Some error)) calls = Fails error calls ⊎ IsUncompared calls
 
--- a call that failed, and not for want of memory
+-- a call that failed, and not for a lack of memory
 abbrev pub is_failure : FileCall → Bool
 is_failure (FindsNothing path) = true
 is_failure (Refuses path) = true
 is_failure _ = false
 
--- OUT is refused so, as the last calls say; for want of memory only if none failed for another reason.
-abbrev pub IsSaid : Replaces → OutFault → List FileCall → Type 0
+-- OUT is refused so, as the last calls say; for a lack of memory only if none failed for another reason.
+abbrev pub IsSaid : ReplaceRule → OutFault → List FileCall → Type 0
 IsSaid replaces (fault.NotCreated None) calls = ⊥
 IsSaid replaces (fault.NotCreated (Some error)) calls = Fails error calls ⊎ LeadsNowhere error calls
     ⊎ HasNoName error calls
@@ -82,12 +82,12 @@ IsSaid replaces fault.OutOfMemory calls =
     (before : List FileCall) × (said : FileCall) × (is_failure said ≡ false) × (calls ≡ before ++ said ∷ [])
 
 -- A draft was removed, and why that is so stands before it.
-abbrev pub IsRemovedFor : Replaces → OutFault → List ℕ → List FileCall → Type 0
+abbrev pub IsRemovedFor : ReplaceRule → OutFault → List ℕ → List FileCall → Type 0
 IsRemovedFor replaces fault draft calls =
     (asked : List FileCall) × IsSaid replaces fault asked × (calls ≡ asked ++ Removes draft ∷ [])
 
 -- OUT, which has this path, if it has one, is refused so: it has none, or the system said why, and a draft was removed.
-abbrev pub IsRefused : Replaces → Option (List ℕ) → OutFault → List FileCall → Type 0
+abbrev pub IsRefused : ReplaceRule → Option (List ℕ) → OutFault → List FileCall → Type 0
 IsRefused replaces path refusal calls =
     ((path ≡ None) × (refusal ≡ fault.NotCreated None) × (calls ≡ [])) ⊎ IsSaid replaces refusal calls
     ⊎ ((draft : List ℕ) × IsRemovedFor replaces refusal draft calls)

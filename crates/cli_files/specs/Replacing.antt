@@ -5,20 +5,20 @@ use Rattle.archive_records.specs.declared.format.Format.{Format}
 use Rattle.archive_records.specs.declared.kind.TextKind.{TextKind}
 use Rattle.archive_records.specs.declared.kind.TextKind.TheVariants.{Archive, Summary}
 use Rattle.index_format.specs.Text.{index_magic}
-use Rattle.cli_files.specs.declared.replaceable.Replaces.{Replaces}
-use Rattle.cli_files.specs.declared.replaceable.Replaces.TheVariants.{ArchivesBelow, Summaries, Indexes, SameBytes}
+use Rattle.cli_files.specs.declared.replaceable.ReplaceRule.{ReplaceRule}
+use Rattle.cli_files.specs.declared.replaceable.ReplaceRule.TheVariants.{ArchivesBelow, Summaries, Indexes, SameBytes}
 
 -- The magic of a kind of file, in one of its formats.
 abbrev pub IsMagicOf : TextKind → List ℕ → Type 0
 IsMagicOf kind bytes = (format : Format) × (kind_of format ≡ kind) × (bytes ≡ magic_of format)
 
 -- A file that begins so is of the kind that the command writes; a slice may begin with any bytes.
-abbrev pub IsOfKind : Replaces → List ℕ → Type 0
+abbrev pub IsOfKind : ReplaceRule → List ℕ → Type 0
 IsOfKind ArchivesBelow bytes = IsMagicOf Archive bytes
 IsOfKind Summaries bytes = IsMagicOf Summary bytes
 IsOfKind Indexes bytes = bytes ≡ index_magic
 IsOfKind SameBytes bytes = Unit {0}
 
 -- A file that begins so may give way: it is empty, or of that kind.
-abbrev pub GivesWay : Replaces → List ℕ → Type 0
+abbrev pub GivesWay : ReplaceRule → List ℕ → Type 0
 GivesWay replaces bytes = (bytes ≡ []) ⊎ IsOfKind replaces bytes

@@ -26,10 +26,10 @@ pub trait Disk {
     // The paths that were opened, in their order, where they are known.
     ghost opened: { Self → Option (List Path) };
 
-    // Those at whose opening the system said that memory is wanting.
+    // Those at whose opening the system reported that memory ran out.
     ghost wanting: { Self → Option (List Path) };
 
-    /// Opens the file at a path, if that can be done. Where memory is wanting it was opened too.
+    /// Opens the file at a path, if that can be done. If memory ran out, it was opened too.
     fn open(&mut self, path: &str) -> Result<Result<Self::Input, CannotOpen>, NoMemory>
         ensures input { IfOk result
             (λ input. IsOpened Self.Input.left Self.Input.failures path_of (file_at self.old path.now) input) }

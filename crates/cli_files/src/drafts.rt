@@ -5,14 +5,14 @@ ghost use Rattle.std.specs.Prelude.{◌≡◌, ◌∷◌, ◌++◌, [], ℕ, IfE
 ghost use Rattle.std.specs.Path.{path_with_file_name};
 ghost use Rattle.cli_files.specs.FileCalls.{Creates, FileCall, Removes, are_probes, publishing, taking};
 ghost use Rattle.cli_files.specs.Refusals.{IsRemovedFor, IsSaid, is_failure};
-ghost use Rattle.cli_files.specs.declared.replaceable.Replaces.{Replaces};
+ghost use Rattle.cli_files.specs.declared.replaceable.ReplaceRule.{ReplaceRule};
 ghost use Rattle.cli_files.specs.Publishing.{IsBeside, IsTakenBack, IsTested, draft_mode, draft_name, folder_of};
 
 use crate::file_calls::FileCalls;
 use crate::found::Found;
-use crate::losses::{given_way, test_losses};
-use crate::replaceable::{Obstacle, OutFault, Replaces};
-use crate::sameness::test_sameness;
+use crate::losses::{check_losses, replaceable_beginning};
+use crate::replaceable::{Obstacle, OutFault, ReplaceRule};
+use crate::sameness::check_sameness;
 use crate::system_calls::{Own, System};
 use memory::NoMemory;
 use std::alloc::Global;
@@ -74,7 +74,7 @@ pub fn create_draft<F: Files>(
         ≡ calls.old.entries ++ taking taken ++ Creates (string_bytes draft.own.path) (draft_mode there) ∷ [])) }
     ensures refused { OnErr result ((tests : List FileCall) × (are_probes tests ≡ true)
         × (calls.new.entries ≡ calls.old.entries ++ tests)) }
-    ensures said { (replaces : Replaces) (before : List FileCall) (said : FileCall)
+    ensures said { (replaces : ReplaceRule) (before : List FileCall) (said : FileCall)
         → calls.old.entries ≡ before ++ said ∷ [] → is_failure said ≡ false
         → IfErr result (λ fault. IsSaid replaces fault calls.new.entries) }
 {
@@ -116,7 +116,7 @@ pub fn put_draft<F: Files>(
     alloc: Global,
     system: &System<'_, F>,
     draft: &Draft<F::File>,
-    replaces: Replaces,
+    replaces: ReplaceRule,
     calls: &mut FileCalls,
 ) -> Result<(), OutFault>
     ensures published { OnOk result ((tests : List FileCall)
@@ -128,7 +128,7 @@ pub fn put_draft<F: Files>(
     ensures said { IfErr result
         (λ fault. IsRemovedFor replaces fault (string_bytes draft.now.own.path) calls.new.entries) }
 {
-    if let Err(fault) = test_place(alloc, system, draft, replaces, calls) {
+    if let Err(fault) = check_place(alloc, system, draft, replaces, calls) {
         remove_draft(system, draft, calls);
         return Err(fault);
     }
@@ -145,11 +145,11 @@ pub fn put_draft<F: Files>(
 }
 
 /// Whether a draft may be put in the place of what is there.
-fn test_place<F: Files>(
+fn check_place<F: Files>(
     alloc: Global,
     system: &System<'_, F>,
     draft: &Draft<F::File>,
-    replaces: Replaces,
+    replaces: ReplaceRule,
     calls: &mut FileCalls,
 ) -> Result<(), OutFault>
     ensures tested { OnOk result ((tests : List FileCall)
@@ -160,17 +160,17 @@ fn test_place<F: Files>(
     ensures said { IfErr result (λ fault. IsSaid replaces fault calls.new.entries) }
 {
     match replaces {
-        Replaces::Summaries | Replaces::Indexes => {
-            given_way(system, &draft.target, replaces, calls)?;
+        ReplaceRule::Summaries | ReplaceRule::Indexes => {
+            replaceable_beginning(system, &draft.target, replaces, calls)?;
             Ok(())
         }
-        Replaces::ArchivesBelow => test_losses(
+        ReplaceRule::ArchivesBelow => check_losses(
             alloc,
             system,
             draft.own.path(),
             &draft.target,
             calls,
         ),
-        Replaces::SameBytes => test_sameness(system, draft.own.path(), &draft.target, calls),
+        ReplaceRule::SameBytes => check_sameness(system, draft.own.path(), &draft.target, calls),
     }
 }

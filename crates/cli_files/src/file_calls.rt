@@ -41,17 +41,17 @@ impl FileCalls {
     {}
 
     /// A path was asked of, and the system said this.
-    pub fn finds(&mut self, path: &str, answer: &io::Result<Found>)
+    pub fn note_metadata(&mut self, path: &str, answer: &io::Result<Found>)
         ensures { self.new.entries ≡ self.old.entries ++ found path.now answer.now }
     {
         match answer {
-            Ok(found) => self.finds_file(path, found),
-            Err(error) => self.fails(path, error),
+            Ok(found) => self.note_file(path, found),
+            Err(error) => self.note_failure(path, error),
         }
     }
 
     // What the system said of a file.
-    fn finds_file(&mut self, path: &str, found: &Found)
+    fn note_file(&mut self, path: &str, found: &Found)
         ensures { self.new.entries ≡ self.old.entries ++ Finds path.now found.now ∷ [] }
     {
         let number = if found.is_file { 7 } else { 8 };
@@ -71,7 +71,7 @@ impl FileCalls {
     }
 
     /// It was asked whether a path itself is a link.
-    pub fn finds_link(&mut self, path: &str, is_link: bool)
+    pub fn note_is_link(&mut self, path: &str, is_link: bool)
         ensures { self.new.entries ≡ self.old.entries ++ linked path.now is_link }
     {
         if is_link {
@@ -82,64 +82,64 @@ impl FileCalls {
     }
 
     /// It was asked which path a path leads to.
-    pub fn leads(&mut self, path: &str, answer: &io::Result<String>)
+    pub fn note_canonical(&mut self, path: &str, answer: &io::Result<String>)
         ensures { self.new.entries ≡ self.old.entries ++ led path.now answer.now }
     {
         match answer {
             Ok(target) => self.note(&[11], path.as_bytes(), target.as_bytes()),
-            Err(error) => self.fails(path, error),
+            Err(error) => self.note_failure(path, error),
         }
     }
 
     /// The first bytes of the file at a path were read; `None` if it is empty.
-    pub fn begins(&mut self, path: &str, answer: &io::Result<Option<LeadingBytes>>)
+    pub fn note_beginning(&mut self, path: &str, answer: &io::Result<Option<LeadingBytes>>)
         ensures { self.new.entries ≡ self.old.entries ++ begun path.now answer.now }
     {
         match answer {
             Ok(Some(bytes)) => self.note(&[12], path.as_bytes(), bytes),
             Ok(None) => self.note(&[12], path.as_bytes(), &[]),
-            Err(error) => self.fails(path, error),
+            Err(error) => self.note_failure(path, error),
         }
     }
 
     /// The next bytes of the file at a path were read.
-    pub fn gives(&mut self, path: &str, bytes: &[u8], answer: &io::Result<()>)
+    pub fn note_read(&mut self, path: &str, bytes: &[u8], answer: &io::Result<()>)
         ensures { self.new.entries ≡ self.old.entries ++ answered (Gives path.now bytes.now) path.now answer.now }
     {
         match answer {
             Ok(()) => self.note(&[13], path.as_bytes(), bytes),
-            Err(error) => self.fails(path, error),
+            Err(error) => self.note_failure(path, error),
         }
     }
 
     /// The archive at the first path neither has nor covers so many records of the one at the second.
-    pub fn compares(&mut self, draft: &str, target: &str, lost: u64)
+    pub fn note_losses(&mut self, draft: &str, target: &str, lost: u64)
         ensures { self.new.entries ≡ self.old.entries ++ Compares draft.now target.now lost ∷ [] }
     {
         self.note(&[14, lost], draft.as_bytes(), target.as_bytes());
     }
 
     /// A file was opened to be read, of which only a failure is noted.
-    pub fn opens_to_read<T>(&mut self, path: &str, answer: &io::Result<T>)
+    pub fn note_failed_open<T>(&mut self, path: &str, answer: &io::Result<T>)
         ensures { self.new.entries ≡ self.old.entries ++ refused path.now answer.now }
     {
         if let Err(error) = answer {
-            self.fails(path, error);
+            self.note_failure(path, error);
         }
     }
 
     /// What is there was to be opened and emptied.
-    pub fn opens<T>(&mut self, path: &str, answer: &io::Result<T>)
+    pub fn note_truncate<T>(&mut self, path: &str, answer: &io::Result<T>)
         ensures { self.new.entries ≡ self.old.entries ++ answered (Opens path.now) path.now answer.now }
     {
         match answer {
             Ok(_) => self.note(&[1], path.as_bytes(), &[]),
-            Err(error) => self.fails(path, error),
+            Err(error) => self.note_failure(path, error),
         }
     }
 
     /// A file was to be created that was not there, with this mode.
-    pub fn creates<T>(&mut self, path: &str, mode: u32, answer: &io::Result<T>)
+    pub fn note_create<T>(&mut self, path: &str, mode: u32, answer: &io::Result<T>)
         ensures { self.new.entries ≡ self.old.entries ++ created path.now mode answer.now }
     {
         match answer {
@@ -149,54 +149,54 @@ impl FileCalls {
                 path.as_bytes(),
                 &[],
             ),
-            Err(error) => self.fails(path, error),
+            Err(error) => self.note_failure(path, error),
         }
     }
 
     /// Bytes were written to the file that was created or opened.
-    pub fn writes(&mut self, bytes: &[u8])
+    pub fn note_write(&mut self, bytes: &[u8])
         ensures { self.new.entries ≡ self.old.entries ++ Writes bytes.now ∷ [] }
     {
         self.note(&[2], bytes, &[]);
     }
 
     /// Its bytes, which are at this path, were to be on the disk.
-    pub fn syncs(&mut self, path: &str, answer: &io::Result<()>)
+    pub fn note_sync(&mut self, path: &str, answer: &io::Result<()>)
         ensures { self.new.entries ≡ self.old.entries ++ answered Syncs path.now answer.now }
     {
         match answer {
             Ok(()) => self.note(&[3], &[], &[]),
-            Err(error) => self.fails(path, error),
+            Err(error) => self.note_failure(path, error),
         }
     }
 
     /// A file was to get the path of another one, which is gone then.
-    pub fn renames(&mut self, draft: &str, target: &str, answer: &io::Result<()>)
+    pub fn note_rename(&mut self, draft: &str, target: &str, answer: &io::Result<()>)
         ensures { self.new.entries ≡ self.old.entries
             ++ answered (Renames draft.now target.now) target.now answer.now }
     {
         match answer {
             Ok(()) => self.note(&[4], draft.as_bytes(), target.as_bytes()),
-            Err(error) => self.fails(target, error),
+            Err(error) => self.note_failure(target, error),
         }
     }
 
     /// The names of a folder were to be on the disk.
-    pub fn syncs_folder(&mut self, path: &str)
+    pub fn note_sync_folder(&mut self, path: &str)
         ensures { self.new.entries ≡ self.old.entries ++ SyncsFolder path.now ∷ [] }
     {
         self.note(&[5], path.as_bytes(), &[]);
     }
 
     /// A file was to be removed.
-    pub fn removes(&mut self, path: &str)
+    pub fn note_remove(&mut self, path: &str)
         ensures { self.new.entries ≡ self.old.entries ++ Removes path.now ∷ [] }
     {
         self.note(&[6], path.as_bytes(), &[]);
     }
 
     // A call of a path failed, of which the system said this.
-    fn fails(&mut self, path: &str, error: &io::Error)
+    fn note_failure(&mut self, path: &str, error: &io::Error)
         ensures { self.new.entries ≡ self.old.entries ++ failed path.now (error_kind error.now) ∷ [] }
     {
         match error.kind() {

@@ -1,5 +1,5 @@
-//! An input that is opened at its turn: with the first call for its bytes, be it for those that come next, or for some
-//! from a place.
+//! An input that is opened at its first read: with the first call for its bytes, be it for those that come next, or for
+//! some from a place.
 
 ghost use Rattle.std.proofs.Props.{props};
 ghost use Rattle.std.specs.Prelude.{◌≡◌, ◌≢◌, ◌≤◌, List, ◌∷◌, [], Some, None, IfOk, OnOk, length};
@@ -28,7 +28,7 @@ enum InputState<I, P> {
     Unopened(Unopened),
 }
 
-/// Why an input was not opened at its turn.
+/// Why an input was not opened at its first read.
 #[derive(Clone, Copy, Debug)]
 pub enum Unopened {
     Refused(CannotOpen),
@@ -38,14 +38,14 @@ pub enum Unopened {
 /// The file at a path of a disk, which is opened with the first call for its bytes. Where it is not opened that call
 /// fails, and so does each after it: nothing is tried again.
 #[derive(Drop)]
-pub struct AtTurn<'l, D: Disk> {
+pub struct LazyInput<'l, D: Disk> {
     disk: D,
     path: &'l str,
     state: InputState<D::Input, D::Places>,
     failures: u64,
     // The disk, which is its own, opened its path, once, or nothing while no byte was asked for.
     ghost log: { (paths : List Path) → D.opened disk ≡ Some paths → paths ≡ opened_in (stage_of state) path.now },
-    // Memory was wanting where the disk says so.
+    // Memory ran out where the disk says so.
     ghost wants: { (paths : List Path) → D.wanting disk ≡ Some paths → paths ≡ wanting_in (stage_of state) path.now },
     // What is not there is not open, and what is known to be there is not refused.
     ghost fits: { ∥ IsStateOf (D.file_at disk path.now) (stage_of state) ∥₁ },
@@ -55,7 +55,7 @@ pub struct AtTurn<'l, D: Disk> {
     ghost failed: { unopened_in (stage_of state) ≢ None → failures ≢ 0 },
 }
 
-impl<'l, D: Disk> AtTurn<'l, D> {
+impl<'l, D: Disk> LazyInput<'l, D> {
     /// The file at this path of a disk that opened nothing.
     pub fn new(disk: D, path: &'l str) -> Self
         requires opened { (paths : List Path) → D.opened disk ≡ Some paths → paths ≡ [] }
@@ -65,7 +65,7 @@ impl<'l, D: Disk> AtTurn<'l, D> {
         ensures waiting { stage_of result.state ≡ Waiting }
         ensures unfailed { result.failures ≡ 0 }
     {
-        AtTurn {
+        LazyInput {
             disk,
             path,
             state: InputState::Waiting,
@@ -73,7 +73,7 @@ impl<'l, D: Disk> AtTurn<'l, D> {
         }
     }
 
-    /// Why it was not opened, if its turn came and it was not.
+    /// Why it was not opened, if it was read and was not.
     pub fn unopened(&self) -> Option<Unopened>
         ensures { result ≡ unopened_in (stage_of self.now.state) }
     {
@@ -216,7 +216,7 @@ fn size_open<I: Source, P: Placed>(state: &mut InputState<I, P>) -> Result<u64, 
     }
 }
 
-impl<'l, D: Disk> Source for AtTurn<'l, D> {
+impl<'l, D: Disk> Source for LazyInput<'l, D> {
     ghost left = { λ s. left_in D.Input.left (D.file_at s.disk s.path.now) s.state };
 
     ghost failures = { λ s. s.failures };
@@ -236,7 +236,7 @@ impl<'l, D: Disk> Source for AtTurn<'l, D> {
     }
 }
 
-impl<'l, D: Disk> Opens for AtTurn<'l, D> {
+impl<'l, D: Disk> Opens for LazyInput<'l, D> {
     ghost opening_of = { λ s. opening_in (stage_of s.state) };
 
     fn opening(&self) -> Opening {
@@ -248,7 +248,7 @@ impl<'l, D: Disk> Opens for AtTurn<'l, D> {
     }
 }
 
-impl<'l, D: Disk> Placed for AtTurn<'l, D> {
+impl<'l, D: Disk> Placed for LazyInput<'l, D> {
     ghost whole = { λ s. bytes_at (D.file_at s.disk s.path.now) };
 
     ghost failures = { λ s. s.failures };

@@ -1,18 +1,18 @@
-//! The inputs of a command, each of which is opened at its turn.
+//! The inputs of a command, each of which is opened at its first read.
 
 ghost use Rattle.std.specs.Prelude.{◌≡◌, ◌++◌, [], OnOk, map};
-ghost use Rattle.cli_files.specs.AtTurns.{told};
+ghost use Rattle.cli_files.specs.LazyInputs.{told};
 ghost use Rattle.cli_files.specs.InputStates.{AreFirstAsked, AreWaiting};
 
 use crate::call_log::CallLog;
-use crate::input_state::AtTurn;
+use crate::input_state::LazyInput;
 use crate::system_disk::SystemDisk;
 use memory::NoMemory;
 use std::alloc::Global;
 use std::rt::Files;
 
 /// An input of the system.
-pub type SystemInput<'l, 'a, F> = AtTurn<'l, SystemDisk<'a, F>>;
+pub type SystemInput<'l, 'a, F> = LazyInput<'l, SystemDisk<'a, F>>;
 
 /// Makes an input for each of these paths, which is noted.
 pub fn make_inputs<'l, 'a, F: Files>(
@@ -29,7 +29,7 @@ pub fn make_inputs<'l, 'a, F: Files>(
 {
     'paths: for path in paths {
         asked.note(path.as_bytes());
-        inputs.push(AtTurn::new(SystemDisk::new(alloc, files), path))?;
+        inputs.push(LazyInput::new(SystemDisk::new(alloc, files), path))?;
     }
     Ok(())
 }

@@ -5,7 +5,7 @@
 //! - `found`: what the system said of a path; `system_calls`: one function for each call of the system for OUT;
 //! - `opened_file`: a file that is read from its start; `placed_file`: one that is read from any place;
 //! - `disks`: [`Disk`], files by their paths; `system_disk`: those of the system;
-//! - `input_state`: an input that is opened at its turn;
+//! - `input_state`: an input that is opened at its first read;
 //! - `inputs`: the inputs of a command;
 //! - `identities`: which file a path names;
 //! - `descriptors`: the paths of descriptors; `ways`: how OUT is written, by what its path leads to;
@@ -27,9 +27,9 @@
 //!   is no regular file, or a descriptor, is written through (`IsWritable`).
 //! - [`SystemFiles::begin`](SystemFiles) gives OUT its path if each input was found to be another file, and otherwise
 //!   none.
-//! - [`AtTurn`], an input over any disk, opens its path with the first call for its bytes, once, and no other path
-//!   (`IsAtTurn`). If it is not opened, that call fails, and each after it; that memory was wanting is reported only
-//!   where the system said so. A file that is read from its start is closed at its end ([`OpenedFile`]).
+//! - [`LazyInput`], an input over any disk, opens its path with the first call for its bytes, once, and no other path
+//!   (`IsLazyInput`). If it is not opened, that call fails, and each after it; that memory ran out is reported only if the
+//!   system said so. A file that is read from its start is closed at its end ([`OpenedFile`]).
 //!
 //! # Why it is so
 //!
@@ -62,7 +62,7 @@
 //! - A sync of the draft that fails is `cannot replace`. One of the folder is not reported: some file systems cannot do
 //!   it, and no command can take the rename back.
 //! - Each input has a disk of its own, since what a shared cell holds is in no contract; so its log is of one input.
-//! - What a missing file has left is, for a clause, a number that no byte is (256), so nothing follows from reading it.
+//! - Contracts model a missing file by a value outside 0 to 255, so nothing follows from reading it.
 //! - OUT and each input are compared by device and file number before any input is opened, links followed, regular
 //!   files only; a number of 0 counts as unknown. A file that is put there later is not noticed.
 //! - An input keeps its first eight bytes and what the system said, for the second line; nothing is opened again for
@@ -93,12 +93,12 @@ mod system_files;
 mod ways;
 
 pub use disks::Disk;
-pub use input_state::{AtTurn, Unopened};
+pub use input_state::{LazyInput, Unopened};
 pub use inputs::SystemInput;
 pub use opened_file::{LeadingBytes, OpenedFile};
 pub use out_file::OutFile;
-pub use out_path::OutPath;
+pub use out_path::OutTarget;
 pub use placed_file::PlacedFile;
-pub use replaceable::{Obstacle, OutFault, Replaces};
+pub use replaceable::{Obstacle, OutFault, ReplaceRule};
 pub use system_disk::SystemDisk;
 pub use system_files::SystemFiles;

@@ -11,12 +11,12 @@ ghost use Rattle.cli_files.specs.FileCalls.{Begins, Compares, FileCall, are_prob
 ghost use Rattle.cli_files.specs.Publishing.{BeginsSo, IsTested};
 ghost use Rattle.cli_files.specs.Refusals.{Fails, IsSaid, IsUncompared, IsUnread};
 ghost use Rattle.cli_files.specs.Replacing.{GivesWay, IsOfKind};
-ghost use Rattle.cli_files.specs.declared.replaceable.Replaces.{Replaces};
-ghost use Rattle.cli_files.specs.declared.replaceable.Replaces.TheVariants.{ArchivesBelow};
+ghost use Rattle.cli_files.specs.declared.replaceable.ReplaceRule.{ReplaceRule};
+ghost use Rattle.cli_files.specs.declared.replaceable.ReplaceRule.TheVariants.{ArchivesBelow};
 
 use crate::file_calls::FileCalls;
 use crate::opened_file::LeadingBytes;
-use crate::replaceable::{Obstacle, OutFault, Replaces, test_kind};
+use crate::replaceable::{Obstacle, OutFault, ReplaceRule, check_kind};
 use crate::sides::{ArchiveSide, side_of};
 use crate::system_calls::System;
 use archive_merge::lost_operations;
@@ -29,7 +29,7 @@ use std::rt::Files;
 
 /// Tests whether an archive may take the place of what is at its target: nothing, an empty file, or an archive that has
 /// no record which the draft neither has nor covers.
-pub fn test_losses<F: Files>(
+pub fn check_losses<F: Files>(
     alloc: Global,
     system: &System<'_, F>,
     draft: &str,
@@ -42,7 +42,7 @@ pub fn test_losses<F: Files>(
         × (calls.new.entries ≡ calls.old.entries ++ tests)) }
     ensures said { IfErr result (λ fault. IsSaid ArchivesBelow fault calls.new.entries) }
 {
-    if given_way(system, target, Replaces::ArchivesBelow, calls)?.is_none() {
+    if replaceable_beginning(system, target, ReplaceRule::ArchivesBelow, calls)?.is_none() {
         return Ok(());
     }
     match lost_at(alloc, system, draft, target, calls)? {
@@ -63,7 +63,7 @@ fn lost_at<F: Files>(
         (λ lost. calls.new.entries ≡ calls.old.entries ++ Compares draft.now target.now lost ∷ []) }
     ensures refused { OnErr result ((tests : List FileCall) × (are_probes tests ≡ true)
         × (calls.new.entries ≡ calls.old.entries ++ tests)) }
-    ensures said { (replaces : Replaces) → IsUncompared calls.old.entries
+    ensures said { (replaces : ReplaceRule) → IsUncompared calls.old.entries
         → IfErr result (λ fault. IsSaid replaces fault calls.new.entries) }
 {
     let heap = Heap::new(alloc)?;
@@ -95,19 +95,19 @@ fn lost_between<'d, 't, R: Read + Drop>(
     let (draft, target) = (new.path(), old.path());
     match lost_operations(heap, new, old) {
         Ok(lost) => {
-            calls.compares(draft, target, lost);
+            calls.note_losses(draft, target, lost);
             Ok(lost)
         }
         Err(fault) => Err(unread(fault, new.reason(), old.reason())),
     }
 }
 
-/// What the file at a path begins with, which has to give way: `None` if it is empty, or nothing is there.
+/// The first bytes of the file at a path, which the rule allows to replace; `None` if it is empty or absent.
 #[tactic(auto, using(crate::proofs::Said::other_kind))]
-pub fn given_way<F: Files>(
+pub fn replaceable_beginning<F: Files>(
     system: &System<'_, F>,
     path: &str,
-    replaces: Replaces,
+    replaces: ReplaceRule,
     calls: &mut FileCalls,
 ) -> Result<Option<LeadingBytes>, OutFault>
     ensures kind { IfOk result
@@ -123,7 +123,7 @@ pub fn given_way<F: Files>(
         Ok(beginning) => beginning,
         Err(error) => return Err(refused(error)),
     };
-    test_kind(replaces, &beginning)?;
+    check_kind(replaces, &beginning)?;
     Ok(beginning)
 }
 
@@ -160,7 +160,7 @@ fn side_at<'p, F: Files>(
     ensures opened { OnOk result (calls.new.entries ≡ calls.old.entries) }
     ensures refused { OnErr result ((tests : List FileCall) × (are_probes tests ≡ true)
         × (calls.new.entries ≡ calls.old.entries ++ tests)) }
-    ensures said { (replaces : Replaces) → IsUncompared calls.old.entries
+    ensures said { (replaces : ReplaceRule) → IsUncompared calls.old.entries
         → IfErr result (λ fault. IsSaid replaces fault calls.new.entries) }
 {
     let opened = match system.open(path, false, calls) {
@@ -175,7 +175,7 @@ fn side_at<'p, F: Files>(
 
 /// The fault where the system refused.
 fn refused(error: io::Error) -> OutFault
-    ensures said { (calls : List FileCall) (replaces : Replaces) → Fails error calls ⊎ IsUncompared calls
+    ensures said { (calls : List FileCall) (replaces : ReplaceRule) → Fails error calls ⊎ IsUncompared calls
         → IsSaid replaces result calls }
     ensures memory { error_kind error ≡ ErrorKind.OutOfMemory → result ≡ OutFault.OutOfMemory }
     ensures other { error_kind error ≢ ErrorKind.OutOfMemory

@@ -8,17 +8,17 @@ ghost use Rattle.cli_files.specs.FileCalls.{are_probes, bytes_in};
 ghost use Rattle.cli_files.specs.OutFiles.{IsSoFar, Settled, Untouched, WritesBegun, WritesTo};
 ghost use Rattle.cli_files.specs.OutFiles.{draft_account, fault_of};
 ghost use Rattle.cli_files.specs.OutFiles.{has_calls, is_drafted, is_settled, stage_of, takes_bytes};
-ghost use Rattle.cli_files.specs.declared.replaceable.Replaces.{Replaces};
-ghost use Rattle.cli_files.specs.declared.replaceable.Replaces.TheVariants.{ArchivesBelow};
+ghost use Rattle.cli_files.specs.declared.replaceable.ReplaceRule.{ReplaceRule};
+ghost use Rattle.cli_files.specs.declared.replaceable.ReplaceRule.TheVariants.{ArchivesBelow};
 ghost use Rattle.cli_files.specs.Refusals.{IsRefused, IsSaid};
 ghost use Rattle.cli_files.specs.Publishing.{HandsOn, IsRemoved, took_nothing};
 
 use crate::drafts::{Draft, create_draft, put_draft, remove_draft};
 use crate::file_calls::FileCalls;
 use crate::published::Published;
-use crate::replaceable::{Obstacle, OutFault, Replaces};
+use crate::replaceable::{Obstacle, OutFault, ReplaceRule};
 use crate::system_calls::System;
-use crate::ways::{Way, way_to};
+use crate::ways::{WriteMode, write_mode_of};
 use byte_device::{Failed, Sink};
 use std::alloc::Global;
 use std::io::{self, Write};
@@ -36,7 +36,7 @@ pub struct OutFile<'a, F: Files> {
     system: System<'a, F>,
     process: u32,
     path: Option<String>,
-    replaces: Replaces,
+    replaces: ReplaceRule,
     state: OutState<F::File>,
     failures: u64,
     /// Why it took no bytes last, if the system said.
@@ -66,14 +66,14 @@ enum OutState<T> {
     Settled,
 }
 
-/// What bytes go to first, where OUT has this path.
+/// Opens the file at OUT's path if it is no regular file, and else creates a draft next to it.
 #[tactic(auto, using(crate::proofs::Publishings::begun_drafted, crate::proofs::Publishings::probes_bytes))]
-fn begun<F: Files>(
+fn open_out<F: Files>(
     alloc: Global,
     system: &System<'_, F>,
     process: u32,
     path: &str,
-    replaces: Replaces,
+    replaces: ReplaceRule,
     calls: &mut FileCalls,
 ) -> Result<OutState<F::File>, OutFault>
     ensures calls { calls.old.entries ≡ [] → IfOk result
@@ -83,25 +83,25 @@ fn begun<F: Files>(
     ensures refused { calls.old.entries ≡ [] → OnErr result (are_probes calls.new.entries ≡ true) }
     ensures said { calls.old.entries ≡ [] → IfErr result (λ fault. IsSaid replaces fault calls.new.entries) }
 {
-    match way_to(alloc, system, path, replaces, calls)? {
-        Way::Through => match system.create(path, calls) {
+    match write_mode_of(alloc, system, path, replaces, calls)? {
+        WriteMode::Through => match system.create(path, calls) {
             Ok(file) => Ok(OutState::Through(file)),
             Err(error) => Err(OutFault::NotCreated(Some(error))),
         },
-        Way::Beside(target, there) => {
+        WriteMode::Beside(target, there) => {
             let draft = create_draft(alloc, system, process, target, there, calls)?;
             Ok(OutState::Drafted(draft))
         }
     }
 }
 
-/// How far OUT is once it was begun; without a path there is none.
-fn first_state<F: Files>(
+/// Opens OUT, and returns its state; without a path it is refused.
+fn opened_state<F: Files>(
     alloc: Global,
     system: &System<'_, F>,
     process: u32,
     path: &Option<String>,
-    replaces: Replaces,
+    replaces: ReplaceRule,
     calls: &mut FileCalls,
 ) -> OutState<F::File>
     ensures calls { calls.old.entries ≡ []
@@ -112,19 +112,19 @@ fn first_state<F: Files>(
     let Some(path) = path else {
         return OutState::Refused(OutFault::NotCreated(None));
     };
-    match begun(alloc, system, process, path, replaces, calls) {
+    match open_out(alloc, system, process, path, replaces, calls) {
         Ok(state) => state,
         Err(fault) => OutState::Refused(fault),
     }
 }
 
-/// Begins OUT where no bytes came before.
-fn begin<F: Files>(
+/// Opens OUT if no bytes came before.
+fn open_if_untouched<F: Files>(
     alloc: Global,
     system: &System<'_, F>,
     process: u32,
     path: &Option<String>,
-    replaces: Replaces,
+    replaces: ReplaceRule,
     state: &mut OutState<F::File>,
     calls: &mut FileCalls,
 )
@@ -138,7 +138,7 @@ fn begin<F: Files>(
     ensures same { stage_of state.old ≢ Untouched → state.new ≡ state.old }
 {
     if let OutState::Untouched = state {
-        *state = first_state(alloc, system, process, path, replaces, calls);
+        *state = opened_state(alloc, system, process, path, replaces, calls);
     }
 }
 
@@ -159,11 +159,12 @@ fn write<T: Write>(state: &mut OutState<T>, bytes: &[u8]) -> Result<usize, Optio
     }
 }
 
-/// Publishes what was written, and tells whether that was done. A draft that could not be put there is removed.
-fn finish<F: Files>(
+/// Publishes the bytes that were written, and reports whether that was done. A draft that could not be renamed is
+/// removed.
+fn publish_state<F: Files>(
     alloc: Global,
     system: &System<'_, F>,
-    replaces: Replaces,
+    replaces: ReplaceRule,
     state: &mut OutState<F::File>,
     calls: &mut FileCalls,
 ) -> bool
@@ -199,10 +200,10 @@ fn finish<F: Files>(
 
 /// Removes the draft of an output that was not published.
 fn remove<F: Files>(system: &System<'_, F>, state: &mut OutState<F::File>, calls: &mut FileCalls)
-    ensures so_far { (replaces : Replaces) (path : Option (List ℕ))
+    ensures so_far { (replaces : ReplaceRule) (path : Option (List ℕ))
         → IsSoFar replaces path (stage_of state.old) calls.old.entries
         → IsSoFar replaces path (stage_of state.new) calls.new.entries }
-    ensures removed { (replaces : Replaces) (path : Option (List ℕ))
+    ensures removed { (replaces : ReplaceRule) (path : Option (List ℕ))
         → IsSoFar replaces path (stage_of state.old) calls.old.entries
         → IsRemoved replaces path calls.new.entries }
     ensures bytes { bytes_in calls.new.entries ≡ bytes_in calls.old.entries }
@@ -231,7 +232,7 @@ impl<'a, F: Files> OutFile<'a, F> {
             system: System::new(files),
             process,
             path: None,
-            replaces: Replaces::ArchivesBelow,
+            replaces: ReplaceRule::ArchivesBelow,
             state: OutState::Untouched,
             failures: 0,
             reason: None,
@@ -240,7 +241,7 @@ impl<'a, F: Files> OutFile<'a, F> {
     }
 
     /// Takes a path.
-    pub fn take_path(&mut self, path: String)
+    pub fn set_path(&mut self, path: String)
         requires { stage_of self.old.state ≡ Untouched }
         ensures path { self.new.path ≡ Some path }
         ensures replaces { self.new.replaces ≡ self.old.replaces }
@@ -252,7 +253,7 @@ impl<'a, F: Files> OutFile<'a, F> {
     }
 
     /// Takes which files that are at its path may be replaced.
-    pub fn take_rule(&mut self, replaces: Replaces)
+    pub fn set_rule(&mut self, replaces: ReplaceRule)
         requires { stage_of self.old.state ≡ Untouched }
         ensures path { self.new.path ≡ self.old.path }
         ensures replaces { self.new.replaces ≡ replaces }
@@ -293,7 +294,7 @@ impl<'a, F: Files> OutFile<'a, F> {
 
     /// Publishes what was written, and hands on what was called for it. A draft that could not be put there is
     /// removed.
-    pub fn settle(&mut self) -> Option<Published>
+    pub fn publish_written(&mut self) -> Option<Published>
         ensures published { IfSome result (λ published.
             (Some (string_bytes published.path) ≡ option_map string_bytes self.old.path)
             × (published.replaces ≡ self.old.replaces)
@@ -306,7 +307,7 @@ impl<'a, F: Files> OutFile<'a, F> {
             × (is_settled (stage_of self.new.state) ≡ is_settled (stage_of self.old.state)) }
         ensures failures { self.new.failures ≡ self.old.failures }
     {
-        if !finish(
+        if !publish_state(
             self.alloc,
             &self.system,
             self.replaces,
@@ -379,7 +380,7 @@ impl<'a, F: Files> Sink for OutFile<'a, F> {
         if bytes.is_empty() {
             return Ok(0);
         }
-        begin(
+        open_if_untouched(
             self.alloc,
             &self.system,
             self.process,
@@ -390,7 +391,7 @@ impl<'a, F: Files> Sink for OutFile<'a, F> {
         );
         match write(&mut self.state, bytes) {
             Ok(n) if n > 0 => {
-                self.calls.writes(&bytes[..n]);
+                self.calls.note_write(&bytes[..n]);
                 Ok(n)
             }
             taken => {

@@ -8,21 +8,21 @@ use crate::published::Published;
 use byte_device::{Failed, Target};
 use std::rt::Files;
 
-/// What was published at OUT's path, if anything was.
+/// What was published as OUT, if anything was, and how often publishing failed.
 #[derive(Drop)]
-pub struct OutPath<'a, F: Files> {
+pub struct OutTarget<'a, F: Files> {
     files: &'a F,
     published: Option<Published>,
     failures: u64,
 }
 
-impl<'a, F: Files> OutPath<'a, F> {
+impl<'a, F: Files> OutTarget<'a, F> {
     /// A path at which nothing was put.
     pub fn new(files: &'a F) -> Self
         ensures published { result.published ≡ None }
         ensures failures { result.failures ≡ 0 }
     {
-        OutPath {
+        OutTarget {
             files,
             published: None,
             failures: 0,
@@ -30,7 +30,7 @@ impl<'a, F: Files> OutPath<'a, F> {
     }
 }
 
-impl<'a, F: Files> Target for OutPath<'a, F> {
+impl<'a, F: Files> Target for OutTarget<'a, F> {
     type Draft = OutFile<'a, F>;
 
     ghost published = { λ out. published_account out.published };
@@ -41,7 +41,7 @@ impl<'a, F: Files> Target for OutPath<'a, F> {
         if self.failures == MOST_FAILURES {
             return Err(Failed);
         }
-        match draft.settle() {
+        match draft.publish_written() {
             Some(published) => {
                 self.published = Some(published);
                 Ok(())

@@ -5,13 +5,13 @@ ghost use Rattle.cli_files.specs.FileCalls.{bytes_in};
 ghost use Rattle.cli_files.specs.Publishing.{IsPublished};
 
 use crate::file_calls::FileCalls;
-use crate::replaceable::Replaces;
+use crate::replaceable::ReplaceRule;
 
 /// The path of a published output, which files could be replaced there, and what was called for it.
 #[derive(Drop)]
 pub struct Published {
     pub path: String,
-    pub replaces: Replaces,
+    pub replaces: ReplaceRule,
     pub calls: FileCalls,
     ghost whole: { ∥ IsPublished (string_bytes path) replaces (bytes_in calls.entries) calls.entries ∥₁ },
 }

@@ -15,8 +15,8 @@ const INDEX_MAGIC: LeadingBytes = *b"MSYMIDX1";
 /// Why OUT takes no bytes, or was not published.
 #[derive(Clone, Copy, Debug)]
 pub enum OutFault {
-    /// It could not be created, or what is there may not be written, with what the system said, if it was the system
-    /// that refused.
+    /// It could not be created, or the file there may not be written, with the error of the system. `None`: OUT is the
+    /// file of an input.
     NotCreated(Option<io::Error>),
     /// What is there is not replaced.
     NotReplaced(Obstacle),
@@ -50,9 +50,9 @@ pub enum Obstacle {
     Refused(Option<io::Error>),
 }
 
-/// Which files a command replaces beside empty ones.
+/// Which files a command may replace; an empty one it always may.
 #[derive(Clone, Copy, Debug, PartialEq, Eq)]
-pub enum Replaces {
+pub enum ReplaceRule {
     /// An archive, unless it has a record which the new one neither has nor covers.
     ArchivesBelow,
     /// A summary.
@@ -63,17 +63,17 @@ pub enum Replaces {
     SameBytes,
 }
 
-impl Replaces {
+impl ReplaceRule {
     /// Whether a file that begins so is of the kind that the command writes; a slice may begin with any bytes.
     fn is_of_kind(self, bytes: &LeadingBytes) -> bool
         ensures kind { result ≡ true → IsOfKind self bytes.now }
         ensures other { result ≡ false → IsOfKind self bytes.now → ⊥ }
     {
         match self {
-            Replaces::ArchivesBelow => TextKind::Archive.format_of(bytes).is_some(),
-            Replaces::Summaries => TextKind::Summary.format_of(bytes).is_some(),
-            Replaces::Indexes => *bytes == INDEX_MAGIC,
-            Replaces::SameBytes => true,
+            ReplaceRule::ArchivesBelow => TextKind::Archive.format_of(bytes).is_some(),
+            ReplaceRule::Summaries => TextKind::Summary.format_of(bytes).is_some(),
+            ReplaceRule::Indexes => *bytes == INDEX_MAGIC,
+            ReplaceRule::SameBytes => true,
         }
     }
 }
@@ -93,7 +93,7 @@ pub fn beginning_of<R: Read>(file: &mut R, size: u64) -> io::Result<Option<Leadi
 }
 
 /// Tests whether a file that begins so may be replaced.
-pub fn test_kind(replaces: Replaces, beginning: &Option<LeadingBytes>) -> Result<(), OutFault>
+pub fn check_kind(replaces: ReplaceRule, beginning: &Option<LeadingBytes>) -> Result<(), OutFault>
     ensures gives_way { OnOk result (GivesWay replaces (first_bytes beginning.now)) }
     ensures of_kind { OnOk result ((bytes : List ℕ) → beginning.now ≡ Some bytes → IsOfKind replaces bytes) }
     ensures empty { beginning.now ≡ None → IsOk result }

@@ -6,8 +6,8 @@ ghost use Rattle.std.specs.List.{concat};
 ghost use Rattle.cli_files.specs.FileCalls.{FileCall, Gives, are_probes};
 ghost use Rattle.cli_files.specs.Publishing.{AreOther, AreSame, IsEmptyAt, IsTested, both_give};
 ghost use Rattle.cli_files.specs.Refusals.{Fails, IsSaid};
-ghost use Rattle.cli_files.specs.declared.replaceable.Replaces.{Replaces};
-ghost use Rattle.cli_files.specs.declared.replaceable.Replaces.TheVariants.{SameBytes};
+ghost use Rattle.cli_files.specs.declared.replaceable.ReplaceRule.{ReplaceRule};
+ghost use Rattle.cli_files.specs.declared.replaceable.ReplaceRule.TheVariants.{SameBytes};
 
 use crate::file_calls::FileCalls;
 use crate::replaceable::{Obstacle, OutFault};
@@ -20,7 +20,7 @@ const PIECE: usize = 8 * 1024;
 
 /// Tests whether a draft may take the place of what is at its target: nothing, an empty file, or one that has the very
 /// bytes of the draft.
-pub fn test_sameness<F: Files>(
+pub fn check_sameness<F: Files>(
     system: &System<'_, F>,
     draft: &str,
     target: &str,
@@ -30,9 +30,9 @@ pub fn test_sameness<F: Files>(
         × (calls.new.entries ≡ calls.old.entries ++ tests)) }
     ensures refused { OnErr result ((tests : List FileCall) × (are_probes tests ≡ true)
         × (calls.new.entries ≡ calls.old.entries ++ tests)) }
-    ensures said { (replaces : Replaces) → IfErr result (λ fault. IsSaid replaces fault calls.new.entries) }
+    ensures said { (replaces : ReplaceRule) → IfErr result (λ fault. IsSaid replaces fault calls.new.entries) }
 {
-    match agrees(system, draft, target, calls) {
+    match may_take_place(system, draft, target, calls) {
         Ok(true) => Ok(()),
         Ok(false) => Err(OutFault::NotReplaced(Obstacle::Differs)),
         Err(error) => Err(OutFault::NotReplaced(Obstacle::Refused(Some(error)))),
@@ -40,7 +40,7 @@ pub fn test_sameness<F: Files>(
 }
 
 /// Whether nothing or an empty file is at a path, or one that has the bytes of a draft.
-fn agrees<F: Files>(
+fn may_take_place<F: Files>(
     system: &System<'_, F>,
     draft: &str,
     target: &str,

@@ -61,7 +61,7 @@ impl<'a, F: Files> System<'a, F> {
         ensures { calls.new.entries ≡ calls.old.entries ++ found path.now result }
     {
         let answer = fs::metadata(self.files, path).map(found_of);
-        calls.finds(path, &answer);
+        calls.note_metadata(path, &answer);
         answer
     }
 
@@ -70,7 +70,7 @@ impl<'a, F: Files> System<'a, F> {
         ensures { calls.new.entries ≡ calls.old.entries ++ linked path.now result }
     {
         let answer = fs::symlink_metadata(self.files, path).is_ok_and(|it| it.is_symlink());
-        calls.finds_link(path, answer);
+        calls.note_is_link(path, answer);
         answer
     }
 
@@ -87,7 +87,7 @@ impl<'a, F: Files> System<'a, F> {
             .files
             .canonicalize(alloc, path)
             .map(PathBuf::into_string);
-        calls.leads(path, &answer);
+        calls.note_canonical(path, &answer);
         answer
     }
 
@@ -105,7 +105,7 @@ impl<'a, F: Files> System<'a, F> {
             .read(true)
             .write(writes)
             .open(self.files, path);
-        calls.opens_to_read(path, &answer);
+        calls.note_failed_open(path, &answer);
         Ok(Opened {
             file: answer?,
             path,
@@ -117,7 +117,7 @@ impl<'a, F: Files> System<'a, F> {
         ensures { calls.new.entries ≡ calls.old.entries ++ answered (Opens path.now) path.now result }
     {
         let answer = fs::create(self.files, path);
-        calls.opens(path, &answer);
+        calls.note_truncate(path, &answer);
         answer
     }
 
@@ -137,7 +137,7 @@ impl<'a, F: Files> System<'a, F> {
             .create_new(true)
             .mode(mode)
             .open(self.files, &path);
-        calls.creates(&path, mode, &answer);
+        calls.note_create(&path, mode, &answer);
         let file = answer?;
         if let Some(there) = there {
             // Who may not give the file away keeps it, but may still be one of its group; and some systems have no
@@ -155,7 +155,7 @@ impl<'a, F: Files> System<'a, F> {
             ++ answered (Renames (string_bytes own.now.path) target.now) target.now result }
     {
         let answer = fs::rename(self.files, &own.path, target);
-        calls.renames(&own.path, target, &answer);
+        calls.note_rename(&own.path, target, &answer);
         answer
     }
 
@@ -163,7 +163,7 @@ impl<'a, F: Files> System<'a, F> {
     pub fn remove<T>(&self, own: &Own<T>, calls: &mut FileCalls)
         ensures { calls.new.entries ≡ calls.old.entries ++ Removes (string_bytes own.now.path) ∷ [] }
     {
-        calls.removes(&own.path);
+        calls.note_remove(&own.path);
         let _ = fs::remove_file(self.files, &own.path);
     }
 
@@ -171,7 +171,7 @@ impl<'a, F: Files> System<'a, F> {
     pub fn sync_folder(&self, folder: &str, calls: &mut FileCalls)
         ensures { calls.new.entries ≡ calls.old.entries ++ SyncsFolder folder.now ∷ [] }
     {
-        calls.syncs_folder(folder);
+        calls.note_sync_folder(folder);
         if let Ok(folder) = fs::open(self.files, folder) {
             let _ = folder.sync_all();
         }
@@ -184,7 +184,7 @@ impl<T: OpenFile> Own<T> {
         ensures { calls.new.entries ≡ calls.old.entries ++ answered Syncs (string_bytes self.now.path) result }
     {
         let answer = self.file.sync_all();
-        calls.syncs(&self.path, &answer);
+        calls.note_sync(&self.path, &answer);
         answer
     }
 }
@@ -230,7 +230,7 @@ impl<'p, T: Read> Opened<'p, T> {
         ensures { calls.new.entries ≡ calls.old.entries ++ begun self.old.path.now result }
     {
         let answer = beginning_of(&mut self.file, size);
-        calls.begins(self.path, &answer);
+        calls.note_beginning(self.path, &answer);
         answer
     }
 
@@ -241,7 +241,7 @@ impl<'p, T: Read> Opened<'p, T> {
         ensures path { self.new.path.now ≡ self.old.path.now }
     {
         let answer = self.file.read_exact(buf);
-        calls.gives(self.path, buf, &answer);
+        calls.note_read(self.path, buf, &answer);
         answer
     }
 }

@@ -20,7 +20,7 @@ pub struct SystemDisk<'a, F: Files> {
     alloc: Global,
     files: &'a F,
     opened: CallLog,
-    /// The paths at whose opening the system said that memory is wanting.
+    /// The paths at whose opening the system reported that memory ran out.
     wanting: CallLog,
 }
 
@@ -41,7 +41,7 @@ impl<'a, F: Files> SystemDisk<'a, F> {
     }
 }
 
-/// Notes that memory is wanting, if that is what the system said.
+/// Notes that memory ran out, if that is the reason that the system gave.
 fn note_wanting(reason: &io::Error, path: &str, wanting: &mut CallLog)
     ensures memory { error_kind reason.now ≡ ErrorKind.OutOfMemory
         → wanting.new.entries ≡ wanting.old.entries ++ path.now ∷ [] }

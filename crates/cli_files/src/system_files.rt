@@ -1,7 +1,7 @@
 //! The files of the system in one command: its inputs, and OUT.
 
 ghost use Rattle.std.specs.Prelude.{◌≡◌, ◌++◌, [], IfOk, None, OnOk, Some, map, option_map, string_bytes};
-ghost use Rattle.cli_files.specs.AtTurns.{told};
+ghost use Rattle.cli_files.specs.LazyInputs.{told};
 ghost use Rattle.cli_files.specs.Fresh.{AreFresh};
 ghost use Rattle.cli_files.specs.InputStates.{AreFirstAsked, AreWaiting};
 ghost use Rattle.cli_files.specs.OutFiles.{Untouched, stage_of};
@@ -12,8 +12,8 @@ use crate::file_calls::FileCalls;
 use crate::identities::are_other_files;
 use crate::inputs::{SystemInput, make_inputs};
 use crate::out_file::OutFile;
-use crate::out_path::OutPath;
-use crate::replaceable::Replaces;
+use crate::out_path::OutTarget;
+use crate::replaceable::ReplaceRule;
 use crate::system_calls::System;
 use byte_device::Output;
 use memory::NoMemory;
@@ -25,7 +25,7 @@ use std::rt::Files;
 pub struct SystemFiles<'a, F: Files> {
     alloc: Global,
     files: &'a F,
-    pub out: Output<OutFile<'a, F>, OutPath<'a, F>>,
+    pub out: Output<OutFile<'a, F>, OutTarget<'a, F>>,
     /// The paths that it made inputs for.
     asked: CallLog,
     /// What the system said of OUT and of each input, before anything was opened.
@@ -43,7 +43,7 @@ impl<'a, F: Files> SystemFiles<'a, F> {
             files,
             out: Output {
                 draft: OutFile::new(alloc, files, process),
-                target: OutPath::new(files),
+                target: OutTarget::new(files),
             },
             asked: CallLog::new(),
             compared: FileCalls::new(),
@@ -55,9 +55,14 @@ impl<'a, F: Files> SystemFiles<'a, F> {
         self.alloc
     }
 
-    /// Takes OUT's path, and which files that are there may be replaced. Where it names the same regular file as one of
-    /// the inputs, OUT will not be created, since that input would be lost.
-    pub fn begin(&mut self, path: &str, inputs: &[&str], replaces: Replaces) -> Result<(), NoMemory>
+    /// Sets OUT's path, and which files there may be replaced. If it names the same regular file as an input, no path
+    /// is set, and `Ok` is returned: the first write to OUT then fails with `NotCreated(None)`.
+    pub fn begin(
+        &mut self,
+        path: &str,
+        inputs: &[&str],
+        replaces: ReplaceRule,
+    ) -> Result<(), NoMemory>
         requires { AreFresh self.old }
         ensures asked { self.new.asked.entries ≡ self.old.asked.entries }
         ensures path { OnOk result (IsPath (Some path.now) (map (λ p. p.now) inputs.now) self.new.compared.entries
@@ -68,16 +73,16 @@ impl<'a, F: Files> SystemFiles<'a, F> {
         ensures calls { self.new.out.draft.calls.entries ≡ [] }
         ensures published { self.new.out.target.published ≡ None }
     {
-        self.out.draft.take_rule(replaces);
+        self.out.draft.set_rule(replaces);
         let system = System::new(self.files);
         if are_other_files(&system, path, inputs, &mut self.compared) {
             let path = String::from_str(self.alloc, path)?;
-            self.out.draft.take_path(path);
+            self.out.draft.set_path(path);
         }
         Ok(())
     }
 
-    /// An input for each of these paths, which is opened at its turn.
+    /// An input for each of these paths, which is opened at its first read.
     pub fn inputs<'l>(&mut self, paths: &[&'l str]) -> Result<Vec<SystemInput<'l, 'a, F>>, NoMemory>
         ensures inputs { IfOk result (λ inputs. AreWaiting told (map (λ p. p.now) paths.now) inputs.items) }
         ensures asked { OnOk result

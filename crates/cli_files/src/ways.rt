@@ -2,7 +2,7 @@
 
 ghost use Rattle.std.specs.Prelude.{◌≡◌, ◌∷◌, ◌++◌, [], IfErr, IfOk, List, OnErr, Some, string_bytes, true};
 ghost use Rattle.std.specs.IoError.{error_kind};
-ghost use Rattle.cli_files.specs.declared.replaceable.Replaces.{Replaces};
+ghost use Rattle.cli_files.specs.declared.replaceable.ReplaceRule.{ReplaceRule};
 ghost use Rattle.cli_files.specs.FileCalls.{FileCall, Finds, FindsNothing, are_probes};
 ghost use Rattle.cli_files.specs.OutFiles.{IsWayTo};
 ghost use Rattle.cli_files.specs.Publishing.{FindsReplaced, IsDescriptor, IsTargetOf, there};
@@ -12,7 +12,7 @@ ghost use Rattle.cli_files.specs.declared.found.Found.{Found};
 use crate::descriptors::is_descriptor;
 use crate::file_calls::FileCalls;
 use crate::found::Found;
-use crate::replaceable::{Obstacle, OutFault, Replaces, test_kind};
+use crate::replaceable::{Obstacle, OutFault, ReplaceRule, check_kind};
 use crate::system_calls::System;
 use std::alloc::Global;
 use std::io::{self, ErrorKind};
@@ -20,7 +20,7 @@ use std::rt::Files;
 
 /// How OUT is written.
 #[derive(Drop)]
-pub enum Way {
+pub enum WriteMode {
     /// To what is there, which is no regular file, or a descriptor.
     Through,
     /// To a draft beside this path, where no symbolic link is; and what is there, if a file is.
@@ -31,44 +31,44 @@ pub enum Way {
 ///
 /// What is no regular file is written to, and so is a descriptor, which others may hold. A symbolic link is followed;
 /// one that leads to nothing is refused.
-pub fn way_to<F: Files>(
+pub fn write_mode_of<F: Files>(
     alloc: Global,
     system: &System<'_, F>,
     path: &str,
-    replaces: Replaces,
+    replaces: ReplaceRule,
     calls: &mut FileCalls,
-) -> Result<Way, OutFault>
+) -> Result<WriteMode, OutFault>
     ensures way { calls.old.entries ≡ [] → IfOk result (λ way. IsWayTo replaces path.now way calls.new.entries) }
     ensures refused { calls.old.entries ≡ [] → OnErr result (are_probes calls.new.entries ≡ true) }
     ensures said { IfErr result (λ fault. IsSaid replaces fault calls.new.entries) }
 {
     if is_descriptor(path) {
-        return Ok(Way::Through);
+        return Ok(WriteMode::Through);
     }
     match system.metadata(path, calls) {
-        Ok(found) if found.is_file => replaced(alloc, system, path, replaces, found, calls),
-        Ok(_) => Ok(Way::Through),
+        Ok(found) if found.is_file => mode_over_file(alloc, system, path, replaces, found, calls),
+        Ok(_) => Ok(WriteMode::Through),
         Err(error) if error.kind() == ErrorKind::NotFound => {
-            absent(alloc, system, path, error, calls)
+            mode_for_new(alloc, system, path, error, calls)
         }
         Err(error) => Err(OutFault::NotCreated(Some(error))),
     }
 }
 
 /// The way to a path at which the system finds nothing, unless it is a link, or no file can have that path.
-fn absent<F: Files>(
+fn mode_for_new<F: Files>(
     alloc: Global,
     system: &System<'_, F>,
     path: &str,
     error: io::Error,
     calls: &mut FileCalls,
-) -> Result<Way, OutFault>
+) -> Result<WriteMode, OutFault>
     requires { IsDescriptor path.now → ⊥ }
     ensures way { calls.old.entries ≡ FindsNothing path.now ∷ []
-        → IfOk result (λ way. (replaces : Replaces) → IsWayTo replaces path.now way calls.new.entries) }
+        → IfOk result (λ way. (replaces : ReplaceRule) → IsWayTo replaces path.now way calls.new.entries) }
     ensures refused { calls.old.entries ≡ FindsNothing path.now ∷ []
         → OnErr result (are_probes calls.new.entries ≡ true) }
-    ensures said { (replaces : Replaces) (before : List FileCall)
+    ensures said { (replaces : ReplaceRule) (before : List FileCall)
         → calls.old.entries ≡ before ++ FindsNothing path.now ∷ [] → error_kind error ≡ ErrorKind.NotFound
         → IfErr result (λ fault. IsSaid replaces fault calls.new.entries) }
 {
@@ -78,18 +78,18 @@ fn absent<F: Files>(
     if system.is_link(path, calls) {
         return Err(OutFault::NotCreated(Some(error)));
     }
-    Ok(Way::Beside(String::from_str(alloc, path)?, None))
+    Ok(WriteMode::Beside(String::from_str(alloc, path)?, None))
 }
 
 /// The way to a regular file, which has to be one that may be written and that is replaced, by its first bytes.
-fn replaced<F: Files>(
+fn mode_over_file<F: Files>(
     alloc: Global,
     system: &System<'_, F>,
     path: &str,
-    replaces: Replaces,
+    replaces: ReplaceRule,
     found: Found,
     calls: &mut FileCalls,
-) -> Result<Way, OutFault>
+) -> Result<WriteMode, OutFault>
     requires regular { found.is_file ≡ true }
     requires no_descriptor { IsDescriptor path.now → ⊥ }
     ensures way { calls.old.entries ≡ Finds path.now found ∷ []
@@ -106,9 +106,9 @@ fn replaced<F: Files>(
         Ok(beginning) => beginning,
         Err(error) => return Err(OutFault::NotReplaced(Obstacle::Refused(Some(error)))),
     };
-    test_kind(replaces, &beginning)?;
+    check_kind(replaces, &beginning)?;
     let target = target_of(alloc, system, path, calls)?;
-    Ok(Way::Beside(target, Some(found)))
+    Ok(WriteMode::Beside(target, Some(found)))
 }
 
 /// The path of the regular file that a path leads to: its own, unless it is a link.
@@ -118,12 +118,12 @@ fn target_of<F: Files>(
     path: &str,
     calls: &mut FileCalls,
 ) -> Result<String, OutFault>
-    ensures target { (replaces : Replaces) → FindsReplaced replaces path.now calls.old.entries
+    ensures target { (replaces : ReplaceRule) → FindsReplaced replaces path.now calls.old.entries
         → IfOk result (λ target. IsTargetOf replaces path.now (string_bytes target) calls.new.entries) }
     ensures found { (found : Found) (rest : List FileCall) → calls.old.entries ≡ Finds path.now found ∷ rest
         → there calls.new.entries ≡ Some found }
     ensures refused { are_probes calls.old.entries ≡ true → OnErr result (are_probes calls.new.entries ≡ true) }
-    ensures said { (replaces : Replaces) → IfErr result (λ fault. IsSaid replaces fault calls.new.entries) }
+    ensures said { (replaces : ReplaceRule) → IfErr result (λ fault. IsSaid replaces fault calls.new.entries) }
 {
     if !system.is_link(path, calls) {
         return Ok(String::from_str(alloc, path)?);

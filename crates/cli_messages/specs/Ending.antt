@@ -12,14 +12,14 @@ pub record Refuses (told standard_error : Writer) (reason : Text) (status : ℕ)
   pub says : SaysRefused standard_error reason
   pub status_is : status ≡ 3
 
--- Memory is wanting, and that is said.
+-- Memory runs out, and that is said.
 pub record WantsMemory (told standard_error : Writer) (status : ℕ) : Type 0 where
   pub nothing_told : Takes told []
   pub whole : Bool
   pub says : SaysWanting standard_error whole
   pub status_is : status ≡ 4
 
--- It ends so where the words could not be read, for another reason than want of memory.
+-- It ends so where the words could not be read, for another reason than a lack of memory.
 abbrev pub IsUnreadable : Writer → Writer → ℕ → Type 0
 IsUnreadable told standard_error status = Refuses told standard_error (codes "invalid word: expected UTF-8 text") status
 

@@ -44,8 +44,8 @@ subject_text subject.Output = codes "output"
 -- the hint for an index that is refused for this: a stale one is written anew, but where the archive has the length
 -- that the index has, what changed in it is found first
 abbrev pub stale_hint : Option ℕ → Hint
-stale_hint None = hint.Stale
-stale_hint (Some entry) = hint.Changed
+stale_hint None = hint.StaleIndex
+stale_hint (Some entry) = hint.StaleEntry
 
 -- the line for which an input is refused, with what is wrong with it, where more is known of that
 abbrev pub faulty_line : Why → Option FaultyLine

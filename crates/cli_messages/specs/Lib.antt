@@ -2,4 +2,3 @@ pub mod Names
 pub mod Hints
 pub mod StandardError
 pub mod Ending
-pub mod Unopened

@@ -7,10 +7,10 @@ use Rattle.cli_arguments.specs.{Lines.Line, Shown.shown}
 use Rattle.text_reports.specs.Report.{line}
 use Rattle.command_common.specs.declared.{failures.Failure.Failure, faults.Status.Status}
 use Rattle.command_common.specs.{FaultTexts.failure_text, Outputs.FailsBehind, Outputs.Takes, Outputs.Writer}
-use Rattle.command_write.specs.{Notes.note_text, declared.notes.Note.Note}
+use Rattle.command_common.specs.{Notes.note_text, declared.notes.Note.Note}
 use Rattle.cli_messages.specs.Hints.{file_of, subject_of}
 
--- the line of want of memory
+-- the line of a lack of memory
 abbrev pub wanting_text : List ℕ
 wanting_text = codes "symarch: out of memory"
 
@@ -19,11 +19,11 @@ abbrev pub IsPushed : Writer → List ℕ → Bool → Type 0
 IsPushed standard_error bytes true = Takes standard_error bytes
 IsPushed standard_error bytes false = (n : ℕ) × FailsBehind standard_error bytes n
 
--- the line of want of memory was said
+-- the line of a lack of memory was said
 abbrev pub SaysWanting : Writer → Bool → Type 0
 SaysWanting standard_error whole = IsPushed standard_error (line wanting_text) whole
 
--- The line was said to its end; or the writer failed inside it, or there was no memory for it, and want of memory was
+-- The line was said to its end; or the writer failed inside it, or there was no memory for it, and a lack of memory was
 -- said in its place.
 abbrev pub SaysLine : Writer → List ℕ → Bool → Type 0
 SaysLine standard_error text true = Takes standard_error (line text)
@@ -55,7 +55,7 @@ SaysHelp standard_error asked failure =
     ⊎ ((help : List ℕ) × IsHelp asked failure help × (whole : Bool) × IsPushed standard_error help whole)
 
 -- The writer took the line of a failure, and what helps a person after it; or it failed inside the line; or there was
--- no memory for it, and want of memory was said in its place, and no more.
+-- no memory for it, and a lack of memory was said in its place, and no more.
 abbrev pub SaysFailure : Writer → Line → Failure → Type 0
 SaysFailure standard_error asked failure =
     ((between : Option (List ℕ)) × (failures : ℕ)

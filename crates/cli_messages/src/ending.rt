@@ -3,17 +3,18 @@
 ghost use Rattle.std.specs.Prelude.{◌≡◌, ◌≢◌, Err, MatchResult, Ok};
 ghost use Rattle.std.specs.IoError.{error_kind};
 ghost use Rattle.command_common.specs.Outputs.{writer};
-ghost use Rattle.command_common.specs.Statuses.{status_of};
+ghost use Rattle.command_common.specs.Statuses.{exit_status};
 ghost use Rattle.cli_arguments.specs.LineView.{line_view};
 ghost use Rattle.cli_messages.specs.Ending.{EndsLine, IsUnreadable, WantsMemory};
 ghost use Rattle.cli_messages.specs.StandardError.{SaysFailure, SaysNotes, behind_error, reason_in, without_line_feed};
 
-use crate::hints::{Seen, help_with};
-use crate::standard_error::{RefusedLine, say, say_help, say_notes, say_wanting};
+use crate::hints::{Seen, second_line_of};
+use crate::standard_error::{
+    RefusedLine, print_notes, print_out_of_memory, print_second_line, say,
+};
 use byte_device::{Sink, push_all};
 use cli_arguments::{Line, LineFault};
-use command_common::{Failure, Status, status_of};
-use command_write::Note;
+use command_common::{Failure, Note, Status, exit_status};
 use memory::Heap;
 use std::alloc::Global;
 use std::io::{self, ErrorKind};
@@ -24,7 +25,7 @@ const DONE: u8 = 0;
 /// The exit status of a command line that is refused.
 const BAD_LINE: u8 = 3;
 
-/// The exit status of want of memory.
+/// The exit status of a command whose memory ran out.
 const OUT_OF_MEMORY: u8 = 4;
 
 /// Ends as a line did, of which the notes are said, or why it failed.
@@ -39,17 +40,17 @@ pub fn end<E: Sink>(
         (λ both. SaysNotes (writer E.held E.failures errors.old errors.new) both.1.items)
         (λ failure. SaysFailure (writer E.held E.failures errors.old errors.new) (line_view line.now) failure) }
     ensures status { MatchResult ended
-        (λ both. result ≡ status_of (Ok both.0))
-        (λ failure. result ≡ status_of (Err failure)) }
+        (λ both. result ≡ exit_status (Ok both.0))
+        (λ failure. result ≡ exit_status (Err failure)) }
 {
     match ended {
         Ok((status, notes)) => {
-            say_notes(alloc, &notes, errors);
-            status_of(&Ok(status))
+            print_notes(alloc, &notes, errors);
+            exit_status(&Ok(status))
         }
         Err(failure) => {
             say_failure(alloc, line, failure, seen, errors);
-            status_of(&Err(failure))
+            exit_status(&Err(failure))
         }
     }
 }
@@ -61,8 +62,8 @@ fn say_failure<E: Sink>(alloc: Global, line: &Line, failure: Failure, seen: Seen
     if !say(alloc, &failure, errors) {
         return;
     }
-    if let Some(help) = help_with(line, &failure, seen) {
-        say_help(alloc, &help, errors);
+    if let Some(help) = second_line_of(line, &failure, seen) {
+        print_second_line(alloc, &help, errors);
     }
 }
 
@@ -86,7 +87,7 @@ pub fn end_without_line<P: Sink, E: Sink>(
             BAD_LINE
         }
         LineFault::OutOfMemory => {
-            say_wanting(errors);
+            print_out_of_memory(errors);
             OUT_OF_MEMORY
         }
     }

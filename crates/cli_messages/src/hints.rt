@@ -8,7 +8,7 @@ ghost use Rattle.command_common.specs.declared.faults.InputName.{InputName};
 ghost use Rattle.command_common.specs.declared.faults.Why.TheVariants.{Damaged, NoLines, Stale};
 ghost use Rattle.cli_arguments.specs.LineView.{line_view};
 ghost use Rattle.cli_arguments.specs.Lines.{out_of};
-ghost use Rattle.cli_messages.specs.declared.hints.Hint.TheVariants.{Lineless, Torn};
+ghost use Rattle.cli_messages.specs.declared.hints.Hint.TheVariants.{NoSourceLines, DamagedIndex};
 ghost use Rattle.cli_messages.specs.Hints.{IsOfInput, IsOfNoFile, IsOfOut, faulty_line_of, file_of};
 ghost use Rattle.cli_messages.specs.Hints.{stale_hint, subject_of, subject_text};
 
@@ -119,14 +119,14 @@ impl Display for Subject {
 enum Hint {
     SameFile,
     OtherKind(Option<FileKind>),
-    Damaged,
+    DamagedArchive,
     Differs,
     Loses(u64),
     OldVersion,
-    Stale,
-    Torn,
-    Lineless,
-    Changed,
+    StaleIndex,
+    DamagedIndex,
+    NoSourceLines,
+    StaleEntry,
 }
 
 impl Hint {
@@ -134,7 +134,7 @@ impl Hint {
     fn of(obstacle: Obstacle) -> Option<Hint> {
         match obstacle {
             Obstacle::OtherKind(bytes) => Some(Hint::OtherKind(FileKind::of(&bytes))),
-            Obstacle::Damaged => Some(Hint::Damaged),
+            Obstacle::Damaged => Some(Hint::DamagedArchive),
             Obstacle::Differs => Some(Hint::Differs),
             Obstacle::Loses(lost) => Some(Hint::Loses(lost)),
             Obstacle::Refused(_) => None,
@@ -147,14 +147,16 @@ impl Display for Hint {
         match self {
             Hint::SameFile => f.write_str("the file of an input"),
             Hint::OldVersion => f.write_str("an archive of version 1, which `migrate` takes"),
-            Hint::Stale => f.write_str("not of this archive, of which `index` writes a new one"),
-            Hint::Torn => f.write_str(
+            Hint::StaleIndex => f.write_str(
+                "not of this archive, of which `index` writes a new one",
+            ),
+            Hint::DamagedIndex => f.write_str(
                 "changed since it was written: run `symarch-keep check` if it keeps the archive, else `index`",
             ),
-            Hint::Lineless => f.write_str(
+            Hint::NoSourceLines => f.write_str(
                 "without the lines of that slice, which are too many for it: ask without `--index`",
             ),
-            Hint::Changed => f.write_str(
+            Hint::StaleEntry => f.write_str(
                 "of an archive in which a slice changed since it came in: run `symarch-keep check` first",
             ),
             Hint::OtherKind(kind) => f.write_str(match kind {
@@ -164,7 +166,7 @@ impl Display for Hint {
                 Some(FileKind::Index) => "there, and an index",
                 _ => "there, and neither empty nor one of symarch's files",
             }),
-            Hint::Damaged => f.write_str("there, and an archive that is damaged"),
+            Hint::DamagedArchive => f.write_str("there, and an archive that is damaged"),
             Hint::Differs => f.write_str("there, and neither empty nor the same slice"),
             Hint::Loses(1) => {
                 f.write_str("there, and has 1 record that the new archive neither has nor retires")
@@ -181,7 +183,7 @@ impl Display for Hint {
 
 /// A line that helps a person with a failure.
 #[derive(Clone, Copy)]
-pub struct Help<'p> {
+pub struct SecondLine<'p> {
     pub(crate) subject: Subject,
     pub(crate) path: &'p str,
     hint: Option<Hint>,
@@ -203,34 +205,34 @@ fn kind_of(why: Why, kind: Option<FileKind>) -> Option<FileKind> {
 /// The hint for an input that is refused for this.
 fn hint_of(why: Why) -> Option<Hint>
     ensures stale { (entry : Option ℕ) → why ≡ Stale entry → result ≡ Some (stale_hint entry) }
-    ensures torn { (entry : ℕ) → why ≡ Damaged entry → result ≡ Some Torn }
-    ensures lineless { (entry : ℕ) → why ≡ NoLines entry → result ≡ Some Lineless }
+    ensures torn { (entry : ℕ) → why ≡ Damaged entry → result ≡ Some DamagedIndex }
+    ensures lineless { (entry : ℕ) → why ≡ NoLines entry → result ≡ Some NoSourceLines }
 {
     match why {
         Why::OldArchive => Some(Hint::OldVersion),
-        Why::Stale(None) => Some(Hint::Stale),
-        Why::Stale(Some(_)) => Some(Hint::Changed),
-        Why::Damaged(_) => Some(Hint::Torn),
-        Why::NoLines(_) => Some(Hint::Lineless),
+        Why::Stale(None) => Some(Hint::StaleIndex),
+        Why::Stale(Some(_)) => Some(Hint::StaleEntry),
+        Why::Damaged(_) => Some(Hint::DamagedIndex),
+        Why::NoLines(_) => Some(Hint::NoSourceLines),
         _ => None,
     }
 }
 
 /// The line that helps with this failure of a line, if there is one.
-pub fn help_with<'p>(line: &'p Line, failure: &Failure, seen: Seen) -> Option<Help<'p>>
+pub fn second_line_of<'p>(line: &'p Line, failure: &Failure, seen: Seen) -> Option<SecondLine<'p>>
     ensures path { IfSome result (λ help. Some help.path.now ≡ file_of (line_view line.now) failure.now) }
     ensures subject { IfSome result (λ help. subject_text help.subject ≡ subject_of failure.now) }
     ensures faulty { IfSome result (λ help. help.faulty ≡ faulty_line_of failure.now) }
     ensures stale { (name : InputName) (entry : Option ℕ) → failure.now ≡ Command (Input name (Stale entry))
         → IfSome result (λ help. help.hint ≡ Some (stale_hint entry)) }
     ensures torn { (name : InputName) (entry : ℕ) → failure.now ≡ Command (Input name (Damaged entry))
-        → IfSome result (λ help. help.hint ≡ Some Torn) }
+        → IfSome result (λ help. help.hint ≡ Some DamagedIndex) }
     ensures lineless { (name : InputName) (entry : ℕ) → failure.now ≡ Command (Input name (NoLines entry))
-        → IfSome result (λ help. help.hint ≡ Some Lineless) }
+        → IfSome result (λ help. help.hint ≡ Some NoSourceLines) }
 {
     match failure {
         Failure::Command(CommandFault::Input(name, why)) => {
-            Some(Help {
+            Some(SecondLine {
                 subject: Subject::Input(*name),
                 path: path_at(line, *name)?,
                 hint: hint_of(*why),
@@ -241,21 +243,21 @@ pub fn help_with<'p>(line: &'p Line, failure: &Failure, seen: Seen) -> Option<He
                 },
             })
         }
-        Failure::Command(CommandFault::Output(_)) => out_help(line, None, seen),
+        Failure::Command(CommandFault::Output(_)) => out_second_line(line, None, seen),
         // Why the report failed is known to its owner.
         Failure::Command(CommandFault::Report(_) | CommandFault::OutOfMemory) => None,
-        Failure::CannotCreate(_) => out_help(line, Some(Hint::SameFile), seen),
-        Failure::CannotReplace => out_help(line, seen.obstacle.and_then(Hint::of), seen),
+        Failure::CannotCreate(_) => out_second_line(line, Some(Hint::SameFile), seen),
+        Failure::CannotReplace => out_second_line(line, seen.obstacle.and_then(Hint::of), seen),
     }
 }
 
 /// A line of OUT. The hint is given where the system said nothing.
-fn out_help<'p>(line: &'p Line, hint: Option<Hint>, seen: Seen) -> Option<Help<'p>>
+fn out_second_line<'p>(line: &'p Line, hint: Option<Hint>, seen: Seen) -> Option<SecondLine<'p>>
     ensures path { IfSome result (λ help. Some help.path.now ≡ out_of (line_view line.now)) }
     ensures subject { IfSome result (λ help. subject_text help.subject ≡ codes "output") }
     ensures faulty { IfSome result (λ help. help.faulty ≡ None) }
 {
-    Some(Help {
+    Some(SecondLine {
         subject: Subject::Output,
         path: line.out_path()?,
         hint: if seen.reason.is_none() { hint } else { None },
@@ -265,7 +267,7 @@ fn out_help<'p>(line: &'p Line, hint: Option<Hint>, seen: Seen) -> Option<Help<'
 }
 
 /// What is known of the file.
-impl Display for Help<'_> {
+impl Display for SecondLine<'_> {
     fn fmt<W: fmt::Write>(&self, f: &mut fmt::Formatter<W>) -> fmt::Result {
         if let Some(hint) = self.hint {
             write!(f, ", {hint}")?;

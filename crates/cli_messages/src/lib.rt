@@ -2,11 +2,10 @@
 //! that did not.
 //!
 //! - `input_names`: which input a name means;
-//! - `unopened`: what is told of an input that was not opened;
 //! - `file_kinds`: what a file that is refused looks like;
 //! - `flaws`: the faulty line of an input, in words;
 //! - `hints`: what helps a person with a failure;
-//! - `help_lines`: the line in which that is said;
+//! - `second_lines`: the line in which that is said;
 //! - `standard_error`: what is said on standard error;
 //! - `ending`: what is said at the end, and the exit status;
 //! - `laws`: what is said of the input of a name.
@@ -15,14 +14,13 @@
 mod ending;
 mod file_kinds;
 mod flaws;
-mod help_lines;
 mod hints;
 mod input_names;
 mod laws;
+mod second_lines;
 mod standard_error;
-mod unopened;
 
 pub use ending::{end, end_without_line, refuse_words};
 pub use hints::Seen;
-pub use standard_error::say_report;
-pub use unopened::blamed;
+pub use input_names::input_at;
+pub use standard_error::print_report_fault;

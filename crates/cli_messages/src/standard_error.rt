@@ -9,10 +9,10 @@ ghost use Rattle.cli_messages.specs.Hints.{file_of, subject_of, subject_text};
 ghost use Rattle.cli_messages.specs.StandardError.{IsPushed, SaysHelp, SaysLine, SaysNotes, SaysReport};
 ghost use Rattle.cli_messages.specs.StandardError.{SaysWanting, note_lines};
 
-use crate::help_lines::{help_line, report_line};
-use crate::hints::Help;
+use crate::hints::SecondLine;
+use crate::second_lines::{report_line, second_line};
 use byte_device::{Sink, push_all};
-use command_write::Note;
+use command_common::Note;
 use memory::NoMemory;
 use std::alloc::Global;
 use std::fmt::{self, Display, Write};
@@ -52,15 +52,15 @@ fn push_whole<E: Sink>(errors: &mut E, bytes: &[u8]) -> bool
     }
 }
 
-/// Says that memory is wanting, for which none is needed.
-pub fn say_wanting<E: Sink>(errors: &mut E) -> bool
+/// Prints that memory ran out, which takes no memory.
+pub fn print_out_of_memory<E: Sink>(errors: &mut E) -> bool
     ensures { SaysWanting (writer E.held E.failures errors.old errors.new) result }
 {
     push_whole(errors, b"symarch: out of memory\n")
 }
 
-/// Says a line; or, where there is no memory for it, that memory is wanting. Whether the line itself was said to its
-/// end is handed back.
+/// Prints a line; or, if there is no memory for it, that memory ran out. Returns whether the line itself was printed to
+/// its end.
 pub fn say<E: Sink, T: Display>(alloc: Global, told: &T, errors: &mut E) -> bool
     ensures { IfSome (T.output told.now)
         (λ text. SaysLine (writer E.held E.failures errors.old errors.new) text result) }
@@ -68,25 +68,25 @@ pub fn say<E: Sink, T: Display>(alloc: Global, told: &T, errors: &mut E) -> bool
     match line_of(alloc, told) {
         Ok(whole) => push_whole(errors, whole.as_bytes()),
         Err(NoMemory) => {
-            say_wanting(errors);
+            print_out_of_memory(errors);
             false
         }
     }
 }
 
 /// Says the line that helps with a failure of this line, where there is memory for it.
-pub fn say_help<E: Sink>(alloc: Global, help: &Help<'_>, errors: &mut E)
+pub fn print_second_line<E: Sink>(alloc: Global, help: &SecondLine<'_>, errors: &mut E)
     ensures { (asked : Line) (failure : Failure) → Some help.now.path.now ≡ file_of asked failure
         → subject_text help.now.subject ≡ subject_of failure
         → SaysHelp (writer E.held E.failures errors.old errors.new) asked failure }
 {
-    if let Ok(text) = help_line(alloc, help) {
+    if let Ok(text) = second_line(alloc, help) {
         push_whole(errors, text.as_bytes());
     }
 }
 
 /// Says why the report failed, if that is known, after the line of that failure.
-pub fn say_report<E: Sink>(alloc: Global, reason: Option<io::Error>, errors: &mut E)
+pub fn print_report_fault<E: Sink>(alloc: Global, reason: Option<io::Error>, errors: &mut E)
     ensures unknown { reason ≡ None → Takes (writer E.held E.failures errors.old errors.new) [] }
     ensures known { IfSome reason (λ _. SaysReport (writer E.held E.failures errors.old errors.new)) }
 {
@@ -111,7 +111,7 @@ fn lines_of(alloc: Global, notes: &[Note]) -> Result<String, NoMemory>
 }
 
 /// Says the notes, a line each; or, where there is no memory for the lines, that.
-pub fn say_notes<E: Sink>(alloc: Global, notes: &[Note], errors: &mut E)
+pub fn print_notes<E: Sink>(alloc: Global, notes: &[Note], errors: &mut E)
     ensures { SaysNotes (writer E.held E.failures errors.old errors.new) notes.now }
 {
     if notes.is_empty() {

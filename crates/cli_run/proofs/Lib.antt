@@ -1,5 +1,5 @@
 pub mod Waiting
-pub mod Turned
+pub mod LazyInputProofs
 pub mod OutPublished
 pub mod Pathless
 pub mod Outcomes

@@ -4,9 +4,9 @@ use Rattle.std.specs.Prelude.{IsErrAnd, MatchResult, OnOk}
 use Rattle.clap.specs.Words.{Text}
 use Rattle.cli_arguments.specs.Lines.{Line, error_kinds, inputs_of, line_of}
 use Rattle.cli_files.specs.{InputStates.AreFirstAsked, declared.replaceable.OutFault.OutFault}
-use Rattle.command_write.specs.declared.notes.Note.{Note}
+use Rattle.command_common.specs.declared.notes.Note.{Note}
 use Rattle.command_common.specs.declared.failures.Failure.{Failure, TheVariants.Command}
-use Rattle.command_common.specs.{Outputs.Writer, Statuses.status_of, declared.faults.Status.Status}
+use Rattle.command_common.specs.{Outputs.Writer, Statuses.exit_status, declared.faults.Status.Status}
 use Rattle.command_common.specs.declared.faults.CommandFault.{CommandFault, TheVariants.OutOfMemory}
 use Rattle.cli_run.specs.{Ends.Ran, Files.Calls, Files.IsCarriedOut, Files.IsDone, Files.command_fault_of}
 use Rattle.cli_messages.specs.StandardError.{SaysFailure, SaysNotes}
@@ -41,7 +41,7 @@ module _ {S D T V : Type 0} (items : V → List Note) (calls : Calls S D T) (lin
   pub ran : (words : List Text) (told standard_error : Writer) (status : ℕ) → error_kinds words ≡ [] → Some line
       ≡ line_of words → (r : Result (Status × V) Failure) → Done told r
       → MatchResult r (λ both. SaysNotes standard_error (items both.1)) (λ failure. SaysFailure standard_error line failure)
-      → MatchResult r (λ both. status ≡ status_of (Ok both.0)) (λ failure. status ≡ status_of (Err failure)) → Ran calls words told standard_error status
+      → MatchResult r (λ both. status ≡ exit_status (Ok both.0)) (λ failure. status ≡ exit_status (Err failure)) → Ran calls words told standard_error status
   ran words told standard_error status accepted line_is (Ok both) carried says status_is = record {
     line = line;
     ended = Ok both.0;

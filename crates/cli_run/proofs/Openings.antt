@@ -2,7 +2,7 @@
 use Rattle.std.proofs.Common.{◌≡◌, ◌∙◌, ◌⊎◌, ℕ, zero, suc, List, [], ◌∷◌, Option, Some, None, Result, Ok, Err, refl, ap, sym, subst, inl, inr}
 use Rattle.std.proofs.lemmas.Grind.{not_there}
 use Rattle.std.specs.Prelude.{slice_get}
-use Rattle.cli_files.specs.InputStates.{AreAtTurn, IsAtTurn, IsStateOf, Told, Stage, Open, Unopened, Waiting, opened_in, unopened_in, wanting_in}
+use Rattle.cli_files.specs.InputStates.{AreLazyInputs, IsLazyInput, IsStateOf, Told, Stage, Open, Unopened, Waiting, opened_in, unopened_in, wanting_in}
 use Rattle.cli_files.specs.declared.input_state.Unopened.{Unopened as Reason}
 use Rattle.cli_files.specs.declared.input_state.Unopened.TheVariants as reasons
 use Rattle.byte_device.specs.Disks.{At, Holding, Missing}
@@ -12,28 +12,28 @@ use Rattle.command_common.specs.declared.faults.CommandFault.TheVariants.{Input,
 use Rattle.command_common.specs.declared.faults.Why.TheVariants.{CannotOpen}
 use Rattle.cli_arguments.specs.{Inputs.Inputs, Inputs.of_kind, declared.commands.Kind.Kind}
 use Rattle.cli_messages.specs.Names.{input_at, kind_of, number_of}
-use Rattle.cli_messages.specs.Unopened.{Tells, fault_at, unopened_of}
+use Rattle.cli_run.specs.Unopened.{Tells, fault_at, unopened_of}
 use Rattle.cli_run.specs.Openings.{HaveOneFile, IsRefusedByDisk}
 
 -- one of inputs that keep their rules does
-each : {S : Type 0} (told : Told S) (inputs : List S) (k : ℕ) (input : S) → AreAtTurn told inputs
-    → slice_get inputs k ≡ Some input → IsAtTurn told input
+each : {S : Type 0} (told : Told S) (inputs : List S) (k : ℕ) (input : S) → AreLazyInputs told inputs
+    → slice_get inputs k ≡ Some input → IsLazyInput told input
 each told [] k input all is = cc
-each told (x ∷ xs) zero input all is = let same : x ≡ input = cc in subst (IsAtTurn told) same all.0
+each told (x ∷ xs) zero input all is = let same : x ≡ input = cc in subst (IsLazyInput told) same all.0
 each told (x ∷ xs) (suc k) input all is = each told xs k input all.1 is
 
 -- so it is with the inputs of each kind
-abbrev pub AllAtTurn : {S : Type 0} → Told S → Inputs S → Type 0
-AllAtTurn told inputs = (kind : Kind) → AreAtTurn told (of_kind kind inputs)
+abbrev pub AllAreLazy : {S : Type 0} → Told S → Inputs S → Type 0
+AllAreLazy told inputs = (kind : Kind) → AreLazyInputs told (of_kind kind inputs)
 
-pub at_turn : {S : Type 0} (told : Told S) (inputs : Inputs S) (name : InputName) (input : S)
-    → AllAtTurn told inputs → input_at inputs name ≡ Some input → IsAtTurn told input
-at_turn told inputs name input all is =
+pub are_lazy : {S : Type 0} (told : Told S) (inputs : Inputs S) (name : InputName) (input : S)
+    → AllAreLazy told inputs → input_at inputs name ≡ Some input → IsLazyInput told input
+are_lazy told inputs name input all is =
     each told (of_kind (kind_of name) inputs) (number_of name) input (all (kind_of name)) is
 
 -- what is known of one that the disk refused
 by_disk : {S : Type 0} (told : Told S) (input : S) (refused : CannotOpenOfDisk)
-    → told.stage input ≡ Unopened (reasons.Refused refused) → IsAtTurn told input → IsRefusedByDisk told input
+    → told.stage input ≡ Unopened (reasons.Refused refused) → IsLazyInput told input → IsRefusedByDisk told input
 by_disk told input refused staged turn = record {
   refused = refused;
   stage_is = staged;
@@ -45,7 +45,7 @@ by_disk told input refused staged turn = record {
       subst (λ s. IsStateOf (Holding bytes) s) staged (subst (λ f. IsStateOf f (told.stage input)) is fits));
 }
 
-module _ {S : Type 0} (told : Told S) (inputs : Inputs S) (all : AllAtTurn told inputs) where
+module _ {S : Type 0} (told : Told S) (inputs : Inputs S) (all : AllAreLazy told inputs) where
   -- the input of the name at which a command was refused so
   by_stage : (at name : InputName) (why : Why) (input : S) (stage : Stage) → input_at inputs at ≡ Some input
       → told.stage input ≡ stage → (why ≡ CannotOpen → ⊥)
@@ -55,7 +55,7 @@ module _ {S : Type 0} (told : Told S) (inputs : Inputs S) (all : AllAtTurn told 
       let here : at ≡ name = cc in (
         input,
         subst (λ n. input_at inputs n ≡ Some input) here is,
-        by_disk told input refused staged (at_turn told inputs at input all is),
+        by_disk told input refused staged (are_lazy told inputs at input all is),
       )
   by_stage at name why input (Unopened reasons.OutOfMemory) is staged spares same = cc
   by_stage at name why input stage is staged spares same = let reason : why ≡ CannotOpen = cc in absurd (spares reason)
@@ -108,7 +108,7 @@ module _ {S : Type 0} (told : Told S) (inputs : Inputs S) (name : InputName) (wh
 
 -- what is told of an input whose file is not there, as that of one that the disk refused
 pub also_told : {R S : Type 0} (told : Told R) (also : Told S) (inputs : Inputs S) (name : InputName) (input : R)
-    (other : S) (why : Why) → IsRefusedByDisk told input → IsAtTurn also other
+    (other : S) (why : Why) → IsRefusedByDisk told input → IsLazyInput also other
     → HaveOneFile told also input other → input_at inputs name ≡ Some other → IsToldAs also inputs name why
     → (also.stage other ≡ Waiting) ⊎ (why ≡ CannotOpen)
 also_told told also inputs name input other why refused turn one named so = go (also.stage other) refl

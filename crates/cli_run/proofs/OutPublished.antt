@@ -9,7 +9,7 @@ use Rattle.clap.specs.Words.{Text}
 use Rattle.cli_files.specs.{InputStates.AreFirstAsked, FileCalls.FileCall, FileCalls.bytes_in}
 use Rattle.cli_files.specs.OutFiles.{Stage, draft_account, has_calls, is_settled, published_account, publishing_calls}
 use Rattle.cli_files.specs.Publishing.{IsPath, IsPublished, IsRemoved, account, number_of, place, took_nothing}
-use Rattle.cli_files.specs.declared.{replaceable.Replaces.Replaces, published.Published.Published}
+use Rattle.cli_files.specs.declared.{replaceable.ReplaceRule.ReplaceRule, published.Published.Published}
 
 -- what is known tells the path
 place_first : (p q : Option (List ℕ)) (xs ys : List ℕ) → place p ++ xs ≡ place q ++ ys → p ≡ q
@@ -21,11 +21,11 @@ place_first (Some p) (Some q) xs ys same =
     ∙ ap (λ n. take n (q ++ ys)) long ∙ take-append_seam q ys)
 place_first p q xs ys same = let h = ap (λ l. get_or l 0 0) same in grind (arith, h)
 
-same_rule : (r s : Replaces) → number_of r ≡ number_of s → r ≡ s
+same_rule : (r s : ReplaceRule) → number_of r ≡ number_of s → r ≡ s
 same_rule r s same = grind (arith, same)
 
 -- what took a text has the path and the rule that were there, and the text
-known : (p q : Option (List ℕ)) (r s : Replaces) (bytes text : List ℕ) → account q s bytes ≡ account p r [] ++ text
+known : (p q : Option (List ℕ)) (r s : ReplaceRule) (bytes text : List ℕ) → account q s bytes ≡ account p r [] ++ text
     → (q ≡ p) × (s ≡ r) × (bytes ≡ text)
 known p q r s bytes text took =
     let flat : place q ++ (number_of s ∷ bytes) ≡ place p ++ (number_of r ∷ text) =
@@ -45,7 +45,7 @@ some_known None xs none = let h = ap length none in grind (arith, h)
 some_known (Some p) xs none = let h = ap length none in grind (arith, h)
 
 -- nothing is known of what was put in place alone
-pub settled_of : (settled : Bool) (path : Option (List ℕ)) (replaces : Replaces) (calls : List FileCall)
+pub settled_of : (settled : Bool) (path : Option (List ℕ)) (replaces : ReplaceRule) (calls : List FileCall)
     → Some (draft_account settled path replaces calls) ≡ Some [] → settled ≡ true
 settled_of true path replaces calls none = refl
 settled_of false path replaces calls none =
@@ -57,7 +57,7 @@ pub settled_without_calls : (stage : Stage) → is_settled stage ≡ true → ha
 settled_without_calls stage settled = grind arith
 
 -- a draft that took bytes has its path and its rule, and the bytes were written
-pub draft_took : (settled : Bool) (p q : Option (List ℕ)) (r s : Replaces) (calls : List FileCall) (bytes : List ℕ)
+pub draft_took : (settled : Bool) (p q : Option (List ℕ)) (r s : ReplaceRule) (calls : List FileCall) (bytes : List ℕ)
     → Appends (Some (account p r [])) (Some (draft_account settled q s calls)) bytes
     → (q ≡ p) × (s ≡ r) × (bytes_in calls ≡ bytes)
 draft_took true p q r s calls bytes took =
@@ -65,7 +65,7 @@ draft_took true p q r s calls bytes took =
 draft_took false p q r s calls bytes took = known p q r s (bytes_in calls) bytes took
 
 -- what was put in place is the text, at the path
-pub published_there : (p : Option (List ℕ)) (r : Replaces) (published : Option Published) (text : List ℕ)
+pub published_there : (p : Option (List ℕ)) (r : ReplaceRule) (published : Option Published) (text : List ℕ)
     → Appends (Some (account p r [])) (published_account published) text
     → (q : List ℕ) × (p ≡ Some q) × ∥ IsPublished q r text (publishing_calls published) ∥₁
 published_there p r None text took = absurd took
@@ -95,7 +95,7 @@ path_from r a b xs ys compared path asked inputs is =
     rw (← asked, ← inputs) is
 
 -- without a path nothing was called
-pub called_nowhere : (replaces : Replaces) (path : Option (List ℕ)) (calls : List FileCall) → path ≡ None
+pub called_nowhere : (replaces : ReplaceRule) (path : Option (List ℕ)) (calls : List FileCall) → path ≡ None
     → ∥ IsRemoved replaces path calls ∥₁ → calls ≡ []
 called_nowhere replaces path [] none removed = refl
 called_nowhere replaces path (call ∷ calls) none removed = absurd (not_there removed by_case)

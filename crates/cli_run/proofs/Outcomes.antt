@@ -14,10 +14,11 @@ use Rattle.command_common.specs.Outputs.{FailsAt, IsKept, Outs, Publishes, Write
 use Rattle.command_common.specs.declared.faults.Status.TheVariants.{Done}
 use Rattle.command_write.specs.PassedOver.{EndsPassing, Passing}
 use Rattle.cli_files.specs.{InputStates.Told, InputStates.opening_told, declared.input_state.Unopened.Unopened}
-use Rattle.command_write.specs.declared.notes.Note.{Note}
+use Rattle.command_common.specs.declared.notes.Note.{Note}
 use Rattle.cli_files.specs.declared.input_state.Unopened.TheVariants as unopened
 use Rattle.cli_run.specs.Disks.{Carried}
-use Rattle.cli_messages.specs.{Names.input_at, Unopened.Tells, Unopened.fault_at, Unopened.unopened_of}
+use Rattle.cli_messages.specs.Names.{input_at}
+use Rattle.cli_run.specs.Unopened.{Tells, fault_at, unopened_of}
 use Rattle.cli_run.specs.Plans.{Deed, EndsDeed, EndsQuery, answers, changes, deed_of, empties, extracts, none, passes, readers_by, streams}
 use Rattle.cli_run.specs.Files.{IsNotPut, IsOutcome}
 use Rattle.cli_arguments.specs.declared.plan.Plan.{Plan}

@@ -3,7 +3,7 @@ use Rattle.std.proofs.Common.{◌≡◌, List, [], None, Result, Err, refl, sym,
 use Rattle.std.proofs.KnownBytes.{Appends-nil}
 use Rattle.std.specs.Io.KnownBytes.{Appends}
 use Rattle.cli_arguments.specs.Lines.{Line}
-use Rattle.command_write.specs.declared.notes.Note.{Note}
+use Rattle.command_common.specs.declared.notes.Note.{Note}
 use Rattle.byte_device.specs.declared.targets.Output.{Output as Out}
 use Rattle.command_common.specs.declared.failures.Failure.{Failure}
 use Rattle.command_common.specs.declared.faults.{CommandFault.CommandFault, Status.Status}

@@ -1,11 +1,12 @@
--- A plan over inputs that are opened at their turn.
+-- A plan over inputs that are opened at their first read.
 use Rattle.std.specs.Prelude.{◌≡◌, List, OnOk, length, Result}
-use Rattle.cli_files.specs.InputStates.{AreAtTurn, Told, opening_told}
+use Rattle.cli_files.specs.InputStates.{AreLazyInputs, Told, opening_told}
 use Rattle.cli_arguments.specs.{Inputs.Inputs, Inputs.of_kind, Lines.Line, declared.commands.Kind.Kind}
 use Rattle.command_common.specs.declared.faults.{CommandFault.CommandFault, Status.Status}
 use Rattle.command_common.specs.Outputs.{Outs, Writer}
-use Rattle.cli_messages.specs.{Names.AreOfLine, Unopened.Tells}
-use Rattle.command_write.specs.declared.notes.Note.{Note}
+use Rattle.cli_messages.specs.Names.{AreOfLine}
+use Rattle.cli_run.specs.Unopened.{Tells}
+use Rattle.command_common.specs.declared.notes.Note.{Note}
 use Rattle.cli_arguments.specs.{Plan.IsPlanOf, declared.plan.Plan.Plan}
 use Rattle.cli_run.specs.Plans.{Executes, Notes, readers_by}
 
@@ -13,14 +14,14 @@ use Rattle.cli_run.specs.Plans.{Executes, Notes, readers_by}
 abbrev pub AreAsMany : {S : Type 0} → Inputs S → Inputs S → Type 0
 AreAsMany old new = (kind : Kind) → length (of_kind kind new) ≡ length (of_kind kind old)
 
--- The plan of a line ended so over inputs with the paths of the line, each of which was opened at its turn, if that
--- came; this was told of it, and where it ended well, these notes were added to those.
+-- The plan of a line ended so over inputs with the paths of the line, each of which was opened at its first read, if
+-- that came; this was told of it, and where it ended well, these notes were added to those.
 pub record Carried {S D T : Type 0} (told : Told S) (line : Line) (plan : Plan) (before behind : Inputs S)
     (out : Outs D T) (report : Writer) (result : Result Status CommandFault) (notes noted : List Note) : Type 0 where
   pub plan_is : IsPlanOf plan line
   pub waiting : AreOfLine told line before
   pub as_many : AreAsMany before behind
-  pub at_turn : (kind : Kind) → AreAtTurn told (of_kind kind behind)
+  pub are_lazy : (kind : Kind) → AreLazyInputs told (of_kind kind behind)
   pub ended : Result Status CommandFault
   pub executes : Executes (opening_told told) plan (readers_by told.left told.failures before behind)
       (readers_by told.whole told.failures before behind) out report ended

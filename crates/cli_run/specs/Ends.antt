@@ -7,8 +7,8 @@ use Rattle.cli_arguments.specs.LineFaults.{IsRefusedBy, refusal_of}
 use Rattle.cli_arguments.specs.Lines.{Line, error_kinds, is_in_order, line_of, named_command}
 use Rattle.cli_arguments.specs.declared.line_faults.LineFault.TheVariants as fault
 use Rattle.command_common.specs.declared.{failures.Failure.Failure, faults.Status.Status}
-use Rattle.command_common.specs.{Outputs.Takes, Outputs.Writer, Statuses.status_of}
-use Rattle.command_write.specs.declared.notes.Note.{Note}
+use Rattle.command_common.specs.{Outputs.Takes, Outputs.Writer, Statuses.exit_status}
+use Rattle.command_common.specs.declared.notes.Note.{Note}
 use Rattle.cli_run.specs.Files.{Calls, IsDone}
 use Rattle.cli_messages.specs.Ending.{Refuses, WantsMemory}
 use Rattle.cli_messages.specs.StandardError.{IsPushed, SaysEnd, reason_in}
@@ -29,7 +29,7 @@ pub record Ran {S D T : Type 0} (calls : Calls S D T) (words : List Text) (told 
   pub line_is : Some line ≡ line_of words
   pub carried : IsDone calls line told ended notes
   pub says : SaysEnd standard_error line ended notes
-  pub status_is : status ≡ status_of ended
+  pub status_is : status ≡ exit_status ended
 
 -- the words are not accepted, or a value has not its form, or OUT is an input
 abbrev pub HasNoPlan : List Text → Type 0
@@ -55,7 +55,7 @@ pub record IsHelped (words : List Text) (told standard_error : Writer) (status :
   pub status_is : status ≡ 0
 
 -- How the program ends with these words: what they ask for was carried out; or they are refused, or ask for help, or
--- memory is wanting, and nothing was called.
+-- memory runs out, and nothing was called.
 abbrev pub EndsWords : {S D T : Type 0} → Calls S D T → List Text → Writer → Writer → ℕ → Type 0
 EndsWords calls words told standard_error status =
     Ran calls words told standard_error status

@@ -13,10 +13,10 @@ use Rattle.command_common.specs.Outputs.{IsKept, IsPublished as IsOutPublished, 
 use Rattle.cli_files.specs.{FileCalls.FileCall, FileCalls.bytes_in, InputStates.AreFirstAsked, InputStates.Told}
 use Rattle.cli_files.specs.OutFiles.{fault_of, publishing_calls, stage_of}
 use Rattle.cli_files.specs.Publishing.{IsPath, IsPublished, IsRemoved, account}
-use Rattle.cli_files.specs.declared.replaceable.{OutFault.OutFault, Replaces.Replaces}
+use Rattle.cli_files.specs.declared.replaceable.{OutFault.OutFault, ReplaceRule.ReplaceRule}
 use Rattle.cli_files.specs.declared.system_files.SystemFiles.{SystemFiles}
 use Rattle.cli_files.specs.declared.replaceable.OutFault.TheVariants as fault
-use Rattle.command_write.specs.declared.notes.Note.{Note}
+use Rattle.command_common.specs.declared.notes.Note.{Note}
 use Rattle.cli_arguments.specs.declared.plan.Plan.{Plan}
 use Rattle.cli_run.specs.{Disks.Carried, Plans.replaces_of}
 
@@ -94,14 +94,14 @@ abbrev pub outs_in : {S D T : Type 0} → Calls S D T → Out D T → Out D T �
 outs_in calls begun done = outs calls.held calls.draft_failures calls.published calls.target_failures begun done
 
 -- The command of a line ended over files of which nothing is known, and this is told of it; where it ended well, these
--- are its notes. Inputs were made for its paths, each once and in the order of the words, and for no other. OUT has the
--- path of the line, unless an input's file is there, and replaces what the plan says. Where a text was published, the
--- calls for OUT are those by which it was put at that path; where none was, those by which nothing is left, with the
--- bytes that the draft took; and where the draft took none and did not fail there are none.
+-- are its notes. Inputs were made for its paths, each once and in the order of the command line, and for no other. OUT
+-- has the path of the line, unless an input's file is there, and replaces what the plan says. Where a text was
+-- published, the calls for OUT are those by which it was put at that path; where none was, those by which nothing is
+-- left, with the bytes that the draft took; and where the draft took none and did not fail there are none.
 pub record IsCarriedOut {S D T : Type 0} (calls : Calls S D T) (line : Line) (report : Writer)
     (told : Result Status Failure) (notes : List Note) : Type 0 where
   pub path : Option Text
-  pub replaces : Replaces
+  pub replaces : ReplaceRule
   pub begun : Out D T
   pub done : Out D T
   pub ended : Result Status CommandFault

@@ -1,5 +1,6 @@
 pub mod Queries
 pub mod Plans
+pub mod Unopened
 pub mod Disks
 pub mod Openings
 pub mod Files

@@ -7,8 +7,8 @@ use Rattle.cli_files.specs.declared.input_state.Unopened.TheVariants.{Refused}
 use Rattle.byte_device.specs.Disks.{At, FileAt, Holding, Missing, Path}
 use Rattle.byte_device.specs.declared.disks.CannotOpen.{CannotOpen}
 
--- The turn of the input came, and its disk refused it: its own path was opened, once; memory was not wanting, as far as
--- the disk says; and no file is known to be there.
+-- The input was read, and its disk refused it: its own path was opened, once; memory did not run out, as far as the
+-- disk says; and no file is known to be there.
 pub record IsRefusedByDisk {S : Type 0} (told : Told S) (input : S) : Type 0 where
   pub refused : CannotOpen
   pub stage_is : told.stage input ≡ Unopened (Refused refused)

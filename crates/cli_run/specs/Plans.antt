@@ -9,13 +9,14 @@ use Rattle.command_common.specs.{declared.faults.CommandFault.CommandFault, decl
 use Rattle.command_common.specs.Inputs.{Reader, readers}
 use Rattle.command_common.specs.Ends.{Command, Ends, EndsReport, EndsStreamed, Query, Streamed}
 use Rattle.command_common.specs.Outputs.{Outs, Publishes, Writer, draft_of, out_of, report_of}
-use Rattle.cli_files.specs.declared.replaceable.Replaces.{Replaces}
-use Rattle.cli_files.specs.declared.replaceable.Replaces.TheVariants.{ArchivesBelow, Summaries, Indexes, SameBytes}
+use Rattle.cli_files.specs.declared.replaceable.ReplaceRule.{ReplaceRule}
+use Rattle.cli_files.specs.declared.replaceable.ReplaceRule.TheVariants.{ArchivesBelow, Summaries, Indexes, SameBytes}
 use Rattle.command_write.specs.{Admit.admit_as_it_comes, Apply.apply_as_it_comes, Delta.delta_as_it_comes}
 use Rattle.command_write.specs.{Summary.summary, Notes.NotesMissing, Retire.retire_as_it_comes}
 use Rattle.command_write.specs.PassedOver.{EndsPassing, NotesAdmit, Passing, admit_passing_as_it_comes}
 use Rattle.byte_openings.specs.declared.openings.Opening.{Opening}
-use Rattle.command_write.specs.{MergeStreams.merge_as_it_comes, Migrate.migrate_as_it_comes, declared.notes.Note.Note}
+use Rattle.command_write.specs.{MergeStreams.merge_as_it_comes, Migrate.migrate_as_it_comes}
+use Rattle.command_common.specs.declared.notes.Note.{Note}
 use Rattle.command_index_queries.specs.Summary.{summary_at}
 use Rattle.cli_run.specs.Queries.{NotesUnderscored, extract_of, find_of, frames_of, list_of, symbolicate_of}
 use Rattle.command_queries.specs.Name.{name}
@@ -25,7 +26,7 @@ use Rattle.command_extract.specs.Extract.{Extraction, Extracts}
 
 -- which files the OUT of a plan replaces: a summary and an index their own kind, a slice its own bytes, and an archive
 -- those below it
-abbrev pub replaces_of : Plan → Replaces
+abbrev pub replaces_of : Plan → ReplaceRule
 replaces_of plan.Summary = Summaries
 replaces_of plan.Index = Indexes
 replaces_of (plan.Extract _ _) = SameBytes
@@ -33,7 +34,7 @@ replaces_of _ = ArchivesBelow
 
 -- what the command of a plan is, over inputs: it writes the empty archive, it writes OUT, it writes OUT while it reads,
 -- or so that it passes over what is refused, it writes a slice, if there is one, or it reports; and it is none where
--- inputs are wanting
+-- inputs are missing
 pub data Deed : Type 1 where
   empties : Deed
   changes : Command → Deed

@@ -9,8 +9,8 @@ use Rattle.command_common.specs.declared.faults.Why.TheVariants.{NoArchive, NoIn
 use Rattle.command_common.specs.{Archives.HoldTogether, Ends.Query, Inputs.Reader, Outputs.Takes, Outputs.Writer}
 use Rattle.command_queries.specs.{Find.find, List.list, Name.SaysUnderscored}
 use Rattle.command_queries.specs.{Frames.frames, Symbolicate.symbolicate}
-use Rattle.command_write.specs.declared.notes.Note.{Note}
-use Rattle.command_write.specs.declared.notes.Note.TheVariants.{Retired, Missing, Underscored}
+use Rattle.command_common.specs.declared.notes.Note.{Note}
+use Rattle.command_common.specs.declared.notes.Note.TheVariants.{Retired, Missing, Underscored}
 use Rattle.command_index_queries.specs.{Find.find_at, Find.find_together, List.list_at}
 use Rattle.command_index_frames.specs.{Frames.frames_at, Symbolicate.symbolicate_at}
 use Rattle.command_extract.specs.{Extract.Extraction, Extract.extract, Indexed.extract_at}
@@ -22,18 +22,19 @@ no_archive number = Input (Index number) NoArchive
 abbrev pub no_index : ℕ → CommandFault
 no_index number = Input (Archive number) NoIndex
 
--- of so many archives and indexes the first that has no fellow is refused so
+-- of so many archives and indexes, the first index without an archive, or archive without an index, is refused with
+-- this fault
 abbrev pub IsAlone : ℕ → ℕ → CommandFault → Type 0
 IsAlone archives indexes fault =
     ((archives < indexes) × (fault ≡ no_archive archives)) ⊎ ((indexes < archives) × (fault ≡ no_index indexes))
 
--- archives and indexes, so many, are asked together; or one of them is refused for that, and nothing is read
+-- `Ok` if there are as many indexes as archives, else the fault of the first without a partner
 abbrev pub index_for_each_archive : ℕ → ℕ → Result (Unit {0}) CommandFault
 index_for_each_archive archives indexes = if nat_lt archives indexes then Err (no_archive archives)
     else if nat_lt indexes archives then Err (no_index indexes)
     else Ok tt
 
--- this query, if that is so
+-- this query after that check, or its refusal
 abbrev pub if_paired : Result (Unit {0}) CommandFault → Query → Query
 if_paired (Ok _) query = query
 if_paired (Err fault) query = record {

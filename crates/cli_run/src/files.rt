@@ -3,7 +3,7 @@
 ghost use Rattle.std.specs.Prelude.{◌≡◌, ◌≢◌, ◌++◌, [], Err, IfOk, MatchResult, None, Ok, OnOk};
 ghost use Rattle.std.specs.Prelude.{option_map, string_bytes};
 ghost use Rattle.command_common.specs.Outputs.{writer};
-ghost use Rattle.cli_files.specs.AtTurns.{told as told_of, told_by};
+ghost use Rattle.cli_files.specs.LazyInputs.{told as told_of, told_by};
 ghost use Rattle.cli_files.specs.Fresh.{AreFresh};
 ghost use Rattle.cli_files.specs.OutFiles.{Untouched, stage_of};
 ghost use Rattle.cli_files.specs.Publishing.{IsPath};
@@ -17,17 +17,16 @@ ghost use Rattle.cli_arguments.specs.declared.plan.Plan.{Plan};
 ghost use Rattle.cli_messages.specs.Names.{AreOfLine};
 
 use crate::execute_on;
-use crate::plans::replaces;
+use crate::plans::replace_rule;
 use archive_index::{IndexedArchive, PlainArchive};
 use byte_device::{CannotCreate, Placed, Sink, Source, Target};
 use cli_arguments::{Inputs, Line, Plan};
 use cli_files::{
-    Disk, OpenedFile, OutFault, OutFile, OutPath, PlacedFile, Replaces, SystemDisk, SystemFiles,
-    SystemInput,
+    Disk, OpenedFile, OutFault, OutFile, OutTarget, PlacedFile, ReplaceRule, SystemDisk,
+    SystemFiles, SystemInput,
 };
 use cli_messages::Seen;
-use command_common::{CommandFault, Failure, Status};
-use command_write::Note;
+use command_common::{CommandFault, Failure, Note, Status};
 use memory::{Heap, NoMemory};
 use std::io::BufReader;
 use std::rt::Files;
@@ -36,7 +35,7 @@ use std::rt::Files;
 fn begin<F: Files>(
     files: &mut SystemFiles<'_, F>,
     line: &Line,
-    replaces: Replaces,
+    replaces: ReplaceRule,
 ) -> Result<(), NoMemory>
     requires { AreFresh files.old }
     ensures asked { files.new.asked.entries ≡ files.old.asked.entries }
@@ -55,7 +54,7 @@ fn begin<F: Files>(
     files.begin(path, &inputs, replaces)
 }
 
-/// The inputs of a line, each of which is opened at its turn.
+/// The inputs of a line, each of which is opened at its first read.
 fn inputs_for<'l, 'f, F: Files>(
     files: &mut SystemFiles<'f, F>,
     line: &'l Line,
@@ -114,10 +113,10 @@ fn told_with(
 }
 
 /// Carries out the plan of a line over files of the system, whose report goes to `report`. Each input is opened at its
-/// turn, and closed at its end; OUT's draft is created with its first bytes, published when it is whole, and removed
-/// where it was not. No line without OUT has any. What was seen of the file that it failed at is in `seen`, and what a
-/// command that ended well notes is handed back.
-pub fn execute<'f, F: Files, P: Sink>(
+/// first read, and closed at its end; OUT's draft is created with its first bytes, published when it is whole, and
+/// removed if it is not. A command line without OUT creates no draft. `seen` receives what is known of the file at
+/// which the command failed. The notes of a command that succeeded are returned.
+pub fn execute_line<'f, F: Files, P: Sink>(
     files: &mut SystemFiles<'f, F>,
     line: &Line,
     plan: &Plan,
@@ -130,8 +129,8 @@ pub fn execute<'f, F: Files, P: Sink>(
         (told_by ⟦<SystemDisk<'f, F> as Disk>⟧ ⟦<OpenedFile<BufReader<F::File>> as Source>⟧
         ⟦<PlacedFile<F::File> as Placed>⟧)
         ⟦<OutFile<'f, F> as Sink>⟧.held
-        ⟦<OutFile<'f, F> as Sink>⟧.failures ⟦<OutPath<'f, F> as Target>⟧.published
-        ⟦<OutPath<'f, F> as Target>⟧.failures files.old files.new in
+        ⟦<OutFile<'f, F> as Sink>⟧.failures ⟦<OutTarget<'f, F> as Target>⟧.published
+        ⟦<OutTarget<'f, F> as Target>⟧.failures files.old files.new in
         let told = writer P.held P.failures report.old report.new in
         MatchResult result
         (λ both. IsDone calls (line_view line.now) told (Ok both.0) both.1.items)
@@ -139,7 +138,7 @@ pub fn execute<'f, F: Files, P: Sink>(
 {
     let heap = Heap::new(files.alloc())?;
     let mut notes = Vec::new(heap.share());
-    begin(files, line, replaces(plan))?;
+    begin(files, line, replace_rule(plan))?;
     let mut inputs = inputs_for(files, line)?;
     let ended = execute_on::<PlainArchive, IndexedArchive, _, _, _>(
         heap,

@@ -3,7 +3,7 @@
 ghost use Rattle.std.specs.Prelude.{◌≡◌, ◌≢◌, ◌⊎◌, [], Err, List, None, Result, Some};
 ghost use Rattle.cli_files.specs.InputStates.{Told, Unopened, Waiting, unopened_in};
 ghost use Rattle.cli_files.specs.declared.input_state.Unopened.TheVariants.{OutOfMemory as Wanting, Refused};
-ghost use Rattle.command_write.specs.declared.notes.Note.{Note};
+ghost use Rattle.command_common.specs.declared.notes.Note.{Note};
 ghost use Rattle.byte_device.specs.declared.disks.CannotOpen.{CannotOpen as Refusal};
 ghost use Rattle.command_common.specs.Outputs.{Outs, Writer};
 ghost use Rattle.command_common.specs.declared.failures.Failure.{Failure};
@@ -32,8 +32,8 @@ pub fn nothing_is_called_without_a_path<S: Source, D: Sink, T: Target>()
         → calls.called ≡ [] }
 {}
 
-/// Where a command is refused since an input cannot be opened, the disk refused that input at its turn, and nothing
-/// else makes it so.
+/// Where a command is refused since an input cannot be opened, the disk refused that input at its first read, and
+/// nothing else makes it so.
 pub fn refused_by_the_disk<S: Source, D: Sink, T: Target>()
     ensures { (told : Told S) (line : Line) (plan : Plan) (before behind : Inputs S) (out : Outs D T) (report : Writer)
         (result : Result Status CommandFault) (notes noted : List Note) (name : InputName)
@@ -72,7 +72,7 @@ pub fn unopened_inputs_are_told<S: Source, D: Sink, T: Target>()
 {}
 
 /// Of two calls that are refused at one input, whose disks have the same file for it, or both none, both tell that it
-/// cannot be opened, or neither does; unless one is refused before the turn of the input, as for its number.
+/// cannot be opened, or neither does; unless one is refused before the first read of the input, as for its number.
 pub fn one_opening<R: Source, S: Source, D: Sink, T: Target>()
     ensures { (told : Told R) (also : Told S) (line : Line) (plan another : Plan) (before behind : Inputs R)
         (first last : Inputs S) (out more : Outs D T) (report told_also : Writer)

@@ -4,7 +4,8 @@
 //! - `queries`: the command of a plan without OUT, over its inputs and the report;
 //! - `updates`: the command of a plan that writes OUT from an archive;
 //! - `plans`: the command of any plan over its inputs, OUT and the report;
-//! - `disks`: a plan over inputs that are opened at their turn;
+//! - `unopened`: the fault of a command whose input could not be opened;
+//! - `disks`: a plan over inputs that are opened at their first read;
 //! - `files`: a line over files of the system;
 //! - `runs`: the words of a command line, carried out over files of the system;
 //! - `laws`: what is said of an output without a path, and of inputs that were not opened.
@@ -21,6 +22,7 @@ mod laws;
 mod plans;
 mod queries;
 mod runs;
+mod unopened;
 mod updates;
 
 pub use disks::execute_on;

@@ -13,27 +13,27 @@ use archive_core::Archive;
 use byte_device::{Output, Placed, Sink, Source, Target};
 use byte_openings::Opens;
 use cli_arguments::{Inputs, Plan};
-use cli_files::Replaces;
-use command_common::{CommandFault, Status};
-use command_write::{Note, run_new};
+use cli_files::ReplaceRule;
+use command_common::{CommandFault, Note, Status};
+use command_write::run_new;
 use memory::Heap;
 
 /// Which files the OUT of a plan replaces: a summary and an index their own kind, a slice its own bytes, an archive
 /// those below it.
-pub fn replaces(plan: &Plan) -> Replaces
+pub fn replace_rule(plan: &Plan) -> ReplaceRule
     ensures { result ≡ replaces_of plan.now }
 {
     match plan {
-        Plan::Summary => Replaces::Summaries,
-        Plan::Index => Replaces::Indexes,
-        Plan::Extract { .. } => Replaces::SameBytes,
-        _ => Replaces::ArchivesBelow,
+        Plan::Summary => ReplaceRule::Summaries,
+        Plan::Index => ReplaceRule::Indexes,
+        Plan::Extract { .. } => ReplaceRule::SameBytes,
+        _ => ReplaceRule::ArchivesBelow,
     }
 }
 
 /// Carries out a plan over its inputs. An archive of the type `L` is asked for addresses, and one of `A` for all else.
-/// What the command notes is added to `notes`.
-pub fn execute<
+/// Notes of the command are added to `notes`.
+pub fn execute_plan<
     A: Archive + Drop,
     L: Archive + Drop,
     S: Source + Placed + Opens,

@@ -18,11 +18,10 @@ use archive_exchange::run_rehearse;
 use byte_device::{Placed, Sink, Source};
 use byte_openings::Opens;
 use cli_arguments::{Inputs, Plan};
-use command_common::{CommandFault, InputName, Status, Why, publish_report};
+use command_common::{CommandFault, InputName, Note, Status, Why, write_report};
 use command_index_frames::{run_frames_at, run_symbolicate_at};
 use command_index_queries::{run_find_at, run_find_together, run_list_at};
 use command_queries::{answer_name, run_find, run_frames, run_list, run_symbolicate};
-use command_write::Note;
 use memory::{Heap, NoMemory};
 use uuid::Uuid;
 
@@ -37,7 +36,7 @@ pub fn first_and_rest<T>(items: &mut [T]) -> (&mut T, &mut [T])
 }
 
 /// Refuses the first index that has no archive, or the first archive that has no index.
-pub fn test_pairs(archives: usize, indexes: usize) -> Result<(), CommandFault>
+pub fn check_pairs(archives: usize, indexes: usize) -> Result<(), CommandFault>
     ensures same { OnOk result (indexes ≡ archives) }
     ensures other { IfErr result (IsAlone archives indexes) }
 {
@@ -69,7 +68,7 @@ fn find<A: Archive + Drop, S: Source + Placed, P: Sink>(
         let (archive, others) = first_and_rest(archives);
         return run_find::<A, _, _>(heap, archive, others, uuid, report);
     }
-    test_pairs(archives.len(), indexes.len())?;
+    check_pairs(archives.len(), indexes.len())?;
     if archives.len() == 1 {
         return match (indexes, archives) {
             ([index], [archive]) => run_find_at(heap, index, archive, uuid, report),
@@ -134,7 +133,7 @@ fn name<S: Source, P: Sink>(
 {
     let answer = answer_name(heap.share(), archive, others, sought)?;
     note_underscored(heap, notes, answer.is_underscored, sought)?;
-    publish_report(answer.status, &answer.text, report)
+    write_report(answer.status, &answer.text, report)
 }
 
 /// `name` over archives that are asked together.
@@ -181,7 +180,7 @@ fn symbolicate<A: Archive + Drop, S: Source + Placed, P: Sink>(
             heap, archive, others, key, load, lines, slices, addresses, report,
         );
     }
-    test_pairs(archives.len(), indexes.len())?;
+    check_pairs(archives.len(), indexes.len())?;
     run_symbolicate_at::<A, _, _, _>(
         heap, indexes, archives, key, load, lines, slices, addresses, report,
     )
@@ -209,7 +208,7 @@ fn frames<A: Archive + Drop, S: Source + Placed, P: Sink>(
         let (archive, others) = first_and_rest(archives);
         return run_frames::<A, _, _>(heap, lines, slices, crash, archive, others, report);
     }
-    test_pairs(archives.len(), indexes.len())?;
+    check_pairs(archives.len(), indexes.len())?;
     run_frames_at::<A, _, _, _, _>(heap, lines, slices, crash, indexes, archives, report)
 }
 

@@ -3,17 +3,17 @@
 ghost use Rattle.std.specs.Prelude.{◌≡◌, ◌≢◌, MatchResult, map, string_bytes};
 ghost use Rattle.std.specs.IoError.{error_kind};
 ghost use Rattle.command_common.specs.Outputs.{writer};
-ghost use Rattle.cli_files.specs.AtTurns.{told_by};
+ghost use Rattle.cli_files.specs.LazyInputs.{told_by};
 ghost use Rattle.cli_files.specs.Fresh.{AreFresh};
 ghost use Rattle.cli_arguments.specs.LineView.{line_view};
 ghost use Rattle.cli_run.specs.Files.{calls_of};
 ghost use Rattle.cli_messages.specs.Ending.{IsUnreadable, WantsMemory};
 ghost use Rattle.cli_run.specs.Ends.{EndsWords, IsIdle};
 
-use crate::files::execute;
+use crate::files::execute_line;
 use byte_device::{Placed, Sink, Source, Target};
 use cli_arguments::{Plan, parse_command_line};
-use cli_files::{Disk, OpenedFile, OutFile, OutPath, PlacedFile, SystemDisk, SystemFiles};
+use cli_files::{Disk, OpenedFile, OutFile, OutTarget, PlacedFile, SystemDisk, SystemFiles};
 use cli_messages::{Seen, end, end_without_line, refuse_words};
 use std::io::{self, BufReader, ErrorKind};
 use std::rt::Files;
@@ -32,8 +32,8 @@ pub fn run<'f, F: Files, P: Sink, E: Sink>(
         (told_by ⟦<SystemDisk<'f, F> as Disk>⟧ ⟦<OpenedFile<BufReader<F::File>> as Source>⟧
         ⟦<PlacedFile<F::File> as Placed>⟧)
         ⟦<OutFile<'f, F> as Sink>⟧.held
-        ⟦<OutFile<'f, F> as Sink>⟧.failures ⟦<OutPath<'f, F> as Target>⟧.published
-        ⟦<OutPath<'f, F> as Target>⟧.failures files.old files.new in
+        ⟦<OutFile<'f, F> as Sink>⟧.failures ⟦<OutTarget<'f, F> as Target>⟧.published
+        ⟦<OutTarget<'f, F> as Target>⟧.failures files.old files.new in
         let told = writer P.held P.failures report.old report.new in
         let standard_error = writer E.held E.failures errors.old errors.new in
         MatchResult words (λ read. EndsWords calls (map string_bytes read.items) told standard_error result)
@@ -58,8 +58,8 @@ fn run_words<'f, F: Files, P: Sink, E: Sink>(
         (told_by ⟦<SystemDisk<'f, F> as Disk>⟧ ⟦<OpenedFile<BufReader<F::File>> as Source>⟧
         ⟦<PlacedFile<F::File> as Placed>⟧)
         ⟦<OutFile<'f, F> as Sink>⟧.held
-        ⟦<OutFile<'f, F> as Sink>⟧.failures ⟦<OutPath<'f, F> as Target>⟧.published
-        ⟦<OutPath<'f, F> as Target>⟧.failures files.old files.new in
+        ⟦<OutFile<'f, F> as Sink>⟧.failures ⟦<OutTarget<'f, F> as Target>⟧.published
+        ⟦<OutTarget<'f, F> as Target>⟧.failures files.old files.new in
         EndsWords calls (map string_bytes words.now) (writer P.held P.failures report.old report.new)
         (writer E.held E.failures errors.old errors.new) result }
 {
@@ -67,7 +67,7 @@ fn run_words<'f, F: Files, P: Sink, E: Sink>(
     match parse_command_line(alloc, words) {
         Ok(line) => {
             let mut seen = Seen::NOTHING;
-            let ended = execute(files, &line, &Plan::of(&line), report, &mut seen);
+            let ended = execute_line(files, &line, &Plan::of(&line), report, &mut seen);
             end(alloc, &line, ended, seen, errors)
         }
         Err(fault) => end_without_line(alloc, fault, report, errors),

@@ -10,16 +10,16 @@ ghost use Rattle.cli_run.specs.Plans.{EndsDeed, Executes, Notes, merged_of, read
 ghost use Rattle.cli_run.specs.Queries.{extract_of};
 ghost use Rattle.command_extract.specs.Extract.{Extracts};
 
-use crate::queries::{first_and_rest, test_pairs};
+use crate::queries::{check_pairs, first_and_rest};
 use archive_core::{Archive, Digest, SliceKey};
 use byte_device::{Output, Placed, Sink, Source, Target};
 use byte_openings::Opens;
 use cli_arguments::{Inputs, Plan};
-use command_common::{CommandFault, Status};
+use command_common::{CommandFault, Note, Status};
 use command_extract::{run_extract, run_extract_at};
 use command_index_queries::run_summary_at;
 use command_write::{
-    Note, run_admit, run_apply, run_delta, run_merge, run_migrate, run_retire, run_summary,
+    run_admit, run_apply, run_delta, run_merge, run_migrate, run_retire, run_summary,
 };
 use index_build::run_index;
 use memory::Heap;
@@ -46,7 +46,7 @@ pub fn extract<A: Archive + Drop, S: Source + Placed, T: Target, P: Sink>(
         let (archive, others) = first_and_rest(archives);
         return run_extract::<A, _, _, _>(heap, archive, others, key, digest, out, report);
     }
-    test_pairs(archives.len(), indexes.len())?;
+    check_pairs(archives.len(), indexes.len())?;
     run_extract_at::<A, _, _, _, _>(heap, indexes, archives, key, digest, out, report)
 }
 

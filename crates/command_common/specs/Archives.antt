@@ -13,7 +13,7 @@ use Rattle.command_common.specs.Inputs.{IsArchiveRefused, IsFirstRefused, IsRefu
 abbrev pub merged : Operations → List Operations → Operations
 merged o contents = fold joined o contents
 
--- the name of an archive of a list among those of the words, of which one stands before the list
+-- the name of an archive of a list on the command line, of which one stands before the list
 abbrev pub further_name : ℕ → InputName
 further_name number = Archive (number + 1)
 
@@ -28,7 +28,7 @@ pub record HoldTogether {R S : Type 0} (archive : Reader R) (others : List (Read
   pub others_are : AllZip HoldsArchive others contents
   pub is_true : IsTrue (merged content contents)
 
--- the first of them that is refused, in the order of the words
+-- the first of them that is refused, in the order of the command line
 abbrev pub AreRefused : {R S : Type 0} → Reader R → List (Reader S) → InputName → Why → Type 0
 AreRefused archive others =
     IsRefusedInOrder archive (EachUntouched others) (IsFirstRefused further_name IsArchive IsArchiveRefused others)

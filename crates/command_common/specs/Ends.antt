@@ -40,9 +40,9 @@ pub record Carries (Makes : List ℕ → List ℕ → Type 0) (out : Out) (repor
   pub makes : Makes text told
   pub published : Publishes out report text told result
 
--- How a command ends. An input is refused, and OUT is kept; or the inputs are accepted, and what they make is
--- published and told, or up to where a writer failed. Where OUT failed or memory is wanting nothing is published. Where
--- no input is refused, no reader fails.
+-- How a command ends. An input is refused, and OUT is kept; or the inputs are accepted, and what they make is published
+-- and told, or up to where a writer failed. Where OUT failed or memory runs out nothing is published. Where no input is
+-- refused, no reader fails.
 abbrev pub Ends : Command → Out → Writer → Result Status CommandFault → Type 0
 Ends command out report (Ok status) = command.Unfailed × Carries command.Makes out report (Ok status)
 Ends command out report (Err (Input name why)) = command.Refuses name why × IsKept out × Takes report []
@@ -90,7 +90,7 @@ HasFirst command Known draft n =
     Known → (text told : List ℕ) → command.Makes text told → WritesFirst draft.old draft.new text n
 
 -- What stops a command that writes all the while, the bytes of whose inputs are known under this condition: an input
--- that is refused; the draft, which failed; or want of memory, where no reader failed. Whichever it is, the draft has
+-- that is refused; the draft, which failed; or a lack of memory, where no reader failed. Whichever it is, the draft has
 -- no more than a beginning of what accepted inputs make.
 abbrev pub StopsAmidst : Command → Type 0 → Writer → CommandFault → Type 0
 StopsAmidst command Known draft (Input name why) =
@@ -152,8 +152,8 @@ pub record CarriesReport (Makes : Status → List ℕ → Type 0) (report : Writ
   pub reported : Reports report status text result
 
 -- How a command ends that only reports. Its input is refused, and nothing is written; or it is accepted, and what it
--- makes is reported, wholly or up to where the report failed. Where memory is wanting nothing is written. Where
--- it is not refused, its reader does not fail.
+-- makes is reported, wholly or up to where the report failed. Where memory runs out nothing is written. Where it is not
+-- refused, its reader does not fail.
 abbrev pub EndsReport : Query → Writer → Result Status CommandFault → Type 0
 EndsReport query report (Ok status) = query.Unfailed × CarriesReport query.Makes report (Ok status)
 EndsReport query report (Err (Input name why)) = query.Refuses name why × Takes report []

@@ -1,4 +1,4 @@
--- Parts of several archives, joined: the words of inner functions. No contract of a public one has them.
+-- Parts of several archives, joined: definitions for private functions. No public contract uses them.
 use Rattle.std.specs.Prelude.{◌≡◌, ℕ, List, Bool, map}
 use Rattle.std.specs.List.{AllByRecursion, AllZip}
 use Rattle.archive_core.specs.Content.{Operations, IsContent}

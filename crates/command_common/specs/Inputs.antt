@@ -80,7 +80,7 @@ IsUntouched input = input.new ≡ input.old
 abbrev pub EachUntouched : {S : Type 0} → List (Reader S) → Type 0
 EachUntouched inputs = AllByRecursion IsUntouched inputs
 
--- why the text of such a file is not read: reading the whole of it is refused for this fault, which is not want of
+-- why the text of such a file is not read: reading the whole of it is refused for this fault, which is not a lack of
 -- memory
 abbrev pub IsTextRefused : {S : Type 0} → TextKind → Reader S → Why → Type 0
 IsTextRefused {S = S} kind input why =
@@ -187,7 +187,7 @@ IsAccepted input = (bytes : List ℕ) × IsAcceptedFile bytes × Holds input byt
 abbrev pub IsFrames : {S : Type 0} → Reader S → Type 0
 IsFrames input = (listed : List Frame) × Gives input (λ bytes. frames_of bytes ≡ Ok listed)
 
--- the archive of this number among those of the words is refused
+-- archive `index` of the command line, counted from 0, is refused
 abbrev pub IsRefusedArchive : {S : Type 0} → ℕ → Reader S → InputName → Why → Type 0
 IsRefusedArchive index input at why = (at ≡ Archive index) × IsArchiveRefused input why
 
@@ -246,7 +246,7 @@ IsRefusedInTurn input IsRefusedBehind at why =
 abbrev pub IsWantedInTurn : {S : Type 0} → Reader S → (InputName → Why → Type 0) → Type 0
 IsWantedInTurn input IsRefusedBehind = Unfailed input × ((at : InputName) × (why : Why) × IsRefusedBehind at why)
 
--- The fault is that of an input, of which this holds, or want of memory, where this does.
+-- The fault is that of an input, of which this holds, or a lack of memory, where this does.
 abbrev pub IsRefusal : (InputName → Why → Type 0) → Type 0 → CommandFault → Type 0
 IsRefusal Refused Unfailed (Input name why) = Refused name why
 IsRefusal Refused Unfailed (Output _) = ⊥
@@ -258,7 +258,7 @@ pub record AreRead (IsTrue NoneFailed : Type 0) : Type 0 where
   pub is : IsTrue
   pub unfailed : NoneFailed
 
--- What comes of reading inputs: a value of which this is true; or a refusal, or want of memory. A reader fails at a
+-- What comes of reading inputs: a value of which this is true; or a refusal, or a lack of memory. A reader fails at a
 -- refusal alone.
 abbrev pub ReadsInputs : {T : Type 0} → Result T CommandFault → (T → Type 0) → (InputName → Why → Type 0) → Type 0
     → Type 0

@@ -4,6 +4,7 @@ pub mod Archives
 pub mod Outputs
 pub mod Ends
 pub mod Statuses
+pub mod Notes
 pub mod Found
 pub mod Together
 pub mod InnerTogether

@@ -110,7 +110,7 @@ abbrev pub FailsAt : Out → List ℕ → ℕ → Type 0
 FailsAt out text n =
     (FailsBehind out.draft text n × PublishesNothing out) ⊎ ((n ≡ length text) × FailsToPublish out text)
 
--- The text is published, and then the report is told: by result, what either got. Where memory is wanting nothing is
+-- The text is published, and then the report is told: by result, what either got. Where memory runs out nothing is
 -- published.
 abbrev pub Publishes : Out → Writer → List ℕ → List ℕ → Result Status CommandFault → Type 0
 Publishes out report text told (Ok status) = (status ≡ Done) × IsPublished out text × Takes report told

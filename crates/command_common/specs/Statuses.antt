@@ -7,10 +7,10 @@ use Rattle.command_common.specs.declared.faults.Status.{Status}
 use Rattle.command_common.specs.declared.faults.Status.TheVariants.{Done, Partial, Refused}
 
 -- of a command that was carried out: everything was done or found; the answer is empty or has no single symbol; part of
--- it was refused, as the report says; or memory was wanting, or an input was refused or a device failed
-abbrev pub status_of : Result Status Failure → ℕ
-status_of (Ok Done) = 0
-status_of (Ok Partial) = 1
-status_of (Ok Refused) = 2
-status_of (Err (Command OutOfMemory)) = 4
-status_of (Err _) = 2
+-- it was refused, as the report says; or memory ran out, or an input was refused or a device failed
+abbrev pub exit_status : Result Status Failure → ℕ
+exit_status (Ok Done) = 0
+exit_status (Ok Partial) = 1
+exit_status (Ok Refused) = 2
+exit_status (Err (Command OutOfMemory)) = 4
+exit_status (Err _) = 2

@@ -16,11 +16,11 @@ pub enum Status {
     Done,
     /// The answer is empty or has no single symbol: exit status 1.
     Partial,
-    /// Part of it was refused, which the report names; the rest was done: exit status 2.
+    /// Files were passed over, as the report says; everything else was done: exit status 2.
     Refused,
 }
 
-/// Which input of a command. Archives and files are counted from 0 in the order of the words.
+/// Which input of a command. Archives, files and indexes are counted from 0, in the order of the command line.
 #[derive(Clone, Copy, Debug, PartialEq, Eq)]
 pub enum InputName {
     /// An archive that is read.
@@ -63,17 +63,16 @@ pub enum Why {
     },
     /// It is an archive of version 1, of which no index is made.
     OldArchive,
-    /// It is an archive of which a record, or its table in the index, would stand after more bytes than an index
-    /// counts.
+    /// A record of the archive, or its table in the index, would begin at byte 2^64 or later.
     TooLong,
     /// It is no text of an index, or reading it failed.
     Index(IndexFault),
-    /// It is an index of another archive: this one has another length, or where this entry, from 0 on, says stands no
-    /// record that it names.
+    /// The index is not of this archive. `None`: the archive has another length. `Some(n)`: there is no such record
+    /// where entry `n`, counted from 0, says.
     Stale(Option<u64>),
-    /// It is an index whose table for this entry, from 0 on, was changed.
+    /// It is an index whose table for this entry, counted from 0, was changed.
     Damaged(u64),
-    /// It is an index whose table for this entry, from 0 on, has no lines, though lines are wanted.
+    /// It is an index whose table for this entry, counted from 0, has no source lines, though they were asked for.
     NoLines(u64),
     /// It is an index with a number that no archive has.
     NoArchive,

@@ -1,12 +1,12 @@
-//! What all commands have: their inputs, the words for what they read, and how one ends.
+//! The code that all commands share: their inputs, the definitions for their contents, and how a command ends.
 //!
-//! A command reads its inputs, each refused in the order of the words, and writes OUT, as its
-//! first input comes or after all were read. OUT is published when it is whole, and after that comes the report.
+//! A command reads its inputs, reports the first that is refused in the order of the command line, and writes OUT:
+//! while it reads its first input, or after it read all. OUT is published when it is whole; then the report is written.
 //!
 //! - `faults`: how a command ends, and why one is refused;
-//! - `failures`: the line that the program says where it fails;
+//! - `failures`: the line printed on standard error if the program fails;
+//! - `notes`: what is noted of a command that succeeded;
 //! - `statuses`: how a search ends, and the exit status of what was carried out;
-//! - `outputs`: OUT, published when it is whole;
 //! - `publishing`: the end of each command;
 //! - `sources`: what one input holds, or its refusal;
 //! - `together`: archives of which parts are kept and joined, and questions that their join answers.
@@ -21,7 +21,7 @@
 
 mod failures;
 mod faults;
-mod outputs;
+mod notes;
 mod publishing;
 mod sources;
 mod statuses;
@@ -29,11 +29,13 @@ mod together;
 
 pub use failures::Failure;
 pub use faults::{CommandFault, InputName, Status, Why};
-pub use outputs::publish_output;
-pub use publishing::{publish, publish_bytes, publish_draft, publish_report, publish_summary};
-pub use sources::{
-    read_crash, read_entries, read_events, read_file, read_input, read_operations, read_rows,
-    read_summary_input, refusal, refused_behind,
+pub use notes::Note;
+pub use publishing::{
+    publish, publish_draft, publish_output, publish_summary, write_report, write_report_bytes,
 };
-pub use statuses::{found_status, status_of};
+pub use sources::{
+    first_refusal, read_archive_input, read_file, read_frames_input, read_operations, read_rows,
+    read_script_input, read_summary_input, refusal, summarize_archive,
+};
+pub use statuses::{exit_status, found_status};
 pub use together::{answer_all, answer_archives, bytes_of, read_parts};

@@ -1,20 +1,42 @@
-//! The end of each command: OUT, which is published, and then the report.
-ghost use Rattle.std.specs.Prelude.{◌≡◌, ◌++◌, ℕ, List, length, string_bytes};
+//! The end of each command: OUT, which is published, and the report after it.
+ghost use Rattle.std.specs.Prelude.{◌≡◌, ◌++◌, [], ℕ, List, IfErr, OnErr, OnOk, Some, length, string_bytes};
 ghost use Rattle.archive_records.specs.Text.{summary_text, written};
+ghost use Rattle.byte_device.specs.Devices.{FailedIn};
 ghost use Rattle.text_reports.specs.Report.{archive_line};
+ghost use Rattle.command_common.specs.declared.faults.CommandFault.TheVariants.{Output as FailedOutput};
 ghost use Rattle.command_common.specs.Outputs.{Publishes, Reports, Takes, out_of, outs, report_of, summary_report_of};
 ghost use Rattle.command_common.specs.Outputs.{writer};
 
 use crate::faults::{CommandFault, Status};
-use crate::outputs::publish_output;
 use archive_core::Archive;
 use archive_records::{Sizes, Summary, write_archive, write_summary};
-use byte_device::{Output, Sink, Target, push_all};
+use byte_device::{Failed, Output, Sink, Target, push_all};
 use memory::Heap;
 use text_reports::{summary_line, with_sizes};
 
-/// Publishes OUT, whose draft has taken a whole text with these sizes since it was `start`, and then writes the lines
-/// and the sizes to the report, which is made whole before that.
+/// Publishes an output whose draft has taken this many bytes.
+pub fn publish_output<T: Target>(
+    out: &mut Output<T::Draft, T>,
+    written: u128,
+) -> Result<(), CommandFault>
+    ensures published { OnOk result (T.published out.new.target ≡ T.Draft.held out.old.draft) }
+    ensures emptied { OnOk result (T.Draft.held out.new.draft ≡ Some []) }
+    ensures kept { OnErr result (T.published out.new.target ≡ T.published out.old.target) }
+    ensures held { OnErr result (T.Draft.held out.new.draft ≡ T.Draft.held out.old.draft) }
+    ensures draft { T.Draft.failures out.new.draft ≡ T.Draft.failures out.old.draft }
+    ensures unfailed { OnOk result (T.failures out.new.target ≡ T.failures out.old.target) }
+    ensures failed { IfErr result (λ fault. (fault ≡ FailedOutput written)
+        × FailedIn (T.failures out.old.target) (T.failures out.new.target)) }
+{
+    match out.target.publish(&mut out.draft) {
+        Ok(()) => Ok(()),
+        Err(Failed) => Err(CommandFault::Output(written)),
+    }
+}
+
+/// Publishes OUT, whose draft has accepted one whole text of these sizes, and then writes the lines and the sizes to
+/// the report. The report is made in memory first, so nothing is published if memory runs out. `start` in the clause is
+/// the draft before that text.
 pub fn publish_draft<T: Target, P: Sink>(
     lines: String<Heap>,
     sizes: Sizes,
@@ -30,11 +52,11 @@ pub fn publish_draft<T: Target, P: Sink>(
 {
     let text = with_sizes(lines, sizes)?;
     publish_output(out, sizes.bytes)?;
-    publish_report(Status::Done, &text, report)
+    write_report(Status::Done, &text, report)
 }
 
-/// Writes the archive to OUT, publishes it, and then writes the lines and the sizes to the report, which is made whole
-/// before that.
+/// Writes the archive to OUT, publishes it, and then writes the lines and the sizes to the report, which is made in
+/// memory before OUT is published.
 pub fn publish<A: Archive, T: Target, P: Sink>(
     archive: &A,
     lines: String<Heap>,
@@ -68,22 +90,22 @@ pub fn publish_summary<T: Target, P: Sink>(
     };
     let text = summary_line(heap, sizes)?;
     publish_output(out, sizes.bytes)?;
-    publish_report(Status::Done, &text, report)
+    write_report(Status::Done, &text, report)
 }
 
 /// Writes a text to the report, which is the end of each command that only reports.
-pub fn publish_report<P: Sink>(
+pub fn write_report<P: Sink>(
     status: Status,
     text: &str,
     report: &mut P,
 ) -> Result<Status, CommandFault>
     ensures { Reports (writer P.held P.failures report.old report.new) status text.now result }
 {
-    publish_bytes(status, text.as_bytes(), report)
+    write_report_bytes(status, text.as_bytes(), report)
 }
 
-/// The same of a text by its bytes.
-pub fn publish_bytes<P: Sink>(
+/// Writes these bytes to the report, as [`write_report`] does.
+pub fn write_report_bytes<P: Sink>(
     status: Status,
     bytes: &[u8],
     report: &mut P,

@@ -1,4 +1,4 @@
-//! The inputs of a command, each read and refused at its turn.
+//! The inputs of a command, each with a function that reads it or returns its refusal.
 ghost use Rattle.std.specs.Prelude.{◌≡◌, ◌≢◌, [], Ok};
 ghost use Rattle.archive_core.specs.Content.{IsContent, Operations};
 ghost use Rattle.archive_core.specs.Lists.{IsList};
@@ -52,8 +52,8 @@ macro_rules! or_refused {
     };
 }
 
-/// Reads the archive of this number among those of the words.
-pub fn read_input<A: Archive + Drop, R: Source>(
+/// Reads archive `index` of the command line, counted from 0.
+pub fn read_archive_input<A: Archive + Drop, R: Source>(
     heap: Heap,
     index: u64,
     input: &mut R,
@@ -66,8 +66,12 @@ pub fn read_input<A: Archive + Drop, R: Source>(
     or_refused!(at, read_archive(heap, input))
 }
 
-/// Reads the archive of this number among those of the words to its end, and keeps nothing of it.
-pub fn test_input<R: Source>(heap: Heap, index: u64, input: &mut R) -> Result<(), CommandFault>
+/// Reads archive `index` of the command line, counted from 0, to its end, and keeps nothing of it.
+pub fn check_archive_input<R: Source>(
+    heap: Heap,
+    index: u64,
+    input: &mut R,
+) -> Result<(), CommandFault>
     ensures { ReadsInput (reader R.left R.failures input.old input.new) result (λ input _. IsArchive input)
         (IsRefusedArchive index) }
 {
@@ -75,13 +79,13 @@ pub fn test_input<R: Source>(heap: Heap, index: u64, input: &mut R) -> Result<()
     or_refused!(at, test_archive(heap, input))
 }
 
-/// What is told where this was told of an input after the archive: if that one is refused, its refusal, after the
-/// archive was tested to its end, or the archive's own fault, if it has one.
-pub fn refused_behind<R: Source>(heap: Heap, input: &mut R, fault: CommandFault) -> CommandFault
+/// The fault to report if an input after the archive failed with `fault`. If that input was refused, the archive is
+/// read to its end first, and its own fault is returned if it has one. Any other `fault` is returned as it is.
+pub fn first_refusal<R: Source>(heap: Heap, input: &mut R, fault: CommandFault) -> CommandFault
     ensures { TellsInTurn (reader R.left R.failures input.old input.new) fault result }
 {
     match fault {
-        CommandFault::Input(at, why) => match test_input(heap, 0, input) {
+        CommandFault::Input(at, why) => match check_archive_input(heap, 0, input) {
             Ok(()) => CommandFault::Input(at, why),
             Err(first) => first,
         },
@@ -89,8 +93,8 @@ pub fn refused_behind<R: Source>(heap: Heap, input: &mut R, fault: CommandFault)
     }
 }
 
-/// Reads the archive of this number among those of the words, and keeps the records that are picked.
-pub fn read_input_part<A: Archive + Drop, S: Selects, R: Source>(
+/// Reads archive `index` of the command line, counted from 0, and keeps the records that are picked.
+pub fn read_archive_part<A: Archive + Drop, S: Selects, R: Source>(
     heap: Heap,
     index: u64,
     select: &S,
@@ -104,7 +108,7 @@ pub fn read_input_part<A: Archive + Drop, S: Selects, R: Source>(
 }
 
 /// Reads the archive that questions are put to, and answers these.
-pub fn answer_input<A: Archive + Drop, Q: Questions + Drop, R: Source>(
+pub fn answer_from_archive<A: Archive + Drop, Q: Questions + Drop, R: Source>(
     heap: Heap,
     questions: Q,
     input: &mut R,
@@ -129,7 +133,7 @@ pub fn read_rows<R: Source>(heap: Heap, input: &mut R) -> Result<Vec<FindRow, He
 }
 
 /// Reads the archive that is summarized, and gives its summary.
-pub fn read_entries<R: Source>(heap: Heap, input: &mut R) -> Result<Summary, CommandFault>
+pub fn summarize_archive<R: Source>(heap: Heap, input: &mut R) -> Result<Summary, CommandFault>
     ensures { ReadsInput (reader R.left R.failures input.old input.new) result
         (λ input entries. HoldsContent input (λ o. entries ≡ summary o)) (IsRefusedArchive 0) }
 {
@@ -152,6 +156,7 @@ fn read_bytes<S: Source>(
     }
 }
 
+/// Reads file `index` whole.
 pub fn read_file<S: Source>(
     heap: Heap,
     index: u64,
@@ -163,6 +168,7 @@ pub fn read_file<S: Source>(
     read_bytes(heap, InputName::File(index), file)
 }
 
+/// Reads OPS, and returns its operations in their order.
 pub fn read_operations<S: Source>(
     heap: Heap,
     ops: &mut S,
@@ -184,7 +190,7 @@ pub fn read_summary_input<S: Source>(heap: Heap, summary: &mut S) -> Result<Summ
 }
 
 /// Reads the script that is carried out, to its end, and then what it says.
-pub fn read_events<S: Source>(heap: Heap, script: &mut S) -> Result<Script, CommandFault>
+pub fn read_script_input<S: Source>(heap: Heap, script: &mut S) -> Result<Script, CommandFault>
     ensures { ReadsInput (reader S.left S.failures script.old script.new) result
         (λ script listed. Gives script (λ bytes. script_of bytes ≡ Ok (listed.sites, acts listed.events.items)))
         IsRefusedScript }
@@ -201,7 +207,10 @@ pub fn read_events<S: Source>(heap: Heap, script: &mut S) -> Result<Script, Comm
 }
 
 /// Reads the frames of a crash, to their end, and then what they say.
-pub fn read_crash<S: Source>(heap: Heap, frames: &mut S) -> Result<Vec<Frame, Heap>, CommandFault>
+pub fn read_frames_input<S: Source>(
+    heap: Heap,
+    frames: &mut S,
+) -> Result<Vec<Frame, Heap>, CommandFault>
     ensures { ReadsInput (reader S.left S.failures frames.old frames.new) result
         (λ frames listed. Gives frames (λ bytes. frames_of bytes ≡ Ok listed.items)) IsRefusedFrames }
 {

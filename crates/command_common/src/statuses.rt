@@ -2,12 +2,13 @@
 
 ghost use Rattle.std.specs.Prelude.{◌≡◌};
 ghost use Rattle.command_common.specs.Found.{found_status};
-ghost use Rattle.command_common.specs.Statuses.{status_of};
+ghost use Rattle.command_common.specs.Statuses.{exit_status};
 
 use crate::{CommandFault, Failure, Status};
 
-pub fn status_of(ended: &Result<Status, Failure>) -> u8
-    ensures { result ≡ status_of ended.now }
+/// The exit status of a command that ended so: 0, 1, 2, or 4 if memory ran out.
+pub fn exit_status(ended: &Result<Status, Failure>) -> u8
+    ensures { result ≡ exit_status ended.now }
 {
     match ended {
         Ok(Status::Done) => 0,
@@ -18,6 +19,7 @@ pub fn status_of(ended: &Result<Status, Failure>) -> u8
     }
 }
 
+/// `Partial` if there are no rows, else `Done`.
 pub fn found_status<T>(rows: &[T]) -> Status
     ensures { result ≡ found_status rows.now }
 {

@@ -11,14 +11,14 @@ ghost use Rattle.command_common.specs.InnerTogether.{HasJoinedParts};
 ghost use Rattle.command_common.specs.Together.{AreAlikeWhere};
 
 use crate::faults::CommandFault;
-use crate::sources::{answer_input, read_input_part};
+use crate::sources::{answer_from_archive, read_archive_part};
 use archive_core::{Archive, SliceKey, take_all};
 use archive_read::{Questions, Selects};
 use archive_records::key_prefix;
 use byte_device::Source;
 use memory::{Heap, NoMemory};
 
-/// Joins what is picked of the archive with this number among the words.
+/// Joins what is picked of the archive with this number on the command line.
 pub fn join_part<A: Archive + Drop, S: Selects, R: Source>(
     heap: Heap,
     kept: &mut A,
@@ -31,12 +31,12 @@ pub fn join_part<A: Archive + Drop, S: Selects, R: Source>(
         (λ o. A.content kept.new ≡ joined (A.content kept.old) (part o (S.picked select.now))))
         (IsRefusedArchive number) }
 {
-    let other: A = read_input_part(heap, number, select, archive)?;
+    let other: A = read_archive_part(heap, number, select, archive)?;
     take_all(kept, other)?;
     Ok(())
 }
 
-/// Joins what is picked of each of these archives, in their order. The first of them is archive 1 among the words.
+/// Joins what is picked of each of these archives, in their order. The first of them is archive 1 on the command line.
 fn join_parts<A: Archive + Drop, S: Selects, R: Source>(
     heap: &Heap,
     kept: &mut A,
@@ -52,8 +52,8 @@ fn join_parts<A: Archive + Drop, S: Selects, R: Source>(
     Ok(())
 }
 
-/// Reads the archives in the order of the words, each to its end, and keeps the join of what is picked of each: under a
-/// prefix of a key, or the whole of one, it has what the join of the archives has.
+/// Reads the archives in the order of the command line, each to its end, and keeps the join of what is picked of each:
+/// under a prefix of a key, or the whole of one, it has what the join of the archives has.
 pub fn read_parts<A: Archive + Drop, S: Selects, R: Source>(
     heap: Heap,
     select: &S,
@@ -64,7 +64,7 @@ pub fn read_parts<A: Archive + Drop, S: Selects, R: Source>(
         (readers R.left R.failures others.old others.new) result
         (λ kept. AreAlikeWhere (S.picked select.now) (A.content kept)) }
 {
-    let mut kept: A = read_input_part(heap.share(), 0, select, archive)?;
+    let mut kept: A = read_archive_part(heap.share(), 0, select, archive)?;
     join_parts(&heap, &mut kept, select, others)?;
     Ok(kept)
 }
@@ -117,7 +117,7 @@ pub fn answer_archives<A: Archive + Drop, Q: Questions + Drop, S: Selects, R: So
         (λ told o. (Q.left told ≡ []) × Q.answered questions o told) }
 {
     if others.is_empty() {
-        return answer_input::<A, Q, R>(heap, questions, archive);
+        return answer_from_archive::<A, Q, R>(heap, questions, archive);
     }
     let kept: A = read_parts(heap, select, archive, others)?;
     let mut told = questions;

@@ -1,4 +1,4 @@
--- The results of reading the bytes at a place of a device.
+-- The results of reading the bytes at an offset in a device.
 use Rattle.std.specs.Prelude.{◌≡◌, ℕ, ◌+◌, ◌<◌, List, length, Option, IfSome, Result, MatchOption, MatchResult}
 use Rattle.std.specs.Io.KnownBytes.{Appends}
 use Rattle.sha2.specs.Sha256.{sha256}
@@ -16,19 +16,19 @@ IsUnfailed device = device.failures device.new ≡ device.failures device.old
 abbrev pub HasFailed : {D : Type 0} → Stream D → Type 0
 HasFailed device = FailedIn (device.failures device.old) (device.failures device.new)
 
--- some bytes are asked for at the place, and fewer stand there
+-- some bytes are asked for at the offset, and fewer are there
 abbrev pub HasFewer : Option (List ℕ) → ℕ → ℕ → Type 0
 HasFewer whole at size = IfSome whole (λ all. (0 < size) × (length all < at + size))
 
--- So many bytes stand at the place, and this is their SHA-256.
+-- So many bytes are at the offset, and this is their SHA-256.
 pub record HaveDigest (whole : Option (List ℕ)) (at size : ℕ) (digest : List ℕ) : Type 0 where
   pub bytes : List ℕ
   pub long : length bytes ≡ size
   pub stands : Stands whole at bytes
   pub digest_is : digest ≡ sha256 bytes
 
--- What came of hashing so many bytes from a place on: their SHA-256, or there are fewer; or the device failed. It keeps
--- its bytes.
+-- What came of hashing so many bytes from an offset on: their SHA-256, or there are fewer; or the device failed. It
+-- keeps its bytes.
 pub record HashesAt {P : Type 0} (device : Stream P) (at size : ℕ) (result : Result (Option (List ℕ)) Failed)
     : Type 0 where
   pub keeps : device.bytes device.new ≡ device.bytes device.old
@@ -37,7 +37,7 @@ pub record HashesAt {P : Type 0} (device : Stream P) (at size : ℕ) (result : R
       (HaveDigest (device.bytes device.old) at size))
       (λ _. HasFailed device)
 
--- The sink gained these bytes, which stand at the place.
+-- The sink gained these bytes, which are at the offset.
 pub record Gains {P W : Type 0} (device : Stream P) (sink : Stream W) (at : ℕ) (bytes : List ℕ) : Type 0 where
   pub stands : Stands (device.bytes device.old) at bytes
   pub gained : Appends (sink.bytes sink.old) (sink.bytes sink.new) bytes
@@ -65,7 +65,7 @@ pub record StopsCopy {P W : Type 0} (device : Stream P) (sink : Stream W) (at si
   pub fewer : length bytes < size
   pub stops : StopsFor device sink at size (length bytes) fault
 
--- What came of copying so many bytes from a place on into a sink: their SHA-256, or why they are not all there. The
+-- What came of copying so many bytes from an offset on into a sink: their SHA-256, or why they are not all there. The
 -- device keeps its bytes.
 pub record CopiesAt {P W : Type 0} (device : Stream P) (sink : Stream W) (at size : ℕ)
     (result : Result (List ℕ) CopyFault) : Type 0 where

@@ -48,7 +48,7 @@ MakesNone Holds key digest told =
     (slices : List (List ℕ)) × Holds (λ o. AreUndecided o key digest slices) × (told ≡ slices_text slices)
 
 -- `extract`, over archives that hold this, one of which is refused so, or no reader of which failed. It is stopped
--- before OUT is begun, by an archive that is refused or for want of memory.
+-- before OUT is begun, by an archive that is refused or for a lack of memory.
 abbrev pub extraction : Held → (InputName → Why → Type 0) → Type 0 → SliceKey → Option Digest → Writer → Extraction
 extraction Holds Refuses Unfailed key digest draft = record {
   writes = record {

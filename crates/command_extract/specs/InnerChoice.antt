@@ -1,5 +1,5 @@
--- What is chosen among the slices of an archive, and what is published of it: the words of inner functions. No contract
--- of a public one has them.
+-- What is chosen among the slices of an archive, and what is published of it: definitions for private functions. No
+-- public contract uses them.
 use Rattle.std.specs.Prelude.{◌≡◌, ℕ, List, [], Option, Result, Err, map, ◌⊎◌}
 use Rattle.archive_core.specs.Content.{Operations}
 use Rattle.archive_core.specs.declared.find.FindRow.{FindRow}
@@ -21,8 +21,8 @@ IsChoice o key digest (One slice) = IsWanted o key digest slice
 IsChoice o key digest (Undecided rows) =
     (slices : List (List ℕ)) × AreUndecided o key digest slices × (rows.items ≡ map slice_row slices)
 
--- The wanted slice is published; or there is none, OUT is as it was, and the report tells which answer; or memory is
--- wanting before OUT is begun.
+-- The wanted slice is published; or there is none, OUT is as it was, and the report tells which answer; or memory runs
+-- out before OUT is begun.
 abbrev pub PublishesWanted : {D T : Type 0} → Operations → SliceKey → Option Digest → Outs D T → Writer
     → Result Status CommandFault → Type 0
 PublishesWanted o key digest out report result =
@@ -31,7 +31,7 @@ PublishesWanted o key digest out report result =
     × Reports report Partial (slices_text slices) result)
     ⊎ ((result ≡ Err OutOfMemory) × (out.new ≡ out.old) × Takes report [])
 
--- Which answer is reported; or memory is wanting, and nothing is.
+-- Which answer is reported; or memory runs out, and nothing is.
 abbrev pub PublishesRows : List FindRow → Writer → Result Status CommandFault → Type 0
 PublishesRows rows report result =
     Reports report Partial (find_lines rows) result ⊎ ((result ≡ Err OutOfMemory) × Takes report [])

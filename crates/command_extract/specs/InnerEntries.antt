@@ -1,5 +1,5 @@
--- What the entries of indexes choose, and what is sent of it: the words of inner functions. No contract of a public one
--- has them.
+-- What the entries of indexes choose, and what is sent of it: definitions for private functions. No public contract
+-- uses them.
 use Rattle.std.specs.Prelude.{◌≡◌, ◌⊎◌, ℕ, List, [], ◌∷◌, Option, None, Some, Result, Ok, Err, slice_index_or}
 use Rattle.std.specs.Prelude.{slice_set}
 use Rattle.std.specs.List.{AllZip}
@@ -68,7 +68,7 @@ PublishesFrom {P} whole failures old new key x out report result =
     × (new ≡ slice_set old x.input after) × PublishesSlice (reader whole failures before after) key x out report result
 
 -- What the slices under the key make, which these entries name in archives, is published; or an archive is refused or
--- memory is wanting, OUT is as it was, and nothing was reported.
+-- memory runs out, OUT is as it was, and nothing was reported.
 abbrev pub PublishesTied : {P D T : Type 0} → SliceKey → List (List (List ℕ)) → List (Reader P) → Outs D T → Writer
     → Result Status CommandFault → Type 0
 PublishesTied key all archives out report result =

@@ -7,7 +7,7 @@ use Rattle.command_extract.specs.Copies.{Gains, HasFailed, HaveDigest, IsCopied,
 use Rattle.command_extract.specs.declared.tested_copy.SendFault.{SendFault}
 use Rattle.command_extract.specs.declared.tested_copy.SendFault.TheVariants.{Other, Device, Sink}
 
--- some bytes are asked for, and so many stand at the place that have this SHA-256
+-- some bytes are asked for, and so many are at the offset and have this SHA-256
 abbrev pub HaveSome : Option (List ℕ) → ℕ → ℕ → List ℕ → Type 0
 HaveSome whole at size digest = (0 < size) × HaveDigest whole at size digest
 
@@ -15,7 +15,7 @@ HaveSome whole at size digest = (0 < size) × HaveDigest whole at size digest
 abbrev pub HaveOther : Option (List ℕ) → ℕ → ℕ → List ℕ → Type 0
 HaveOther whole at size digest = IfSome whole (λ all. HaveSome (Some all) at size digest → ⊥)
 
--- What came of comparing the SHA-256 of so many bytes at the place with this one; or the device failed. It keeps its
+-- What came of comparing the SHA-256 of so many bytes at the offset with this one; or the device failed. It keeps its
 -- bytes.
 pub record TestsAt {P : Type 0} (device : Stream P) (at size : ℕ) (digest : List ℕ) (result : Result Bool Failed)
     : Type 0 where
@@ -34,7 +34,7 @@ Hinders device sink at size digest gained Device = HasFailed device × IsUnfaile
 Hinders device sink at size digest gained (Sink written) =
     (written ≡ gained) × (gained < size) × IsUnfailed device × HasFailed sink
 
--- Bytes were not sent. The sink gained these that stand at the place: none, unless so many were found there to have the
+-- Bytes were not sent. The sink gained these that are at the offset: none, unless so many were found there to have the
 -- SHA-256.
 pub record StopsSending {P W : Type 0} (device : Stream P) (sink : Stream W) (at size : ℕ) (digest : List ℕ)
     (fault : SendFault) : Type 0 where
@@ -44,8 +44,8 @@ pub record StopsSending {P W : Type 0} (device : Stream P) (sink : Stream W) (at
   pub held_back : bytes ≢ [] → HaveSome (device.bytes device.old) at size digest
   pub hinders : Hinders device sink at size digest (length bytes) fault
 
--- What came of sending so many bytes from a place on into a sink: it gained them, and they have this SHA-256; or it did
--- not gain them all. The device keeps its bytes.
+-- What came of sending so many bytes from an offset on into a sink: it gained them, and they have this SHA-256; or it
+-- did not gain them all. The device keeps its bytes.
 pub record SendsAt {P W : Type 0} (device : Stream P) (sink : Stream W) (at size : ℕ) (digest : List ℕ)
     (result : Result (Unit {0}) SendFault) : Type 0 where
   pub keeps : device.bytes device.new ≡ device.bytes device.old

@@ -1,4 +1,4 @@
-//! Bytes that are copied from a place into a sink.
+//! Bytes that are copied from an offset in a device into a sink.
 
 ghost use Rattle.std.specs.Prelude.{◌≡◌, ◌+◌, ◌<◌, ◌≤◌, ◌^◌, IfOk, length};
 ghost use Rattle.byte_device.specs.Devices.{CountsFailure, stream};
@@ -11,7 +11,7 @@ use sha2::{Digest, Sha256};
 /// Why a copy is not whole.
 #[derive(Clone, Copy, Debug, PartialEq, Eq)]
 pub enum CopyFault {
-    /// Fewer bytes stand at the place.
+    /// Fewer bytes are at the offset.
     Ended,
     /// The device failed.
     Device,
@@ -19,7 +19,7 @@ pub enum CopyFault {
     Sink(u128),
 }
 
-/// Takes bytes from the place on into the first bytes of a buffer, no more than so many.
+/// Reads bytes from offset `at` on into the first bytes of a buffer, no more than so many.
 fn take_piece<P: Placed>(
     device: &mut P,
     at: u64,
@@ -38,7 +38,7 @@ fn take_piece<P: Placed>(
     device.take_at(at, &mut buffer[..room])
 }
 
-/// Copies `size` bytes from the place on into a sink, and gives their SHA-256. The buffer has one piece at a time.
+/// Copies `size` bytes from offset `at` on into a sink, and returns their SHA-256. The buffer has one piece at a time.
 pub fn copy_at<P: Placed, W: Sink>(
     device: &mut P,
     at: u64,

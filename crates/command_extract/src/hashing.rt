@@ -1,4 +1,4 @@
-//! Bytes that are hashed at a place.
+//! The SHA-256 of bytes at an offset in a device.
 
 ghost use Rattle.std.specs.Prelude.{◌+◌, ◌<◌, ◌^◌, length};
 ghost use Rattle.byte_device.specs.Devices.{stream};
@@ -7,7 +7,7 @@ ghost use Rattle.command_extract.specs.Copies.{HashesAt};
 use crate::copying::{CopyFault, copy_at};
 use byte_device::{Failed, Nowhere, Placed};
 
-/// The SHA-256 of `size` bytes from the place on; none where fewer stand there. The buffer has one piece at a time.
+/// The SHA-256 of `size` bytes from offset `at` on; none if fewer are there. The buffer has one piece at a time.
 pub fn hash_at<P: Placed>(
     device: &mut P,
     at: u64,

@@ -10,7 +10,7 @@ ghost use Rattle.command_extract.specs.Indexed.{extract_at};
 ghost use Rattle.command_extract.specs.InnerEntries.{PublishesFrom, PublishesTied};
 
 use crate::entries::{EntryChoice, choose_entry};
-use crate::publishing::{publish_rows, publish_wanted};
+use crate::publishing::{publish_wanted, report_rows};
 use crate::sending::publish_named;
 use archive_core::{Archive, Digest, SliceKey};
 use byte_device::{Output, Placed, Sink, Target};
@@ -47,7 +47,7 @@ pub fn run_extract_at<A: Archive + Drop, I: Placed, P: Placed, T: Target, W: Sin
     let read = read_indexes(&heap, indexes, archives)?;
     match choose_entry(&heap, key, digest, &read)? {
         EntryChoice::One(named) => publish_from(&heap, key, &named, archives, out, report),
-        EntryChoice::Undecided(rows) => publish_rows(heap, &rows, report),
+        EntryChoice::Undecided(rows) => report_rows(heap, &rows, report),
         EntryChoice::Tied => publish_tied::<A, _, _, _>(&heap, key, &read, archives, out, report),
     }
 }

@@ -10,7 +10,7 @@ use crate::choosing::{Choice, choose};
 use crate::sending::line_of;
 use archive_core::{Archive, CheckedSlice, Digest, FindRow, SliceKey};
 use byte_device::{Output, Sink, Target, push_all};
-use command_common::{CommandFault, Status, publish_output, publish_report};
+use command_common::{CommandFault, Status, publish_output, write_report};
 use memory::{Heap, NoMemory};
 use text_reports::find_lines;
 
@@ -42,7 +42,7 @@ fn publish_slice<T: Target, P: Sink>(
         return Err(CommandFault::Output(fault.written));
     }
     publish_output(out, bytes.len() as u128)?;
-    publish_report(Status::Done, &text, report)
+    write_report(Status::Done, &text, report)
 }
 
 /// Publishes the slice that is wanted under a key, of an archive that holds what is there; or reports which answer, and
@@ -64,13 +64,13 @@ pub(crate) fn publish_wanted<A: Archive, T: Target, P: Sink>(
         Choice::One(slice) => publish_slice(heap.share(), &slice, out, report),
         Choice::Undecided(rows) => {
             let text = find_lines(heap.share(), &rows)?;
-            publish_report(Status::Partial, &text, report)
+            write_report(Status::Partial, &text, report)
         }
     }
 }
 
 /// Reports which answer, of which none is wanted.
-pub(crate) fn publish_rows<P: Sink>(
+pub(crate) fn report_rows<P: Sink>(
     heap: Heap,
     rows: &[FindRow],
     report: &mut P,
@@ -78,5 +78,5 @@ pub(crate) fn publish_rows<P: Sink>(
     ensures { PublishesRows rows.now (writer P.held P.failures report.old report.new) result }
 {
     let text = find_lines(heap, rows)?;
-    publish_report(Status::Partial, &text, report)
+    write_report(Status::Partial, &text, report)
 }

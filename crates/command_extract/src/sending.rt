@@ -14,7 +14,7 @@ use crate::tested_copy::{SendFault, send_at};
 use archive_core::{Digest, SliceKey};
 use archive_records::{ADMISSION_HEAD_LEN, RecordFault, RecordFaultKind};
 use byte_device::{Output, PIECE_LEN, Placed, Sink, Target};
-use command_common::{CommandFault, InputName, Status, Why, publish_output, publish_report};
+use command_common::{CommandFault, InputName, Status, Why, publish_output, write_report};
 use index_lookup::NamedSlice;
 use memory::{Heap, NoMemory};
 use text_reports::Text;
@@ -139,5 +139,5 @@ pub(crate) fn publish_named<P: Placed, T: Target, W: Sink>(
     let text = line_of(heap.share(), *key, named.row.digest, named.size)?;
     send_named(heap.share(), named, archive, &mut out.draft)?;
     publish_output(out, named.size as u128)?;
-    publish_report(Status::Done, &text, report)
+    write_report(Status::Done, &text, report)
 }

@@ -19,7 +19,7 @@ use crate::slices::with_slices;
 use crate::told::{answer_frames_by_tables, tell_keys};
 use archive_core::{Archive, SliceKey, compare_keys};
 use byte_device::{Placed, Sink, Source};
-use command_common::{CommandFault, Status, publish_bytes, read_crash};
+use command_common::{CommandFault, Status, read_frames_input, write_report_bytes};
 use command_index_queries::{KeyPrefix, read_indexes, read_prefixes};
 use command_queries::answer_frames;
 use index_format::Index;
@@ -185,10 +185,10 @@ pub fn run_frames_at<A: Archive + Drop, C: Source, I: Placed, P: Placed, W: Sink
         (readers I.whole I.failures indexes.old indexes.new) (readers P.whole P.failures archives.old archives.new))
         (writer W.held W.failures report.old report.new) result }
 {
-    let frames = read_crash(heap.share(), crash)?;
+    let frames = read_frames_input(heap.share(), crash)?;
     let read = read_indexes(&heap, indexes, archives)?;
     let (status, text) = tell_frames_and_slices::<A, I, P>(
         &heap, lines, slices, &frames, &read, indexes, archives,
     )?;
-    publish_bytes(status, &text, report)
+    write_report_bytes(status, &text, report)
 }

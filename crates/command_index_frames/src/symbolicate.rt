@@ -18,7 +18,7 @@ use crate::slices::with_slices;
 use crate::tables::{push_told, tell_key};
 use archive_core::{Archive, SliceKey};
 use byte_device::{Placed, Sink};
-use command_common::{CommandFault, Status, publish_bytes};
+use command_common::{CommandFault, Status, write_report_bytes};
 use command_index_queries::{KeyPrefix, read_indexes, read_prefixes};
 use command_queries::{answer_each, places_of, status_after};
 use index_format::Index;
@@ -177,5 +177,5 @@ pub fn run_symbolicate_at<A: Archive + Drop, I: Placed, P: Placed, W: Sink>(
     let (status, text) = tell_addresses_and_slices::<A, I, P>(
         &heap, &read, indexes, archives, key, load, lines, slices, addresses,
     )?;
-    publish_bytes(status, &text, report)
+    write_report_bytes(status, &text, report)
 }

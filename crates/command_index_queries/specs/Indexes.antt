@@ -28,7 +28,7 @@ pub record HoldsIndex {S : Type 0} (input : Reader S) (entries : Entries) : Type
   pub holds : HoldsTables input all
   pub placed : entries ≡ placed_of all
 
--- why an index is not read: reading it is refused for this fault, which is not want of memory
+-- why an index is not read: reading it is refused for this fault, which is not a lack of memory
 abbrev pub IsUnreadIndex : {S : Type 0} → Reader S → Why → Type 0
 IsUnreadIndex input why =
     (fault : IndexFault) × (why ≡ IndexFaulty fault) × (fault.kind ≢ IndexOutOfMemory)
@@ -61,15 +61,15 @@ pub record IsIndexOf {R S : Type 0} (index : Reader R) (archive : Reader S) (ent
 abbrev pub HasOtherLength : {S : Type 0} → Reader S → Entries → Type 0
 HasOtherLength archive entries = Gives archive (λ text. HasIndexedLength entries text → ⊥)
 
--- An archive whose length is compared with that of its index, which have this number among those of the words, is
--- refused: its device failed, which is told at 0; or it did not, and the archive has another length.
+-- An archive whose length is compared with that of its index, which have this number on the command line, is refused:
+-- its device failed, which is told at 0; or it did not, and the archive has another length.
 abbrev pub IsOfOtherLength : {S : Type 0} → ℕ → Reader S → Entries → InputName → Why → Type 0
 IsOfOtherLength number archive entries at why =
     ((at ≡ Archive number) × IsUnreadAt (λ offset. offset ≡ 0) archive why)
     ⊎ ((at ≡ Index number) × Unfailed archive × (why ≡ Stale None) × HasOtherLength archive entries)
 
--- An archive with its index, which have this number among those of the words, is refused: INDEX is refused, and ARCHIVE
--- is untouched; or INDEX says entries, its reader does not fail, and ARCHIVE is refused.
+-- An archive with its index, which have this number on the command line, is refused: INDEX is refused, and ARCHIVE is
+-- untouched; or INDEX says entries, its reader does not fail, and ARCHIVE is refused.
 abbrev pub IsRefusedByIndex : {R S : Type 0} → ℕ → Reader R → Reader S → InputName → Why → Type 0
 IsRefusedByIndex number index archive at why =
     ((at ≡ Index number) × IsUnreadIndex index why × IsUntouched archive)

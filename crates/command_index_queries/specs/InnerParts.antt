@@ -1,4 +1,4 @@
--- Parts that are joined one after another: the words of inner functions. No contract of a public one has them.
+-- Parts that are joined one after another: definitions for private functions. No public contract uses them.
 use Rattle.std.specs.Prelude.{◌≡◌, ℕ, List, ◌++◌, Option, Some, None, IfSome, flat_map}
 use Rattle.std.specs.List.{AllZip}
 use Rattle.archive_core.specs.Content.{Operations}

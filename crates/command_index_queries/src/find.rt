@@ -11,7 +11,7 @@ use crate::rows::rows_under;
 use crate::together::read_archives_by_indexes;
 use archive_core::Archive;
 use byte_device::{Placed, Sink};
-use command_common::{CommandFault, Status, found_status, publish_report};
+use command_common::{CommandFault, Status, found_status, write_report};
 use memory::Heap;
 use text_reports::find_lines;
 use uuid::Uuid;
@@ -38,7 +38,7 @@ pub fn run_find_at<I: Placed, P: Placed, W: Sink>(
     let entries = read_index_of(&heap, index, archive)?;
     let rows = rows_under(&heap, &prefix, &entries)?;
     let text = find_lines(heap, &rows)?;
-    publish_report(found_status(&rows), &text, report)
+    write_report(found_status(&rows), &text, report)
 }
 
 /// Writes a row for each retirement and each live slice of the UUID in the join of the archives to the report. The
@@ -64,5 +64,5 @@ pub fn run_find_together<A: Archive + Drop, I: Placed, P: Placed, W: Sink>(
     let kept: A = read_archives_by_indexes(&heap, &[KeyPrefix::Uuid(*uuid)], indexes, archives)?;
     let rows = kept.find(uuid)?;
     let text = find_lines(heap, &rows)?;
-    publish_report(found_status(&rows), &text, report)
+    write_report(found_status(&rows), &text, report)
 }

@@ -43,7 +43,7 @@ pub(crate) fn unread(number: u64, offset: u64) -> CommandFault
     CommandFault::Input(InputName::Archive(number), Why::Record(fault))
 }
 
-/// Reads the index with this number among those of the words.
+/// Reads the index with this number on the command line.
 fn read_tables<I: Placed>(heap: Heap, number: u64, index: &mut I) -> Result<Index, CommandFault>
     ensures read { ReadsInput (reader I.whole I.failures index.old index.new) result HoldsTables
         (λ index at why. (at ≡ IndexPlace number) × IsUnreadIndex index why) }
@@ -55,8 +55,8 @@ fn read_tables<I: Placed>(heap: Heap, number: u64, index: &mut I) -> Result<Inde
     }
 }
 
-/// Tests that the archive with this number among those of the words has the length that its index tells.
-fn test_length<P: Placed>(number: u64, tables: &Index, archive: &mut P) -> Result<(), CommandFault>
+/// Tests that the archive with this number on the command line has the length that its index tells.
+fn check_length<P: Placed>(number: u64, tables: &Index, archive: &mut P) -> Result<(), CommandFault>
     ensures entries { AreIndexEntries (placed_of tables.now) }
     ensures tests { ReadsInput (reader P.whole P.failures archive.old archive.new) result
         (λ archive _. Gives archive (HasIndexedLength (placed_of tables.now)))
@@ -75,8 +75,8 @@ fn test_length<P: Placed>(number: u64, tables: &Index, archive: &mut P) -> Resul
     }
 }
 
-/// Reads the index of an archive, and tests that this has the length that it tells. Both have this number among those
-/// of the words.
+/// Reads the index of an archive, and tests that this has the length that it tells. Both have this number on the
+/// command line.
 pub(crate) fn read_with_tables<I: Placed, P: Placed>(
     heap: &Heap,
     number: u64,
@@ -91,7 +91,7 @@ pub(crate) fn read_with_tables<I: Placed, P: Placed>(
         × IsKept P.whole P.failures archive.old archive.new) }
 {
     let tables = read_tables(heap.share(), number, index)?;
-    test_length(number, &tables, archive)?;
+    check_length(number, &tables, archive)?;
     Ok(tables)
 }
 

@@ -1,5 +1,5 @@
-//! Indexes of archives as inputs of a command, each read, and compared with the length of its archive; and the commands
-//! that ask an archive by its index and print an answer, over any devices and sinks.
+//! Indexes of archives as inputs of a command, each read, and compared with the length of its archive; and `find`,
+//! `list` and `summary` with `--index`, over any devices and sinks.
 //!
 //! - `inputs`: an index that is read, and the archive that it is of;
 //! - `prefixes`: [`KeyPrefix`], what a key begins with; `parts`: what an index names there, read and joined;

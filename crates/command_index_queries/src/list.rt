@@ -7,7 +7,7 @@ ghost use Rattle.command_index_queries.specs.List.{list_at};
 use crate::inputs::read_index_of;
 use crate::rows::rows_under;
 use byte_device::{Placed, Sink};
-use command_common::{CommandFault, Status, found_status, publish_report};
+use command_common::{CommandFault, Status, found_status, write_report};
 use memory::Heap;
 use text_reports::list_lines;
 
@@ -30,5 +30,5 @@ pub fn run_list_at<I: Placed, P: Placed, W: Sink>(
     let entries = read_index_of(&heap, index, archive)?;
     let rows = rows_under(&heap, &[], &entries)?;
     let text = list_lines(heap, &rows)?;
-    publish_report(found_status(&rows), &text, report)
+    write_report(found_status(&rows), &text, report)
 }

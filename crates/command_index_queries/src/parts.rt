@@ -121,8 +121,7 @@ fn told(number: u64, fault: PlaceFault) -> CommandFault
     }
 }
 
-/// Joins what an index names under each of these prefixes in its archive, which have this number among those of the
-/// words.
+/// Joins what an index names under each of these prefixes in its archive, which have this number on the command line.
 pub(crate) fn join_archive<A: Archive + Drop, P: Placed>(
     heap: &Heap,
     kept: &mut A,

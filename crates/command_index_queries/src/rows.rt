@@ -99,7 +99,7 @@ fn put_by_key(rows: &mut Vec<FindRow, Heap>) -> Result<(), NoMemory>
 }
 
 /// The rows of the entries of an index under a prefix, a UUID or an empty one: by key, and those of a key in the order
-/// in which their records stand. Refused for want of memory alone.
+/// in which their records stand. Fails only if memory runs out.
 pub(crate) fn rows_under(
     heap: &Heap,
     prefix: &[u8],

@@ -42,7 +42,7 @@ fn entries_of(heap: Heap, entries: &[IndexEntry]) -> Result<Vec<Entry, Heap>, No
     Ok(made)
 }
 
-/// The summary that an index tells. Refused for want of memory alone.
+/// The summary that an index tells. Fails only if memory runs out.
 pub(crate) fn summary_of(heap: Heap, index: &Index) -> Result<Summary, NoMemory>
     ensures { IfOk result (λ summary. summary ≡ summary_in (placed_of index.now)) }
 {

@@ -17,8 +17,8 @@ use command_common::CommandFault;
 use index_format::Index;
 use memory::Heap;
 
-/// Reads the indexes of archives, and tests that these have the lengths that they tell, in the order of the words: each
-/// index, and then the length of its archive. The entries are held, of all of them.
+/// Reads the indexes of archives, and tests that these have the lengths that they tell, in the order of the command
+/// line: each index, and then the length of its archive. The entries are held, of all of them.
 ///
 /// # Errors
 ///
@@ -79,7 +79,7 @@ fn join_archives<A: Archive + Drop, P: Placed>(
 }
 
 /// Reads what archives have under these prefixes, whose indexes were read: the slices that these name, at their places,
-/// in the order of the words. The length of each archive is compared again before that.
+/// in the order of the command line. The length of each archive is compared again before that.
 ///
 /// # Errors
 ///

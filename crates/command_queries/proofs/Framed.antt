@@ -39,7 +39,7 @@ use Rattle.text_inputs.specs.declared.frame.Frame.{Frame}
 use Rattle.text_reports.specs.Answers.{answer_lines}
 use Rattle.text_reports.proofs.Grouped.{key_is_same}
 use Rattle.command_queries.specs.declared.asked_frames.AskedFrame.{AskedFrame}
-use Rattle.command_queries.specs.declared.asked_frames.ToldFrame.{ToldFrame}
+use Rattle.command_queries.specs.declared.asked_frames.AnsweredFrame.{AnsweredFrame}
 use Rattle.command_common.specs.declared.faults.CommandFault.{CommandFault}
 use Rattle.command_common.specs.declared.faults.Status.{Status}
 use Rattle.command_common.specs.declared.faults.Status.TheVariants.{Done, Partial}
@@ -154,7 +154,7 @@ asked_picked asked key there long r under =
 -- ---- one question after another
 
 -- what was told stays where it stands while the text grows
-told_still : (wanted : Bool) (content : Operations) (text more : List ℕ) (frame : Frame) (told : ToldFrame)
+told_still : (wanted : Bool) (content : Operations) (text more : List ℕ) (frame : Frame) (told : AnsweredFrame)
     → IsFrameTold wanted content text frame told → IsFrameTold wanted content (text ++ more) frame told
 told_still wanted content text more frame told is = record {
   row = is.row;
@@ -172,7 +172,7 @@ told_still wanted content text more frame told is = record {
 
 -- what is told of one frame more stands after it
 pub told_now : (wanted : Bool) (content : Operations) (text grown : List ℕ) (frame : Frame) (answer : Answer)
-    (frames : List (List FrameRecord)) (told : ToldFrame)
+    (frames : List (List FrameRecord)) (told : AnsweredFrame)
     → IsSourced content frame.key wanted (asked_of frame.load frame.address) (answer_view answer) frames → grown ≡ text
     ++ answer_lines frame.address answer frames
     → told.from ≡ length text → told.to ≡ length grown → told.is_symbol ≡ is_symbol answer → IsFrameTold wanted content grown frame told
@@ -192,9 +192,9 @@ told_now wanted content text grown frame answer frames told is more from to symb
     }
 
 module _ (wanted : Bool) (content : Operations) (asked : List AskedFrame) (one : AskedFrame) (left : List AskedFrame)
-    (count : ℕ) (told : List ToldFrame) (text : List ℕ)
+    (count : ℕ) (told : List AnsweredFrame) (text : List ℕ)
     (are : AreTold wanted content asked (one ∷ left) count told text)
-    (grown more : List ℕ) (grows : grown ≡ text ++ more) (now : ToldFrame) (is : IsFrameTold wanted content grown one.frame now) where
+    (grown more : List ℕ) (grows : grown ≡ text ++ more) (now : AnsweredFrame) (is : IsFrameTold wanted content grown one.frame now) where
   is_there : Contains asked one
   is_there = are.of_asked one (in_front one left)
 
@@ -205,18 +205,18 @@ module _ (wanted : Bool) (content : Operations) (asked : List AskedFrame) (one :
   at_once = slice_get-get_or (set told one.line now) one.line now (omega (arith, length-set told one.line now, room))
       ∙ ap Some (get_or-set_same told one.line now now room)
 
-  elsewhere : (n : ℕ) (it : ToldFrame) → (n ≡ one.line → ⊥) → slice_get told n ≡ Some it → slice_get (set told one.line now) n ≡ Some it
+  elsewhere : (n : ℕ) (it : AnsweredFrame) → (n ≡ one.line → ⊥) → slice_get told n ≡ Some it → slice_get (set told one.line now) n ≡ Some it
   elsewhere n it other at =
       slice_get-get_or (set told one.line now) n it (omega (arith, length-set told one.line now, slice_get_within told n it at))
       ∙ ap Some (get_or-set_other told one.line n now it other ∙ get_or_from_slice_get told n it it at)
 
   abbrev IsLeftOrTold : AskedFrame → Type 0
-  IsLeftOrTold it = Contains left it ⊎ ((t : ToldFrame) × (slice_get (set told one.line now) it.line ≡ Some t) × IsFrameTold wanted content grown it.frame t)
+  IsLeftOrTold it = Contains left it ⊎ ((t : AnsweredFrame) × (slice_get (set told one.line now) it.line ≡ Some t) × IsFrameTold wanted content grown it.frame t)
 
   this_one : (it : AskedFrame) → it ≡ one → IsLeftOrTold it
   this_one it same = rw same (inr (now, at_once, is))
 
-  told_before : (it : AskedFrame) → Contains asked it → (t : ToldFrame) → slice_get told it.line ≡ Some t
+  told_before : (it : AskedFrame) → Contains asked it → (t : AnsweredFrame) → slice_get told it.line ≡ Some t
       → IsFrameTold wanted content text it.frame t → IsLeftOrTold it
   told_before it there t at was = elim (cases_eq it.line one.line) [
     | inl same ↦ this_one it (are.once it one there is_there same)
@@ -272,7 +272,7 @@ run_long one (next ∷ left) n is long =
 
 -- one more of them is told
 pub run_told : (content o : Operations) (wanted now : Bool) (all left : List AskedFrame) (i count : ℕ)
-    (one : AskedFrame) (key : SliceKey) (told after : List ToldFrame) (text grown : List ℕ)
+    (one : AskedFrame) (key : SliceKey) (told after : List AnsweredFrame) (text grown : List ℕ)
     → now ≡ wanted → i < length left → one ≡ get_or left i one → one.frame.key ≡ key → first_key (map key_of_asked left) ≡ Some key
     → ((o : Operations) (all left : List AskedFrame) (count : ℕ) → AnswersAs one.frame.key content o
     → AreTold now o all (one ∷ left) count told text → AreTold now o all left count after grown)
@@ -293,8 +293,8 @@ one_less (suc n) before now left one same is some =
 
 -- ---- what was told of all, in the order of their lines
 
-along : (wanted : Bool) (content : Operations) (text : List ℕ) (frames : List Frame) (told : List ToldFrame) → length told ≡ length frames
-    → ((i : ℕ) (frame : Frame) → slice_get frames i ≡ Some frame → (it : ToldFrame) × (slice_get told i ≡ Some it) × IsFrameTold wanted content text frame it)
+along : (wanted : Bool) (content : Operations) (text : List ℕ) (frames : List Frame) (told : List AnsweredFrame) → length told ≡ length frames
+    → ((i : ℕ) (frame : Frame) → slice_get frames i ≡ Some frame → (it : AnsweredFrame) × (slice_get told i ≡ Some it) × IsFrameTold wanted content text frame it)
     → AllZip (IsFrameTold wanted content text) frames told
 along wanted content text [] [] long each = tt
 along wanted content text (frame ∷ frames) (it ∷ told) long each =
@@ -303,21 +303,21 @@ along wanted content text (frame ∷ frames) (it ∷ told) long each =
 along wanted content text frames told long each = absurd (omega (arith, long))
 
 -- each piece of the text is there
-are_pieces : (wanted : Bool) (content : Operations) (text : List ℕ) (frames : List Frame) (told : List ToldFrame)
+are_pieces : (wanted : Bool) (content : Operations) (text : List ℕ) (frames : List Frame) (told : List AnsweredFrame)
     → AllZip (IsFrameTold wanted content text) frames told
-    → AllByRecursion (λ (it : ToldFrame). (it.from ≤ it.to) × (it.to ≤ length text)) told
+    → AllByRecursion (λ (it : AnsweredFrame). (it.from ≤ it.to) × (it.to ≤ length text)) told
 are_pieces wanted content text [] [] are = tt
 are_pieces wanted content text (frame ∷ frames) (it ∷ told) are = ((are.0.begins, are.0.ends), are_pieces wanted content text frames told are.1)
 are_pieces wanted content text frames told are = absurd are
 
 -- what was told, as the definition says it
-record AreRows (wanted : Bool) (content : Operations) (text : List ℕ) (frames : List Frame) (told : List ToldFrame) : Type 0 where
+record AreRows (wanted : Bool) (content : Operations) (text : List ℕ) (frames : List Frame) (told : List AnsweredFrame) : Type 0 where
   rows : List Answered
   answered : AllZip (IsFrameAnswered wanted content) frames rows
-  symbols_are : list_all (λ (it : ToldFrame). it.is_symbol) told ≡ list_all (λ (row : Answered). is_symbol row.answer) rows
-  lines_are : flat_map (λ (it : ToldFrame). slice_range text it.from it.to) told ≡ answers_text rows
+  symbols_are : list_all (λ (it : AnsweredFrame). it.is_symbol) told ≡ list_all (λ (row : Answered). is_symbol row.answer) rows
+  lines_are : flat_map (λ (it : AnsweredFrame). slice_range text it.from it.to) told ≡ answers_text rows
 
-rows_of : (wanted : Bool) (content : Operations) (text : List ℕ) (frames : List Frame) (told : List ToldFrame)
+rows_of : (wanted : Bool) (content : Operations) (text : List ℕ) (frames : List Frame) (told : List AnsweredFrame)
     → AllZip (IsFrameTold wanted content text) frames told → AreRows wanted content text frames told
 rows_of wanted content text [] [] are = record { rows = []; answered = tt; symbols_are = refl; lines_are = refl }
 rows_of wanted content text (frame ∷ frames) (it ∷ told) are =
@@ -331,7 +331,7 @@ rows_of wanted content text (frame ∷ frames) (it ∷ told) are =
     }
 rows_of wanted content text frames told are = absurd are
 
-module _ (frames : List Frame) (asked left : List AskedFrame) (begin : List ToldFrame) (is : left ≡ asked)
+module _ (frames : List Frame) (asked left : List AskedFrame) (begin : List AnsweredFrame) (is : left ≡ asked)
     (lines : AreLines frames asked) (long : length asked ≡ length frames) (many : length begin ≡ length asked) where
   -- none was told yet
   pub begun : (wanted : Bool) (content : Operations) (ahead : ℕ) (text : List ℕ) → ahead ≡ 0
@@ -346,7 +346,7 @@ module _ (frames : List Frame) (asked left : List AskedFrame) (begin : List Told
     each = λ one there. inl there;
   })
 
-  module _ (wanted : Bool) (content : Operations) (last : List AskedFrame) (ahead : ℕ) (told : List ToldFrame)
+  module _ (wanted : Bool) (content : Operations) (last : List AskedFrame) (ahead : ℕ) (told : List AnsweredFrame)
       (text : List ℕ) (none : map key_of_asked last ≡ [])
       (are : AreTold wanted content left (drop ahead last) (length begin) told text) where
     -- where no frame is left
@@ -362,12 +362,12 @@ module _ (frames : List Frame) (asked left : List AskedFrame) (begin : List Told
           | inr it ↦ it
         ])
 
-    pub pieces : All (λ (it : ToldFrame). (it.from ≤ it.to) × (it.to ≤ length text)) told
+    pub pieces : All (λ (it : AnsweredFrame). (it.from ≤ it.to) × (it.to ≤ length text)) told
     pieces = All-from_recursion _ _ (are_pieces wanted content text frames told told_to_the_end)
 
     pub frames_told : (status : Status) (printed : List ℕ) → status
-        ≡ (if list_all (λ (it : ToldFrame). it.is_symbol) told then Done else Partial) → printed
-        ≡ flat_map (λ (it : ToldFrame). slice_range text it.from it.to) told
+        ≡ (if list_all (λ (it : AnsweredFrame). it.is_symbol) told then Done else Partial) → printed
+        ≡ flat_map (λ (it : AnsweredFrame). slice_range text it.from it.to) told
         → TellsFrames wanted content frames status printed
     frames_told status printed status_is printed_is =
         let r = rows_of wanted content text frames told told_to_the_end in

@@ -1,4 +1,4 @@
--- Frames that are asked in the order of their keys: the words of inner functions. No contract of a public one has them.
+-- Frames that are asked in the order of their keys: definitions for private functions. No public contract uses them.
 use Rattle.std.specs.Prelude.{◌≡◌, ◌↔◌, ◌⊎◌, ℕ, ◌<◌, ◌≤◌, Bool, List, Some, Contains, drop, get_or, length, slice_get}
 use Rattle.std.specs.Prelude.{slice_range, take}
 use Rattle.std.specs.List.{list_any}
@@ -11,7 +11,7 @@ use Rattle.archive_core.specs.Key.{key_bytes}
 use Rattle.text_inputs.specs.declared.frame.Frame.{Frame}
 use Rattle.text_reports.specs.Answers.{answer_lines}
 use Rattle.command_queries.specs.declared.asked_frames.AskedFrame.{AskedFrame}
-use Rattle.command_queries.specs.declared.asked_frames.ToldFrame.{ToldFrame}
+use Rattle.command_queries.specs.declared.asked_frames.AnsweredFrame.{AnsweredFrame}
 use Rattle.command_queries.specs.Frames.{IsFrameAnswered}
 use Rattle.command_queries.specs.Symbolicate.{Answered, is_symbol}
 
@@ -36,7 +36,7 @@ abbrev pub is_asked : List AskedFrame → List ℕ → Bool
 is_asked asked r = list_any (λ one. bytes_eq (key_bytes one.frame.key) (take 24 (drop 1 r))) asked
 
 -- What was told of a frame is what the content tells of it.
-pub record IsFrameTold (lines : Bool) (content : Operations) (text : List ℕ) (frame : Frame) (told : ToldFrame)
+pub record IsFrameTold (lines : Bool) (content : Operations) (text : List ℕ) (frame : Frame) (told : AnsweredFrame)
     : Type 0 where
   pub row : Answered
   pub answered : IsFrameAnswered lines content frame row
@@ -47,7 +47,7 @@ pub record IsFrameTold (lines : Bool) (content : Operations) (text : List ℕ) (
 
 -- Each of these frames is left, or it was told what the content tells of it. There are so many, each once.
 pub record AreTold (lines : Bool) (content : Operations) (asked left : List AskedFrame) (count : ℕ)
-    (told : List ToldFrame) (text : List ℕ) : Type 0 where
+    (told : List AnsweredFrame) (text : List ℕ) : Type 0 where
   pub long : length told ≡ count
   pub within : (one : AskedFrame) → Contains asked one → one.line < count
   pub once : (one other : AskedFrame) → Contains asked one → Contains asked other → one.line ≡ other.line
@@ -55,4 +55,4 @@ pub record AreTold (lines : Bool) (content : Operations) (asked left : List Aske
   pub of_asked : (one : AskedFrame) → Contains left one → Contains asked one
   pub each : (one : AskedFrame) → Contains asked one
       → Contains left one
-      ⊎ ((it : ToldFrame) × (slice_get told one.line ≡ Some it) × IsFrameTold lines content text one.frame it)
+      ⊎ ((it : AnsweredFrame) × (slice_get told one.line ≡ Some it) × IsFrameTold lines content text one.frame it)

@@ -1,4 +1,4 @@
--- What is told of two names in several archives: the words of inner functions. No contract of a public one has them.
+-- What is told of two names in several archives: definitions for private functions. No public contract uses them.
 use Rattle.std.specs.Prelude.{◌≡◌, ◌↔◌, ◌⊎◌, ℕ, List, true, false, map, Contains}
 use Rattle.std.specs.List.{AllByRecursion, AllZip}
 use Rattle.std.specs.FinSet as set

@@ -1,4 +1,4 @@
--- The rows under UUIDs that a content has: the words of inner functions. No contract of a public one has them.
+-- The rows under UUIDs that a content has: definitions for private functions. No public contract uses them.
 use Rattle.std.specs.Prelude.{◌≡◌, ℕ, List, ◌++◌, Bool, true, false, drop, take}
 use Rattle.std.specs.List.{AllZip, flat_map, list_any}
 use Rattle.std.specs.Str.{bytes_eq}

@@ -1,4 +1,4 @@
--- The frames that were found in slices: the words of inner functions. No contract of a public one has them.
+-- The frames that were found in slices: definitions for private functions. No public contract uses them.
 use Rattle.std.specs.Prelude.{◌≡◌, ℕ, List, [], Bool, true, false, map}
 use Rattle.std.specs.List.{AllZip}
 use Rattle.std.specs.Option.{option_map_or}

@@ -18,8 +18,8 @@ use Rattle.command_common.specs.Inputs.{Reader}
 use Rattle.command_queries.specs.Slices.{IsAnsweringRow, WithSlices}
 use Rattle.command_queries.specs.Sources.{IsSourced}
 
--- the place that an address of the words means: one of the image where it was loaded, if the words say where, and else
--- one of its file
+-- the place that an address argument means: one of the image where it was loaded, if the words say where, and else one
+-- of its file
 abbrev pub asked_of : Option ℕ → ℕ → Where
 asked_of None address = File address
 asked_of (Some load) address = Loaded load address
@@ -31,7 +31,7 @@ is_symbol NoSymbol = false
 is_symbol (Symbol _) = true
 is_symbol (Conflict _) = false
 
--- an address of the words, its answer, and the frames of the slices that answer
+-- an address argument, its answer, and the frames of the slices that answer
 pub record Answered : Type 0 where
   pub address : ℕ
   pub answer : Answer

@@ -27,7 +27,7 @@ use std::cmp::Ordering;
 use text_inputs::Frame;
 use text_reports::push_answer;
 
-/// A frame, after how many others it comes.
+/// A frame, and its number in FRAMES, counted from 0.
 #[derive(Clone, Copy)]
 pub(crate) struct AskedFrame {
     line: usize,
@@ -35,7 +35,8 @@ pub(crate) struct AskedFrame {
 }
 
 impl AskedFrame {
-    /// Compares two frames by their keys, and under one key by their addresses: what is told of near ones stands near.
+    /// Compares two frames by their keys, and under one key by their addresses, so that the answers to near ones are
+    /// near.
     fn compare(&self, other: &AskedFrame) -> Ordering
         ensures { result ≡ asked_cmp self.now other.now }
     {
@@ -65,25 +66,25 @@ impl<'f> Selects for AskedKeys<'f> {
     }
 }
 
-/// What was told of a frame: where its lines stand, and whether its answer is one symbol.
+/// The answer to a frame: the range of its lines in `text`, in bytes, and whether it is one symbol.
 #[derive(Clone, Copy)]
-struct ToldFrame {
+struct AnsweredFrame {
     from: usize,
     to: usize,
     is_symbol: bool,
 }
 
-/// Frames that are left in the order of their keys, and what was told of the others.
+/// Frames without an answer, in the order of their keys, and the answers to the others.
 #[derive(Drop)]
 pub(crate) struct FrameQuestions<'f> {
     heap: Heap,
     /// Whether the source frames are wanted.
     lines: bool,
     left: &'f [AskedFrame],
-    /// How many of those that are left, from the first on, were told already.
+    /// How many of those that are left, from the first on, have an answer already.
     ahead: usize,
     /// Of each frame, in the order of the lines.
-    told: Vec<ToldFrame, Heap>,
+    told: Vec<AnsweredFrame, Heap>,
     /// The lines of the answers, in the order in which these were given.
     text: String<Heap>,
 }
@@ -102,6 +103,7 @@ fn numbered(heap: Heap, frames: &[Frame]) -> Result<Vec<AskedFrame, Heap>, NoMem
     Ok(asked)
 }
 
+/// The frames with their numbers, by key and under one key by address.
 pub(crate) fn in_key_order(heap: Heap, frames: &[Frame]) -> Result<Vec<AskedFrame, Heap>, NoMemory>
     ensures lines { IfOk result (λ asked. AreLines frames.now asked.items) }
     ensures long { IfOk result (λ asked. length asked.items ≡ length frames.now) }
@@ -127,6 +129,7 @@ fn run_len(asked: &[AskedFrame], key: &SliceKey) -> usize
     asked.iter().take_while(|one| one.frame.key == *key).count()
 }
 
+/// The addresses that these frames mean, in their order.
 fn places_of(heap: Heap, asked: &[AskedFrame]) -> Result<Vec<Where, Heap>, NoMemory>
     ensures { IfOk result (λ places.
         places.items ≡ map (λ one. asked_of one.frame.load one.frame.address) asked.now) }
@@ -157,8 +160,8 @@ fn source_frames_of<'s, A: Archive>(
     }
 }
 
-/// Puts what was told of a frame to its place, where there is one.
-fn put_at(all: &mut Vec<ToldFrame, Heap>, line: usize, told: ToldFrame)
+/// Stores the answer to frame `line`, if there is such a frame.
+fn put_at(all: &mut Vec<AnsweredFrame, Heap>, line: usize, told: AnsweredFrame)
     ensures { all.new.items ≡ set all.old.items line told }
 {
     if line < all.len() {
@@ -167,7 +170,7 @@ fn put_at(all: &mut Vec<ToldFrame, Heap>, line: usize, told: ToldFrame)
 }
 
 impl<'f> FrameQuestions<'f> {
-    /// None was told yet.
+    /// No frame has an answer yet.
     pub(crate) fn of(
         heap: Heap,
         lines: bool,
@@ -178,7 +181,7 @@ impl<'f> FrameQuestions<'f> {
         ensures ahead { IfOk result (λ questions. questions.ahead ≡ 0) }
         ensures told { IfOk result (λ questions. length questions.told.items ≡ length asked.now) }
     {
-        let nothing = ToldFrame {
+        let nothing = AnsweredFrame {
             from: 0,
             to: 0,
             is_symbol: false,
@@ -193,8 +196,8 @@ impl<'f> FrameQuestions<'f> {
         })
     }
 
-    /// Tells what an archive answers for a frame, of which the source frames were found.
-    fn tell<A: Archive>(
+    /// Adds the answer of an archive to a frame, whose source frames were found.
+    fn push_answer_of<A: Archive>(
         &mut self,
         archive: &A,
         sources: &Sources<'_>,
@@ -215,7 +218,7 @@ impl<'f> FrameQuestions<'f> {
         let frames = sources.at(self.heap.share(), place)?;
         let from = self.text.len();
         push_answer(&self.heap, &mut self.text, frame.address, &answer, &frames)?;
-        let told = ToldFrame {
+        let told = AnsweredFrame {
             from,
             to: self.text.len(),
             is_symbol: is_symbol(&answer),
@@ -224,9 +227,8 @@ impl<'f> FrameQuestions<'f> {
         Ok(())
     }
 
-    /// Tells what an archive answers for the next frame and for all others of its key, where one is left that was not
-    /// told.
-    fn tell_key<A: Archive>(&mut self, archive: &A) -> Result<(), NoMemory>
+    /// Adds the answers of an archive to the next frame and to all others of its key, if the next one has none yet.
+    fn answer_key<A: Archive>(&mut self, archive: &A) -> Result<(), NoMemory>
         ensures lines { OnOk result (self.new.lines ≡ self.old.lines) }
         ensures left { OnOk result (self.new.left.now ≡ self.old.left.now) }
         ensures ahead { OnOk result ((self.new.left.now ≡ []) ⊎ (0 < self.new.ahead)) }
@@ -248,13 +250,13 @@ impl<'f> FrameQuestions<'f> {
         let (run, _) = self.left.split_at(run_len(self.left, &key));
         let sources = source_frames_of(&self.heap, archive, &key, self.lines, run)?;
         'run: for asked in run {
-            self.tell(archive, &sources, asked)?;
+            self.push_answer_of(archive, &sources, asked)?;
         }
         self.ahead = run.len();
         Ok(())
     }
 
-    /// The lines of all answers in the order of the lines of the frames, with how a command ends that prints them.
+    /// The status, and the lines of all answers in the order of FRAMES.
     pub(crate) fn in_line_order(&self, heap: Heap) -> Result<(Status, Vec<u8, Heap>), NoMemory>
         requires { All (λ told. (told.from ≤ told.to) × (told.to ≤ length (string_bytes self.now.text)))
             self.now.told.items }
@@ -290,7 +292,7 @@ impl<'f> Questions for FrameQuestions<'f> {
     }
 
     fn answer<A: Archive>(&mut self, archive: &A) -> Result<(), NoMemory> {
-        self.tell_key(archive)?;
+        self.answer_key(archive)?;
         let Some((_, left)) = self.left.split_first() else {
             return Ok(());
         };

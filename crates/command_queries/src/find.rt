@@ -8,7 +8,7 @@ ghost use Rattle.command_common.specs.Outputs.{writer};
 use archive_core::Archive;
 use archive_read::Under;
 use byte_device::{Sink, Source};
-use command_common::{CommandFault, Status, found_status, publish_report, read_parts};
+use command_common::{CommandFault, Status, found_status, read_parts, write_report};
 use memory::Heap;
 use text_reports::find_lines;
 use uuid::Uuid;
@@ -43,5 +43,5 @@ pub fn run_find<A: Archive + Drop, R: Source, P: Sink>(
     let kept: A = read_parts(heap.share(), &Under(&prefix), archive, others)?;
     let rows = kept.find(uuid)?;
     let text = find_lines(heap, &rows)?;
-    publish_report(found_status(&rows), &text, report)
+    write_report(found_status(&rows), &text, report)
 }

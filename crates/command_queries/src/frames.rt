@@ -12,14 +12,15 @@ use crate::slices::{UnderUuids, frame_keys, slices_under, uuids_of};
 use archive_core::{Archive, SliceKey};
 use byte_device::{Sink, Source};
 use command_common::{
-    CommandFault, Status, answer_all, answer_archives, publish_bytes, read_crash, read_parts,
+    CommandFault, Status, answer_all, answer_archives, read_frames_input, read_parts,
+    write_report_bytes,
 };
 use memory::{Heap, NoMemory};
 use text_inputs::Frame;
 use uuid::Uuid;
 
-/// The lines of the answers to frames, in their order, with how a command ends that prints them. The frames are asked
-/// in the order of their keys; if `lines`, the DWARF of each slice is read once for all frames of its key.
+/// The status, and the lines of the answers to frames, in their order. The frames are asked in the order of their keys;
+/// if `lines`, the DWARF of each slice is read once for all frames of its key.
 pub fn answer_frames<A: Archive>(
     heap: Heap,
     archive: &A,
@@ -35,9 +36,9 @@ pub fn answer_frames<A: Archive>(
     Ok(text)
 }
 
-/// Reads the archives, and gives the lines of the answers of their join to the frames, in the order of these, with how
-/// a command ends that prints them.
-fn tell_frames<A: Archive + Drop, R: Source>(
+/// Reads the archives, and returns the status, and the lines of the answers of their join to the frames, in their
+/// order.
+fn read_and_answer<A: Archive + Drop, R: Source>(
     heap: &Heap,
     lines: bool,
     frames: &[Frame],
@@ -62,8 +63,9 @@ fn tell_frames<A: Archive + Drop, R: Source>(
     Ok(text)
 }
 
-/// The lines of the answers of an archive to frames, and after them those of the slices that answer under UUIDs.
-fn tell_kept<A: Archive>(
+/// The status, and the lines of the answers of an archive to frames, and after them those of the slices that answer
+/// under UUIDs.
+fn answers_then_slices<A: Archive>(
     heap: &Heap,
     archive: &A,
     uuids: &[Uuid],
@@ -81,9 +83,9 @@ fn tell_kept<A: Archive>(
     Ok((status, text))
 }
 
-/// Reads the archives, and gives the lines of the answers of their join to the frames, and after them those of the
-/// slices that answer under the UUIDs of the frames, with how a command ends that prints them.
-fn tell_with_slices<A: Archive + Drop, R: Source>(
+/// Reads the archives, and returns the status, and the lines of the answers of their join to the frames, and after them
+/// those of the slices that answer under the UUIDs of the frames.
+fn read_and_answer_with_slices<A: Archive + Drop, R: Source>(
     heap: &Heap,
     lines: bool,
     frames: &[Frame],
@@ -97,13 +99,12 @@ fn tell_with_slices<A: Archive + Drop, R: Source>(
     let keys = frame_keys(heap.share(), frames)?;
     let uuids = uuids_of(heap.share(), &keys)?;
     let kept: A = read_parts(heap.share(), &UnderUuids { uuids: &uuids }, archive, others)?;
-    let told = tell_kept(heap, &kept, &uuids, &keys, frames, lines)?;
+    let told = answers_then_slices(heap, &kept, &uuids, &keys, frames, lines)?;
     Ok(told)
 }
 
-/// The lines of the answers to frames, and if `slices` those of the slices that answer, with how a command ends that
-/// prints them.
-fn tell_with<A: Archive + Drop, R: Source>(
+/// The status, and the lines of the answers to frames, and if `slices` those of the slices that answer.
+fn frames_text<A: Archive + Drop, R: Source>(
     heap: &Heap,
     lines: bool,
     slices: bool,
@@ -116,9 +117,9 @@ fn tell_with<A: Archive + Drop, R: Source>(
         (λ told o. TellsFramesWith lines slices o frames.now told.0 told.1.items) }
 {
     if slices {
-        tell_with_slices::<A, R>(heap, lines, frames, archive, others)
+        read_and_answer_with_slices::<A, R>(heap, lines, frames, archive, others)
     } else {
-        tell_frames::<A, R>(heap, lines, frames, archive, others)
+        read_and_answer::<A, R>(heap, lines, frames, archive, others)
     }
 }
 
@@ -150,7 +151,7 @@ pub fn run_frames<A: Archive + Drop, R: Source, P: Sink>(
         (reader R.left R.failures archive.old archive.new) (readers R.left R.failures others.old others.new))
         (writer P.held P.failures report.old report.new) result }
 {
-    let frames = read_crash(heap.share(), crash)?;
-    let (status, text) = tell_with::<A, R>(&heap, lines, slices, &frames, archive, others)?;
-    publish_bytes(status, &text, report)
+    let frames = read_frames_input(heap.share(), crash)?;
+    let (status, text) = frames_text::<A, R>(&heap, lines, slices, &frames, archive, others)?;
+    write_report_bytes(status, &text, report)
 }

@@ -5,7 +5,7 @@ ghost use Rattle.command_queries.specs.List.{list};
 ghost use Rattle.command_common.specs.Outputs.{writer};
 
 use byte_device::{Sink, Source};
-use command_common::{CommandFault, Status, found_status, publish_report, read_rows};
+use command_common::{CommandFault, Status, found_status, read_rows, write_report};
 use memory::Heap;
 use text_reports::list_lines;
 
@@ -27,5 +27,5 @@ pub fn run_list<R: Source, P: Sink>(
 {
     let rows = read_rows(heap.share(), archive)?;
     let text = list_lines(heap, &rows)?;
-    publish_report(found_status(&rows), &text, report)
+    write_report(found_status(&rows), &text, report)
 }

@@ -43,7 +43,7 @@ fn read_name_rows<R: Source>(
     }
 }
 
-/// Reads the archive with this number among the words, and adds what it tells of the names.
+/// Reads the archive with this number on the command line, and adds what it tells of the names.
 fn gather_input<R: Source>(
     heap: Heap,
     found: NamesFound,
@@ -62,8 +62,8 @@ fn gather_input<R: Source>(
     }
 }
 
-/// Reads these archives, in their order, and adds what they tell of the names. The first of them is archive 1 among the
-/// words.
+/// Reads these archives, in their order, and adds what they tell of the names. The first of them is archive 1 on the
+/// command line.
 fn gather_others<R: Source>(
     heap: &Heap,
     found: NamesFound,
@@ -80,8 +80,8 @@ fn gather_others<R: Source>(
     Ok(now)
 }
 
-/// Reads the archives in the order of the words, each to its end, and gives the rows of the names in their join. Rows
-/// of slices that one of them retires are dropped at the end.
+/// Reads the archives in the order of the command line, each to its end, and gives the rows of the names in their join.
+/// Rows of slices that one of them retires are dropped at the end.
 fn gather_rows<R: Source>(
     heap: &Heap,
     sought: SoughtNames<'_>,

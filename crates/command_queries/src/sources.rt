@@ -85,6 +85,7 @@ impl<'s> Sources<'s> {
         Ok(Sources { found })
     }
 
+    /// The source frames of an address in each slice, in the order of `found`; an empty list if a slice has none.
     pub(crate) fn at(&self, heap: Heap, place: Where) -> Result<Vec<&[Frame<'_>], Heap>, NoMemory>
         ensures { IfOk result (λ lists. lists_view lists.items ≡ map (frames_in place) self.now.found.items) }
     {

@@ -14,11 +14,11 @@ use crate::sources::Sources;
 use archive_core::{Answer, Archive, SliceKey, Where};
 use archive_read::Under;
 use byte_device::{Sink, Source};
-use command_common::{CommandFault, Status, bytes_of, publish_report, read_parts};
+use command_common::{CommandFault, Status, bytes_of, read_parts, write_report};
 use memory::{Heap, NoMemory};
 use text_reports::push_answer;
 
-/// The place that an address of the words means.
+/// The address that an address argument means, in the file or in the loaded image.
 pub fn asked_of(load: Option<u64>, address: u64) -> Where
     ensures { result ≡ asked_of load address }
 {
@@ -28,7 +28,7 @@ pub fn asked_of(load: Option<u64>, address: u64) -> Where
     }
 }
 
-/// How a command ends after one more answer: as before it, if that is one symbol.
+/// The status after one more answer: unchanged if it is a single symbol, else `Partial`.
 pub fn status_after(status: Status, answer: &Answer<'_>) -> Status
     ensures { result ≡ if is_symbol answer.now then status else Partial }
 {
@@ -38,6 +38,7 @@ pub fn status_after(status: Status, answer: &Answer<'_>) -> Status
     }
 }
 
+/// The addresses that these address arguments mean, in their order.
 pub fn places_of(
     heap: Heap,
     load: Option<u64>,
@@ -51,7 +52,7 @@ pub fn places_of(
         .collect(heap)
 }
 
-/// The source frames of addresses of the words, where lines are wanted.
+/// The source frames of address arguments, if `lines`.
 fn source_frames_of<'s, A: Archive>(
     heap: &Heap,
     archive: &'s A,
@@ -71,8 +72,8 @@ fn source_frames_of<'s, A: Archive>(
     }
 }
 
-/// The lines of the answers to the addresses, with how a command ends that prints them. If `lines`, the lines of the
-/// source frames come after that of each slice; the DWARF of a slice is read once for all addresses.
+/// The status, and the lines of the answers to the addresses. If `lines`, the lines of the source frames come after
+/// that of each slice; the DWARF of a slice is read once for all addresses.
 pub fn answer_each<A: Archive>(
     heap: Heap,
     archive: &A,
@@ -98,9 +99,9 @@ pub fn answer_each<A: Archive>(
     Ok((status, text))
 }
 
-/// The lines of the answers of an archive to the addresses, and after them those of the slices that answer under the
-/// UUID of the key, with how a command ends that prints them.
-fn tell_with_slices<A: Archive>(
+/// The status, and the lines of the answers of an archive to the addresses, and after them those of the slices that
+/// answer under the UUID of the key.
+fn answers_then_slices<A: Archive>(
     heap: &Heap,
     archive: &A,
     key: &SliceKey,
@@ -119,9 +120,9 @@ fn tell_with_slices<A: Archive>(
     Ok((status, text))
 }
 
-/// The lines of the answers of an archive to the addresses, and if `slices` those of the slices that answer, with how a
-/// command ends that prints them.
-fn tell_kept<A: Archive>(
+/// The status, and the lines of the answers of an archive to the addresses, and if `slices` those of the slices that
+/// answer.
+fn addresses_text<A: Archive>(
     heap: &Heap,
     archive: &A,
     key: &SliceKey,
@@ -135,7 +136,7 @@ fn tell_kept<A: Archive>(
         (A.content archive.now) (key.now.uuid ∷ []) (key.now ∷ []) told.0 (string_bytes told.1)) }
 {
     if slices {
-        tell_with_slices(heap, archive, key, load, lines, addresses)
+        answers_then_slices(heap, archive, key, load, lines, addresses)
     } else {
         answer_each(heap.share(), archive, key, load, lines, addresses)
     }
@@ -188,6 +189,6 @@ pub fn run_symbolicate<A: Archive + Drop, R: Source, P: Sink>(
     let prefix = prefix_of(*key);
     let front = asked_front(&prefix, slices);
     let kept: A = read_parts(heap.share(), &Under(front), archive, others)?;
-    let (status, text) = tell_kept(&heap, &kept, key, load, lines, slices, addresses)?;
-    publish_report(status, &text, report)
+    let (status, text) = addresses_text(&heap, &kept, key, load, lines, slices, addresses)?;
+    write_report(status, &text, report)
 }

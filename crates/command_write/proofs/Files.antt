@@ -17,8 +17,8 @@ use Rattle.text_reports.specs.declared.rows.AdmitRow.{AdmitRow}
 use Rattle.byte_openings.specs.declared.openings.Opening.{Opening}
 use Rattle.command_write.specs.Admit.{admit_rows, file_rows, images_of, MakesAdmitted, admit_as_it_comes}
 use Rattle.command_write.specs.FileRows.{file_lines, file_row_text}
-use Rattle.command_write.specs.InnerArriving.{images_in, record_in, records_by, records_in, records_of, row_again}
-use Rattle.command_write.specs.InnerArriving.{rows_again, slice_rows, taken_again, AreFirstRows}
+use Rattle.command_write.specs.InnerArriving.{images_in, record_in, records_by, records_in, records_of, updated_row}
+use Rattle.command_write.specs.InnerArriving.{updated_rows, slice_rows, updated_taken, AreFirstRows}
 use Rattle.command_write.specs.InnerArriving.{Brings, HasCome, lines_again}
 use Rattle.command_write.specs.InnerNotes.{IsNoted}
 use Rattle.command_write.specs.Notes.{NotesRetired, retired_notes}
@@ -26,7 +26,7 @@ use Rattle.command_write.specs.PassedOver.{Becomes, NotesRetiredPassing, Outcome
 use Rattle.command_write.specs.declared.arriving.Arrivals.{Arrivals}
 use Rattle.command_write.specs.declared.file_rows.FileRow.{FileRow}
 use Rattle.command_write.specs.declared.file_rows.FileRow.TheVariants.{Part, PassedOver}
-use Rattle.command_write.specs.declared.notes.Note.{Note}
+use Rattle.command_common.specs.declared.notes.Note.{Note}
 use Rattle.command_write.proofs.Joined.{join_with_nothing}
 use Rattle.std.proofs.lemmas.Grind.{flat_map-append}
 use Rattle.std.specs.List.{AllByRecursion, AllZip}
@@ -98,21 +98,21 @@ rows_sliced o (x ∷ xs) = grind (arith, rows_sliced (admitted o (x ∷ [])) xs,
 takens_again : (List ℕ → Bool) → List Taken → List (List ℕ) → List Taken
 takens_again f [] rs = []
 takens_again f (t ∷ ts) [] = t ∷ ts
-takens_again f (t ∷ ts) (r ∷ rs) = taken_again (f r) t ∷ takens_again f ts rs
+takens_again f (t ∷ ts) (r ∷ rs) = updated_taken (f r) t ∷ takens_again f ts rs
 
 file_again : (f : List ℕ → Bool) (index slice : ℕ) (ts : List Taken) (rs : List (List ℕ))
-    → rows_again f (part_rows index slice ts) rs ≡ part_rows index slice (takens_again f ts rs)
-unfolding rows_again file_rows takens_again
+    → updated_rows f (part_rows index slice ts) rs ≡ part_rows index slice (takens_again f ts rs)
+unfolding updated_rows file_rows takens_again
 file_again f index slice (t ∷ ts) (r ∷ rs) = ap (λ (rest : List FileRow). Part
-    (record { file = index; slice = slice; taken = taken_again (f r) t }) ∷ rest) (file_again f index (slice + 1) ts rs)
+    (record { file = index; slice = slice; taken = updated_taken (f r) t }) ∷ rest) (file_again f index (slice + 1) ts rs)
 file_again f index slice ts rs = refl
 
 again_append : (f : List ℕ → Bool) (xs ys : List FileRow) (rs ss : List (List ℕ)) → length rs ≡ length xs
-    → rows_again f (xs ++ ys) (rs ++ ss) ≡ rows_again f xs rs ++ rows_again f ys ss
-unfolding rows_again
+    → updated_rows f (xs ++ ys) (rs ++ ss) ≡ updated_rows f xs rs ++ updated_rows f ys ss
+unfolding updated_rows
 again_append f [] ys [] ss long = refl
 again_append f (x ∷ xs) ys (r ∷ rs) ss long = let rest : length rs ≡ length xs = omega (arith, long)
-    in ap (λ (rows : List FileRow). row_again (f r) x ∷ rows) (again_append f xs ys rs ss rest)
+    in ap (λ (rows : List FileRow). updated_row (f r) x ∷ rows) (again_append f xs ys rs ss rest)
 again_append f xs ys rs ss long = absurd (omega (arith, long))
 
 file_long : (index slice : ℕ) (ts : List Taken) → length (part_rows index slice ts) ≡ length ts
@@ -121,7 +121,7 @@ file_long index slice [] = refl
 file_long index slice (t ∷ ts) = ap suc (file_long index (slice + 1) ts)
 
 -- a slice that came first among those that come is new where it is new to the other content, too
-one_joined : (o p : Operations) (image : List ℕ) → taken_again (changes o (admission_record image)) (taken_of p image) ≡ taken_of (joined o p) image
+one_joined : (o p : Operations) (image : List ℕ) → updated_taken (changes o (admission_record image)) (taken_of p image) ≡ taken_of (joined o p) image
 unfolding taken_of
 one_joined o p image = grind (arith, changes_joined o p (admission_record image))
 
@@ -145,14 +145,14 @@ records_long p index (Ok bytes) =
 records_long p index (Err why) = refl
 
 -- the rows of a file over a join are those over one side, told again by the other
-one_rows_joined : (o p : Operations) (index : ℕ) (x : Outcome) → rows_again (changes o) (rows_by p index x) (records_by x) ≡ rows_by (joined o p) index x
-unfolding rows_again
+one_rows_joined : (o p : Operations) (index : ℕ) (x : Outcome) → updated_rows (changes o) (rows_by p index x) (records_by x) ≡ rows_by (joined o p) index x
+unfolding updated_rows
 one_rows_joined o p index (Ok bytes) = file_again (changes o) index 0 (taken_rows p (parts bytes)) (records_in bytes)
     ∙ ap (part_rows index 0) (takens_joined o p (parts bytes))
 one_rows_joined o p index (Err why) = refl
 
-rows_joined : (o p : Operations) (index : ℕ) (xs : List Outcome) → rows_again (changes o) (rows_of p index xs) (records_of xs) ≡ rows_of (joined o p) index xs
-unfolding rows_of rows_again
+rows_joined : (o p : Operations) (index : ℕ) (xs : List Outcome) → updated_rows (changes o) (rows_of p index xs) (records_of xs) ≡ rows_of (joined o p) index xs
+unfolding rows_of updated_rows
 rows_joined o p index [] = refl
 rows_joined o p index (x ∷ xs) =
     let first = one_rows_joined o p index x in
@@ -163,7 +163,7 @@ rows_joined o p index (x ∷ xs) =
     ∙ (λ i. first i ++ rest i)
 
 -- so the rows over a content are those of the files among themselves, told again
-pub rows_over : (o : Operations) (xs : List Outcome) → IsMade o → rows_again (changes o) (rows_of set.empty 0 xs) (records_of xs) ≡ rows_of o 0 xs
+pub rows_over : (o : Operations) (xs : List Outcome) → IsMade o → updated_rows (changes o) (rows_of set.empty 0 xs) (records_of xs) ≡ rows_of o 0 xs
 rows_over o xs is = rows_joined o set.empty 0 xs ∙ ap (λ (q : Operations). rows_of q 0 xs) (join_with_nothing o is)
 
 -- the rows of some files and of others after them
@@ -308,7 +308,7 @@ module _ {R S : Type 0} (opening : S → Opening) (input : Reader R) (files : Li
   with_images o is = rw h.content (admitted_joined o (images_from outcomes) is)
 
   pub with_rows : (o : Operations) → IsMade o → lines_again rows (records_of outcomes) (changes o) ≡ file_lines (rows_of o 0 outcomes)
-  with_rows o is = ap file_lines (ap (λ (rs : List FileRow). rows_again (changes o) rs (records_of outcomes)) h.rows_are ∙ rows_over o outcomes is)
+  with_rows o is = ap file_lines (ap (λ (rs : List FileRow). updated_rows (changes o) rs (records_of outcomes)) h.rows_are ∙ rows_over o outcomes is)
 
 module _ {R S : Type 0} (input : Reader R) (files : List (Reader S)) (out : Out) (report : Writer) where
   pub admitted_in_turn : (opening : S → Opening) (texts : List (List ℕ)) (came : Operations) (first_rows : List ℕ)

@@ -13,7 +13,7 @@ use Rattle.command_write.specs.declared.file_rows.FileRow.{FileRow}
 use Rattle.command_write.specs.declared.file_rows.FileRow.TheVariants.{Part, PassedOver}
 use Rattle.command_common.proofs.Readers.{pairs_long}
 use Rattle.archive_core.proofs.Made.{bytes_same}
-use Rattle.command_write.specs.InnerArriving.{AreFirstRows, adds, row_again, rows_again}
+use Rattle.command_write.specs.InnerArriving.{AreFirstRows, adds, updated_row, updated_rows}
 use Rattle.std.proofs.lemmas.Bool.{cases_Bool, cases_eq, cases_lt}
 use Rattle.std.proofs.lemmas.List.{ext_get_or, get_or-set_other, get_or-set_same, length-set}
 use Rattle.archive_admission.specs.declared.taken.Taken.TheVariants.{Skipped}
@@ -118,11 +118,11 @@ row_at rows n = get_or rows n no_row
 
 -- ---- one row
 
-row_twice : (new : Bool) (row : FileRow) → row_again new (row_again new row) ≡ row_again new row
+row_twice : (new : Bool) (row : FileRow) → updated_row new (updated_row new row) ≡ updated_row new row
 row_twice new (Part row) = grind arith
 row_twice new (PassedOver file why) = refl
 
-row_kept : (new : Bool) (row : FileRow) → adds row ≡ false → row_again new row ≡ row
+row_kept : (new : Bool) (row : FileRow) → adds row ≡ false → updated_row new row ≡ row
 row_kept new (Part row) is = grind arith
 row_kept new (PassedOver file why) is = refl
 
@@ -130,7 +130,7 @@ row_kept new (PassedOver file why) is = refl
 
 -- a row, told again by its record
 abbrev goal_at : (List ℕ → Bool) → List FileRow → List (List ℕ) → ℕ → FileRow
-goal_at f was records n = row_again (f (get_or records n [])) (row_at was n)
+goal_at f was records n = updated_row (f (get_or records n [])) (row_at was n)
 
 -- The rows of the first k records are told again, and no other one is changed but so.
 pub record AreMarked (f : List ℕ → Bool) (was : List FileRow) (records : List (List ℕ)) (first_rows : List ℕ) (k : ℕ) (now : List FileRow) : Type 0 where
@@ -149,9 +149,9 @@ module _ (f : List ℕ → Bool) (was : List FileRow) (records : List (List ℕ)
   pub marked_more : (first_rows : List ℕ) (k p : ℕ) (now more : List FileRow) (new : Bool)
       → AreMarked f was records first_rows k now → slice_get first_rows k ≡ Some p → p < length was → new
       ≡ f (get_or records p [])
-      → more ≡ set now p (row_again new (row_at now p)) → AreMarked f was records first_rows (k + 1) more
+      → more ≡ set now p (updated_row new (row_at now p)) → AreMarked f was records first_rows (k + 1) more
   marked_more first_rows k p now more new before at within new_is more_is = record {
-    long = ap length more_is ∙ length-set now p (row_again new (row_at now p)) ∙ before.long;
+    long = ap length more_is ∙ length-set now p (updated_row new (row_at now p)) ∙ before.long;
     first = λ i n lt is inside. elim (cases_lt i k) [
       | inl low ↦ by_same n (before.first i n low is inside)
       | inr high ↦
@@ -170,7 +170,7 @@ module _ (f : List ℕ → Bool) (was : List FileRow) (records : List (List ℕ)
     where
       here : row_at more p ≡ goal_at f was records p
       here =
-          let written : row_at more p ≡ row_again new (row_at now p) = rw more_is (get_or-set_same now p _ no_row (omega (arith, within, before.long))) in
+          let written : row_at more p ≡ updated_row new (row_at now p) = rw more_is (get_or-set_same now p _ no_row (omega (arith, within, before.long))) in
           elim (before.all p within) [
             | inl same ↦ cc
             | inr told ↦ cc (row_twice (f (get_or records p [])) (row_at was p))
@@ -187,14 +187,14 @@ module _ (f : List ℕ → Bool) (was : List FileRow) (records : List (List ℕ)
 
 -- ---- all of them
 
-again_long : (f : List ℕ → Bool) (rows : List FileRow) (records : List (List ℕ)) → length (rows_again f rows records) ≡ length rows
-unfolding rows_again
+again_long : (f : List ℕ → Bool) (rows : List FileRow) (records : List (List ℕ)) → length (updated_rows f rows records) ≡ length rows
+unfolding updated_rows
 again_long f (row ∷ rows) (r ∷ records) = ap suc (again_long f rows records)
 again_long f rows records = refl
 
 again_at : (f : List ℕ → Bool) (rows : List FileRow) (records : List (List ℕ)) (n : ℕ) → length records ≡ length rows
-    → n < length rows → row_at (rows_again f rows records) n ≡ row_again (f (get_or records n [])) (row_at rows n)
-unfolding rows_again
+    → n < length rows → row_at (updated_rows f rows records) n ≡ updated_row (f (get_or records n [])) (row_at rows n)
+unfolding updated_rows
 again_at f [] records n long inside = absurd (omega (arith, inside))
 again_at f (row ∷ rows) [] n long inside = absurd (omega (arith, long))
 again_at f (row ∷ rows) (r ∷ records) zero long inside = refl
@@ -223,13 +223,13 @@ module _ (came : List (List ℕ)) (first_rows : List ℕ) (rows : List FileRow) 
   as_many = pairs_long (λ (place : ℕ) (r : List ℕ). slice_get records place ≡ Some r) first_rows came are_first.beside
 
   pub all_marked : (f : List ℕ → Bool) (k : ℕ) (now : List FileRow) → AreMarked f rows records first_rows k now → k
-      ≡ length first_rows → now ≡ rows_again f rows records
+      ≡ length first_rows → now ≡ updated_rows f rows records
   all_marked f k now marked end =
-      ext_get_or no_row now (rows_again f rows records) (marked.long ∙ sym (again_long f rows records)) (λ n lt.
+      ext_get_or no_row now (updated_rows f rows records) (marked.long ∙ sym (again_long f rows records)) (λ n lt.
       let inside : n < length rows = omega (arith, lt, marked.long) in
       by_row n inside ∙ sym (again_at f rows records n are_first.long inside))
     where
-      by_row : (n : ℕ) → n < length rows → row_at now n ≡ row_again (f (get_or records n [])) (row_at rows n)
+      by_row : (n : ℕ) → n < length rows → row_at now n ≡ updated_row (f (get_or records n [])) (row_at rows n)
       by_row n inside = elim (cases_Bool (adds (row_at rows n))) [
         | inl is ↦
             let at = are_first.each n (row_at rows n) (slice_get-get_or rows n no_row inside) is in

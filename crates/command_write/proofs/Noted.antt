@@ -15,8 +15,8 @@ use Rattle.archive_core.proofs.Entries.{slice_of}
 use Rattle.archive_merge.specs.Arrivals.{arrival_of}
 use Rattle.command_write.specs.InnerNotes.{note_of}
 use Rattle.command_write.specs.Notes.{has_slice, missing_notes, retired_note, retired_notes}
-use Rattle.command_write.specs.declared.notes.Note.{Note}
-use Rattle.command_write.specs.declared.notes.Note.TheVariants.{Retired, Missing}
+use Rattle.command_common.specs.declared.notes.Note.{Note}
+use Rattle.command_common.specs.declared.notes.Note.TheVariants.{Retired, Missing}
 
 -- ---- slices that are retired
 

@@ -18,7 +18,7 @@ use Rattle.command_write.specs.Begun.{begins_behind}
 abbrev pub images_of : List (List ℕ) → List (List ℕ)
 images_of files = flat_map admissible files
 
--- the rows of the file of this number among those of the words, from a slice on
+-- the rows of the file of this number on the command line, from a slice on
 unfoldable pub file_rows : ℕ → ℕ → List Taken → List AdmitRow
 file_rows index slice [] = []
 file_rows index slice (taken ∷ rest) =

@@ -1,5 +1,5 @@
--- A copy of those records of an archive that a summary does not name: the words of inner functions. No contract of a
--- public one has them.
+-- A copy of those records of an archive that a summary does not name: definitions for private functions. No public
+-- contract uses them.
 use Rattle.std.specs.Prelude.{◌≡◌, ℕ, ◌+◌, ◌≤◌, List, [], ◌++◌, length, take, Option, Some, Result, Ok, Err, ◌⊎◌}
 use Rattle.std.specs.List.{concat}
 use Rattle.std.specs.FinSet as set

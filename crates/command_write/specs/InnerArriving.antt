@@ -1,5 +1,5 @@
--- The slices of files, each once, and the rows that tell them: the words of inner functions. No contract of a public
--- one has them.
+-- The slices of files, each once, and the rows that tell them: definitions for private functions. No public contract
+-- uses them.
 use Rattle.std.specs.Prelude.{◌≡◌, ℕ, List, [], ◌∷◌, ◌++◌, Bool, true, false, Option, Some, None, Result, Ok, Err, map}
 use Rattle.std.specs.Prelude.{length}
 use Rattle.std.specs.Prelude.{if◌then◌else◌}
@@ -83,21 +83,21 @@ row_of file (Ok part) = Part (record { file = file; slice = part.0; taken = part
 row_of file (Err why) = PassedOver file why
 
 -- one that was added is known, if it is not new
-abbrev pub taken_again : Bool → Taken → Taken
-taken_again new (Added key digest) = if new then Added key digest else Known key digest
-taken_again new (Known key digest) = Known key digest
-taken_again new Skipped = Skipped
+abbrev pub updated_taken : Bool → Taken → Taken
+updated_taken new (Added key digest) = if new then Added key digest else Known key digest
+updated_taken new (Known key digest) = Known key digest
+updated_taken new Skipped = Skipped
 
 -- the same of its row
-abbrev pub row_again : Bool → FileRow → FileRow
-row_again new (Part row) = Part (record { file = row.file; slice = row.slice; taken = taken_again new row.taken })
-row_again new (PassedOver file why) = PassedOver file why
+abbrev pub updated_row : Bool → FileRow → FileRow
+updated_row new (Part row) = Part (record { file = row.file; slice = row.slice; taken = updated_taken new row.taken })
+updated_row new (PassedOver file why) = PassedOver file why
 
 -- the same of rows, by which of their records are new
-unfoldable pub rows_again : (List ℕ → Bool) → List FileRow → List (List ℕ) → List FileRow
-rows_again is_new [] records = []
-rows_again is_new (row ∷ rows) [] = row ∷ rows
-rows_again is_new (row ∷ rows) (r ∷ records) = row_again (is_new r) row ∷ rows_again is_new rows records
+unfoldable pub updated_rows : (List ℕ → Bool) → List FileRow → List (List ℕ) → List FileRow
+updated_rows is_new [] records = []
+updated_rows is_new (row ∷ rows) [] = row ∷ rows
+updated_rows is_new (row ∷ rows) (r ∷ records) = updated_row (is_new r) row ∷ updated_rows is_new rows records
 
 -- Of records that came, in their order, the numbers of the rows of which they are: one for each row that was added.
 pub record AreFirstRows (came : List (List ℕ)) (first_rows : List ℕ) (rows : List FileRow) (records : List (List ℕ))
@@ -127,4 +127,4 @@ pub record HasCome {S : Type 0} (opening : S → Opening) (files : List (Reader 
 
 -- the lines of rows, by which of their records are new
 abbrev pub lines_again : List FileRow → List (List ℕ) → (List ℕ → Bool) → List ℕ
-lines_again rows records is_new = file_lines (rows_again is_new rows records)
+lines_again rows records is_new = file_lines (updated_rows is_new rows records)

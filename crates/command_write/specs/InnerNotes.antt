@@ -1,4 +1,4 @@
--- Notes as they are added: the words of inner functions. No contract of a public one has them.
+-- Notes as they are added: definitions for private functions. No public contract uses them.
 use Rattle.std.specs.Prelude.{◌≡◌, List, [], ◌∷◌, ◌++◌}
 use Rattle.sha2.specs.Sha256.{sha256}
 use Rattle.archive_core.specs.Content.{Operations, IsContent}
@@ -8,8 +8,8 @@ use Rattle.archive_core.specs.declared.operations.Operation.TheVariants.{Admit, 
 use Rattle.archive_merge.specs.declared.arrivals.Arrival.{Arrival}
 use Rattle.archive_merge.specs.declared.arrivals.Arrival.TheVariants.{New, Had, Retired}
 use Rattle.command_common.specs.Inputs.{HoldsArchive, Reader}
-use Rattle.command_write.specs.declared.notes.Note.{Note}
-use Rattle.command_write.specs.declared.notes.Note.TheVariants as note
+use Rattle.command_common.specs.declared.notes.Note.{Note}
+use Rattle.command_common.specs.declared.notes.Note.TheVariants as note
 use Rattle.command_write.specs.Notes.{retired_notes}
 
 -- the note of an operation by what it is to a content: a slice that is retired has one

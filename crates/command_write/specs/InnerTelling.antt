@@ -1,5 +1,5 @@
--- IN's archive, merged with operations that are at hand, and what each of these is to IN: the words of inner functions.
--- No contract of a public one has them.
+-- IN's archive, merged with operations that are at hand, and what each of these is to IN: definitions for private
+-- functions. No public contract uses them.
 use Rattle.std.specs.Prelude.{◌≡◌, ℕ, ◌-◌, List, Bool, Some, length, map}
 use Rattle.std.specs.List.{count_by, list_any}
 use Rattle.std.specs.FinSet as set

@@ -1,4 +1,4 @@
--- IN's archive, joined with one that is at hand: the words of inner functions. No contract of a public one has them.
+-- IN's archive, joined with one that is at hand: definitions for private functions. No public contract uses them.
 use Rattle.std.specs.Prelude.{◌≡◌, ℕ, List, [], Some, Result, Ok, Err}
 use Rattle.std.specs.FinSet as set
 use Rattle.archive_core.specs.Content.{Operations, IsContent, joined}

@@ -23,7 +23,7 @@ IsSide (Left fault) at why = (at ≡ Archive 0) × (why ≡ Record fault) × (fa
 IsSide (Right fault) at why = (at ≡ Archive 1) × (why ≡ Record fault) × (fault.kind ≢ RecordOutOfMemory)
 IsSide Write at why = ⊥
 
--- memory was wanting for a side
+-- memory ran out for a side
 abbrev pub WantsMemory : MergeCause → Type 0
 WantsMemory (Left fault) = fault.kind ≡ RecordOutOfMemory
 WantsMemory (Right fault) = fault.kind ≡ RecordOutOfMemory

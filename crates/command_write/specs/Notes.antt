@@ -1,5 +1,5 @@
--- The notes of a command that succeeded, about records that were asked for and are not there.
-use Rattle.std.specs.Prelude.{◌≡◌, ℕ, List, [], ◌∷◌, ◌++◌, Bool, codes, drop, map, if◌then◌else◌}
+-- The notes of `admit` and of `retire`, about records that were asked for and are not there.
+use Rattle.std.specs.Prelude.{◌≡◌, ℕ, List, [], ◌∷◌, ◌++◌, Bool, drop, map, if◌then◌else◌}
 use Rattle.std.specs.FinSet as set
 use Rattle.std.specs.List.{AllByRecursion, AllZip, filter, list_any}
 use Rattle.sha2.specs.Sha256.{sha256}
@@ -9,23 +9,12 @@ use Rattle.archive_core.specs.Record.{retirement_record}
 use Rattle.archive_core.specs.Valid.{key_of}
 use Rattle.archive_core.specs.declared.keys.Digest.{Digest}
 use Rattle.archive_core.specs.declared.keys.SliceKey.{SliceKey}
-use Rattle.text_values.specs.Words.{digest_text}
 use Rattle.archive_admission.specs.File.{IsAcceptedFile}
 use Rattle.archive_admission.specs.Take.{admitted}
-use Rattle.text_reports.specs.Escapes.{escaped}
-use Rattle.text_reports.specs.Rows.{key_text}
 use Rattle.command_common.specs.Inputs.{Holds, HoldsArchive, Reader}
 use Rattle.command_write.specs.Admit.{images_of}
-use Rattle.command_write.specs.declared.notes.Note.{Note}
-use Rattle.command_write.specs.declared.notes.Note.TheVariants.{Retired, Missing, Underscored}
-
--- the text of a note
-unfoldable pub note_text : Note → List ℕ
-note_text (Retired key digest) = codes "note: " ++ key_text key ++ codes " " ++ digest_text digest
-    ++ codes " is retired in IN, and does not come in"
-note_text (Missing key digest) = codes "note: IN has no slice " ++ key_text key ++ codes " " ++ digest_text digest
-note_text (Underscored name) = codes "note: there is no symbol " ++ escaped name.items ++ codes ", but there is _"
-    ++ escaped name.items
+use Rattle.command_common.specs.declared.notes.Note.{Note}
+use Rattle.command_common.specs.declared.notes.Note.TheVariants.{Retired, Missing}
 
 -- the note of a slice that does not come in, by the record of its admission, in which it stands after 33 bytes
 abbrev pub retired_note : List ℕ → Note

@@ -24,7 +24,7 @@ use Rattle.command_write.specs.FileRows.{file_lines}
 use Rattle.command_write.specs.Notes.{NotesRetired, retired_notes}
 use Rattle.command_write.specs.declared.file_rows.FileRow.{FileRow}
 use Rattle.command_write.specs.declared.file_rows.FileRow.TheVariants.{Part, PassedOver}
-use Rattle.command_write.specs.declared.notes.Note.{Note}
+use Rattle.command_common.specs.declared.notes.Note.{Note}
 
 -- what becomes of a file: it is accepted, with these bytes, or it is passed over, for this reason
 abbrev pub Outcome : Type 0
@@ -36,7 +36,7 @@ why_passed NotOpened why = CannotOpen
 why_passed Fine why = why
 why_passed OutOfMemory why = why
 
--- The file is refused, and passed over for this reason. Memory to open it was not wanting.
+-- The file is refused, and passed over for this reason. There was memory to open it.
 pub record IsPassedOver {S : Type 0} (opening : S → Opening) (file : Reader S) (why : Why) : Type 0 where
   pub as_read : Why
   pub refused : IsFileRefused file as_read

@@ -24,10 +24,10 @@ ghost use Rattle.command_common.specs.Inputs.{IsFirstRefused, IsRefusal, IsRefus
 ghost use Rattle.command_common.specs.Inputs.{IsRefusedFile, ReadsInput, ReadsInputs, reader, readers};
 ghost use Rattle.command_common.specs.Outputs.{out_of, outs, writer};
 
-use crate::arriving::{Arrivals, tell_rows};
+use crate::arriving::{Arrivals, update_rows};
 use crate::file_rows::file_lines;
-use crate::notes::{Note, note_retired};
-use crate::telling::tell_operations;
+use crate::merging::merge_operations;
+use crate::notes::note_retired;
 use archive_admission::laws::one_take_fault;
 use archive_admission::{TakeFault, slice_file};
 use archive_core::Slice;
@@ -35,7 +35,7 @@ use archive_merge::Arrival;
 use byte_device::{Output, Sink, Source, Target};
 use byte_openings::{Opening, Opens};
 use command_common::{
-    CommandFault, InputName, Status, Why, publish_draft, read_file, refused_behind,
+    CommandFault, InputName, Note, Status, Why, first_refusal, publish_draft, read_file,
 };
 use memory::{Heap, NoMemory};
 
@@ -49,7 +49,8 @@ fn refusal_of_file(index: u64, fault: TakeFault) -> CommandFault
     }
 }
 
-fn slice_bytes(index: u64, bytes: Vec<u8, Heap>) -> Result<Vec<Option<Slice>, Heap>, CommandFault>
+/// The slices of file `index`, from its bytes: one entry for each part, `None` for a part that is no slice.
+fn slices_in(index: u64, bytes: Vec<u8, Heap>) -> Result<Vec<Option<Slice>, Heap>, CommandFault>
     ensures accepted { OnOk result (IsAcceptedFile bytes.items) }
     ensures slices { IfOk result (λ slices. slices.items ≡ map slice_in (parts bytes.items)) }
     ensures refused { IfErr result (IsRefusal (IsRefusedBytes index bytes.items) (Unit {0})) }
@@ -71,7 +72,7 @@ fn read_slices<S: Source>(
         (IsRefusedFile index) }
 {
     let bytes = read_file(heap.share(), index, file)?;
-    let slices = slice_bytes(index, bytes)?;
+    let slices = slices_in(index, bytes)?;
     Ok(slices)
 }
 
@@ -104,7 +105,7 @@ fn admit_files<S: Source>(heap: &Heap, files: &mut [S]) -> Result<Arrivals, Comm
     Ok(arrivals)
 }
 
-/// Why an input is refused, unless memory is wanting.
+/// Why an input is refused; fails if memory ran out.
 fn why_refused(fault: CommandFault) -> Result<Why, NoMemory>
     ensures { IfOk result (λ why. (name : InputName) × (fault ≡ Input name why)) }
 {
@@ -183,7 +184,7 @@ fn take_files<S: Source + Opens>(heap: &Heap, files: &mut [S]) -> Result<(Arriva
 
 /// The lines of the rows, told again by what each of the slices that came is to IN. Of each that IN retires a note is
 /// added.
-fn tell_arrivals(
+fn report_arrivals(
     heap: Heap,
     arrivals: Arrivals,
     arrived: &[Arrival],
@@ -206,7 +207,7 @@ fn tell_arrivals(
     } = arrivals;
     note_retired(notes, came.operations(), arrived)?;
     let mut again = rows;
-    tell_rows(&mut again, &first_rows, arrived);
+    update_rows(&mut again, &first_rows, arrived);
     file_lines(heap, &again)
 }
 
@@ -232,8 +233,8 @@ fn write_admitted<R: Source, T: Target, P: Sink>(
     ensures noted { OnOk result (IsNoted (reader R.left R.failures input.old input.new) arrivals.came
         notes.old.items notes.new.items) }
 {
-    let (sizes, told) = tell_operations(&heap, input, arrivals.came.operations(), &mut out.draft)?;
-    let lines = tell_arrivals(heap, arrivals, &told.arrivals, notes)?;
+    let (sizes, told) = merge_operations(&heap, input, arrivals.came.operations(), &mut out.draft)?;
+    let lines = report_arrivals(heap, arrivals, &told.arrivals, notes)?;
     publish_draft(lines, sizes, out, report)
 }
 
@@ -255,11 +256,11 @@ fn admit_all<R: Source, S: Source, T: Target, P: Sink>(
 {
     match admit_files(&heap, files) {
         Ok(arrivals) => write_admitted(heap, input, arrivals, notes, out, report),
-        Err(fault) => Err(refused_behind(heap, input, fault)),
+        Err(fault) => Err(first_refusal(heap, input, fault)),
     }
 }
 
-/// The status of a command that ended well, of which this is known.
+/// `Refused` in place of `Done` if a file was passed over; a fault is kept.
 fn with_status(passed: bool, ended: Result<Status, CommandFault>) -> Result<Status, CommandFault>
     ensures { result ≡ with_status passed ended }
 {
@@ -296,16 +297,17 @@ fn admit_passing<R: Source, S: Source + Opens, T: Target, P: Sink>(
     }
 }
 
-/// Writes IN's archive to OUT with the slices of each file, and a row a slice and the sizes to the report. The files
-/// are read first, in the order of the words, each to its end, and then IN is merged with their slices as it comes, in
-/// the memory of these, of one record and of 57 bytes for each retirement. Of each slice of the files that IN retires a
-/// note is added, in the order of their records. A file that is refused is passed over with `keep_going`, and has a row
-/// that says why; the status is `Refused` then. Without it IN is tested to its end, and the command is refused.
+/// Writes IN's archive to OUT with the slices of each file, and a row for each part and the sizes to the report. The
+/// files are read first, in the order of the command line, each to its end, and then IN is merged with their slices as
+/// it comes, in the memory of these, of one record and of 57 bytes for each retirement. Of each slice of the files that
+/// IN retires a note is added, in the order of their records. A file that is refused is passed over with `keep_going`,
+/// and has a row that says why; the status is `Refused` then. Without it IN is tested to its end, and the command is
+/// refused.
 ///
 /// # Errors
 ///
-/// `Input` for IN or, without `keep_going`, for the first input that is refused, in the order of the words; `Output`
-/// and `Report` where that writer failed; `OutOfMemory`.
+/// `Input` for IN or, without `keep_going`, for the first input that is refused, in the order of the command line;
+/// `Output` and `Report` where that writer failed; `OutOfMemory`.
 pub fn run_admit<R: Source, S: Source + Opens, T: Target, P: Sink>(
     heap: Heap,
     keep_going: bool,

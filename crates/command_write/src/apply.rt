@@ -14,12 +14,12 @@ ghost use Rattle.command_common.specs.Ends.{EndsStreamed};
 ghost use Rattle.command_common.specs.Inputs.{IsRefusedOps, ReadsInput, reader};
 ghost use Rattle.command_common.specs.Outputs.{out_of, outs, writer};
 
-use crate::telling::tell_operations;
+use crate::merging::merge_operations;
 use archive_core::Operation;
 use archive_index::new_in_turn;
 use archive_merge::number_of_new;
 use byte_device::{Output, Sink, Source, Target};
-use command_common::{CommandFault, Status, publish_draft, read_operations, refused_behind};
+use command_common::{CommandFault, Status, first_refusal, publish_draft, read_operations};
 use memory::Heap;
 use text_reports::apply_line;
 
@@ -42,7 +42,7 @@ fn write_applied<R: Source, T: Target, P: Sink>(
         (out_of (outs T.Draft.held T.Draft.failures T.published T.failures out.old out.new))
         (writer P.held P.failures report.old report.new) result }
 {
-    let (sizes, told) = tell_operations(&heap, input, operations, &mut out.draft)?;
+    let (sizes, told) = merge_operations(&heap, input, operations, &mut out.draft)?;
     let new = number_of_new(&told.arrivals);
     let lines = apply_line(heap, new, number - new)?;
     publish_draft(lines, sizes, out, report)
@@ -67,8 +67,8 @@ fn read_new<S: Source>(heap: Heap, ops: &mut S) -> Result<(Vec<Operation, Heap>,
 ///
 /// # Errors
 ///
-/// `Input` for the first input that is refused, in the order of the words; `Output` and `Report` where that writer
-/// failed; `OutOfMemory`.
+/// `Input` for the first input that is refused, in the order of the command line; `Output` and `Report` where that
+/// writer failed; `OutOfMemory`.
 pub fn run_apply<R: Source, S: Source, T: Target, P: Sink>(
     heap: Heap,
     input: &mut R,
@@ -83,6 +83,6 @@ pub fn run_apply<R: Source, S: Source, T: Target, P: Sink>(
 {
     match read_new(heap.share(), ops) {
         Ok((sorted, number)) => write_applied(heap, input, &sorted, number, out, report),
-        Err(fault) => Err(refused_behind(heap, input, fault)),
+        Err(fault) => Err(first_refusal(heap, input, fault)),
     }
 }

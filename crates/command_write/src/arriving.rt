@@ -9,8 +9,8 @@ ghost use Rattle.archive_merge.specs.Arrivals.{is_new};
 ghost use Rattle.text_reports.specs.declared.rows.AdmitRow.{AdmitRow};
 ghost use Rattle.command_write.specs.declared.file_rows.FileRow.{FileRow};
 ghost use Rattle.command_write.specs.declared.file_rows.FileRow.TheVariants.{Part, PassedOver};
-ghost use Rattle.command_write.specs.InnerArriving.{AreFirstRows, images_in, record_in, row_again, row_of, rows_again};
-ghost use Rattle.command_write.specs.InnerArriving.{slice_rows, taken_again};
+ghost use Rattle.command_write.specs.InnerArriving.{AreFirstRows, images_in, record_in, updated_row, row_of, updated_rows};
+ghost use Rattle.command_write.specs.InnerArriving.{slice_rows, updated_taken};
 ghost use Rattle.command_write.specs.PassedOver.{part_rows};
 
 use crate::file_rows::FileRow;
@@ -31,6 +31,7 @@ pub struct Arrivals {
 }
 
 impl Arrivals {
+    /// No slice, and no row.
     pub fn none(heap: &Heap) -> Arrivals
         ensures came { result.came ≡ set.empty }
         ensures first_rows { result.first_rows.items ≡ [] }
@@ -138,8 +139,8 @@ impl Arrivals {
 }
 
 /// What became of a slice, told again: one that was added is known, if it is not new.
-fn taken_again(taken: Taken, new: bool) -> Taken
-    ensures { result ≡ taken_again new taken }
+fn updated_taken(taken: Taken, new: bool) -> Taken
+    ensures { result ≡ updated_taken new taken }
 {
     match taken {
         Taken::Added(key, digest) => {
@@ -154,36 +155,36 @@ fn taken_again(taken: Taken, new: bool) -> Taken
     }
 }
 
-fn row_again(row: FileRow, new: bool) -> FileRow
-    ensures { result ≡ row_again new row }
+fn updated_row(row: FileRow, new: bool) -> FileRow
+    ensures { result ≡ updated_row new row }
 {
     match row {
         FileRow::Part(row) => FileRow::Part(AdmitRow {
             file: row.file,
             slice: row.slice,
-            taken: taken_again(row.taken, new),
+            taken: updated_taken(row.taken, new),
         }),
         FileRow::PassedOver { file, why } => FileRow::PassedOver { file, why },
     }
 }
 
-fn tell_row(rows: &mut [FileRow], number: usize, new: bool)
+fn update_row(rows: &mut [FileRow], number: usize, new: bool)
     requires { number < length rows.old }
     ensures { (none : FileRow)
-        → rows.new ≡ slice_set rows.old number (row_again new (slice_index_or rows.old number none)) }
+        → rows.new ≡ slice_set rows.old number (updated_row new (slice_index_or rows.old number none)) }
 {
-    rows[number] = row_again(rows[number], new);
+    rows[number] = updated_row(rows[number], new);
 }
 
 /// Tells the rows again of which slices came, by what each of these is to IN.
-pub fn tell_rows(rows: &mut [FileRow], first_rows: &[u64], told: &[Arrival])
+pub fn update_rows(rows: &mut [FileRow], first_rows: &[u64], told: &[Arrival])
     requires { (came records : List (List ℕ)) × AreFirstRows came first_rows.now rows.old records
         × (length told.now ≡ length came) }
     ensures { (arrival : List ℕ → Arrival) (came records : List (List ℕ))
         → AreFirstRows came first_rows.now rows.old records
-        → told.now ≡ map arrival came → rows.new ≡ rows_again (λ r. is_new (arrival r)) rows.old records }
+        → told.now ≡ map arrival came → rows.new ≡ updated_rows (λ r. is_new (arrival r)) rows.old records }
 {
     'told: for (index, arrival) in told.iter().enumerate() {
-        tell_row(rows, first_rows[index] as usize, arrival.is_new());
+        update_row(rows, first_rows[index] as usize, arrival.is_new());
     }
 }

@@ -12,7 +12,7 @@ use crate::copying::copy_unnamed;
 use crate::joining::command_fault_of;
 use archive_records::{Sizes, Summary};
 use byte_device::{Output, Sink, Source, Target};
-use command_common::{CommandFault, Status, publish_draft, read_summary_input, refused_behind};
+use command_common::{CommandFault, Status, first_refusal, publish_draft, read_summary_input};
 use memory::Heap;
 
 /// Copies what the summary does not name of ARCHIVE into the draft.
@@ -54,8 +54,8 @@ fn write_unnamed<R: Source, T: Target, P: Sink>(
 ///
 /// # Errors
 ///
-/// `Input` for the first input that is refused, in the order of the words; `Output` and `Report` where that writer
-/// failed; `OutOfMemory`.
+/// `Input` for the first input that is refused, in the order of the command line; `Output` and `Report` where that
+/// writer failed; `OutOfMemory`.
 pub fn run_delta<R: Source, S: Source, T: Target, P: Sink>(
     heap: Heap,
     archive: &mut R,
@@ -70,6 +70,6 @@ pub fn run_delta<R: Source, S: Source, T: Target, P: Sink>(
 {
     match read_summary_input(heap.share(), summary) {
         Ok(named) => write_unnamed(heap, archive, &named, out, report),
-        Err(fault) => Err(refused_behind(heap, archive, fault)),
+        Err(fault) => Err(first_refusal(heap, archive, fault)),
     }
 }

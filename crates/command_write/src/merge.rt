@@ -18,10 +18,10 @@ use archive_core::{Archive, take_all};
 use archive_merge::merge_streams;
 use archive_records::write_archive;
 use byte_device::{Bytes, Grown, Output, Sink, Source, Target};
-use command_common::{CommandFault, Status, publish_draft, read_input, refused_behind};
+use command_common::{CommandFault, Status, first_refusal, publish_draft, read_archive_input};
 use memory::Heap;
 
-/// Joins the archive with this number among the words.
+/// Joins the archive with this number on the command line.
 fn join_file<A: Archive + Drop, S: Source>(
     heap: Heap,
     archive: &mut A,
@@ -32,7 +32,7 @@ fn join_file<A: Archive + Drop, S: Source>(
         (λ file _. HoldsContent file (λ o. A.content archive.new ≡ joined (A.content archive.old) o))
         (IsRefusedArchive number) }
 {
-    let other: A = read_input(heap, number, file)?;
+    let other: A = read_archive_input(heap, number, file)?;
     take_all(archive, other)?;
     Ok(())
 }
@@ -112,7 +112,7 @@ fn merge_in_turn<A: Archive + Drop, R: Source, S: Source, T: Target, P: Sink>(
 {
     match joined_text::<A, S>(&heap, files) {
         Ok(text) => merge_text(heap, input, text.as_slice(), out, report),
-        Err(fault) => Err(refused_behind(heap, input, fault)),
+        Err(fault) => Err(first_refusal(heap, input, fault)),
     }
 }
 
@@ -137,8 +137,8 @@ fn merge_one<R: Source, S: Source, T: Target, P: Sink>(
 
 /// Writes the join of IN's archive with that of each file to OUT, and its sizes to the report. With one file the two
 /// are merged as they come, in the memory of their retirements and of one record of each. With more the files are read
-/// first, in the order of the words, each to its end, and joined in memory, and IN is merged with the join as it comes;
-/// where a file is refused, IN is tested to its end before that is told.
+/// first, in the order of the command line, each to its end, and joined in memory, and IN is merged with the join as it
+/// comes; where a file is refused, IN is tested to its end before that is told.
 ///
 /// # Errors
 ///

@@ -9,12 +9,12 @@ ghost use Rattle.command_write.specs.Joining.{WritesAmidst};
 ghost use Rattle.command_write.specs.Notes.{NotesMissing};
 ghost use Rattle.command_write.specs.Retire.{retire, retire_as_it_comes};
 
-use crate::notes::{Note, note_missing};
-use crate::telling::tell_operations;
+use crate::merging::merge_operations;
+use crate::notes::note_missing;
 use archive_core::{Digest, SliceKey, retirement};
 use archive_records::Sizes;
 use byte_device::{Output, Sink, Source, Target};
-use command_common::{CommandFault, Status, publish_draft};
+use command_common::{CommandFault, Note, Status, publish_draft};
 use memory::Heap;
 use text_reports::retire_line;
 
@@ -42,7 +42,7 @@ fn retire_input<R: Source, W: Sink>(
         (reader R.left R.failures input.old input.new) (stream W.held W.failures draft.old draft.new) result }
 {
     let retirements = [retirement(*key, *digest)];
-    let (sizes, told) = tell_operations(heap, input, &retirements, draft)?;
+    let (sizes, told) = merge_operations(heap, input, &retirements, draft)?;
     Ok(Written {
         sizes,
         changed: told.arrivals[0].is_new(),

@@ -5,7 +5,7 @@ ghost use Rattle.command_common.specs.Outputs.{out_of, outs, writer};
 ghost use Rattle.command_write.specs.Summary.{summary};
 
 use byte_device::{Output, Sink, Source, Target};
-use command_common::{CommandFault, Status, publish_summary, read_entries};
+use command_common::{CommandFault, Status, publish_summary, summarize_archive};
 use memory::Heap;
 
 /// Writes the summary of ARCHIVE's content to OUT, and to the report how many entries and bytes it has.
@@ -23,6 +23,6 @@ pub fn run_summary<R: Source, T: Target, P: Sink>(
         (out_of (outs T.Draft.held T.Draft.failures T.published T.failures out.old out.new))
         (writer P.held P.failures report.old report.new) result }
 {
-    let summary = read_entries(heap.share(), archive)?;
+    let summary = summarize_archive(heap.share(), archive)?;
     publish_summary(heap, &summary, out, report)
 }

@@ -37,7 +37,7 @@ why_of (OfArchive fault) = why_is.Record fault
 why_of OldArchive = why_is.OldArchive
 why_of TooLong = why_is.TooLong
 
--- memory is wanting, and nothing is wrong with the archive
+-- memory runs out, and nothing is wrong with the archive
 abbrev pub WantsMemory : IndexingFault → Type 0
 WantsMemory (OfArchive fault) = fault.kind ≡ RecordOutOfMemory
 WantsMemory OldArchive = ⊥

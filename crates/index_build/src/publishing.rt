@@ -5,7 +5,7 @@ ghost use Rattle.index_build.specs.Index.{index_line};
 
 use archive_records::Sizes;
 use byte_device::{Output, Sink, Target};
-use command_common::{CommandFault, Status, publish_output, publish_report};
+use command_common::{CommandFault, Status, publish_output, write_report};
 use memory::{Heap, NoMemory};
 
 /// The line of `index`: how many entries were written, and how many bytes.
@@ -19,8 +19,9 @@ fn index_line(heap: Heap, sizes: Sizes) -> Result<String<Heap>, NoMemory>
     Ok(text)
 }
 
-/// Publishes OUT, whose draft has taken a whole index with these sizes, and then writes them to the report, which
-/// is made whole before that. What is said is of all that the draft took since it was `start`.
+/// Publishes OUT, whose draft has accepted one whole index of these sizes, and then writes the sizes to the report. The
+/// report is made in memory first, so nothing is published if memory runs out. `start` in the clause is the draft
+/// before that index.
 pub fn publish_index<T: Target, P: Sink>(
     heap: Heap,
     sizes: Sizes,
@@ -36,5 +37,5 @@ pub fn publish_index<T: Target, P: Sink>(
 {
     let text = index_line(heap, sizes)?;
     publish_output(out, sizes.bytes)?;
-    publish_report(Status::Done, &text, report)
+    write_report(Status::Done, &text, report)
 }

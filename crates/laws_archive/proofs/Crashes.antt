@@ -10,7 +10,7 @@ use Rattle.cli_files.specs.FileCalls.{FileCall, Creates, Opens, Writes, Syncs, R
 use Rattle.cli_files.specs.FileCalls.{FindsLink, Leads, are_probes, drafting, is_probe, publishing, taking, writing}
 use Rattle.cli_files.specs.Publishing.{IsDescriptor, IsDraftRemoved, IsDrafted, IsReplaced, IsTargetOf, IsWrittenThrough, draft_mode, folder_of, there}
 use Rattle.cli_files.specs.declared.found.Found.{Found}
-use Rattle.cli_files.specs.declared.replaceable.Replaces.{Replaces}
+use Rattle.cli_files.specs.declared.replaceable.ReplaceRule.{ReplaceRule}
 use Rattle.cli_files.proofs.Publishings.{taking_probes, target_probes, tested_probes}
 use Rattle.laws_archive.specs.Crashes.{DraftState, MayBeAt, Old, New, Torn, Touched, behind, no_draft, replay}
 
@@ -131,7 +131,7 @@ module _ (draft target : List ℕ) (other : draft ≢ target) (probes : List Fil
 
 -- ---- what a crash leaves
 
-module _ (path text : List ℕ) (replaces : Replaces) (calls : List FileCall) (is : IsReplaced path replaces text calls) where
+module _ (path text : List ℕ) (replaces : ReplaceRule) (calls : List FileCall) (is : IsReplaced path replaces text calls) where
   asked_first : are_probes (is.probes ++ taking is.taken) ≡ true
   asked_first = taking_probes is.probes is.taken (target_probes replaces path is.target is.probes is.target_is)
 
@@ -186,7 +186,7 @@ module _ (path text : List ℕ) (replaces : Replaces) (calls : List FileCall) (i
           (link ∙ ap (λ f. f ++ FindsLink path ∷ Leads path is.target ∷ []) replaced.probes_are)))
           (3, grind arith, refl))
 
-pub removed_leaves : (replaces : Replaces) (path : List ℕ) (calls : List FileCall) (before left : Option (List ℕ)) (done : ℕ)
+pub removed_leaves : (replaces : ReplaceRule) (path : List ℕ) (calls : List FileCall) (before left : Option (List ℕ)) (done : ℕ)
     (is : IsDraftRemoved replaces path calls) → MayBeAt before (replay is.target (take done calls)) left → left ≡ before
 removed_leaves replaces path calls before left done is may =
     elim is.taken_back.2 [

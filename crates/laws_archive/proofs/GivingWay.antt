@@ -8,8 +8,8 @@ use Rattle.index_format.specs.Text.{index_magic}
 use Rattle.cli_files.specs.FileCalls.{FileCall, Begins, Compares, Finds, FindsNothing}
 use Rattle.cli_files.specs.Publishing.{BeginsSo, IsReplaced, IsTested, both_give}
 use Rattle.cli_files.specs.Replacing.{GivesWay, IsMagicOf}
-use Rattle.cli_files.specs.declared.replaceable.Replaces.{Replaces}
-use Rattle.cli_files.specs.declared.replaceable.Replaces.TheVariants.{ArchivesBelow, Summaries, Indexes, SameBytes}
+use Rattle.cli_files.specs.declared.replaceable.ReplaceRule.{ReplaceRule}
+use Rattle.cli_files.specs.declared.replaceable.ReplaceRule.TheVariants.{ArchivesBelow, Summaries, Indexes, SameBytes}
 
 -- the fifth byte distinguishes the magics
 of_archive : (one : Format) → kind_of one ≡ Archive → get_or (magic_of one) 4 0 ≡ 0x41
@@ -87,7 +87,7 @@ unasked draft target bytes tests (inr same) there =
     later (suc (suc i), lt, at) = same_unasked draft target bytes same.pieces (i, omega arith, at)
 
 -- an archive there is compared with the draft
-covered : (replaces : Replaces) (draft target bytes : List ℕ) (tests : List FileCall)
+covered : (replaces : ReplaceRule) (draft target bytes : List ℕ) (tests : List FileCall)
     → IsTested replaces draft target tests → Contains tests (Begins target bytes) → IsMagicOf Archive bytes
     → Contains tests (Compares draft target 0)
 covered SameBytes draft target bytes tests is there archive = absurd (unasked draft target bytes tests is there)
@@ -104,7 +104,7 @@ covered Indexes draft target bytes tests (first, gives, is) there archive =
     (subst (IsMagicOf Archive) (sym (begins_with target first bytes tests is there)) archive))
 
 -- and what is there is of the kind that is written, unless a slice is
-begun_there : (replaces : Replaces) (target bytes : List ℕ) (tests : List FileCall) → GivesWay replaces bytes
+begun_there : (replaces : ReplaceRule) (target bytes : List ℕ) (tests : List FileCall) → GivesWay replaces bytes
     → BeginsSo target bytes tests
     → Contains tests (FindsNothing target)
     ⊎ ((bytes : List ℕ) × GivesWay replaces bytes × Contains tests (Begins target bytes))
@@ -113,7 +113,7 @@ begun_there replaces target bytes tests gives (inl (none, is)) =
 begun_there replaces target bytes tests gives (inr (found, is)) =
     inr (bytes, gives, subst (λ ts. Contains ts (Begins target bytes)) (sym is) (1, grind arith, refl))
 
-of_kind : (replaces : Replaces) (draft target : List ℕ) (tests : List FileCall) → IsTested replaces draft target tests
+of_kind : (replaces : ReplaceRule) (draft target : List ℕ) (tests : List FileCall) → IsTested replaces draft target tests
     → (replaces ≡ SameBytes) ⊎ Contains tests (FindsNothing target)
     ⊎ ((bytes : List ℕ) × GivesWay replaces bytes × Contains tests (Begins target bytes))
 of_kind SameBytes draft target tests is = inl refl
@@ -123,13 +123,13 @@ of_kind ArchivesBelow draft target tests (inr (found, bytes, kind, is)) =
 of_kind Summaries draft target tests (bytes, gives, is) = inr (begun_there Summaries target bytes tests gives is)
 of_kind Indexes draft target tests (bytes, gives, is) = inr (begun_there Indexes target bytes tests gives is)
 
-pub archives_covered : (path text bytes : List ℕ) (replaces : Replaces) (calls : List FileCall)
+pub archives_covered : (path text bytes : List ℕ) (replaces : ReplaceRule) (calls : List FileCall)
     (is : IsReplaced path replaces text calls) → Contains is.tests (Begins is.target bytes) → IsMagicOf Archive bytes
     → Contains is.tests (Compares is.draft is.target 0)
 archives_covered path text bytes replaces calls is there archive =
     covered replaces is.draft is.target bytes is.tests is.tested there archive
 
-pub kind_there : (path text : List ℕ) (replaces : Replaces) (calls : List FileCall)
+pub kind_there : (path text : List ℕ) (replaces : ReplaceRule) (calls : List FileCall)
     (is : IsReplaced path replaces text calls)
     → (replaces ≡ SameBytes) ⊎ Contains is.tests (FindsNothing is.target)
     ⊎ ((bytes : List ℕ) × GivesWay replaces bytes × Contains is.tests (Begins is.target bytes))

@@ -27,7 +27,7 @@ abbrev pub RefuseOne : (InputName → Why → Type 0) → (InputName → Why →
 RefuseOne Refuses Others = (at other : InputName) (why another : Why) → Refuses at why → Others other another
     → (IsDeviceFault why → ⊥) → (IsDeviceFault another → ⊥) → (at ≡ other) × (why ≡ another)
 
--- The machine ended the call: a reader or a writer failed, or memory was wanting.
+-- The machine ended the call: a reader or a writer failed, or memory ran out.
 abbrev pub IsEndedByMachine : Result Status CommandFault → Type 0
 IsEndedByMachine (Ok _) = ⊥
 IsEndedByMachine (Err (Input _ why)) = IsDeviceFault why

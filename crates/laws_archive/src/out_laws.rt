@@ -5,8 +5,8 @@ ghost use Rattle.cli_files.specs.FileCalls.{Begins, Compares, FileCall, Finds, F
 ghost use Rattle.cli_files.specs.declared.found.Found.{Found};
 ghost use Rattle.cli_files.specs.Publishing.{IsDescriptor, IsDraftRemoved, IsReplaced, IsWrittenThrough};
 ghost use Rattle.cli_files.specs.Replacing.{GivesWay, IsMagicOf};
-ghost use Rattle.cli_files.specs.declared.replaceable.Replaces.{Replaces};
-ghost use Rattle.cli_files.specs.declared.replaceable.Replaces.TheVariants.{SameBytes};
+ghost use Rattle.cli_files.specs.declared.replaceable.ReplaceRule.{ReplaceRule};
+ghost use Rattle.cli_files.specs.declared.replaceable.ReplaceRule.TheVariants.{SameBytes};
 ghost use Rattle.laws_archive.specs.Crashes.{MayBeAt, replay};
 ghost use Rattle.archive_records.specs.declared.kind.TextKind.TheVariants.{Archive};
 
@@ -14,22 +14,22 @@ ghost use Rattle.archive_records.specs.declared.kind.TextKind.TheVariants.{Archi
 /// the whole text; and after the last one the text. That place is the path itself, or the system said that the path
 /// leads there.
 pub fn whole_or_as_before()
-    ensures any_moment { (path text : List ℕ) (replaces : Replaces) (calls : List FileCall)
+    ensures any_moment { (path text : List ℕ) (replaces : ReplaceRule) (calls : List FileCall)
         (before left : Option (List ℕ)) (done : ℕ) (is : IsReplaced path replaces text calls)
         → MayBeAt before (replay is.target (take done calls)) left
         → (left ≡ before) ⊎ (left ≡ Some text) }
-    ensures at_the_end { (path text : List ℕ) (replaces : Replaces) (calls : List FileCall)
+    ensures at_the_end { (path text : List ℕ) (replaces : ReplaceRule) (calls : List FileCall)
         (before left : Option (List ℕ)) (is : IsReplaced path replaces text calls)
         → MayBeAt before (replay is.target calls) left
         → left ≡ Some text }
-    ensures place { (path text : List ℕ) (replaces : Replaces) (calls : List FileCall)
+    ensures place { (path text : List ℕ) (replaces : ReplaceRule) (calls : List FileCall)
         (is : IsReplaced path replaces text calls)
         → (is.target ≡ path) ⊎ Contains calls (Leads path is.target) }
 {}
 
 /// A draft is removed: a crash after any of the calls leaves what was at the place of OUT's path.
 pub fn removed_leaves_it()
-    ensures { (replaces : Replaces) (path : List ℕ) (calls : List FileCall) (before left : Option (List ℕ)) (done : ℕ)
+    ensures { (replaces : ReplaceRule) (path : List ℕ) (calls : List FileCall) (before left : Option (List ℕ)) (done : ℕ)
         (is : IsDraftRemoved replaces path calls)
         → MayBeAt before (replay is.target (take done calls)) left
         → left ≡ before }
@@ -40,18 +40,18 @@ pub fn removed_leaves_it()
 pub fn never_written_through()
     ensures others { (path text : List ℕ) (calls : List FileCall) (is : IsWrittenThrough path text calls)
         → ((found : Found) × (found.is_file ≡ false) × Contains calls (Finds path found)) ⊎ IsDescriptor path }
-    ensures descriptors { (path text : List ℕ) (replaces : Replaces) (calls : List FileCall)
+    ensures descriptors { (path text : List ℕ) (replaces : ReplaceRule) (calls : List FileCall)
         → IsReplaced path replaces text calls → IsDescriptor path → ⊥ }
 {}
 
 /// What is at the place of OUT's path gives way, whatever the command: what begins as an archive to an archive that has
 /// or covers each of its records; and a file of another kind than the draft to none, but to a slice that it is.
 pub fn archives_give_way_to_those_above()
-    ensures archives { (path text bytes : List ℕ) (replaces : Replaces) (calls : List FileCall)
+    ensures archives { (path text bytes : List ℕ) (replaces : ReplaceRule) (calls : List FileCall)
         (is : IsReplaced path replaces text calls)
         → Contains is.tests (Begins is.target bytes) → IsMagicOf Archive bytes
         → Contains is.tests (Compares is.draft is.target 0) }
-    ensures kinds { (path text : List ℕ) (replaces : Replaces) (calls : List FileCall)
+    ensures kinds { (path text : List ℕ) (replaces : ReplaceRule) (calls : List FileCall)
         (is : IsReplaced path replaces text calls)
         → (replaces ≡ SameBytes) ⊎ Contains is.tests (FindsNothing is.target)
         ⊎ ((bytes : List ℕ) × GivesWay replaces bytes × Contains is.tests (Begins is.target bytes)) }

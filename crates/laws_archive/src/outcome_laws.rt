@@ -148,7 +148,7 @@ pub fn none_passed_over<R: Source, S: Source>()
 {}
 
 /// The content that `admit` makes is IN's with the admissions of the files' images, in whatever order and however often
-/// the files stand among the words.
+/// the files are on the command line.
 pub fn admitted_in_any_order()
     ensures content { (o : Operations) (files : List (List ℕ)) → IsMade o
         → admitted o (images_of files)
@@ -210,7 +210,7 @@ pub fn both_ways_write_the_same<R: Source, S: Source, D: Sink, T: Target>()
         → Ends (merge input (file ∷ [])) (out_of out) report (Err (Report n)) }
 {}
 
-/// With one FILE, too, nothing is in place where an input is refused, OUT fails or memory is wanting.
+/// With one FILE, too, nothing is in place if an input is refused, OUT fails or memory runs out.
 pub fn merge_of_one_keeps_out<R: Source, S: Source, D: Sink, T: Target>()
     ensures { (input : Reader R) (file : Reader S) (out : Outs D T) (report : Writer) (fault : CommandFault)
         → ((n : ℕ) → fault ≢ Report n)
@@ -274,7 +274,7 @@ pub fn applied_in_any_order()
     takes_in_any_order();
 }
 
-/// `new` has no input, and is refused for none: where it fails OUT or the report did, or memory was wanting.
+/// `new` has no input, and is refused for none: where it fails OUT or the report did, or memory ran out.
 pub fn refused_for_no_input()
     ensures { (out : Out) (report : Writer) (name : InputName) (why : Why)
         → ¬ Publishes out report (written set.empty) (report_of set.empty []) (Err (Input name why)) }

@@ -6,7 +6,7 @@
 
 use byte_device::Writing;
 use cli_files::SystemFiles;
-use cli_messages::say_report;
+use cli_messages::print_report_fault;
 use cli_run::run;
 use std::fs::File;
 use std::process::{self, ExitCode};
@@ -16,7 +16,8 @@ use std::{env, io};
 const FAILED: u8 = 2;
 
 fn main(rt: HostRuntime) -> ExitCode {
-    // Where a standard stream is closed, one of these takes its place, and not OUT, which would get what is printed.
+    // If a standard stream is closed, one of these gets its descriptor. Otherwise OUT would get it, and with it what is
+    // printed.
     let _input = File::open(&rt, "/dev/null");
     let _output = File::open(&rt, "/dev/null");
     let _error = File::open(&rt, "/dev/null");
@@ -25,7 +26,7 @@ fn main(rt: HostRuntime) -> ExitCode {
     let mut errors = Writing::new(rt.stderr());
     let status = run(words(&rt), &mut files, &mut report, &mut errors);
     if status == FAILED {
-        say_report(rt.alloc(), report.reason(), &mut errors);
+        print_report_fault(rt.alloc(), report.reason(), &mut errors);
     }
     ExitCode::from(status)
 }

@@ -16,7 +16,7 @@
 //! - `hold pieces N`: inputs give at most N bytes at a time;
 //! - `hold growths N`: N growths are granted; `hold bytes N`: growths of N bytes in all are granted to a command, or to
 //!   a call that reads;
-//! - `hold opened N`: there is memory to open the first N inputs of a command, in the order of the words;
+//! - `hold opened N`: there is memory to open the first N inputs of a command, in the order of the command line;
 //! - `hold out N`, `hold report N`: OUT, or the report, fails when it took N bytes; `hold places 0`: OUT takes all
 //!   bytes, and cannot be published;
 //! - `hold cut NAME N`: a file has its first N bytes alone; `hold read NAME N`: it fails when it gave N bytes;
@@ -35,7 +35,7 @@
 //! - `program WORD..` carries a command line out over files of the system, and prints the report, what was said on
 //!   standard error, where `@` stands for the folder, and the status. A word that begins with `@` names a file of the
 //!   folder. Of `hold` it heeds `report` alone; `unread text` and `unread memory` do the same of words that could not
-//!   be read, since one is no text, or for want of memory.
+//!   be read, since one is no text, or since memory runs out.
 //!
 //! The program over files in memory, whose report stands after `|`:
 //!
@@ -77,9 +77,9 @@
 //! - `room N`: what memory with N growths holds: the numbers that one vector takes, and which of three vectors take
 //!   one, before and after a growth more is granted; `room-of-bytes N`: how many numbers of 8 bytes one vector takes in
 //!   memory with N bytes;
-//! - `heaps ARCHIVE OTHER OPS`: operations are copied from a memory that is wanting, and to one. Of two archives, each
-//!   in a memory of its own, one joins the other where its own memory is wanting, and where the other's is, and takes
-//!   the operations; the other takes them where the first one's is wanting. And the same of the join by value;
+//! - `heaps ARCHIVE OTHER OPS`: operations are copied from a memory that runs out, and to one. Of two archives, each in
+//!   a memory of its own, one joins the other where its own memory runs out, and where the other's does, and takes the
+//!   operations; the other takes them where the first one's runs out. And the same of the join by value;
 //! - `world SCRIPT N`: `run` of a script's events on N sites: their number, and the length and the SHA-256 of the text
 //!   that each site holds.
 //!

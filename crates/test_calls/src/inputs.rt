@@ -1,12 +1,12 @@
 //! The files of a desk as the inputs of a line.
 
 ghost use Rattle.std.specs.Prelude.{◌≡◌, [], OnOk, map};
-ghost use Rattle.cli_files.specs.AtTurns.{told};
+ghost use Rattle.cli_files.specs.LazyInputs.{told};
 ghost use Rattle.cli_files.specs.InputStates.{AreWaiting};
 
 use crate::desk::Desk;
 use byte_device::{CannotOpen, PlacedPieces};
-use cli_files::{AtTurn, Disk};
+use cli_files::{Disk, LazyInput};
 use memory::NoMemory;
 use test_parts::StrictSource;
 
@@ -49,8 +49,8 @@ impl<'a> Disk for Desk<'a> {
     }
 }
 
-/// An input of a line, which stands at its place among those of the words.
-pub type Input<'l, 'a> = AtTurn<'l, Desk<'a>>;
+/// An input of a line, which is at its place on the command line.
+pub type Input<'l, 'a> = LazyInput<'l, Desk<'a>>;
 
 /// Makes an input for each of these paths, of which the first so many have memory to be opened.
 pub fn make_inputs<'l, 'a>(
@@ -62,7 +62,7 @@ pub fn make_inputs<'l, 'a>(
     ensures { OnOk result (AreWaiting told (map (λ p. p.now) paths.now) inputs.new.items) }
 {
     'paths: for path in paths {
-        inputs.push(AtTurn::new(desk, path))?;
+        inputs.push(LazyInput::new(desk, path))?;
         desk.limits.opened = desk.limits.opened.saturating_sub(1);
     }
     Ok(())

@@ -6,7 +6,7 @@ use crate::faults::CaseFault;
 use crate::parts::number;
 use std::alloc::Global;
 
-/// The addresses of the words.
+/// The address arguments.
 pub fn addresses_of(alloc: Global, words: &str) -> Result<Vec<u64>, CaseFault> {
     let mut addresses = Vec::new(alloc);
     for word in words.split(' ') {

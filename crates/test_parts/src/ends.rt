@@ -1,7 +1,7 @@
 //! How a case ends, and what it leaves.
 
 use crate::faults::{CallFault, Ended};
-use command_common::{CommandFault, Failure, Status, status_of};
+use command_common::{CommandFault, Failure, Status, exit_status};
 use memory::NoMemory;
 use std::fmt;
 
@@ -30,7 +30,7 @@ impl End {
         }
     }
 
-    /// Whether memory was wanting.
+    /// Whether memory ran out.
     pub fn wants_memory(self) -> bool {
         self == End::Command(Err(Failure::Command(CommandFault::OutOfMemory)))
             || self == End::Fault(CallFault::OutOfMemory(NoMemory))
@@ -41,7 +41,7 @@ impl fmt::Display for End {
     fn fmt<W: fmt::Write>(&self, f: &mut fmt::Formatter<W>) -> fmt::Result {
         match *self {
             End::Command(ended) => {
-                let status = status_of(&ended);
+                let status = exit_status(&ended);
                 match ended {
                     Ok(_) => write!(f, "status {status}"),
                     Err(Failure::Command(fault)) => write!(f, "status {status}, {fault}"),
@@ -71,7 +71,7 @@ pub struct Left {
 }
 
 impl Left {
-    /// Whether this may be left where memory is wanting, beside what is left where it is not: of a command no report
+    /// Whether this may be left where memory runs out, beside what is left where it does not: of a command no report
     /// and nothing published, and in OUT's draft nothing or the whole text, or any beginning where it writes as it
     /// reads; of a call the first of its lines.
     pub fn may_want_memory(&self, whole: &Left, writes_as_it_reads: bool) -> bool {

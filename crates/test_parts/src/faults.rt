@@ -28,7 +28,7 @@ pub enum CaseFault {
     /// The system refused a call on files.
     #[error("System")]
     System(#[from] io::Error),
-    /// Memory was wanting.
+    /// Memory ran out.
     #[error("OutOfMemory")]
     OutOfMemory(#[from(alloc)] NoMemory),
 }

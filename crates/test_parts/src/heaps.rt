@@ -46,7 +46,7 @@ pub fn tell_heaps<A: Archive + Drop>(texts: Texts, told: &mut String) -> Ended {
     tell_absorbed::<A>(texts, told)
 }
 
-// Tells how many operations are copied to a memory, where that of the first ones is wanting, and where it itself is.
+// Tells how many operations are copied to a memory, where that of the first ones runs out, and where it itself does.
 fn tell_copies(texts: Texts, told: &mut String) -> Ended {
     let own = Heap::new(texts.alloc)?;
     let theirs = Heap::new(texts.alloc)?;
@@ -73,7 +73,7 @@ fn count_copies(heap: &Heap, operations: &[Operation]) -> Result<u64, NoMemory> 
     Ok(copied)
 }
 
-// Tells whether an archive joins another where its own memory is wanting, and what both have when they grow in theirs.
+// Tells whether an archive joins another where its own memory runs out, and what both have when they grow in theirs.
 fn tell_joined<A: Archive + Drop>(texts: Texts, told: &mut String) -> Ended {
     let mut apart = Apart::<A>::read(texts)?;
     apart.own.grant(0);

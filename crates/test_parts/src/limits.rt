@@ -30,7 +30,7 @@ pub struct Limits<'t> {
     pub growths: u64,
     /// How many bytes of memory are granted to a command, or to a call that reads.
     pub bytes: u64,
-    /// How many inputs, the first ones of the words, there is memory to open.
+    /// How many inputs, the first ones of the command line, there is memory to open.
     pub opened: u64,
     /// How many bytes OUT takes before it fails.
     pub out: usize,

@@ -49,7 +49,7 @@ fn tell_finds<A: Archive>(heap: &Heap, archive: &A, told: &mut String) -> Result
     Ok(())
 }
 
-/// The answers of an archive. Tells where a lookup is refused for want of memory, and no slices are in conflict.
+/// The answers of an archive. Prints where a lookup fails since memory runs out, and no slices are in conflict.
 pub fn answers_of<A: Archive>(
     heap: &Heap,
     archive: &A,

@@ -3,7 +3,7 @@
 use crate::ends::{End, Left};
 use archive_core::Digest;
 use cli_arguments::LineFault;
-use command_common::status_of;
+use command_common::exit_status;
 use memory::NoMemory;
 use sha2::{Digest as _, Sha256};
 use text_values::Spelled;
@@ -39,7 +39,7 @@ fn tell_end(end: End, told: &mut String) -> Result<(), NoMemory> {
             if let Err(failure) = ended {
                 writeln!(told, "  {failure}")?;
             }
-            writeln!(told, "  status {}", status_of(&ended))
+            writeln!(told, "  status {}", exit_status(&ended))
         }
     }
 }

@@ -10,7 +10,7 @@ returns-in-Err-sync-clause-removed g c =
     let draft = string_bytes c.args.draft.now.own.path in
     let target = string_bytes c.args.draft.now.target in
     let tested = c.in_default.ensures.tested in
-    removed_unsynced draft c.args.calls.now.entries c.test_place.new.calls.entries
+    removed_unsynced draft c.args.calls.now.entries c.check_place.new.calls.entries
     (failed draft (error_kind c.in-Err-sync.error) ∷ []) c.remove_draft-in-Err-sync.new.calls.entries tested.0 tested.2
     (tested_probes c.args.replaces draft target tested.0 tested.1)
     (ap (λ b. b && true) (failed_probe draft (error_kind c.in-Err-sync.error)))
@@ -21,7 +21,7 @@ returns-in-Err-rename-clause-removed g c =
     let draft = string_bytes c.args.draft.now.own.path in
     let target = string_bytes c.args.draft.now.target in
     let tested = c.in_default.ensures.tested in
-    removed_unnamed draft c.args.calls.now.entries c.test_place.new.calls.entries c.sync.new.calls.entries
+    removed_unnamed draft c.args.calls.now.entries c.check_place.new.calls.entries c.sync.new.calls.entries
     c.rename.new.calls.entries c.remove_draft-in-Err-rename.new.calls.entries tested.0
     (failed c.deref.result.now (error_kind c.in-Err-rename.error)) tested.2
     (tested_probes c.args.replaces draft target tested.0 tested.1) c.in_default-sync.ensures

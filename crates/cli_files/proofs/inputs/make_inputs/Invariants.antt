@@ -1,5 +1,5 @@
 use Rattle.std.proofs.Common.{◌≡◌, ◌++◌, take, map}
-use Rattle.cli_files.specs.AtTurns.{told}
+use Rattle.cli_files.specs.LazyInputs.{told}
 use Rattle.cli_files.specs.InputStates.{AreWaiting}
 use Rattle.cli_files.proofs.inputs.make_inputs.Given as goal
 

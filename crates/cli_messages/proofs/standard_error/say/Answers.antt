@@ -9,5 +9,5 @@ returns-in-Ok g c =
 
 pub returns-in-Err : goal.returns-in-Err
 returns-in-Err g c =
-    wanting_said _ (writer g.E.Sink.held g.E.Sink.failures c.args.errors.now c.say_wanting.new.errors) c.say_wanting.result
-    c.say_wanting.ensures
+    wanting_said _ (writer g.E.Sink.held g.E.Sink.failures c.args.errors.now c.print_out_of_memory.new.errors) c.print_out_of_memory.result
+    c.print_out_of_memory.ensures

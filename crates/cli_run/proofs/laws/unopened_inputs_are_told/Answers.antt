@@ -1,6 +1,6 @@
 use Rattle.std.proofs.Common.{◌≡◌, Err, subst}
 use Rattle.command_common.specs.declared.faults.CommandFault.TheVariants.{Input}
-use Rattle.cli_messages.specs.Unopened.{Tells}
+use Rattle.cli_run.specs.Unopened.{Tells}
 use Rattle.cli_files.specs.InputStates.{opening_told}
 use Rattle.cli_run.specs.Plans.{Executes, readers_by}
 use Rattle.cli_run.proofs.Spared.{spared}

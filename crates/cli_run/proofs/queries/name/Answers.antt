@@ -17,10 +17,10 @@ returns-in_err-note_underscored-clause-ends g c =
 
 pub returns-clause-ends : goal.returns-clause-ends
 returns-clause-ends g c =
-    reported _ _ _ _ c.publish_report.result _ _ c.in_ok-answer.ensures.unfailed
-    (together_tells _ _ _ _ (λ o told. rw c.deref.ensures told.0) c.in_ok-answer.ensures.is) c.publish_report.ensures
+    reported _ _ _ _ c.write_report.result _ _ c.in_ok-answer.ensures.unfailed
+    (together_tells _ _ _ _ (λ o told. rw c.deref.ensures told.0) c.in_ok-answer.ensures.is) c.write_report.ensures
 
 pub returns-clause-noted : goal.returns-clause-noted
 returns-clause-noted g c =
-    on_any c.publish_report.result
+    on_any c.write_report.result
     (c.in_ok-answer.answer.is_underscored, together_tells _ _ _ _ (λ o told. told.1) c.in_ok-answer.ensures.is, c.in_ok-note_underscored.ensures)

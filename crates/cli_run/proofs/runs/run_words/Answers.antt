@@ -6,7 +6,7 @@ use Rattle.cli_run.proofs.runs.run_words.Goals as goal
 
 pub returns-in-Ok : goal.returns-in-Ok
 returns-in-Ok g c = inl (ran (λ notes. notes.items) _ (line_view c.in-Ok.line) (map string_bytes c.args.words.now) _ _ _
-    c.in-Ok.ensures.accepted c.in-Ok.ensures.ok c.execute-ended.result c.execute-ended.ensures c.end.ensures.says c.end.ensures.status)
+    c.in-Ok.ensures.accepted c.in-Ok.ensures.ok c.execute_line-ended.result c.execute_line-ended.ensures c.end.ensures.says c.end.ensures.status)
 
 pub returns-in-Err : goal.returns-in-Err
 returns-in-Err g c =

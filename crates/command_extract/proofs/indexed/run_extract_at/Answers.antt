@@ -54,9 +54,9 @@ returns-in-Undecided g c =
     let indexes = readers g.I.Placed.whole g.I.Placed.failures c.args.indexes.now c.read_indexes.new.indexes in
     let read = rw (← c.deref.ensures.value) at c.in_ok-read.ensures.read in
     let choice = rw c.in-Undecided.is at c.in_ok-named.ensures in
-    let told = rw c.deref-in-Undecided.ensures.value at c.publish_rows.ensures in
+    let told = rw c.deref-in-Undecided.ensures.value at c.report_rows.ensures in
     rows_so indexes g.P.Placed.whole g.P.Placed.failures c.args.archives.now c.read_indexes.new.archives c.read_indexes.new.archives c.deref.result.now
-    refl read c.in_ok-read.ensures.kept.1 c.args.key.now c.args.digest.now _ _ c.publish_rows.result choice.0 c.in-Undecided.rows.items
+    refl read c.in_ok-read.ensures.kept.1 c.args.key.now c.args.digest.now _ _ c.report_rows.result choice.0 c.in-Undecided.rows.items
     choice.1 choice.2
     (none_failed g.P.Placed.whole g.P.Placed.failures c.read_indexes.new.archives) refl told
 

@@ -55,6 +55,6 @@ returns g c = λ x names.
       sent.0,
       sent.1,
       sent.3,
-      told_so (out_of out) _ sent.0 (written_line c.args.key.now sent.0) c.publish_report.result placed
-          (rw line at c.publish_report.ensures),
+      told_so (out_of out) _ sent.0 (written_line c.args.key.now sent.0) c.write_report.result placed
+          (rw line at c.write_report.ensures),
     )

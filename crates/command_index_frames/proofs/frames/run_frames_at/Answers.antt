@@ -75,5 +75,5 @@ returns g c =
     read c.in_ok-read.ensures.kept
     c.args.lines c.deref.result.now c.args.slices c.in_ok-status.status c.in_ok-status.text.items c.in_ok-status.ensures in
     let is = rw (← c.deref-3.ensures.value) at told.is in
-    reported _ _ _ _ c.publish_bytes.result _ _ (c.in_ok-frames.ensures.unfailed, told.unfailed)
-    (record { listed = c.deref.result.now; frames_are = gives; told = is }) c.publish_bytes.ensures
+    reported _ _ _ _ c.write_report_bytes.result _ _ (c.in_ok-frames.ensures.unfailed, told.unfailed)
+    (record { listed = c.deref.result.now; frames_are = gives; told = is }) c.write_report_bytes.ensures

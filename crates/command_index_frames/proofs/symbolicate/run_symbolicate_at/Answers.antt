@@ -43,4 +43,4 @@ returns g c =
     c.tell_addresses_and_slices.auto.archives read c.in_ok-read.ensures.kept
     c.args.lines c.args.key.now c.args.load c.args.addresses.now c.args.slices c.in_ok-status.status c.in_ok-status.text.items c.in_ok-status.ensures in
     let is = rw (← c.deref-2.ensures.value) at told.is in
-    reported _ _ _ _ c.publish_bytes.result _ _ told.unfailed is c.publish_bytes.ensures
+    reported _ _ _ _ c.write_report_bytes.result _ _ told.unfailed is c.write_report_bytes.ensures

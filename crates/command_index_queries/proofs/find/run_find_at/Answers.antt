@@ -21,7 +21,7 @@ returns-in_err-text g c =
 pub returns : goal.returns
 returns g c =
     let rows = c.in_ok-rows.rows.items in
-    reported _ _ _ _ c.publish_report.result _ _ c.in_ok-entries.ensures.unfailed
+    reported _ _ _ _ c.write_report.result _ _ c.in_ok-entries.ensures.unfailed
     (record {
       entries = placed_of c.in_ok-entries.entries;
       index_of = c.in_ok-entries.ensures.is;
@@ -33,4 +33,4 @@ returns g c =
         text_is = c.deref-3.ensures ∙ c.in_ok-text.ensures ∙ ap find_lines c.deref.ensures.value;
       };
     })
-    c.publish_report.ensures
+    c.write_report.ensures

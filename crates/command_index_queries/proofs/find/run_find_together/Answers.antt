@@ -24,7 +24,7 @@ returns-in_err-text g c =
 
 pub returns : goal.returns
 returns g c =
-    reported _ _ _ _ c.publish_report.result _ _ c.in_ok-kept.ensures.unfailed
+    reported _ _ _ _ c.write_report.result _ _ c.in_ok-kept.ensures.unfailed
     (record {
       content = g.A.Join.content c.in_ok-kept.kept;
       held = c.in_ok-kept.ensures.is;
@@ -35,4 +35,4 @@ returns g c =
         text_is = c.deref-3.ensures ∙ c.in_ok-text.ensures ∙ ap find_lines c.deref.ensures.value;
       };
     })
-    c.publish_report.ensures
+    c.write_report.ensures

@@ -5,20 +5,20 @@ use Rattle.command_common.specs.Inputs.{reader}
 use Rattle.command_index_queries.proofs.Refused.{archive_refused}
 use Rattle.command_index_queries.proofs.inputs.read_with_tables.Goals as goal
 
-pub returns-in_err-test_length-clause-read : goal.returns-in_err-test_length-clause-read
-returns-in_err-test_length-clause-read g c =
-    let p = err_from_is_err_and c.from_residual-in_err-test_length.result c.from_residual-in_err-test_length.ensures.1 in
+pub returns-in_err-check_length-clause-read : goal.returns-in_err-check_length-clause-read
+returns-in_err-check_length-clause-read g c =
+    let p = err_from_is_err_and c.from_residual-in_err-check_length.result c.from_residual-in_err-check_length.ensures.1 in
     let index = reader g.I.Placed.whole g.I.Placed.failures c.args.index.now c.read_tables.new.index in
-    let archive = reader g.P.Placed.whole g.P.Placed.failures c.args.archive.now c.test_length.new.archive in
+    let archive = reader g.P.Placed.whole g.P.Placed.failures c.args.archive.now c.check_length.new.archive in
     let read = c.in_ok-tables.ensures.read in
-    rw (p.1, p.2) (archive_refused c.args.number index archive c.in_err-test_length.field-0.0 (placed_of c.in_ok-tables.tables)
-    (record { are = c.in_err-test_length.ensures.entries; all = c.in_ok-tables.tables; holds = read.is; placed = refl })
-    read.unfailed c.in_err-test_length.ensures.tests)
+    rw (p.1, p.2) (archive_refused c.args.number index archive c.in_err-check_length.field-0.0 (placed_of c.in_ok-tables.tables)
+    (record { are = c.in_err-check_length.ensures.entries; all = c.in_ok-tables.tables; holds = read.is; placed = refl })
+    read.unfailed c.in_err-check_length.ensures.tests)
 
 pub returns-clause-read : goal.returns-clause-read
 returns-clause-read g c =
     let read = c.in_ok-tables.ensures.read in
-    let tested = c.in_ok-test_length.ensures.tests in
+    let tested = c.in_ok-check_length.ensures.tests in
     record {
       is = record { index_is = read.is; archive_is = tested.is };
       unfailed = (read.unfailed, tested.unfailed);

@@ -18,7 +18,7 @@ pub returns : goal.returns
 returns g c =
     let rows = c.in_ok-rows.rows.items in
     let uuid = c.args.uuid.now in
-    reported _ _ _ _ c.publish_report.result _ _ c.in_ok-kept.ensures.unfailed
+    reported _ _ _ _ c.write_report.result _ _ c.in_ok-kept.ensures.unfailed
     (together_tells _ _ _ _ (λ o alike. record {
       rows = rows;
       finds = finds_alike (g.A.Join.content c.in_ok-kept.kept) o uuid rows
@@ -27,4 +27,4 @@ returns g c =
       status_is = c.found_status.ensures ∙ ap found_status c.deref-2.ensures.value;
       text_is = c.deref-3.ensures ∙ c.in_ok-text.ensures ∙ ap find_lines c.deref.ensures.value;
     }) c.in_ok-kept.ensures.is)
-    c.publish_report.ensures
+    c.write_report.ensures

@@ -13,7 +13,7 @@ returns-in_err-frames g c =
     let left = g.R.Source.left in
     let failures = g.R.Source.failures in
     let p = err_from_is_err_and c.from_residual.result c.from_residual.ensures.1 in
-    rw (p.1, p.2) (frames_refused _ (reader left failures c.args.crash.now c.read_crash.new.frames)
+    rw (p.1, p.2) (frames_refused _ (reader left failures c.args.crash.now c.read_frames_input.new.frames)
     (reader left failures c.args.archive.now c.args.archive.now)
     (readers left failures c.args.others.now c.args.others.now)
     (writer g.P.Sink.held g.P.Sink.failures c.args.report.now c.args.report.now) c.in_err-frames.field-0.0
@@ -26,19 +26,19 @@ returns-in_err-status g c =
     let failures = g.R.Source.failures in
     let p = err_from_is_err_and c.from_residual-in_err-status.result c.from_residual-in_err-status.ensures.1 in
     let listed = c.in_ok-frames.ensures in
-    rw (p.1, p.2) (archives_refused _ (reader left failures c.args.crash.now c.read_crash.new.frames)
-    (reader left failures c.args.archive.now c.tell_with.new.archive)
-    (readers left failures c.args.others.now c.tell_with.new.others)
+    rw (p.1, p.2) (archives_refused _ (reader left failures c.args.crash.now c.read_frames_input.new.frames)
+    (reader left failures c.args.archive.now c.frames_text.new.archive)
+    (readers left failures c.args.others.now c.frames_text.new.others)
     (writer g.P.Sink.held g.P.Sink.failures c.args.report.now c.args.report.now) c.in_err-status.field-0.0
     (c.in_ok-frames.frames.items, listed.is) listed.unfailed c.in_err-status.ensures (Appends-none _, refl))
 
 pub returns : goal.returns
 returns g c =
     let listed = c.in_ok-frames.ensures in
-    reported _ _ _ _ c.publish_bytes.result _ _ (listed.unfailed, c.in_ok-status.ensures.unfailed)
+    reported _ _ _ _ c.write_report_bytes.result _ _ (listed.unfailed, c.in_ok-status.ensures.unfailed)
     (record {
       listed = c.in_ok-frames.frames.items;
       frames_are = listed.is;
       tells = together_tells _ _ _ _ (λ o tells. rw c.deref-2.ensures.value (rw c.deref.ensures.value at tells)) c.in_ok-status.ensures.is;
     })
-    c.publish_bytes.ensures
+    c.write_report_bytes.ensures

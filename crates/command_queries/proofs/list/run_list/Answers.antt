@@ -7,7 +7,7 @@ use Rattle.command_queries.proofs.list.run_list.Goals as goal
 pub returns : goal.returns
 returns g c =
     let held = c.in_ok-rows.ensures.is in
-    reported _ _ _ _ c.publish_report.result _ _ c.in_ok-rows.ensures.unfailed
+    reported _ _ _ _ c.write_report.result _ _ c.in_ok-rows.ensures.unfailed
     (record {
       content = held.content;
       rows = c.in_ok-rows.rows.items;
@@ -17,4 +17,4 @@ returns g c =
       status_is = c.found_status.ensures ∙ ap found_status c.deref-2.ensures.value;
       text_is = c.deref-3.ensures ∙ c.in_ok-text.ensures ∙ ap list_lines c.deref.ensures.value;
     })
-    c.publish_report.ensures
+    c.write_report.ensures

@@ -18,8 +18,8 @@ returns g c =
     let key = c.args.key.now in
     let kept = g.A.Join.content c.in_ok-kept.kept in
     let front = c.asked_front-front.ensures ∙ ap (λ (bytes : List ℕ). if c.args.slices then take 16 bytes else bytes) c.prefix_of-prefix.ensures.bytes in
-    reported _ _ _ _ c.publish_report.result _ _ c.in_ok-kept.ensures.unfailed
+    reported _ _ _ _ c.write_report.result _ _ c.in_ok-kept.ensures.unfailed
     (content_tells _ _ _ _ (λ o content alike.
     addresses_with c.args.slices kept o key c.args.load c.args.lines c.args.addresses.now _ _ content c.prefix_of-prefix.ensures.key
     (subst (λ (bytes : List ℕ). AreAlikeWhere (is_under bytes) kept o) front alike) (rw c.deref.ensures c.in_ok-status.ensures)) c.in_ok-kept.ensures.is)
-    c.publish_report.ensures
+    c.write_report.ensures

@@ -23,7 +23,7 @@ returns-in-Ok-clause-ends g c =
 
 pub returns-in-Err-clause-ends : goal.returns-in-Err-clause-ends
 returns-in-Err-clause-ends g c =
-    told_behind _ _ _ _ _ _ _ _ c.in-Err.fault c.refused_behind.result c.in-Err.ensures c.refused_behind.ensures
+    told_behind _ _ _ _ _ _ _ _ c.in-Err.fault c.first_refusal.result c.in-Err.ensures c.first_refusal.ensures
     ((Appends-none _, refl), (refl, refl)) (Appends-none _, refl)
 
 pub returns-in-Ok-clause-noted : goal.returns-in-Ok-clause-noted

@@ -19,8 +19,8 @@ use Rattle.command_write.proofs.admit.write_admitted.Goals as goal
 same_set : (came : Operations) {rs : List (List ℕ)} → rs ≡ listing came → set.from_list {R = slice_cmp nat_cmp} rs ≡ came
 same_set came is = ap (set.from_list {R = slice_cmp nat_cmp}) is ∙ sym (listed nat_list_cmp_total bytes_same came).same
 
-pub tell_operations-requires-clause-ascending : goal.tell_operations-requires-clause-ascending
-tell_operations-requires-clause-ascending g c = rw c.operations.ensures.listed (listed nat_list_cmp_total bytes_same c.args.arrivals.came).ascending
+pub merge_operations-requires-clause-ascending : goal.merge_operations-requires-clause-ascending
+merge_operations-requires-clause-ascending g c = rw c.operations.ensures.listed (listed nat_list_cmp_total bytes_same c.args.arrivals.came).ascending
 
 pub returns-in_err-sizes-clause-ends : goal.returns-in_err-sizes-clause-ends
 returns-in_err-sizes-clause-ends g c = λ records are_first.
@@ -28,8 +28,8 @@ returns-in_err-sizes-clause-ends g c = λ records are_first.
     (told_stopped _ _ _ _ _ _ (rw (same_set c.args.arrivals.came c.operations.ensures.listed) at
     c.in_err-sizes.ensures.1) c.in_err-sizes.ensures.2 c.in_err-sizes.ensures.0 (refl, refl) (Appends-none _, refl))
 
-pub tell_arrivals-requires-clause-told : goal.tell_arrivals-requires-clause-told
-tell_arrivals-requires-clause-told g c =
+pub report_arrivals-requires-clause-told : goal.report_arrivals-requires-clause-told
+report_arrivals-requires-clause-told g c =
     let told = rw (same_set c.args.arrivals.came c.operations.ensures.listed) at c.in_ok-sizes.ensures in
     ap length (c.deref.ensures.value ∙ told.arrivals_are) ∙ length-map (listing c.args.arrivals.came) (arrival_of told.joined.content)
 

@@ -5,9 +5,9 @@ use Rattle.archive_merge.specs.Arrivals.{is_new, arrival_of}
 use Rattle.command_write.proofs.Joined.{listed_alone, retire_stops, retired}
 use Rattle.command_write.proofs.retire.retire_input.Goals as goal
 
-pub tell_operations-requires-clause-ascending : goal.tell_operations-requires-clause-ascending
+pub merge_operations-requires-clause-ascending : goal.merge_operations-requires-clause-ascending
 unfolding IsStrictlySortedBy
-tell_operations-requires-clause-ascending g c = (tt, tt)
+merge_operations-requires-clause-ascending g c = (tt, tt)
 
 pub returns-in_err-sizes : goal.returns-in_err-sizes
 returns-in_err-sizes g c =

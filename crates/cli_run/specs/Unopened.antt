@@ -1,0 +1,31 @@
+-- How a command ended whose input was not opened at its first read.
+use Rattle.std.specs.Prelude.{◌≡◌, Option, Some, None, Result, Ok, Err}
+use Rattle.cli_files.specs.InputStates.{Told, unopened_in}
+use Rattle.cli_files.specs.declared.input_state.Unopened.{Unopened}
+use Rattle.cli_files.specs.declared.input_state.Unopened.TheVariants as unopened
+use Rattle.cli_arguments.specs.Inputs.{Inputs}
+use Rattle.command_common.specs.declared.faults.{CommandFault.CommandFault, InputName.InputName, Status.Status}
+use Rattle.command_common.specs.declared.faults.CommandFault.TheVariants.{Input, Output, Report, OutOfMemory}
+use Rattle.command_common.specs.declared.faults.Why.{Why, TheVariants.CannotOpen as NotOpened}
+use Rattle.cli_messages.specs.Names.{input_at}
+
+-- why an input was not opened at its first read, if it was not
+abbrev pub unopened_of : {S : Type 0} → Told S → Option S → Option Unopened
+unopened_of told None = None
+unopened_of told (Some input) = unopened_in (told.stage input)
+
+-- what is told where a command is refused for this input, which was not opened for this reason, if it was not
+abbrev pub fault_at : Option Unopened → InputName → Why → CommandFault
+fault_at None name why = Input name why
+fault_at (Some (unopened.Refused refused)) name why = Input name NotOpened
+fault_at (Some unopened.OutOfMemory) name why = OutOfMemory
+
+-- This is told of a command that ended so, after which its inputs are these: where it is refused for an input that was
+-- not opened, why that was not, and else how it ended.
+abbrev pub Tells : {S : Type 0} → Told S → Inputs S → Result Status CommandFault → Result Status CommandFault → Type 0
+Tells told inputs (Ok status) result = result ≡ Ok status
+Tells told inputs (Err (Input name why)) result =
+    result ≡ Err (fault_at (unopened_of told (input_at inputs name)) name why)
+Tells told inputs (Err (Output n)) result = result ≡ Err (Output n)
+Tells told inputs (Err (Report n)) result = result ≡ Err (Report n)
+Tells told inputs (Err OutOfMemory) result = result ≡ Err OutOfMemory
