@@ -137,7 +137,7 @@ class ChangedTables(VouchedCase):
         self.says(ALL_NAMED, words=[CRASHES / "arm64.crash", "both.sym"], status=0, printed=named("crash"))
 
     def test_several_at_once(self) -> None:
-        """The program is called for halves of the keys, down to those whose tables changed: twice a key at most."""
+        """The program is called once, however many keys are refused."""
         both = self.archive("both.sym", "both")
         self.change_table(both)
         self.change_table(both, SPOOL_2)
@@ -145,7 +145,7 @@ class ChangedTables(VouchedCase):
         came = self.report(FIXTURES / "spool.spindump.txt", "both.sym", environment={"SYMARCH": program})
         self.assertEqual(sorted(came.error_lines[:2]), sorted([advice(SPOOL, "both.sym"), advice(SPOOL_2, "both.sym")]))
         self.assertEqual(came.status, 2)
-        self.assertLess((self.folder / "calls").read_text().count("\n"), 16)
+        self.assertEqual((self.folder / "calls").read_text().count("\n"), 1)
 
     def test_an_architecture_that_is_not_stated(self) -> None:
         """The image for another architecture under its UUID does not answer in its place."""

@@ -11,7 +11,7 @@ from .images import parts_of_file, sha
 from .indexes import EntryAt, Failed, Placed, Stale, answering, claim_in, index_stream, living, parts_at, read_index
 from .indexes import slice_at, test_length
 from .lines import Answer, answer_lines, escaped, find_lines, find_rows, index_rows, key_text, name_lines, row_of
-from .lines import Told, table_frame_lines, table_text, told_lines
+from .lines import Told, address_text, table_frame_lines, table_text, told_lines
 from .pages import Changed
 from .parts import Store
 from .plans import ANY_NUMBER, Plan, takes
@@ -34,6 +34,10 @@ class CommandFault(Exception):
     def __init__(self, place: Optional[str], text: str) -> None:
         super().__init__(place, text)
         self.place, self.text = place, text
+
+
+class KeyFault(CommandFault):
+    """A table was changed, or has no lines, which are asked for: with --slices its key alone is refused."""
 
 
 class NoMemory(CommandFault):
@@ -221,42 +225,54 @@ class Run:
             symbols.pages.kept.clear()
             lines = symbols.lines() if with_frames else None
             if with_frames and lines is None:
-                raise CommandFault(f"index {it.input}", f"NoLines at entry {it.number}")
+                raise KeyFault(f"index {it.input}", f"NoLines at entry {it.number}")
             frames = [table_frame_lines(symbols.base, lines, *where) if lines else [] for where in places]
         except Changed:
-            raise CommandFault(f"index {it.input}", f"Damaged at entry {it.number}") from None
+            raise KeyFault(f"index {it.input}", f"Damaged at entry {it.number}") from None
         except Failed:
             raise CommandFault(f"index {it.input}", f"Device at {claim.offset}") from None
         return [(it.entry[25:57], text, own) for text, own in zip(texts, frames)]
 
     def by_tables(
-        self, indexed: Sequence[Indexed], asked: Sequence[Asked], with_frames: bool
+        self, indexed: Sequence[Indexed], asked: Sequence[Asked], plan: Plan, refused: Dict[bytes, KeyFault]
     ) -> Optional[List[Answer]]:
-        """The answers of tables to places under keys, key by key; None if slices have to be read."""
+        """The answers of tables to places under keys, key by key; None if slices have to be read. With --slices `refused`
+        are the faults of keys by then."""
         told: Dict[Asked, Answer] = {}
         for key in sorted({it.key for it in asked}):
             those = answering(key, [it.entries for it in indexed])
             if those is None:
                 return None
             places = sorted({it.where for it in asked if it.key == key}, key=lambda where: (where[1] or 0, where[0]))
-            columns = [self.told_of(it, indexed[it.input].tables, places, with_frames) for it in those]
+            try:
+                columns = [self.told_of(it, indexed[it.input].tables, places, plan.lines) for it in those]
+            except KeyFault as fault:
+                if not plan.slices:
+                    raise
+                refused[key] = fault
+                told.update({Asked(key, where): ([f"{address_text(where[0])} !"], False) for where in places})
+                continue
             for number, where in enumerate(places):
                 told[Asked(key, where)] = told_lines(where[0], [column[number] for column in columns])
         return [told[it] for it in asked]
 
-    def answers(self, plan: Plan, archives: Sequence[str], asked: Sequence[Asked]) -> List[Answer]:
-        """The answers to places under keys: of the archives, or by their indexes if they have some."""
+    def answers(
+        self, plan: Plan, archives: Sequence[str], asked: Sequence[Asked]
+    ) -> Tuple[List[Answer], Dict[bytes, KeyFault]]:
+        """The answers to places under keys: of the archives, or by their indexes if they have some; and the faults of
+        keys that are refused."""
         keys = sorted({it.key for it in asked})
         if plan.indexes:
             indexed = self.indexed(archives, plan.indexes)
-            told = self.by_tables(indexed, asked, plan.lines)
+            refused: Dict[bytes, KeyFault] = {}
+            told = self.by_tables(indexed, asked, plan, refused)
             if told is not None:
-                return told
+                return told, refused
             content = self.named(indexed, keys)
         else:
             content = self.join(archives)
         images = {key: content.answering(key) for key in keys}
-        return [answer_lines(images[it.key], *it.where, plan.lines) for it in asked]
+        return [answer_lines(images[it.key], *it.where, plan.lines) for it in asked], {}
 
     def whole(self, path: str, place: str) -> bytes:
         source = self.opened(path, place)
@@ -500,9 +516,12 @@ class Run:
         return self.answered(plan, [plan.one["archive"], *plan.more], asked, [plan.key])
 
     def answered(self, plan: Plan, archives: Sequence[str], asked: Sequence[Asked], keys: Sequence[bytes]) -> int:
-        answers = self.answers(plan, archives, asked)
+        answers, faults = self.answers(plan, archives, asked)
         slices = self.slices(plan, archives, keys) if plan.slices else []
-        self.tell([*(line for lines, _ in answers for line in lines), *slices])
+        refused = [f"{key_text(key)} refused {faults[key].place}: {faults[key].text}" for key in sorted(faults)]
+        self.tell([*(line for lines, _ in answers for line in lines), *slices, *refused])
+        if refused:
+            return 2
         return 0 if all(is_one for _, is_one in answers) else 1
 
     def slices(self, plan: Plan, archives: Sequence[str], keys: Sequence[bytes]) -> List[str]:

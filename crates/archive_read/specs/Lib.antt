@@ -3,4 +3,3 @@ pub mod Names
 pub mod InnerNames
 pub mod InnerRows
 pub mod InnerKeys
-pub mod InnerPart

@@ -12,12 +12,10 @@
 //! # Why it is so
 //!
 //! - Each reads an input and tests it as [`read_archive`] does, whatever the pieces in which the reader gives its
-//!   bytes, and refuses it for the same faults, in the same order and with the same offsets. A fault leaves nothing,
-//!   and how much of a faulty input was read is not promised.
+//!   bytes, and refuses it for the same faults, in the same order and with the same offsets. A fault leaves nothing, and
+//!   how much of a faulty input was read is not promised.
 //! - Questions are answered key by key, as the records under each come.
 //! - [`read_names`] hashes a slice only if it has the name.
-//! - [`read_part`] takes slices out of the reader, and keeps the last one aside until the next record was compared with
-//!   it.
 #![tactic(auto)]
 
 mod checking;

@@ -265,7 +265,9 @@ const ANSWERS: &str = "Each address gets one line: the nearest symbol, or\n\
     With --lines each line of a slice is followed by one for each frame, innermost first:\n\
     four spaces and NAME at PATH:LINE:COLUMN, with ? for what is unknown.\n\
     With --slices a line UUID ARCH dsym DIGEST, or with image, follows for each slice that\n\
-    answers under a UUID, and a line UUID ARCH absent for each key without one.\n\
+    answers under a UUID, and a line UUID ARCH absent for each key without one. By INDEX a\n\
+    key is refused alone if its table is damaged or has no lines: ADDR ! for each address,\n\
+    a last line UUID ARCH refused with the fault, and the exit status 2.\n\
     The exit status is 1 if any answer is not exactly one symbol.\n\
     Numbers are hexadecimal, also without 0x.";
 

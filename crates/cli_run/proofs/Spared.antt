@@ -29,7 +29,7 @@ use Rattle.index_build.specs.declared.fault.MakingFault.{MakingFault}
 use Rattle.index_build.specs.declared.fault.MakingFault.TheVariants.{Archive as Refused, Write as Wrote}
 use Rattle.command_index_queries.specs.{Indexes.IsOfOtherLength, Indexes.IsRefusedByIndex, Several.AreRefusedLater, Several.AreRefusedTogether}
 use Rattle.command_index_queries.specs.Together.{IsFirstRefusedByIndex, IsRefusedAtPlaces}
-use Rattle.command_index_frames.specs.Asking.{AreRefusedAsking, IsChanged, IsLineless, IsUnreadTable}
+use Rattle.command_index_frames.specs.Asking.{AreRefusedAsking, IsTableRefused}
 use Rattle.command_index_frames.specs.{Frames.RefusesFramesAt, Frames.frames_at, Symbolicate.symbolicate_at}
 use Rattle.command_index_queries.specs.Find.{find_together}
 use Rattle.command_extract.specs.{Entries.IsRefusedSlice, Extract.Extraction, Extract.Extracts, Indexed.AreRefusedBefore, Indexed.extract_at}
@@ -117,23 +117,22 @@ of_several : {I P : Type 0} (prefixes : List (List ℕ)) (indexes : List (Reader
 of_several prefixes indexes archives at (inl r) = by_indexes indexes archives at r
 of_several prefixes indexes archives at (inr r) = later prefixes indexes archives at r
 
-asking : {I P : Type 0} (lines : Bool) (keys : List (List ℕ)) (indexes : List (Reader I)) (archives : List (Reader P))
-    → Spares (AreRefusedAsking lines keys indexes archives)
-asking lines keys indexes archives at (inl r) = by_indexes indexes archives at r
-asking lines keys indexes archives at (inr (inl r)) = later keys indexes archives at r.0
-asking lines keys indexes archives at (inr (inr r)) = go r.untold.untold
+asking : {I P : Type 0} (lines slices : Bool) (keys : List (List ℕ)) (indexes : List (Reader I))
+    (archives : List (Reader P)) → Spares (AreRefusedAsking lines slices keys indexes archives)
+asking lines slices keys indexes archives at (inl r) = by_indexes indexes archives at r
+asking lines slices keys indexes archives at (inr (inl r)) = later keys indexes archives at r.0
+asking lines slices keys indexes archives at (inr (inr r)) = go slices r.untold.untold
   where
-    go : IsChanged indexes r.untold.answering at CannotOpen
-        ⊎ (IsLineless lines indexes r.untold.answering at CannotOpen
-        ⊎ IsUnreadTable indexes r.untold.answering at CannotOpen) → ⊥
-    go (inl changed) = cc changed.why_is
-    go (inr (inl lineless)) = cc lineless.why_is
-    go (inr (inr unread)) = cc unread.why_is
+    go : (wanted : Bool) → IsTableRefused lines wanted indexes r.untold.answering at CannotOpen → ⊥
+    go false (inl changed) = cc changed.why_is
+    go false (inr (inl lineless)) = cc lineless.why_is
+    go false (inr (inr unread)) = cc unread.why_is
+    go true unread = cc unread.why_is
 
-framed_at : {Q I P : Type 0} (lines : Bool) (crash : Reader Q) (indexes : List (Reader I)) (archives : List (Reader P))
-    → Spares (RefusesFramesAt lines crash indexes archives)
-framed_at lines crash indexes archives at (inl r) = r.0.1
-framed_at lines crash indexes archives at (inr r) = asking lines r.3.0 indexes archives at r.3.2
+framed_at : {Q I P : Type 0} (lines slices : Bool) (crash : Reader Q) (indexes : List (Reader I))
+    (archives : List (Reader P)) → Spares (RefusesFramesAt lines slices crash indexes archives)
+framed_at lines slices crash indexes archives at (inl r) = r.0.1
+framed_at lines slices crash indexes archives at (inr r) = asking lines slices r.3.0 indexes archives at r.3.2
 
 -- a command that writes a slice, where that of its writing is
 extracted : {D T : Type 0} (command : Extraction) (out : Outs D T) (report : Writer) (at : InputName)
@@ -172,14 +171,14 @@ symbolicate : {S : Type 0} (archives places indexes : List (Reader S)) (key : Sl
 symbolicate (archive ∷ others) places [] key load lines slices addresses at r = together archive others at r
 symbolicate archives places indexes key load lines slices addresses at r =
     when_paired (length archives) (length indexes) (symbolicate_at indexes places key load lines slices addresses)
-    (asking lines _ indexes places) at r
+    (asking lines slices _ indexes places) at r
 
 frames : {S : Type 0} (lines slices : Bool) (crash : Reader S) (archives places indexes : List (Reader S))
     → Spares (frames_of lines slices crash archives places indexes).Refuses
 frames lines slices crash (archive ∷ others) places [] at r = framed crash archive others at r
 frames lines slices crash archives places indexes at r =
     when_paired (length archives) (length indexes) (frames_at lines slices crash indexes places)
-    (framed_at lines crash indexes places) at r
+    (framed_at lines slices crash indexes places) at r
 
 stops_at : {S : Type 0} (indexes places : List (Reader S)) (key : SliceKey) (digest : Option Digest) (draft : Writer)
     (at : InputName) → (extract_at indexes places key digest draft).writes.Stops (Input at CannotOpen) → ⊥

@@ -19,12 +19,12 @@ use Rattle.archive_core.specs.declared.find.FindState.{FindState}
 use Rattle.archive_core.specs.declared.find.FindState.TheVariants.{Retired, Image, Dsym}
 use Rattle.archive_core.specs.declared.keys.SliceKey.{SliceKey}
 use Rattle.archive_core.proofs.Compare.{length_key_bytes}
-use Rattle.archive_core.proofs.Members.{in_map, to_map}
 use Rattle.archive_core.proofs.Records.{one_key, same_parts}
 use Rattle.text_reports.specs.Slices.{AnswersAmong, HasNoCompanionAmong, IsRetiredAmong, LivesAmong, TellsSlices}
 use Rattle.index_format.specs.Entry.{dsym_byte, tag_byte}
 use Rattle.index_lookup.specs.Among.{all_of, answers_among, covers, has_live_companion, lives_under, subject_of}
 use Rattle.index_lookup.specs.Told.{admits_under, is_companion}
+use Rattle.command_queries.specs.Slices.{AreUuidsOf}
 use Rattle.command_index_queries.specs.Rows.{AreRowsAmong, IsEntryRow, is_under_one}
 use Rattle.command_index_queries.proofs.RowsAmong.{rows_both, rows_either}
 use Rattle.command_index_frames.specs.Slices.{IsAnsweringEntryRow}
@@ -140,7 +140,7 @@ any_of p es is = let any = Any-from_list_any p es is in (any.1, (any.0, any.2, a
 
 module _ (uuids : List (List ℕ)) (keys : List SliceKey) (all : List (List (List ℕ))) (pool : List FindRow)
     (long : All (λ u. length u ≡ 16) uuids)
-    (of_keys : (u : List ℕ) → Contains uuids u ↔ Contains (map (λ (key : SliceKey). key.uuid) keys) u)
+    (of_keys : AreUuidsOf keys uuids)
     (pooled : AreRowsAmong (is_under_one uuids) (all_of all) pool) where
   abbrev es : List (List ℕ)
   es = all_of all
@@ -160,14 +160,14 @@ module _ (uuids : List (List ℕ)) (keys : List SliceKey) (all : List (List (Lis
   sought_in row there =
       let one = pooled.of_entries row there in
       let under = any_of (λ u. is_under u one.0) uuids one.2 in
-      let key = in_map (λ (k : SliceKey). k.uuid) keys under.0 ((of_keys under.0).0 under.1) in (
+      let key = (of_keys under.0).0 under.1 in (
         one.0,
         record {
           among = one.1;
           is = one.3;
           key = key.0;
           key_is = key.1;
-          uuid = sym key.2 ∙ begins_with under.0 one.0 (long_of under.0 under.1) under.2 ∙ uuid_is one.0 row one.3;
+          uuid = key.2 ∙ begins_with under.0 one.0 (long_of under.0 under.1) under.2 ∙ uuid_is one.0 row one.3;
         },
       )
 
@@ -175,7 +175,7 @@ module _ (uuids : List (List ℕ)) (keys : List SliceKey) (all : List (List (Lis
   pooled_with : (key : SliceKey) (e : List ℕ) → Contains keys key → Contains es e → key.uuid ≡ take 16 (drop 1 e)
       → (row : FindRow) × Contains pool row × IsEntryRow e row
   pooled_with key e there among begins =
-      let has = (of_keys key.uuid).1 (to_map (λ (k : SliceKey). k.uuid) keys key there) in
+      let has = (of_keys key.uuid).1 (key, there, refl) in
       let under = under_by key.uuid e (long_of key.uuid has) begins in
       pooled.whole e among (list_any-from_Any (λ u. is_under u e) uuids (has.0, key.uuid, has.1, has.2, under))
 

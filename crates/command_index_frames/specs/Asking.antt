@@ -92,29 +92,36 @@ pub record IsUnreadTable {I : Type 0} (indexes : List (Reader I)) (answering : L
   pub asked : IsAskedAt answering input offset
   pub failed : FailsAlone indexes input
 
+-- A table of the entries that answer is not told. If slices are wanted, that is for its device alone: otherwise its key
+-- is refused, and the others are answered.
+abbrev pub IsTableRefused : {I : Type 0} → Bool → Bool → List (Reader I) → List EntryAt → InputName → Why → Type 0
+IsTableRefused lines false indexes answering at why =
+    IsChanged indexes answering at why
+    ⊎ (IsLineless lines indexes answering at why ⊎ IsUnreadTable indexes answering at why)
+IsTableRefused lines true indexes answering at why = IsUnreadTable indexes answering at why
+
 -- Under one of these keys a table is not told.
-pub record IsUntoldUnder {I : Type 0} (lines : Bool) (keys : List (List ℕ)) (indexes : List (Reader I))
+pub record IsUntoldUnder {I : Type 0} (lines slices : Bool) (keys : List (List ℕ)) (indexes : List (Reader I))
     (all : List (List (List ℕ))) (at : InputName) (why : Why) : Type 0 where
   pub key : List ℕ
   pub key_is : Contains keys key
   pub answering : List EntryAt
   pub are : AreAnsweringAmong key all answering
-  pub untold : IsChanged indexes answering at why
-      ⊎ (IsLineless lines indexes answering at why ⊎ IsUnreadTable indexes answering at why)
+  pub untold : IsTableRefused lines slices indexes answering at why
 
 -- The indexes were read, and then a table is not told.
-pub record AreUntold {I P : Type 0} (lines : Bool) (keys : List (List ℕ)) (indexes : List (Reader I))
+pub record AreUntold {I P : Type 0} (lines slices : Bool) (keys : List (List ℕ)) (indexes : List (Reader I))
     (archives : List (Reader P)) (at : InputName) (why : Why) : Type 0 where
   pub all : List (List (List ℕ))
   pub read : AreReadWith indexes archives all
   pub unfailed : EachUnfailed archives
-  pub untold : IsUntoldUnder lines keys indexes all at why
+  pub untold : IsUntoldUnder lines slices keys indexes all at why
 
 -- The first that is refused, of commands that ask under these keys: an index, or the length of its archive; after that
 -- an archive whose slices are read, since two are tied; or a table.
-abbrev pub AreRefusedAsking : {I P : Type 0} → Bool → List (List ℕ) → List (Reader I) → List (Reader P) → InputName
-    → Why → Type 0
-AreRefusedAsking lines keys indexes archives at why =
+abbrev pub AreRefusedAsking : {I P : Type 0} → Bool → Bool → List (List ℕ) → List (Reader I) → List (Reader P)
+    → InputName → Why → Type 0
+AreRefusedAsking lines slices keys indexes archives at why =
     IsFirstRefusedByIndex indexes archives at why
     ⊎ (((refused : AreRefusedLater keys indexes archives at why) × AreTiedUnder keys refused.all)
-    ⊎ AreUntold lines keys indexes archives at why)
+    ⊎ AreUntold lines slices keys indexes archives at why)

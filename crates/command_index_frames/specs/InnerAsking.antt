@@ -1,6 +1,6 @@
 -- What comes of asking by tables, and of asking by slices if two are tied: the words of inner functions. No contract of
 -- a public one has them.
-use Rattle.std.specs.Prelude.{◌≡◌, ◌⊎◌, ℕ, List, Bool, Option, Result, Contains}
+use Rattle.std.specs.Prelude.{◌≡◌, ◌⊎◌, ℕ, List, Bool, true, false, Option, Result, Contains}
 use Rattle.archive_core.specs.Content.{Operations}
 use Rattle.index_format.specs.declared.index_fault.IndexFaultKind.TheVariants.{Device as DeviceKind}
 use Rattle.index_lookup.specs.Among.{AreAnsweringAmong, EntryAt}
@@ -25,8 +25,33 @@ command_fault (Device input offset) = command.Input (Index input)
     (why.Index (record { kind = DeviceKind; offset = offset }))
 command_fault OutOfMemory = command.OutOfMemory
 
+-- a fault of a key alone: a table was changed, or has no lines, which are wanted
+abbrev pub IsOfKey : Bool → AnswerFault → Type 0
+IsOfKey lines (Damaged input entry) = Unit {0}
+IsOfKey lines (NoLines input entry) = lines ≡ true
+IsOfKey lines (Device input offset) = ⊥
+IsOfKey lines OutOfMemory = ⊥
+
+-- a fault refuses all keys; if slices are wanted none of a key alone does
+abbrev pub RefusesAll : Bool → AnswerFault → Type 0
+RefusesAll false fault = Unit {0}
+RefusesAll true (Damaged input entry) = ⊥
+RefusesAll true (NoLines input entry) = ⊥
+RefusesAll true (Device input offset) = Unit {0}
+RefusesAll true OutOfMemory = Unit {0}
+
+-- Under these bytes a table is not told, for a fault of the key alone that a command tells so.
+pub record IsKeyFault (AreTexts : List (List ℕ) → Type 0) (all : List (List (List ℕ))) (lines : Bool) (key : List ℕ)
+    (at : InputName) (why : Why) : Type 0 where
+  pub answering : List EntryAt
+  pub are : AreAnsweringAmong key all answering
+  pub fault : AnswerFault
+  pub told_as : command_fault fault ≡ command.Input at why
+  pub of_key : IsOfKey lines fault
+  pub says : (texts : List (List ℕ)) → AreTexts texts → IsUntoldAmong texts answering fault
+
 -- Under one of these keys a table is not told, for a fault that a command tells so.
-pub record IsUntoldBy {D : Type 0} (whole : D → Option (List ℕ)) (failures : D → ℕ) (lines : Bool)
+pub record IsUntoldBy {D : Type 0} (whole : D → Option (List ℕ)) (failures : D → ℕ) (lines slices : Bool)
     (keys : List (List ℕ)) (all : List (List (List ℕ))) (old new : List D) (at : InputName)
     (why : Why) : Type 0 where
   pub key : List ℕ
@@ -35,6 +60,7 @@ pub record IsUntoldBy {D : Type 0} (whole : D → Option (List ℕ)) (failures :
   pub are : AreAnsweringAmong key all answering
   pub fault : AnswerFault
   pub told_as : command_fault fault ≡ command.Input at why
+  pub refuses : RefusesAll slices fault
   pub says : (texts : List (List ℕ)) → HaveTexts whole old texts → IsUntoldAmong texts answering fault
   pub counts : BlamesAmong lines answering (each_known failures old) (each_known failures new) fault
 
@@ -44,12 +70,12 @@ NoneFailed failures old new = each_known failures new ≡ each_known failures ol
 
 -- What came of asking the tables under these keys: something of which this is true, and each device has its bytes; or a
 -- table is not told.
-abbrev pub AsksTables : {D T : Type 0} → (D → Option (List ℕ)) → (D → ℕ) → Bool → List (List ℕ)
+abbrev pub AsksTables : {D T : Type 0} → (D → Option (List ℕ)) → (D → ℕ) → Bool → Bool → List (List ℕ)
     → List (List (List ℕ)) → List D → List D → Result T CommandFault
     → (T → Type 0) → Type 0
-AsksTables whole failures lines keys all old new result IsTrue =
+AsksTables whole failures lines slices keys all old new result IsTrue =
     ReadsInputs result (λ value. IsTrue value × (each_known whole new ≡ each_known whole old))
-    (IsUntoldBy whole failures lines keys all old new) (NoneFailed failures old new)
+    (IsUntoldBy whole failures lines slices keys all old new) (NoneFailed failures old new)
 
 -- What the archives hold under such keys: this is true of it.
 pub record AreHeldUnder {P : Type 0} (IsSought : List (List ℕ) → Type 0) (all : List (List (List ℕ)))
@@ -74,13 +100,13 @@ AsksSlices IsSought all archives result IsTrue =
     (AreRefusedUnder IsSought all archives) (EachUnfailed archives)
 
 -- What came of asking by tables under these keys; or by slices under such keys, if two are tied.
-abbrev pub AsksEither : {D P T : Type 0} → Bool → (List (List ℕ) → Type 0) → (D → Option (List ℕ)) → (D → ℕ)
+abbrev pub AsksEither : {D P T : Type 0} → Bool → Bool → (List (List ℕ) → Type 0) → (D → Option (List ℕ)) → (D → ℕ)
     → List (List ℕ) → List (List (List ℕ)) → List D → List D
     → List (Reader P) → Result T CommandFault → (T → Type 0) → (Operations → T → Type 0) → Type 0
-AsksEither lines IsSought whole failures keys all old new archives result ByTables BySlices =
+AsksEither lines slices IsSought whole failures keys all old new archives result ByTables BySlices =
     ReadsInputs result
     (λ told. ByTables told
     ⊎ (AreTiedUnder keys all × AreHeldUnder IsSought all archives (λ content. BySlices content told)))
-    (λ at why. (EachUnfailed archives × IsUntoldBy whole failures lines keys all old new at why)
+    (λ at why. (EachUnfailed archives × IsUntoldBy whole failures lines slices keys all old new at why)
     ⊎ (AreTiedUnder keys all × NoneFailed failures old new × AreRefusedUnder IsSought all archives at why))
     (NoneFailed failures old new × EachUnfailed archives)

@@ -1,7 +1,10 @@
 pub mod Asking
 pub mod Slices
+pub mod Refusals
 pub mod Symbolicate
 pub mod Frames
 pub mod InnerPlaces
 pub mod InnerTold
 pub mod InnerAsking
+pub mod InnerReplies
+pub mod InnerSlices

@@ -1,9 +1,8 @@
 -- The slices that answer under keys, as the entries of indexes have them.
-use Rattle.std.specs.Prelude.{◌≡◌, ℕ, Bool, true, false, List, ◌++◌, Contains}
+use Rattle.std.specs.Prelude.{◌≡◌, ℕ, true, List, Contains}
 use Rattle.archive_core.specs.Key.{key_bytes}
 use Rattle.archive_core.specs.declared.find.FindRow.{FindRow}
 use Rattle.archive_core.specs.declared.keys.SliceKey.{SliceKey}
-use Rattle.text_reports.specs.Slices.{TellsSlices}
 use Rattle.command_queries.specs.Slices.{HaveUuidOf}
 use Rattle.index_lookup.specs.Among.{all_of, answers_among}
 use Rattle.command_index_queries.specs.Rows.{IsEntryRow}
@@ -15,10 +14,3 @@ pub record IsAnsweringEntryRow (all : List (List (List ℕ))) (keys : List Slice
   pub answers : answers_among (key_bytes row.key) (all_of all) entry ≡ true
   pub is_row : IsEntryRow entry row
   pub asked : HaveUuidOf keys row.key
-
--- After answers are the lines of the slices that answer under the keys, as the entries of these indexes have them, if
--- they are wanted.
-abbrev pub AreFollowed : Bool → List (List (List ℕ)) → List SliceKey → List ℕ → List ℕ → Type 0
-AreFollowed false all keys answers text = text ≡ answers
-AreFollowed true all keys answers text =
-    (slices : List ℕ) × TellsSlices (IsAnsweringEntryRow all keys) keys slices × (text ≡ answers ++ slices)

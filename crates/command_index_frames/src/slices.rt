@@ -1,46 +1,20 @@
 //! The lines of the slices that answer under keys, made from the entries of indexes.
 
-ghost use Rattle.std.specs.Prelude.{◌≡◌, All, IfOk, length, map, string_bytes};
-ghost use Rattle.std.specs.Ordering.{nat_cmp};
-ghost use Rattle.std.specs.Cmp.Lexicographic.{slice_cmp};
-ghost use Rattle.archive_core.specs.Content.{HaveSameMembers};
+ghost use Rattle.std.specs.Prelude.{◌≡◌, All, IfOk, length, string_bytes};
 ghost use Rattle.archive_core.specs.Part.{is_under};
 ghost use Rattle.text_reports.specs.Slices.{TellsSlices};
 ghost use Rattle.index_lookup.specs.Among.{all_of};
 ghost use Rattle.command_index_queries.specs.Rows.{AreRowsAmong, is_under_one};
-ghost use Rattle.command_index_frames.specs.Slices.{AreFollowed, IsAnsweringEntryRow};
+ghost use Rattle.command_index_frames.specs.InnerSlices.{AreFollowed};
+ghost use Rattle.command_index_frames.specs.Slices.{IsAnsweringEntryRow};
 
 use archive_core::{FindRow, SliceKey};
 use command_index_queries::{rows_with_uuid, uuid_bytes};
+use command_queries::uuids_of;
 use index_format::Index;
 use memory::{Heap, NoMemory};
-use std::cmp::Ordering;
 use text_reports::slices_lines;
 use uuid::Uuid;
-
-/// Compares two UUIDs by their bytes.
-fn compare_uuids(a: Uuid, b: Uuid) -> Ordering
-    ensures { result ≡ slice_cmp nat_cmp a b }
-{
-    uuid_bytes(a)[..].cmp(&uuid_bytes(b)[..])
-}
-
-/// The UUID of each key.
-fn each_uuid(heap: Heap, keys: &[SliceKey]) -> Result<Vec<Uuid, Heap>, NoMemory>
-    ensures { IfOk result (λ uuids. uuids.items ≡ map (λ key. key.uuid) keys.now) }
-{
-    keys.iter().map(|key| key.uuid).collect(heap)
-}
-
-/// The UUIDs of keys, each once.
-fn uuids_once(heap: Heap, keys: &[SliceKey]) -> Result<Vec<Uuid, Heap>, NoMemory>
-    ensures { IfOk result (λ uuids. HaveSameMembers uuids.items (map (λ key. key.uuid) keys.now)) }
-{
-    let mut uuids = each_uuid(heap, keys)?;
-    uuids.sort_unstable_by(|a, b| compare_uuids(*a, *b));
-    uuids.dedup_by(|a, b| compare_uuids(*a, *b).is_eq());
-    Ok(uuids)
-}
 
 /// The rows of the entries under a UUID, of one index after another.
 fn rows_in_each(heap: &Heap, uuid: Uuid, read: &[Index]) -> Result<Vec<FindRow, Heap>, NoMemory>
@@ -74,25 +48,27 @@ fn slices_text(heap: &Heap, keys: &[SliceKey], read: &[Index]) -> Result<String<
     ensures { IfOk result (λ text.
         TellsSlices (IsAnsweringEntryRow read.now keys.now) keys.now (string_bytes text)) }
 {
-    let uuids = uuids_once(heap.share(), keys)?;
+    let uuids = uuids_of(heap.share(), keys)?;
     let pool = rows_under(heap, &uuids, read)?;
     slices_lines(heap.share(), &pool, keys)
 }
 
-/// The lines of answers, and after them those of the slices, if they are wanted.
+/// The lines of answers, and after them those of the slices and of what is refused, if they are wanted.
 pub(crate) fn with_slices(
     heap: &Heap,
     slices: bool,
     keys: &[SliceKey],
     read: &[Index],
     answers: Vec<u8, Heap>,
+    refused: &str,
 ) -> Result<Vec<u8, Heap>, NoMemory>
-    ensures { IfOk result (λ text. AreFollowed slices read.now keys.now answers.items text.items) }
+    ensures { IfOk result (λ text. AreFollowed slices read.now keys.now answers.items refused.now text.items) }
 {
     if !slices {
         return Ok(answers);
     }
-    let lines = slices_text(heap, keys, read)?;
+    let mut lines = slices_text(heap, keys, read)?;
+    lines.push_str(refused)?;
     let mut text = answers;
     text.extend_from_slice(lines.as_bytes())?;
     Ok(text)

@@ -8,44 +8,71 @@ ghost use Rattle.command_common.specs.Ends.{EndsReport};
 ghost use Rattle.command_common.specs.Inputs.{readers};
 ghost use Rattle.command_common.specs.Outputs.{writer};
 ghost use Rattle.index_lookup.specs.AmongAsked.{HaveTexts};
-ghost use Rattle.command_index_frames.specs.Asking.{AreTiedUnder, TellTables};
+ghost use Rattle.command_index_frames.specs.Asking.{AreTiedUnder};
+ghost use Rattle.std.specs.Option.{option_to_list};
 ghost use Rattle.command_index_frames.specs.InnerAsking.{AsksEither, AsksSlices, AsksTables};
-ghost use Rattle.command_index_frames.specs.InnerTold.{ShowsAddresses};
+ghost use Rattle.command_index_frames.specs.InnerTold.{ShowsAddresses, refusal_in, status_under};
+ghost use Rattle.command_index_frames.specs.InnerReplies.{IsRefusalOf, TellKeyPart};
+ghost use Rattle.command_index_frames.specs.Refusals.{refusal_lines};
 ghost use Rattle.command_index_frames.specs.Slices.{IsAnsweringEntryRow};
-ghost use Rattle.command_index_frames.specs.Symbolicate.{symbolicate_at};
+ghost use Rattle.command_index_frames.specs.Symbolicate.{TellTablesOfKey, symbolicate_at};
 
 use crate::slices::with_slices;
-use crate::tables::{push_told, tell_key};
+use crate::tables::{KeyTold, push_refusal, push_reply, tell_key};
 use archive_core::{Archive, SliceKey};
 use byte_device::{Placed, Sink};
 use command_common::{CommandFault, Status, write_report_bytes};
 use command_index_queries::{KeyPrefix, read_indexes, read_prefixes};
-use command_queries::{answer_each, places_of, status_after};
+use command_queries::{answer_each, places_of};
 use index_format::Index;
-use index_lookup::Answers;
 use memory::{Heap, NoMemory};
 
-/// The lines of the answers of tables to the addresses, with how a command ends that prints them.
+/// How a command ends that printed nothing yet: refused, if the key is.
+fn status_at_first(told: &KeyTold) -> Status
+    ensures { result ≡ status_under told.now [] }
+{
+    match told {
+        KeyTold::Told(_) => Status::Done,
+        KeyTold::Refused(_, _) => Status::Refused,
+    }
+}
+
+/// The lines of the replies of tables to the addresses, with how a command ends that prints them.
 fn answer_by_tables(
     heap: Heap,
-    answers: &Answers,
+    told: &KeyTold,
     lines: bool,
     addresses: &[u64],
 ) -> Result<(Status, String<Heap>), NoMemory>
-    ensures { IfOk result (λ told. ShowsAddresses answers.now lines addresses.now told.0 (string_bytes told.1)) }
+    ensures { IfOk result (λ shown. ShowsAddresses told.now lines addresses.now shown.0 (string_bytes shown.1)) }
 {
-    let mut status = Status::Done;
+    let mut status = status_at_first(told);
     let mut text = String::new(heap.share());
     'addresses: for (number, address) in addresses.iter().enumerate() {
-        let answer = answers.answer(heap.share(), number)?;
-        status = status_after(status, &answer);
-        push_told(&heap, &mut text, *address, &answer, answers, lines, number)?;
+        status = push_reply(&heap, &mut text, status, *address, told, lines, number)?;
     }
     Ok((status, text))
 }
 
-/// The lines of the answers to the addresses by the tables of the indexes, with how a command ends that prints them; or
-/// none, if two slices are tied.
+/// The same, and the line of the key, if it is refused.
+fn print_addresses(
+    heap: Heap,
+    key: SliceKey,
+    told: &KeyTold,
+    lines: bool,
+    addresses: &[u64],
+) -> Result<(Status, String<Heap>, String<Heap>), NoMemory>
+    ensures { IfOk result (λ shown. ShowsAddresses told.now lines addresses.now shown.0 (string_bytes shown.1)
+        × (string_bytes shown.2 ≡ refusal_lines (option_to_list (refusal_in key told.now)))) }
+{
+    let (status, text) = answer_by_tables(heap.share(), told, lines, addresses)?;
+    let mut refused = String::new(heap);
+    push_refusal(&mut refused, key, told)?;
+    Ok((status, text, refused))
+}
+
+/// The lines of the replies to the addresses by the tables of the indexes, with how a command ends that prints them,
+/// and the line of the key, if it is refused; or none, if two slices are tied.
 fn tell_by_tables<I: Placed>(
     heap: &Heap,
     read: &[Index],
@@ -53,20 +80,21 @@ fn tell_by_tables<I: Placed>(
     key: &SliceKey,
     load: Option<u64>,
     lines: bool,
+    slices: bool,
     addresses: &[u64],
-) -> Result<Option<(Status, String<Heap>)>, CommandFault>
+) -> Result<Option<(Status, String<Heap>, String<Heap>)>, CommandFault>
     requires { length read.now ≡ length indexes.old }
-    ensures { AsksTables I.whole I.failures lines (key_bytes key.now ∷ []) read.now indexes.old indexes.new result
-        (λ found. MatchOption found (AreTiedUnder (key_bytes key.now ∷ []) read.now)
-        (λ told. TellTables (HaveTexts I.whole indexes.old) read.now key.now load lines addresses.now told.0
-        (string_bytes told.1))) }
+    ensures { AsksTables I.whole I.failures lines slices (key_bytes key.now ∷ []) read.now indexes.old indexes.new
+        result (λ found. MatchOption found (AreTiedUnder (key_bytes key.now ∷ []) read.now)
+        (λ told. TellKeyPart slices (HaveTexts I.whole indexes.old) read.now key.now load lines addresses.now told.0
+        (string_bytes told.1) (string_bytes told.2))) }
 {
     let places = places_of(heap.share(), load, addresses)?;
-    let Some(answers) = tell_key(heap, read, indexes, key, lines, &places)? else {
+    let Some(told) = tell_key(heap, read, indexes, key, lines, slices, &places)? else {
         return Ok(None);
     };
-    let told = answer_by_tables(heap.share(), &answers, lines, addresses)?;
-    Ok(Some(told))
+    let shown = print_addresses(heap.share(), *key, &told, lines, addresses)?;
+    Ok(Some(shown))
 }
 
 /// The lines of the answers to the addresses by the slices that the indexes name, with how a command ends that prints
@@ -90,8 +118,8 @@ fn tell_by_slices<A: Archive + Drop, P: Placed>(
     Ok(told)
 }
 
-/// The lines of the answers to the addresses, by the tables of the indexes or by the slices that they name, with how a
-/// command ends that prints them.
+/// The lines of the replies to the addresses, by the tables of the indexes or by the slices that they name, with how a
+/// command ends that prints them, and the line of the key, if it is refused.
 fn tell_addresses<A: Archive + Drop, I: Placed, P: Placed>(
     heap: &Heap,
     read: &[Index],
@@ -100,23 +128,32 @@ fn tell_addresses<A: Archive + Drop, I: Placed, P: Placed>(
     key: &SliceKey,
     load: Option<u64>,
     lines: bool,
+    slices: bool,
     addresses: &[u64],
-) -> Result<(Status, String<Heap>), CommandFault>
+) -> Result<(Status, String<Heap>, String<Heap>), CommandFault>
     requires same { length read.now ≡ length indexes.old }
     requires many { length read.now ≡ length archives.old }
-    ensures { AsksEither lines (λ keys. keys ≡ key_bytes key.now ∷ []) I.whole I.failures (key_bytes key.now ∷ [])
-        read.now indexes.old indexes.new (readers P.whole P.failures archives.old archives.new) result
-        (λ told. TellTables (HaveTexts I.whole indexes.old) read.now key.now load lines addresses.now told.0
-        (string_bytes told.1))
-        (λ content told. TellsAddresses content key.now load lines addresses.now told.0 (string_bytes told.1)) }
+    ensures { AsksEither lines slices (λ keys. keys ≡ key_bytes key.now ∷ []) I.whole I.failures
+        (key_bytes key.now ∷ []) read.now indexes.old indexes.new
+        (readers P.whole P.failures archives.old archives.new) result
+        (λ told. TellKeyPart slices (HaveTexts I.whole indexes.old) read.now key.now load lines addresses.now told.0
+        (string_bytes told.1) (string_bytes told.2))
+        (λ content told. TellsAddresses content key.now load lines addresses.now told.0 (string_bytes told.1)
+        × (string_bytes told.2 ≡ [])) }
 {
-    match tell_by_tables(heap, read, indexes, key, load, lines, addresses)? {
+    match tell_by_tables(heap, read, indexes, key, load, lines, slices, addresses)? {
         Some(told) => Ok(told),
-        None => tell_by_slices::<A, P>(heap, read, archives, key, load, lines, addresses),
+        None => {
+            let (status, text) = tell_by_slices::<A, P>(
+                heap, read, archives, key, load, lines, addresses,
+            )?;
+            Ok((status, text, String::new(heap.share())))
+        }
     }
 }
 
-/// The same as `tell_addresses`, and after it the lines of the slices that answer under the key, if they are wanted.
+/// The same as `tell_addresses`, and after it the lines of the slices that answer under the key, and of the key if it
+/// is refused, if they are wanted.
 fn tell_addresses_and_slices<A: Archive + Drop, I: Placed, P: Placed>(
     heap: &Heap,
     read: &[Index],
@@ -131,17 +168,19 @@ fn tell_addresses_and_slices<A: Archive + Drop, I: Placed, P: Placed>(
     requires same { length read.now ≡ length indexes.old }
     requires many { length read.now ≡ length archives.old }
     ensures { let IsRow = IsAnsweringEntryRow read.now (key.now ∷ []) in
-        AsksEither lines (λ keys. keys ≡ key_bytes key.now ∷ []) I.whole I.failures (key_bytes key.now ∷ [])
-        read.now indexes.old indexes.new (readers P.whole P.failures archives.old archives.new) result
-        (λ told. WithSlices slices (TellTables (HaveTexts I.whole indexes.old) read.now key.now load lines
-        addresses.now) IsRow (key.now ∷ []) told.0 told.1.items)
+        AsksEither lines slices (λ keys. keys ≡ key_bytes key.now ∷ []) I.whole I.failures
+        (key_bytes key.now ∷ []) read.now indexes.old indexes.new
+        (readers P.whole P.failures archives.old archives.new) result
+        (λ told. TellTablesOfKey slices (HaveTexts I.whole indexes.old)
+        (IsRefusalOf (HaveTexts I.whole indexes.old) read.now lines) read.now key.now load lines addresses.now told.0
+        told.1.items)
         (λ content told. WithSlices slices (TellsAddresses content key.now load lines addresses.now) IsRow
         (key.now ∷ []) told.0 told.1.items) }
 {
-    let (status, answers) = tell_addresses::<A, I, P>(
-        heap, read, indexes, archives, key, load, lines, addresses,
+    let (status, answers, refused) = tell_addresses::<A, I, P>(
+        heap, read, indexes, archives, key, load, lines, slices, addresses,
     )?;
-    let text = with_slices(heap, slices, &[*key], read, answers.into_bytes())?;
+    let text = with_slices(heap, slices, &[*key], read, answers.into_bytes(), &refused)?;
     Ok((status, text))
 }
 
@@ -152,7 +191,10 @@ fn tell_addresses_and_slices<A: Archive + Drop, I: Placed, P: Placed>(
 /// the slices that answer under the UUID are after that, made from the entries of the indexes, or that none does under
 /// the key.
 ///
-/// The status is `Done` where each answer is one symbol, and else `Partial`.
+/// If `slices`, a table of the key that was changed, or has no lines, refuses the key and not the command: each address
+/// has a mark in place of an answer, and a last line names the key and the fault.
+///
+/// The status is `Done` where each answer is one symbol, `Refused` where the key is refused, and else `Partial`.
 ///
 /// # Errors
 ///

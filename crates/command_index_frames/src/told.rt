@@ -11,25 +11,24 @@ ghost use Rattle.command_index_frames.specs.Asking.{AreTiedUnder};
 ghost use Rattle.command_index_frames.specs.InnerAsking.{AsksTables};
 ghost use Rattle.command_index_frames.specs.InnerPlaces.{asked_cmp, has_key};
 ghost use Rattle.command_index_frames.specs.InnerTold.{AreInOrder, AreTold, HasTold, HaveToldEach, IsToldUnder};
-ghost use Rattle.command_index_frames.specs.InnerTold.{ShowsFrames, StandsAt};
+ghost use Rattle.command_index_frames.specs.InnerTold.{ShowsFrames, StandsAt, refusals_in};
+ghost use Rattle.command_index_frames.specs.Refusals.{refusal_lines};
 
 use crate::places::{AskedPlace, compare_places};
-use crate::tables::{push_told, tell_key};
+use crate::tables::{KeyTold, push_refusal, push_reply, tell_key};
 use archive_core::{SliceKey, Where, compare_keys};
 use byte_device::Placed;
 use command_common::{CommandFault, Status};
-use command_queries::status_after;
 use index_format::Index;
-use index_lookup::Answers;
 use memory::{Heap, NoMemory};
 use text_inputs::Frame;
 
-/// What is told of places under a key. The places ascend.
+/// What is told of places under a key, or that the key is refused. The places ascend.
 #[derive(Drop)]
 pub(crate) struct KeyAnswers {
     key: SliceKey,
     places: Vec<Where, Heap>,
-    answers: Answers,
+    told: KeyTold,
 }
 
 /// How many of the first places are of a key.
@@ -58,47 +57,46 @@ fn tell_run<I: Placed>(
     indexes: &mut [I],
     key: SliceKey,
     lines: bool,
+    slices: bool,
     run: &[AskedPlace],
 ) -> Result<Option<KeyAnswers>, CommandFault>
     requires { length read.now ≡ length indexes.old }
-    ensures { AsksTables I.whole I.failures lines (key_bytes key ∷ []) read.now indexes.old indexes.new result
+    ensures { AsksTables I.whole I.failures lines slices (key_bytes key ∷ []) read.now indexes.old indexes.new result
         (λ told. MatchOption told (AreTied (key_bytes key) read.now)
         (λ one. (one.key ≡ key) × (one.places.items ≡ map (λ asked. asked.place) run.now)
-        × IsToldUnder (HaveTexts I.whole indexes.old) read.now lines one)) }
+        × IsToldUnder (HaveTexts I.whole indexes.old) read.now lines slices one)) }
 {
     let places = places_in(heap.share(), run)?;
-    let Some(answers) = tell_key(heap, read, indexes, &key, lines, &places)? else {
+    let Some(told) = tell_key(heap, read, indexes, &key, lines, slices, &places)? else {
         return Ok(None);
     };
-    Ok(Some(KeyAnswers {
-        key,
-        places,
-        answers,
-    }))
+    Ok(Some(KeyAnswers { key, places, told }))
 }
 
 /// What the tables of indexes that were read tell of places, key by key; or none, if of two slices in two archives no
-/// entry says which comes first. The places stand in the order of their keys, each once.
+/// entry says which comes first. The places stand in the order of their keys, each once. If slices are wanted, a table
+/// that was changed, or has no lines, refuses its key alone.
 pub(crate) fn tell_keys<I: Placed>(
     heap: &Heap,
     read: &[Index],
     indexes: &mut [I],
     lines: bool,
+    slices: bool,
     asked: &[AskedPlace],
 ) -> Result<Option<Vec<KeyAnswers, Heap>>, CommandFault>
     requires same { length read.now ≡ length indexes.old }
     requires sorted { IsStrictlySortedBy asked_cmp asked.now }
     ensures { let keys = map (λ one. key_bytes one.key) asked.now in
-        AsksTables I.whole I.failures lines keys read.now indexes.old indexes.new result
+        AsksTables I.whole I.failures lines slices keys read.now indexes.old indexes.new result
         (λ told. MatchOption told (AreTiedUnder keys read.now)
-        (λ each. AreTold (HaveTexts I.whole indexes.old) read.now lines asked.now each.items)) }
+        (λ each. AreTold (HaveTexts I.whole indexes.old) read.now lines slices asked.now each.items)) }
 {
     let mut told = Vec::new(heap.share());
     let mut left = asked;
     'keys: while let Some(first) = left.first() {
         let key = first.key;
         let (run, rest) = left.split_at(run_len(left, &key));
-        let Some(one) = tell_run(heap, read, indexes, key, lines, run)? else {
+        let Some(one) = tell_run(heap, read, indexes, key, lines, slices, run)? else {
             return Ok(None);
         };
         told.push(one)?;
@@ -127,7 +125,7 @@ fn told_at<'t>(told: &'t [KeyAnswers], frame: &Frame) -> (&'t KeyAnswers, usize)
     (&told[key], number)
 }
 
-/// The lines of the answers of tables to frames, in their order, with how a command ends that prints them.
+/// The lines of the replies of tables to frames, in their order, with how a command ends that prints them.
 pub(crate) fn answer_frames_by_tables(
     heap: Heap,
     told: &[KeyAnswers],
@@ -142,17 +140,26 @@ pub(crate) fn answer_frames_by_tables(
     let mut text = String::new(heap.share());
     'frames: for frame in frames {
         let (one, number) = told_at(told, frame);
-        let answer = one.answers.answer(heap.share(), number)?;
-        status = status_after(status, &answer);
-        push_told(
+        status = push_reply(
             &heap,
             &mut text,
+            status,
             frame.address,
-            &answer,
-            &one.answers,
+            &one.told,
             lines,
             number,
         )?;
     }
     Ok((status, text))
+}
+
+/// The lines of the keys that are refused, in their order.
+pub(crate) fn refused_lines(heap: Heap, told: &[KeyAnswers]) -> Result<String<Heap>, NoMemory>
+    ensures { IfOk result (λ text. string_bytes text ≡ refusal_lines (refusals_in told.now)) }
+{
+    let mut text = String::new(heap);
+    'keys: for one in told {
+        push_refusal(&mut text, one.key, &one.told)?;
+    }
+    Ok(text)
 }

@@ -1,3 +1,4 @@
 pub mod Indexes
 pub mod Contents
+pub mod Refusing
 pub mod Undecided

@@ -39,6 +39,8 @@ ghost use Rattle.command_extract.specs.Indexed.{LacksEntry, MakesEntry, extract_
 ghost use Rattle.command_extract.specs.Wanted.{AreUndecided, IsWanted, slice_line, slices_text};
 ghost use Rattle.laws_index.specs.Contents.{AreIndexed, AreIndexesGiven, AreOwnIndexes, HaveKeys, IsIndexGiven};
 ghost use Rattle.laws_index.specs.Contents.{IsForLines, IsOwnIndex};
+ghost use Rattle.laws_index.specs.Refusing.{TellsAddressesBesides, TellsAddressesOrBesides};
+ghost use Rattle.laws_index.specs.Refusing.{TellsFramesBesides, TellsFramesOrBesides};
 ghost use Rattle.laws_index.specs.Undecided.{TellsUndecided};
 
 use byte_device::Placed;
@@ -104,17 +106,18 @@ pub fn found_by_indexes<I: Placed, P: Placed>()
 
 /// So does `symbolicate`, with lines and without, and with the lines of the slices that answer: by tables whatever
 /// bytes the archives have, if no two different slices of several contents have one SHA-256; and by slices, where two
-/// are tied.
+/// are tied. With the lines of slices a key may be refused by tables, where its slice has no lines that are wanted.
 pub fn answered_by_indexes<I: Placed, P: Placed>()
     ensures tables { (inputs : List (Reader I)) (archives : List (Reader P)) (os : List Operations) (key : SliceKey)
         (load : Option ℕ) (lines slices : Bool) (addresses : List ℕ) (status : Status) (text : List ℕ)
         → AreIndexesGiven inputs os → DigestsTell os → IsKey key
         → TellsByTables inputs archives key load lines slices addresses status text
-        → TellsAddressesWith (all_joined os) key load lines slices addresses status text }
+        → TellsAddressesOrBesides os key load lines slices addresses status text }
     ensures alone { (input : Reader I) (archive : Reader P) (o : Operations) (key : SliceKey) (load : Option ℕ)
         (lines slices : Bool) (addresses : List ℕ) (status : Status) (text : List ℕ) → IsIndexGiven input o → IsKey key
         → TellsByTables (input ∷ []) (archive ∷ []) key load lines slices addresses status text
-        → TellsAddressesWith o key load lines slices addresses status text }
+        → TellsAddressesWith o key load lines slices addresses status text
+        ⊎ ((slices ≡ true) × TellsAddressesBesides (o ∷ []) key lines addresses status text) }
     ensures slices { (inputs : List (Reader I)) (archives : List (Reader P)) (os : List Operations) (key : SliceKey)
         (load : Option ℕ) (lines slices : Bool) (addresses : List ℕ) (status : Status) (text : List ℕ)
         → length (key_bytes key) ≤ 24 → (slices ≡ true → IsKey key) → AreIndexed inputs archives os
@@ -124,22 +127,24 @@ pub fn answered_by_indexes<I: Placed, P: Placed>()
         (load : Option ℕ) (lines slices : Bool) (addresses : List ℕ) (status : Status) (text : List ℕ)
         → AreIndexed inputs archives os → DigestsTell os → IsKey key
         → (symbolicate_at inputs archives key load lines slices addresses).Makes status text
-        → TellsAddressesWith (all_joined os) key load lines slices addresses status text }
+        → TellsAddressesOrBesides os key load lines slices addresses status text }
 {}
 
-/// So does `frames`. The frames that a text says have such keys as this asks.
+/// So does `frames`, where the frames of a key that is not refused have the answers of the join. The frames that a text
+/// says have such keys as this asks.
 pub fn framed_by_indexes<I: Placed, P: Placed>()
     ensures tables { (inputs : List (Reader I)) (archives : List (Reader P)) (os : List Operations)
         (lines slices : Bool)
         (listed : List Frame) (status : Status) (text : List ℕ) → AreIndexesGiven inputs os → DigestsTell os
         → ((frame : Frame) → Contains listed frame → IsKey frame.key)
         → TellsFramesByTables lines slices inputs archives listed status text
-        → TellsFramesWith lines slices (all_joined os) listed status text }
+        → TellsFramesOrBesides lines slices os listed status text }
     ensures alone { (input : Reader I) (archive : Reader P) (o : Operations) (lines slices : Bool) (listed : List Frame)
         (status : Status) (text : List ℕ) → IsIndexGiven input o
         → ((frame : Frame) → Contains listed frame → IsKey frame.key)
         → TellsFramesByTables lines slices (input ∷ []) (archive ∷ []) listed status text
-        → TellsFramesWith lines slices o listed status text }
+        → TellsFramesWith lines slices o listed status text
+        ⊎ ((slices ≡ true) × TellsFramesBesides (o ∷ []) lines listed status text) }
     ensures slices { (inputs : List (Reader I)) (archives : List (Reader P)) (os : List Operations)
         (lines slices : Bool)
         (listed : List Frame) (status : Status) (text : List ℕ)
@@ -152,7 +157,7 @@ pub fn framed_by_indexes<I: Placed, P: Placed>()
         (listed : List Frame) (status : Status) (text : List ℕ) → AreIndexed inputs archives os → DigestsTell os
         → ((frame : Frame) → Contains listed frame → IsKey frame.key)
         → AreToldAt lines slices inputs archives listed status text
-        → TellsFramesWith lines slices (all_joined os) listed status text }
+        → TellsFramesOrBesides lines slices os listed status text }
     ensures keys { (bytes : List ℕ) (listed : List Frame) (frame : Frame) → frames_of bytes ≡ Ok listed
         → Contains listed frame → IsKey frame.key }
 {}
@@ -202,10 +207,10 @@ pub fn undecided_by_indexes<I: Placed, P: Placed>()
 /// By the indexes of contents a table is refused for a device alone, or if lines are wanted for a slice that answers
 /// and has none, whatever bytes the archives have. By the indexes of these very archives all that is refused is so.
 pub fn undamaged_by_indexes<I: Placed, P: Placed>()
-    ensures tables { (lines : Bool) (keys : List (List ℕ)) (inputs : List (Reader I)) (archives : List (Reader P))
-        (os : List Operations) (at : InputName) (why : Why) → AreIndexesGiven inputs os
-        → AreUntold lines keys inputs archives at why → IsDeviceFault why ⊎ IsForLines lines os keys why }
-    ensures asked { (lines : Bool) (keys : List (List ℕ)) (inputs : List (Reader I)) (archives : List (Reader P))
+    ensures tables { (lines slices : Bool) (keys : List (List ℕ)) (inputs : List (Reader I))
+        (archives : List (Reader P)) (os : List Operations) (at : InputName) (why : Why) → AreIndexesGiven inputs os
+        → AreUntold lines slices keys inputs archives at why → IsDeviceFault why ⊎ IsForLines lines os keys why }
+    ensures asked { (lines slices : Bool) (keys : List (List ℕ)) (inputs : List (Reader I)) (archives : List (Reader P))
         (os : List Operations) (at : InputName) (why : Why) → AreOwnIndexes inputs archives os
-        → AreRefusedAsking lines keys inputs archives at why → IsDeviceFault why ⊎ IsForLines lines os keys why }
+        → AreRefusedAsking lines slices keys inputs archives at why → IsDeviceFault why ⊎ IsForLines lines os keys why }
 {}

@@ -57,7 +57,7 @@ returns-in_err-status g c =
     c.args.archives.now c.read_indexes.new.archives c.tell_frames_and_slices.new.archives c.deref-2.result.now
     c.tell_frames_and_slices.auto.indexes c.tell_frames_and_slices.auto.archives
     read c.in_ok-read.ensures.kept
-    c.args.lines c.deref.result.now c.in_err-status.field-0.0 c.in_err-status.ensures in
+    c.args.lines c.args.slices c.deref.result.now c.in_err-status.field-0.0 c.in_err-status.ensures in
     rw (p.1, p.2)
     (together_refused _ _ _ _ c.in_err-status.field-0.0
     (refusal_of _ _ _ _ c.in_err-status.field-0.0
@@ -73,7 +73,7 @@ returns g c =
     c.args.archives.now c.read_indexes.new.archives c.tell_frames_and_slices.new.archives c.deref-2.result.now
     c.tell_frames_and_slices.auto.indexes c.tell_frames_and_slices.auto.archives
     read c.in_ok-read.ensures.kept
-    c.args.lines c.deref.result.now c.args.slices c.in_ok-status.status c.in_ok-status.text.items c.in_ok-status.ensures in
+    c.args.lines c.args.slices c.deref.result.now c.in_ok-status.status c.in_ok-status.text.items c.in_ok-status.ensures in
     let is = rw (← c.deref-3.ensures.value) at told.is in
     reported _ _ _ _ c.write_report_bytes.result _ _ (c.in_ok-frames.ensures.unfailed, told.unfailed)
     (record { listed = c.deref.result.now; frames_are = gives; told = is }) c.write_report_bytes.ensures

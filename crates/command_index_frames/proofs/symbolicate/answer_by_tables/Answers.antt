@@ -5,5 +5,5 @@ use Rattle.command_index_frames.proofs.symbolicate.answer_by_tables.Goals as goa
 pub addresses-preserved : goal.addresses-preserved
 addresses-preserved c =
     more_addresses _ c.args.lines c.args.addresses.now c.addresses.number
-    (get_or c.args.addresses.now c.addresses.number 0) _ _ _ _ c.in_ok-answer.answer (omega arith) refl
-    c.addresses.invariant c.in_ok-answer.ensures c.status_after-status.ensures c.in_ok-push_told.ensures
+    (get_or c.args.addresses.now c.addresses.number 0) _ _ _ _ (omega arith) refl
+    c.addresses.invariant c.in_ok-status.ensures

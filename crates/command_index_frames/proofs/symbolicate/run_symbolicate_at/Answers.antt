@@ -31,7 +31,7 @@ returns-in_err-status g c =
     c.tell_addresses_and_slices.new.indexes
     c.args.archives.now c.read_indexes.new.archives c.tell_addresses_and_slices.new.archives c.deref.result.now c.tell_addresses_and_slices.auto.indexes
     c.tell_addresses_and_slices.auto.archives read c.in_ok-read.ensures.kept
-    c.args.lines c.args.key.now c.args.load c.args.addresses.now c.in_err-status.field-0.0 c.in_err-status.ensures)
+    c.args.lines c.args.slices c.args.key.now c.args.load c.args.addresses.now c.in_err-status.field-0.0 c.in_err-status.ensures)
     (Appends-none _, refl))
 
 pub returns : goal.returns
@@ -41,6 +41,6 @@ returns g c =
     c.tell_addresses_and_slices.new.indexes
     c.args.archives.now c.read_indexes.new.archives c.tell_addresses_and_slices.new.archives c.deref.result.now c.tell_addresses_and_slices.auto.indexes
     c.tell_addresses_and_slices.auto.archives read c.in_ok-read.ensures.kept
-    c.args.lines c.args.key.now c.args.load c.args.addresses.now c.args.slices c.in_ok-status.status c.in_ok-status.text.items c.in_ok-status.ensures in
+    c.args.lines c.args.slices c.args.key.now c.args.load c.args.addresses.now c.in_ok-status.status c.in_ok-status.text.items c.in_ok-status.ensures in
     let is = rw (← c.deref-2.ensures.value) at told.is in
     reported _ _ _ _ c.write_report_bytes.result _ _ told.unfailed is c.write_report_bytes.ensures

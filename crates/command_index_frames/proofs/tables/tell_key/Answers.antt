@@ -24,6 +24,6 @@ returns-in-Ok g c =
 pub returns : goal.returns
 returns g c =
     let are = rw c.in-Some.is at c.in_ok-answering.ensures in
-    rw c.refusal.ensures (fault_told g.I.Placed.whole g.I.Placed.failures c.args.key.now c.args.read.now
+    rw c.told_fault.ensures (fault_told g.I.Placed.whole g.I.Placed.failures c.args.key.now c.args.read.now
     c.in-Some.answering are c.args.indexes.now c.answer_among.new.devices c.args.lines c.args.places.now
-    c.in-Err.fault c.in-Err.ensures)
+    c.args.slices c.in-Err.fault c.in-Err.ensures)

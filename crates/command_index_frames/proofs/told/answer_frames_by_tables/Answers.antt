@@ -10,7 +10,6 @@ told_at-number-requires c = record {
 
 pub frames-preserved : goal.frames-preserved
 frames-preserved c =
-    more_frames _ c.args.lines c.args.frames.now c.frames.frame-index c.frame-item.result _ _ _ _ c.in_ok-answer.answer
+    more_frames _ c.args.lines c.args.frames.now c.frames.frame-index c.frame-item.result _ _ _ _
     c.told_at-number.result.0.now c.told_at-number.result.1 (omega arith) c.frame-item.is c.frames.invariant
-    c.told_at-number.ensures c.in_ok-answer.ensures c.status_after-status.ensures
-    c.in_ok-push_told.ensures
+    c.told_at-number.ensures c.in_ok-status.ensures

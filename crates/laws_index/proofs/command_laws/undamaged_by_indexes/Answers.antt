@@ -2,7 +2,7 @@ use Rattle.laws_index.proofs.ByTables.{asked_by_device, untold_by_device}
 use Rattle.laws_index.proofs.command_laws.undamaged_by_indexes.Goals as goal
 
 pub returns-clause-tables : goal.returns-clause-tables
-returns-clause-tables g c = λ lines keys inputs archives os at why are untold. untold_by_device keys inputs archives at why lines os are untold
+returns-clause-tables g c = λ lines slices keys inputs archives os at why are untold. untold_by_device keys inputs archives at why lines slices os are untold
 
 pub returns-clause-asked : goal.returns-clause-asked
-returns-clause-asked g c = λ lines keys inputs archives os at why are refused. asked_by_device keys inputs archives at why lines os are refused
+returns-clause-asked g c = λ lines slices keys inputs archives os at why are refused. asked_by_device keys inputs archives at why lines slices os are refused

@@ -10,8 +10,6 @@ returns g c = λ questions o content asked.
     let now = c.answer_passed.new.asked in
     let passed = c.in_ok-answer_passed.ensures in
     let told = asked_last (g.Q.Questions.left now.questions) (λ o. g.Q.Questions.answered questions o now.questions) (g.A.Join.content now.held) (listing o)
-    (passed.asked questions (listing o) (asked_before (g.Q.Questions.left c.args.self.questions)
-    (λ o. g.Q.Questions.answered questions o c.args.self.questions) (g.A.Join.content c.args.self.held) (listing o)
-    None asked))
+    (passed.asked questions (listing o) (asked_before (g.Q.Questions.left c.args.self.questions) (λ o. g.Q.Questions.answered questions o c.args.self.questions) (g.A.Join.content c.args.self.held) (listing o) None asked))
     (subst IsMade (content_is o) content.itself, InOrder-listing o content) passed.passed in
     (told.0, subst (λ (p : Operations). g.Q.Questions.answered questions p now.questions) (sym (content_is o)) told.1)
