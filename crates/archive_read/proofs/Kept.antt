@@ -25,12 +25,17 @@ module _ (picks : List ℕ → Bool) (records : List (List ℕ)) (x : List ℕ) 
   old : (q : List ℕ) → set.contains o q ≡ (set.contains (set.from_list {R = slice_cmp nat_cmp} records) q && picks q)
   old q = ap (λ (s : Operations). set.contains s q) is ∙ contains_part (set.from_list records) picks q
 
-  new : (q : List ℕ) → set.contains (part (set.from_list (records ++ x ∷ [])) picks) q ≡ ((eq_by_cmp (slice_cmp nat_cmp) q x || set.contains (set.from_list {R = slice_cmp nat_cmp} records) q) && picks q)
+  new : (q : List ℕ) → set.contains (part (set.from_list (records ++ x ∷ [])) picks) q
+      ≡ ((eq_by_cmp (slice_cmp nat_cmp) q x || set.contains (set.from_list {R = slice_cmp nat_cmp} records) q)
+      && picks q)
   new q = contains_part (set.from_list (records ++ x ∷ [])) picks q ∙ ap (λ b. b && picks q) (contains-push records x q)
 
-  pub picked_more : picks x ≡ true → MakeThemselves Archive_text (records ++ x ∷ []) → (p : Operations) → p ≡ with_record o x → p ≡ part (set.from_list (records ++ x ∷ [])) picks
-  picked_more passes apart p e = e ∙ part-push records x o (λ r h. and_left _ _ (sym (old r) ∙ h)) apart.0 ∙ same_set nat_list_cmp_total bytes_same (set.insert o x) (part (set.from_list (records ++ x ∷ [])) picks) (λ q.
-      rw (contains-insert nat_list_cmp_total o x q, old q, new q) (taken_in (eq_by_cmp (slice_cmp nat_cmp) q x) _ (picks q) (λ h. ap picks (tied_is q x h) ∙ passes)))
+  pub picked_more : picks x ≡ true → MakeThemselves Archive_text (records ++ x ∷ []) → (p : Operations) → p
+      ≡ with_record o x → p ≡ part (set.from_list (records ++ x ∷ [])) picks
+  picked_more passes apart p e = e ∙ part-push records x o (λ r h. and_left _ _ (sym (old r) ∙ h)) apart.0
+      ∙ same_set nat_list_cmp_total bytes_same (set.insert o x) (part (set.from_list (records ++ x ∷ [])) picks) (λ q.
+      rw (contains-insert nat_list_cmp_total o x q, old q, new q)
+      (taken_in (eq_by_cmp (slice_cmp nat_cmp) q x) _ (picks q) (λ h. ap picks (tied_is q x h) ∙ passes)))
 
   pub unpicked_more : picks x ≡ false → o ≡ part (set.from_list (records ++ x ∷ [])) picks
   unpicked_more fails = same_set nat_list_cmp_total bytes_same o (part (set.from_list (records ++ x ∷ [])) picks) (λ q.

@@ -1,5 +1,6 @@
 -- Questions under keys, answered by what is held of the records.
-use Rattle.std.proofs.Common.{◌≡◌, ℕ, ◌+◌, Bool, true, false, ◌&&◌, if◌then◌else◌, List, [], ◌∷◌, ◌++◌, append_assoc, add-one, length, drop, Option, Some, None, refl, sym, ap, ◌∙◌, arith, inl, inr}
+use Rattle.std.proofs.Common.{◌≡◌, ℕ, ◌+◌, Bool, true, false, ◌&&◌, if◌then◌else◌, List, [], ◌∷◌, ◌++◌, append_assoc}
+use Rattle.std.proofs.Common.{add-one, length, drop, Option, Some, None, refl, sym, ap, ◌∙◌, arith, inl, inr}
 use Rattle.std.specs.Prelude.{⊤}
 use Rattle.std.specs.Option.{ForSome}
 use Rattle.std.specs.Int.{w64, to_be_bytes}
@@ -78,7 +79,8 @@ not_under_less x r a b less =
     begins_below 25 (2 ∷ drop 1 x) (2 ∷ drop 1 r) (ap (λ (t : List ℕ). order t (2 ∷ drop 1 r)) (sym (tagged x a)) ∙ ap (order x) (sym (tagged r b)) ∙ less)
 
 -- no record after an admission under a greater key is one under this key
-none_behind : (records : List (List ℕ)) (prefix : List ℕ) (x : List ℕ) (more : List (List ℕ)) → InOrder Archive [] (records ++ x ∷ more) → is_admission x ≡ true → lt prefix (prefix_of x) ≡ true
+none_behind : (records : List (List ℕ)) (prefix : List ℕ) (x : List ℕ) (more : List (List ℕ))
+    → InOrder Archive [] (records ++ x ∷ more) → is_admission x ≡ true → lt prefix (prefix_of x) ≡ true
     → (r : List ℕ) → Contains (x ∷ more) r → is_admission r ≡ true → prefix ≡ prefix_of r → ⊥
 none_behind records prefix x more ordered a above r there b under =
     let behind = InOrder-behind [] records (x ∷ more) ordered in
@@ -88,17 +90,20 @@ none_behind records prefix x more ordered a above r there b under =
     ]
 
 -- so where a key is passed, none of the records that may come is under it
-none_to_come : (records behind : List (List ℕ)) (key : SliceKey) (prefix : Option (List ℕ)) → InOrder Archive [] (records ++ behind) → is_passed key prefix ≡ true → Begins prefix behind
+none_to_come : (records behind : List (List ℕ)) (key : SliceKey) (prefix : Option (List ℕ))
+    → InOrder Archive [] (records ++ behind) → is_passed key prefix ≡ true → Begins prefix behind
     → (r : List ℕ) → Contains behind r → is_admission r ≡ true → key_bytes key ≡ prefix_of r → ⊥
 none_to_come records behind key None ordered passed begins r there b under =
     let c = rw begins at there in absurd (omega (arith, c.1))
 none_to_come records behind key (Some prefix) ordered passed begins r there b under =
-    none_behind records (key_bytes key) begins.0 begins.1 (rw begins.2 at ordered) begins.3 (ap (lt (key_bytes key)) begins.4 ∙ passed) r (rw begins.2 at there) b under
+    none_behind records (key_bytes key) begins.0 begins.1 (rw begins.2 at ordered) begins.3
+    (ap (lt (key_bytes key)) begins.4 ∙ passed) r (rw begins.2 at there) b under
 
 -- ---- what is held answers as the whole
 
 -- what stands where in the record of a slice under a key of 24 bytes
-parts : (slice : List ℕ) (key : SliceKey) → length (key_bytes key) ≡ 24 → key_of slice ≡ key → (prefix_of (admission_record slice) ≡ key_bytes key) × (drop 33 (admission_record slice) ≡ slice)
+parts : (slice : List ℕ) (key : SliceKey) → length (key_bytes key) ≡ 24 → key_of slice ≡ key
+    → (prefix_of (admission_record slice) ≡ key_bytes key) × (drop 33 (admission_record slice) ≡ slice)
 unfolding admission
 parts slice key long is =
     let first : List ℕ = key_bytes (key_of slice) in
@@ -109,7 +114,8 @@ parts slice key long is =
       sym (drop-drop 8 24 (first ++ (number ++ slice))) ∙ ap (drop 8) behind ∙ drop_at number slice 8 refl,
     )
 
-module _ (records behind : List (List ℕ)) (key : SliceKey) (held : Operations) (long : length (key_bytes key) ≡ 24) (is : IsHeldUnder (key_bytes key) records held) (made : IsMade (set_of (records ++ behind)))
+module _ (records behind : List (List ℕ)) (key : SliceKey) (held : Operations) (long : length (key_bytes key) ≡ 24)
+    (is : IsHeldUnder (key_bytes key) records held) (made : IsMade (set_of (records ++ behind)))
     (none : (r : List ℕ) → Contains behind r → is_admission r ≡ true → key_bytes key ≡ prefix_of r → ⊥) where
   abbrev whole : Operations
   whole = set_of (records ++ behind)
@@ -158,7 +164,9 @@ module _ (records behind : List (List ℕ)) (key : SliceKey) (held : Operations)
     kept = no_retirement (sha256 slice);
   }
 
-  answering_alike : (o p : Operations) → ((slice : List ℕ) → IsLive o key slice → IsLive p key slice) → ((slice : List ℕ) → IsLive p key slice → IsLive o key slice) → (slice : List ℕ) → IsAnswering o key slice → IsAnswering p key slice
+  answering_alike : (o p : Operations) → ((slice : List ℕ) → IsLive o key slice → IsLive p key slice)
+      → ((slice : List ℕ) → IsLive p key slice → IsLive o key slice) → (slice : List ℕ) → IsAnswering o key slice
+      → IsAnswering p key slice
   answering_alike o p to back slice answering = record {
     live = to slice answering.live;
     companions_first = λ companion live. answering.companions_first companion (back companion live);
@@ -176,11 +184,13 @@ module _ (records behind : List (List ℕ)) (key : SliceKey) (held : Operations)
 -- ---- one question after another
 
 -- what answers as another under the first of the keys
-pub answers_first : (keys : List SliceKey) (key : SliceKey) (p o : Operations) → first_key keys ≡ Some key → AnswersAs key p o → ForSome (first_key keys) (λ k. AnswersAs k p o)
+pub answers_first : (keys : List SliceKey) (key : SliceKey) (p o : Operations) → first_key keys ≡ Some key
+    → AnswersAs key p o → ForSome (first_key keys) (λ k. AnswersAs k p o)
 answers_first keys key p o first told = λ k also. let same : key ≡ k = cc in rw (← same) told
 
 -- the admissions that are held for the question after
-held_behind : (records : List (List ℕ)) (key next : SliceKey) (held : Operations) → lt (key_bytes next) (key_bytes key) ≡ false → IsHeldUnder (key_bytes key) records held
+held_behind : (records : List (List ℕ)) (key next : SliceKey) (held : Operations) → lt (key_bytes next) (key_bytes key)
+    ≡ false → IsHeldUnder (key_bytes key) records held
     → IsHeldUnder (key_bytes next) records (if bytes_eq (key_bytes next) (key_bytes key) then held else set.empty)
 held_behind records key next held not_below is = by (bytes_eq (key_bytes next) (key_bytes key)) refl
   where
@@ -202,7 +212,8 @@ held_behind records key next held not_below is = by (bytes_eq (key_bytes next) (
     by false e = record { held_is = nothing e; none_above = none }
 
 -- the next question was answered
-pub answered_next : (prefix : Option (List ℕ)) (left new : List SliceKey) (Answered Next : Operations → Type 0) (held now : Operations) (records : List (List ℕ)) (key : SliceKey)
+pub answered_next : (prefix : Option (List ℕ)) (left new : List SliceKey) (Answered Next : Operations → Type 0)
+    (held now : Operations) (records : List (List ℕ)) (key : SliceKey)
     → first_key left ≡ Some key → new ≡ drop 1 left → length (key_bytes key) ≡ 24 → is_passed key prefix ≡ true
     → now ≡ (if is_first (key_bytes key) new then held else set.empty)
     → ((o : Operations) → AnswersAs key held o → Answered o → Next o)
@@ -213,13 +224,17 @@ answered_next prefix (k ∷ keys) new Answered Next held now records key first b
     record {
       in_order = rw behind (order_behind k keys asked.in_order);
       holds = λ next next_is. further keys next now (rw behind at next_is) (rw behind at now_is) is asked.in_order;
-      answered = λ rest begins taken. answers (set_of (records ++ rest)) (answers_as records rest key held long is taken.0 (none_to_come records rest key prefix taken.1 passed begins)) (asked.answered rest begins taken);
+      answered = λ rest begins taken. answers (set_of (records ++ rest))
+          (answers_as records rest key held long is taken.0
+          (none_to_come records rest key prefix taken.1 passed begins)) (asked.answered rest begins taken);
     }
   where
     first_is : k ≡ key
     first_is = cc
 
-    further : (ks : List SliceKey) (next : SliceKey) (now : Operations) → first_key ks ≡ Some next → now ≡ (if is_first (key_bytes key) ks then held else set.empty) → IsHeldUnder (key_bytes key) records held → AreInOrder (k ∷ ks)
+    further : (ks : List SliceKey) (next : SliceKey) (now : Operations) → first_key ks ≡ Some next → now
+        ≡ (if is_first (key_bytes key) ks then held else set.empty) → IsHeldUnder (key_bytes key) records held
+        → AreInOrder (k ∷ ks)
         → IsHeldUnder (key_bytes next) records now
     further [] next now next_is now_is is sorted = cc
     further (n ∷ ns) next now next_is now_is is sorted =
@@ -245,7 +260,9 @@ behind_one MayCome Answered records x answered may behind _ taken =
     rw (append_assoc records (x ∷ []) behind) (answered (x ∷ behind) (may behind) (rw (append_assoc records (x ∷ []) behind) at taken))
 
 -- with one record more, under no greater key
-held_more : (prefix : List ℕ) (records : List (List ℕ)) (x : List ℕ) (held now : Operations) → IsHeldUnder prefix records held → now ≡ part (set_of (records ++ x ∷ [])) (admits_under prefix) → (is_admission x ≡ true → lt prefix (prefix_of x) ≡ false)
+held_more : (prefix : List ℕ) (records : List (List ℕ)) (x : List ℕ) (held now : Operations)
+    → IsHeldUnder prefix records held → now ≡ part (set_of (records ++ x ∷ [])) (admits_under prefix)
+    → (is_admission x ≡ true → lt prefix (prefix_of x) ≡ false)
     → IsHeldUnder prefix (records ++ x ∷ []) now
 held_more prefix records x held now is now_is not_above = record {
   held_is = now_is;
@@ -256,9 +273,12 @@ held_more prefix records x held now is now_is not_above = record {
 }
 
 -- a record that is not held
-held_still : (prefix : List ℕ) (records : List (List ℕ)) (x : List ℕ) (held : Operations) → IsHeldUnder prefix records held → admits_under prefix x ≡ false → (is_admission x ≡ true → lt prefix (prefix_of x) ≡ false)
+held_still : (prefix : List ℕ) (records : List (List ℕ)) (x : List ℕ) (held : Operations)
+    → IsHeldUnder prefix records held → admits_under prefix x ≡ false
+    → (is_admission x ≡ true → lt prefix (prefix_of x) ≡ false)
     → IsHeldUnder prefix (records ++ x ∷ []) held
-held_still prefix records x held is other not_above = held_more prefix records x held held is (unpicked_more (admits_under prefix) records x held is.held_is other) not_above
+held_still prefix records x held is other not_above = held_more prefix records x held held is
+    (unpicked_more (admits_under prefix) records x held is.held_is other) not_above
 
 -- a retirement
 pub retirement_more : (left : List SliceKey) (Answered : Operations → Type 0) (held : Operations) (records : List (List ℕ)) (x : List ℕ) → Retires x
@@ -267,13 +287,17 @@ retirement_more left Answered held records x retires asked =
     let no_admission : is_admission x ≡ false = ap is_admission retires.is in
     record {
       in_order = asked.in_order;
-      holds = λ key first. held_still (key_bytes key) records x held (asked.holds key first) (ap (λ b. b && bytes_eq (key_bytes key) (prefix_of x)) no_admission) (λ a. cc);
+      holds = λ key first. held_still (key_bytes key) records x held (asked.holds key first)
+          (ap (λ b. b && bytes_eq (key_bytes key) (prefix_of x)) no_admission) (λ a. cc);
       answered = behind_one (λ _. ⊤) Answered records x asked.answered (λ _. tt);
     }
 
 -- what was known before an admission, with what may come narrowed to what begins with it
-pub asked_before : (left : List SliceKey) (Answered : Operations → Type 0) (held : Operations) (records : List (List ℕ)) (prefix : Option (List ℕ)) → AreAsked (λ _. ⊤) left Answered held records → AreAsked (Begins prefix) left Answered held records
-asked_before left Answered held records prefix asked = record { in_order = asked.in_order; holds = asked.holds; answered = λ rest _ taken. asked.answered rest tt taken }
+pub asked_before : (left : List SliceKey) (Answered : Operations → Type 0) (held : Operations) (records : List (List ℕ))
+    (prefix : Option (List ℕ)) → AreAsked (λ _. ⊤) left Answered held records
+    → AreAsked (Begins prefix) left Answered held records
+asked_before left Answered held records prefix asked =
+    record { in_order = asked.in_order; holds = asked.holds; answered = λ rest _ taken. asked.answered rest tt taken }
 
 is_first_of : (prefix : List ℕ) (ks : List SliceKey) (key : SliceKey) → first_key ks ≡ Some key → is_first prefix ks ≡ bytes_eq (key_bytes key) prefix
 is_first_of prefix [] key e = cc
@@ -282,7 +306,8 @@ is_first_of prefix (k ∷ ks) key e = cc
 pub admission_is : (x : List ℕ) → Admits x → is_admission x ≡ true
 admission_is x a = ap is_admission a.is
 
-module _ (left : List SliceKey) (Answered : Operations → Type 0) (held : Operations) (records : List (List ℕ)) (x : List ℕ) (is : Admits x) (asked : AreAsked (Begins (Some (prefix_of x))) left Answered held records)
+module _ (left : List SliceKey) (Answered : Operations → Type 0) (held : Operations) (records : List (List ℕ))
+    (x : List ℕ) (is : Admits x) (asked : AreAsked (Begins (Some (prefix_of x))) left Answered held records)
     (passed : ForSome (first_key left) (λ key. is_passed key (Some (prefix_of x)) ≡ false)) where
   behind : (rest : List (List ℕ)) → ⊤ → MakeThemselves Archive_text ((records ++ x ∷ []) ++ rest) → Answered (set_of ((records ++ x ∷ []) ++ rest))
   behind = behind_one (Begins (Some (prefix_of x))) Answered records x asked.answered (λ rest. (x, rest, refl, admission_is x is, refl))
@@ -291,25 +316,30 @@ module _ (left : List SliceKey) (Answered : Operations → Type 0) (held : Opera
   pub admission_other : is_first (prefix_of x) left ≡ false → AreAsked (λ _. ⊤) left Answered held (records ++ x ∷ [])
   admission_other other = record {
     in_order = asked.in_order;
-    holds = λ key first. held_still (key_bytes key) records x held (asked.holds key first) (rw (admission_is x is) (sym (is_first_of (prefix_of x) left key first) ∙ other)) (λ _. passed key first);
+    holds = λ key first. held_still (key_bytes key) records x held (asked.holds key first)
+        (rw (admission_is x is) (sym (is_first_of (prefix_of x) left key first) ∙ other)) (λ _. passed key first);
     answered = behind;
   }
 
   -- an admission under it
-  pub admission_held : is_first (prefix_of x) left ≡ true → MakeThemselves Archive_text (records ++ x ∷ []) → (now : Operations) → now ≡ with_record held x → AreAsked (λ _. ⊤) left Answered now (records ++ x ∷ [])
+  pub admission_held : is_first (prefix_of x) left ≡ true → MakeThemselves Archive_text (records ++ x ∷ [])
+      → (now : Operations) → now ≡ with_record held x → AreAsked (λ _. ⊤) left Answered now (records ++ x ∷ [])
   admission_held next apart now more = record {
     in_order = asked.in_order;
     holds = λ key first.
         let h = asked.holds key first in
         let under = and_from _ _ (admission_is x is) (sym (is_first_of (prefix_of x) left key first) ∙ next) in
-        held_more (key_bytes key) records x held now h (picked_more (admits_under (key_bytes key)) records x held h.held_is under apart now more) (λ _. passed key first);
+        held_more (key_bytes key) records x held now h
+        (picked_more (admits_under (key_bytes key)) records x held h.held_is under apart now more)
+        (λ _. passed key first);
     answered = behind;
   }
 
 -- ---- the first record, and the last one
 
 -- questions to no records
-pub asked_first : (left : List SliceKey) (Answered : Operations → Type 0) (held : Operations) → AreInOrder left → ((o : Operations) → Answered o) → held ≡ set.empty → AreAsked (λ _. ⊤) left Answered held []
+pub asked_first : (left : List SliceKey) (Answered : Operations → Type 0) (held : Operations) → AreInOrder left
+    → ((o : Operations) → Answered o) → held ≡ set.empty → AreAsked (λ _. ⊤) left Answered held []
 asked_first left Answered held sorted answered none = record {
   in_order = sorted;
   holds = λ key _. record { held_is = part_start (admits_under (key_bytes key)) held none; none_above = λ r there _. absurd (omega (arith, there.1)) };
@@ -317,7 +347,8 @@ asked_first left Answered held sorted answered none = record {
 }
 
 -- where no question is left, what was answered is what the records answer
-pub asked_last : (left : List SliceKey) (Answered : Operations → Type 0) (held : Operations) (records : List (List ℕ)) → AreAsked (Begins None) left Answered held records → MakeThemselves Archive_text records
+pub asked_last : (left : List SliceKey) (Answered : Operations → Type 0) (held : Operations) (records : List (List ℕ))
+    → AreAsked (Begins None) left Answered held records → MakeThemselves Archive_text records
     → ForSome (first_key left) (λ key. is_passed key None ≡ false) → (left ≡ []) × Answered (set_of records)
 asked_last [] Answered held records asked taken none =
     (refl, rw (append-nil records) at (asked.answered [] refl (rw (append-nil records) taken)))

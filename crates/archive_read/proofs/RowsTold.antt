@@ -1,5 +1,6 @@
 -- Rows that are made record by record, and put in the order of a list.
-use Rattle.std.proofs.Common.{◌≡◌, ℕ, ◌+◌, ◌<◌, zero, suc, Bool, true, false, not, ◌&&◌, List, [], ◌∷◌, ◌++◌, length, map, get_or, w32, refl, sym, ap, ◌∙◌, subst, arith, add-one}
+use Rattle.std.proofs.Common.{◌≡◌, ℕ, ◌+◌, ◌<◌, zero, suc, Bool, true, false, not, ◌&&◌, List, [], ◌∷◌, ◌++◌, length}
+use Rattle.std.proofs.Common.{map, get_or, w32, refl, sym, ap, ◌∙◌, subst, arith, add-one}
 use Rattle.std.proofs.Math.ListN.{length-map}
 use Rattle.std.specs.Prelude.{All}
 use Rattle.std.specs.Int.{to_be_bytes}
@@ -39,8 +40,10 @@ pub no_rows : AreRowsOf [] []
 no_rows = record { operations = []; are = λ i d lt. absurd (omega arith); keys_are = λ i d lt. absurd (omega arith); records_are = refl; rows_are = refl }
 
 -- the row of a record that is borrowed
-pub rows_more : (records : List (List ℕ)) (bytes : List ℕ) (borrowed : Record) (rows grown : List FindRow) (row : FindRow) → grown ≡ rows ++ row ∷ [] → borrowed_bytes borrowed ≡ bytes
-    → row ≡ row_of (operation_borrowed borrowed) → IsOperation (operation_borrowed borrowed) → IsKey row.key → AreRowsOf records rows → AreRowsOf (records ++ bytes ∷ []) grown
+pub rows_more : (records : List (List ℕ)) (bytes : List ℕ) (borrowed : Record) (rows grown : List FindRow)
+    (row : FindRow) → grown ≡ rows ++ row ∷ [] → borrowed_bytes borrowed ≡ bytes
+    → row ≡ row_of (operation_borrowed borrowed) → IsOperation (operation_borrowed borrowed) → IsKey row.key
+    → AreRowsOf records rows → AreRowsOf (records ++ bytes ∷ []) grown
 rows_more records bytes borrowed rows grown row more same is valid key all =
     let operation = operation_borrowed borrowed in
     record {
@@ -60,11 +63,16 @@ key_cmp a b = order (key_bytes a) (key_bytes b)
 key_parts : (a b : SliceKey) → IsKey a → IsKey b → key_cmp a b ≡ ordering_then (order a.uuid b.uuid) (arch_cmp a.arch b.arch)
 unfolding key_bytes
 key_parts a b is_a is_b =
-    three_parts a.uuid (to_be_bytes w32 a.arch.cputype) (to_be_bytes w32 a.arch.cpusubtype) b.uuid (to_be_bytes w32 b.arch.cputype) (to_be_bytes w32 b.arch.cpusubtype) (is_a.uuid ∙ sym is_b.uuid) (omega arith)
-    ∙ then_assoc (order a.uuid b.uuid) (order (to_be_bytes w32 a.arch.cputype) (to_be_bytes w32 b.arch.cputype)) (order (to_be_bytes w32 a.arch.cpusubtype) (to_be_bytes w32 b.arch.cpusubtype))
-    ∙ sym (λ i. ordering_then (order a.uuid b.uuid) (ordering_then (cmp_four a.arch.cputype b.arch.cputype is_a.cputype is_b.cputype i) (cmp_four a.arch.cpusubtype b.arch.cpusubtype is_a.cpusubtype is_b.cpusubtype i)))
+    three_parts a.uuid (to_be_bytes w32 a.arch.cputype) (to_be_bytes w32 a.arch.cpusubtype) b.uuid
+    (to_be_bytes w32 b.arch.cputype) (to_be_bytes w32 b.arch.cpusubtype) (is_a.uuid ∙ sym is_b.uuid) (omega arith)
+    ∙ then_assoc (order a.uuid b.uuid) (order (to_be_bytes w32 a.arch.cputype) (to_be_bytes w32 b.arch.cputype))
+    (order (to_be_bytes w32 a.arch.cpusubtype) (to_be_bytes w32 b.arch.cpusubtype))
+    ∙ sym (λ i. ordering_then (order a.uuid b.uuid) (ordering_then
+    (cmp_four a.arch.cputype b.arch.cputype is_a.cputype is_b.cputype i)
+    (cmp_four a.arch.cpusubtype b.arch.cpusubtype is_a.cpusubtype is_b.cpusubtype i)))
 
-list_parts : (a b : Operation) → IsKey (key_in a) → IsKey (key_in b) → list_cmp a b ≡ ordering_then (key_cmp (key_in a) (key_in b)) (order (record_bytes a) (record_bytes b))
+list_parts : (a b : Operation) → IsKey (key_in a) → IsKey (key_in b) → list_cmp a b
+    ≡ ordering_then (key_cmp (key_in a) (key_in b)) (order (record_bytes a) (record_bytes b))
 list_parts a b is_a is_b =
     sym (then_assoc (order (key_in a).uuid (key_in b).uuid) (arch_cmp (key_in a).arch (key_in b).arch) (order (record_bytes a) (record_bytes b)))
     ∙ ap (λ o. ordering_then o (order (record_bytes a) (record_bytes b))) (sym (key_parts (key_in a) (key_in b) is_a is_b))
@@ -74,11 +82,13 @@ list_parts a b is_a is_b =
 not_above : (a b : Ordering) → a ≡ Less → b ≡ ordering_reverse a → is_lt b ≡ false
 not_above a b e f = ap is_lt (f ∙ ap ordering_reverse e)
 
-sorted_operations : (ops : List Operation) → IsStrictlySortedBy order (map record_bytes ops) → (k : ℕ) (d : Operation) → suc k < length ops → is_lt (order (record_bytes (get_or ops (suc k) d)) (record_bytes (get_or ops k d))) ≡ false
+sorted_operations : (ops : List Operation) → IsStrictlySortedBy order (map record_bytes ops) → (k : ℕ) (d : Operation)
+    → suc k < length ops → is_lt (order (record_bytes (get_or ops (suc k) d)) (record_bytes (get_or ops k d))) ≡ false
 unfolding IsStrictlySortedBy
 sorted_operations [] up k d lt = absurd (omega arith)
 sorted_operations (x ∷ []) up k d lt = absurd (omega arith)
-sorted_operations (x ∷ y ∷ ops) up zero d lt = not_above (order (record_bytes x) (record_bytes y)) (order (record_bytes y) (record_bytes x)) up.0.0 (nat_list_cmp_total.antisymm (record_bytes y) (record_bytes x))
+sorted_operations (x ∷ y ∷ ops) up zero d lt = not_above (order (record_bytes x) (record_bytes y))
+    (order (record_bytes y) (record_bytes x)) up.0.0 (nat_list_cmp_total.antisymm (record_bytes y) (record_bytes x))
 sorted_operations (x ∷ y ∷ ops) up (suc k) d lt = sorted_operations (y ∷ ops) up.1 k d (omega arith)
 
 -- ---- the order of a list
@@ -90,10 +100,14 @@ abbrev op_key : Operation → Operation → Bool
 op_key a b = by_key (row_of a) (row_of b)
 
 -- the later of two neighbours is not the lower one
-in_list : (keys turned records : Ordering) → turned ≡ ordering_reverse keys → is_lt keys ≡ false → ((not (is_lt turned) && not (is_lt keys)) ≡ true → is_lt records ≡ false) → is_lt (ordering_then keys records) ≡ false
+in_list : (keys turned records : Ordering) → turned ≡ ordering_reverse keys → is_lt keys ≡ false
+    → ((not (is_lt turned) && not (is_lt keys)) ≡ true → is_lt records ≡ false) → is_lt (ordering_then keys records)
+    ≡ false
 in_list keys turned records e h tie = grind arith
 
-module _ (ops told : List Operation) (moved : IsPermutation ops told) (keys : All (λ a. IsKey (key_in a)) ops) (up : IsStrictlySortedBy order (map record_bytes ops)) (sorted : IsSortedBy by_key (map row_of told)) (stable : IsStableBy op_key ops told) where
+module _ (ops told : List Operation) (moved : IsPermutation ops told) (keys : All (λ a. IsKey (key_in a)) ops)
+    (up : IsStrictlySortedBy order (map record_bytes ops)) (sorted : IsSortedBy by_key (map row_of told))
+    (stable : IsStableBy op_key ops told) where
   keys_told : All (λ a. IsKey (key_in a)) told
   keys_told = All-permutation (λ a. IsKey (key_in a)) ops told moved keys
 
@@ -105,10 +119,15 @@ module _ (ops told : List Operation) (moved : IsPermutation ops told) (keys : Al
       let not_lower : op_key a b ≡ false =
       sym (λ i. by_key (get_or-map row_of told (k + 1) d (row_of d) high i) (get_or-map row_of told k d (row_of d) inside i))
       ∙ sorted k (row_of d) (omega arith) (omega (arith, length-map told row_of)) in
-      ap is_lt (list_parts a b (All-get_or (λ a. IsKey (key_in a)) told (k + 1) d high keys_told) (All-get_or (λ a. IsKey (key_in a)) told k d inside keys_told))
-      ∙ in_list (key_cmp (key_in a) (key_in b)) (key_cmp (key_in b) (key_in a)) (order (record_bytes a) (record_bytes b)) (nat_list_cmp_total.antisymm (key_bytes (key_in b)) (key_bytes (key_in a))) not_lower
-      (ties_stay_sorted (λ x y. is_lt (order (record_bytes x) (record_bytes y))) op_key (ranks_by nat_list_cmp_total record_bytes) (ranks_by nat_list_cmp_total (λ x. key_bytes (key_in x))) ops told
-      (λ j e from to. ap (λ n. is_lt (order (record_bytes (get_or ops n e)) (record_bytes (get_or ops j e)))) (add-one j) ∙ sorted_operations ops up j e (omega arith)) stable k d high)
+      ap is_lt (list_parts a b (All-get_or (λ a. IsKey (key_in a)) told (k + 1) d high keys_told)
+      (All-get_or (λ a. IsKey (key_in a)) told k d inside keys_told))
+      ∙ in_list (key_cmp (key_in a) (key_in b)) (key_cmp (key_in b) (key_in a))
+      (order (record_bytes a) (record_bytes b)) (nat_list_cmp_total.antisymm (key_bytes (key_in b))
+      (key_bytes (key_in a))) not_lower
+      (ties_stay_sorted (λ x y. is_lt (order (record_bytes x) (record_bytes y))) op_key
+      (ranks_by nat_list_cmp_total record_bytes) (ranks_by nat_list_cmp_total (λ x. key_bytes (key_in x))) ops told
+      (λ j e from to. ap (λ n. is_lt (order (record_bytes (get_or ops n e)) (record_bytes (get_or ops j e))))
+      (add-one j) ∙ sorted_operations ops up j e (omega arith)) stable k d high)
 
 -- what the content holds
 held_in : (o : Operations) (ops : List Operation) → IsContent o → All IsOperation ops → map record_bytes ops ≡ listing o → IsHeld ops
@@ -119,7 +138,8 @@ held_in o ops content are is = record {
 }
 
 -- rows in the order of their records, put in a stable order by key, are the list
-pub list_of : (o : Operations) (rows told : List FindRow) → IsContent o → AreRowsOf (listing o) rows → IsSortedBy by_key told → IsStableBy by_key rows told → IsList o told
+pub list_of : (o : Operations) (rows told : List FindRow) → IsContent o → AreRowsOf (listing o) rows
+    → IsSortedBy by_key told → IsStableBy by_key rows told → IsList o told
 list_of o rows told content all sorted stable =
     let ranks = ranks_by nat_list_cmp_total (λ row. key_bytes row.key) in
     let l = lifted by_key ranks row_of all.operations told (subst (λ xs. IsStableBy by_key xs told) all.rows_are stable) in

@@ -27,7 +27,8 @@ use Rattle.archive_records.proofs.Forms.{parts-of, tag-retirement}
 
 -- ---- one record more
 
-pub names_more : (name : List ℕ) (records : List (List ℕ)) (x : List ℕ) (before after : List NameRecord) → after ≡ before ++ names_of name x → before ≡ names_among name records → after ≡ names_among name (records ++ x ∷ [])
+pub names_more : (name : List ℕ) (records : List (List ℕ)) (x : List ℕ) (before after : List NameRecord) → after
+    ≡ before ++ names_of name x → before ≡ names_among name records → after ≡ names_among name (records ++ x ∷ [])
 unfolding names_among
 names_more name records x before after grown are =
     rw (grown, are, flat_map-append (names_of name) records (x ∷ []), append-nil (names_of name x)) refl
@@ -48,21 +49,26 @@ names_of_slice name slice valid =
 
 -- those of a slice that was asked whether it has the name
 pub names_none : (name slice : List ℕ) (has : Bool) → has ≡ nat_lt 0 (length (named slice name)) → has ≡ false → names_in name slice ≡ []
-names_none name slice has tells not = ap (map (name_row slice)) (nil_from_length (named slice name) (omega (arith, ltb-false 0 (length (named slice name)) (sym tells ∙ not))))
+names_none name slice has tells not = ap (map (name_row slice))
+    (nil_from_length (named slice name) (omega (arith, ltb-false 0 (length (named slice name)) (sym tells ∙ not))))
 
 -- ---- rows in order, each once
 
-module _ {X : Type 0} (view : X → NameRecord) (old sorted kept : List X) (permuted : IsPermutation old sorted) (up : IsSorted (on view name_cmp) sorted) (once : kept ≡ dedup (eq_by_cmp (on view name_cmp)) sorted) where
+module _ {X : Type 0} (view : X → NameRecord) (old sorted kept : List X) (permuted : IsPermutation old sorted)
+    (up : IsSorted (on view name_cmp) sorted) (once : kept ≡ dedup (eq_by_cmp (on view name_cmp)) sorted) where
   total : IsTotalOrder (on view name_cmp)
   total = on_total view name_total
 
   pub rows_ascending : IsStrictlySortedBy name_cmp (map view kept)
-  rows_ascending = ascending_map name_cmp view kept (subst (IsStrictlySortedBy (on view name_cmp)) (sym once) (IsStrictlySortedBy-dedup total (λ x y. refl) sorted up))
+  rows_ascending = ascending_map name_cmp view kept (subst (IsStrictlySortedBy (on view name_cmp)) (sym once)
+      (IsStrictlySortedBy-dedup total (λ x y. refl) sorted up))
 
   to : (row : NameRecord) → Contains (map view kept) row → Contains (map view old) row
   to row h =
       let one = in_map view kept row h in
-      let there = Contains-permutation sorted old one.0 (IsPermutation-sym old sorted permuted) (Contains-from_dedup (eq_by_cmp (on view name_cmp)) sorted one.0 (subst (λ (l : List X). Contains l one.0) once one.1)) in
+      let there = Contains-permutation sorted old one.0 (IsPermutation-sym old sorted permuted)
+      (Contains-from_dedup (eq_by_cmp (on view name_cmp)) sorted one.0
+      (subst (λ (l : List X). Contains l one.0) once one.1)) in
       subst (Contains (map view old)) (sym one.2) (to_map view old one.0 there)
 
   back : (row : NameRecord) → Contains (map view old) row → Contains (map view kept) row
@@ -71,7 +77,8 @@ module _ {X : Type 0} (view : X → NameRecord) (old sorted kept : List X) (perm
       let there = Contains-permutation old sorted one.0 permuted one.1 in
       let alike = Any-dedup (eq_by_cmp_equiv total) sorted one.0 there in
       let tied : name_cmp (view one.0) (view alike.1) ≡ Equal = (Equal-is (name_cmp (view one.0) (view alike.1))).0 alike.4 in
-      subst (Contains (map view kept)) (sym (one.2 ∙ rows_same (view one.0) (view alike.1) tied)) (to_map view kept alike.1 (subst (λ (l : List X). Contains l alike.1) (sym once) (alike.0, alike.2, alike.3)))
+      subst (Contains (map view kept)) (sym (one.2 ∙ rows_same (view one.0) (view alike.1) tied))
+      (to_map view kept alike.1 (subst (λ (l : List X). Contains l alike.1) (sym once) (alike.0, alike.2, alike.3)))
 
   pub rows_kept : (row : NameRecord) → Contains (map view kept) row ↔ Contains (map view old) row
   rows_kept row = (to row, back row)
@@ -113,7 +120,9 @@ module _ (o : Operations) (name : List ℕ) (records : List (List ℕ)) (content
   )
 
   -- put in order, they are what a search for the name tells
-  pub names_put : (gathered rows : List NameRecord) → gathered ≡ names_among name records → IsStrictlySortedBy name_cmp rows → ((row : NameRecord) → Contains rows row ↔ Contains gathered row) → IsNames o name rows
+  pub names_put : (gathered rows : List NameRecord) → gathered ≡ names_among name records
+      → IsStrictlySortedBy name_cmp rows → ((row : NameRecord) → Contains rows row ↔ Contains gathered row)
+      → IsNames o name rows
   names_put gathered rows are ascending same = record {
     ascending = ascending;
     exactly = λ row. (λ h. (names_told row).0 (rw are at ((same row).0 h)), λ h. (same row).1 (rw are ((names_told row).1 h)));

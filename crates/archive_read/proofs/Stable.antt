@@ -13,7 +13,8 @@ pub record Lifted {P X : Type 0} (f : P → X) (at : X → P → Bool) (ps : Lis
   pub stable : (x : X) → filter (at x) told ≡ filter (at x) ps
   pub moved : IsPermutation ps told
 
-module _ {P X : Type 0} (f : P → X) (same : X → X → Bool) (itself : (x : X) → same x x ≡ true) (alike : (x y : X) → same x y ≡ true → (z : X) → same x z ≡ same y z) where
+module _ {P X : Type 0} (f : P → X) (same : X → X → Bool) (itself : (x : X) → same x x ≡ true)
+    (alike : (x y : X) → same x y ≡ true → (z : X) → same x z ≡ same y z) where
   abbrev at : X → P → Bool
   at x p = same x (f p)
 
@@ -74,7 +75,8 @@ module _ {P X : Type 0} (f : P → X) (same : X → X → Bool) (itself : (x : X
 
     moved_with : (told : List P) → IsPermutation (s.before ++ s.after) told → IsPermutation ps (s.here ∷ told)
     moved_with told e = rw s.whole
-        (IsPermutation-trans (s.before ++ s.here ∷ s.after) (s.here ∷ (s.before ++ s.after)) (s.here ∷ told) (IsPermutation-middle s.before s.here s.after) (IsPermutation-cons s.here (s.before ++ s.after) told e))
+        (IsPermutation-trans (s.before ++ s.here ∷ s.after) (s.here ∷ (s.before ++ s.after)) (s.here ∷ told)
+        (IsPermutation-middle s.before s.here s.after) (IsPermutation-cons s.here (s.before ++ s.after) told e))
 
     grown : Lifted f at (s.before ++ s.after) ys → Lifted f at ps (y ∷ ys)
     grown l = record {

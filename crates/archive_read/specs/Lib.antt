@@ -3,3 +3,4 @@ pub mod Names
 pub mod InnerNames
 pub mod InnerRows
 pub mod InnerKeys
+pub mod InnerKeeping

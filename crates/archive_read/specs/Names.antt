@@ -1,4 +1,4 @@
--- What is told of two names as archives are read one after another.
+-- The rows of two names that were found in archives that are read one after another.
 use Rattle.std.specs.Prelude.{◌≡◌, ◌↔◌, ◌⊎◌, ℕ, List, true, false, map, Contains}
 use Rattle.std.specs.FinSet as set
 use Rattle.archive_core.specs.Content.{Operations, is_admission}

@@ -1,19 +1,22 @@
 //! Questions under keys, answered in one pass over an archive.
 
-ghost use Rattle.std.specs.Prelude.{◌≡◌, [], ℕ, List, Some, OnOk, drop, false, length, if◌then◌else◌, option_map};
+ghost use Rattle.std.specs.Prelude.{◌≡◌, [], ⊤, ℕ, List, Some, OnOk, IfOk, drop, false, length, if◌then◌else◌};
+ghost use Rattle.std.specs.Prelude.{option_map};
 ghost use Rattle.std.specs.FinSet as set;
 ghost use Rattle.std.specs.Option.{ForSome};
-ghost use Rattle.archive_core.specs.Content.{Operations};
+ghost use Rattle.join_core.specs.Listing.{listing};
+ghost use Rattle.archive_core.specs.Content.{IsContent, Operations};
 ghost use Rattle.archive_core.specs.Key.{key_bytes};
 ghost use Rattle.archive_core.specs.declared.keys.SliceKey.{SliceKey};
 ghost use Rattle.archive_records.specs.declared.kind.TextKind.TheVariants.{Archive};
+ghost use Rattle.archive_read.specs.InnerKeeping.{with_last};
 ghost use Rattle.archive_read.specs.InnerKeys.{AreAsked, Begins, is_first, is_passed};
 ghost use Rattle.archive_read.specs.Keys.{AnswersAs, AreInOrder, first_key};
 ghost use Rattle.archive_records.specs.Reading.{ReadsInPart};
 
-use crate::reading::take_record;
+use crate::keeping::{Keeper, Keeping, Kept, keep_whole};
 use archive_core::{Archive, Record, SliceKey};
-use archive_records::{FromRecords, RecordFault, RecordReader, TextKind, key_prefix, tell_text};
+use archive_records::{MAGIC_LEN, RecordFault, RecordReader, key_prefix};
 use byte_device::Source;
 use memory::{Heap, NoMemory};
 
@@ -36,13 +39,6 @@ pub trait Questions {
         ensures answered { OnOk result ((start : Self) (o : Operations)
             → ForSome (first_key (left self.old)) (λ key. AnswersAs key (A.content archive.now) o)
             → answered start o self.old → answered start o self.new) };
-}
-
-/// Questions, and the slices that are held for the next of them.
-#[derive(Drop)]
-struct Asked<A, Q> {
-    held: A,
-    questions: Q,
 }
 
 /// Whether the next question is under the key of these bytes.
@@ -69,20 +65,21 @@ fn is_passed(key: &SliceKey, prefix: Option<&[u8]>) -> bool
 
 /// Answers the next question by what is held. Nothing is held then where the one after it is under another key.
 fn answer_next<A: Archive + Drop, Q: Questions>(
-    asked: &mut Asked<A, Q>,
+    held: &mut A,
+    questions: &mut Q,
     heap: &Heap,
     key: &SliceKey,
 ) -> Result<(), NoMemory>
-    requires { first_key (Q.left asked.old.questions) ≡ Some key.now }
-    ensures left { OnOk result (Q.left asked.new.questions ≡ drop 1 (Q.left asked.old.questions)) }
-    ensures held { OnOk result (A.content asked.new.held ≡ if is_first (key_bytes key.now) (Q.left asked.new.questions)
-        then A.content asked.old.held else set.empty) }
-    ensures answered { OnOk result ((start : Q) (o : Operations) → AnswersAs key.now (A.content asked.old.held) o
-        → Q.answered start o asked.old.questions → Q.answered start o asked.new.questions) }
+    requires { first_key (Q.left questions.old) ≡ Some key.now }
+    ensures left { OnOk result (Q.left questions.new ≡ drop 1 (Q.left questions.old)) }
+    ensures held { OnOk result (A.content held.new ≡ if is_first (key_bytes key.now) (Q.left questions.new)
+        then A.content held.old else set.empty) }
+    ensures answered { OnOk result ((start : Q) (o : Operations) → AnswersAs key.now (A.content held.old) o
+        → Q.answered start o questions.old → Q.answered start o questions.new) }
 {
-    asked.questions.answer(&asked.held)?;
-    if !is_next(&asked.questions, &key_prefix(key)) {
-        asked.held = A::empty(heap.share());
+    questions.answer(held)?;
+    if !is_next(questions, &key_prefix(key)) {
+        *held = A::empty(heap.share());
     }
     Ok(())
 }
@@ -90,76 +87,76 @@ fn answer_next<A: Archive + Drop, Q: Questions>(
 /// Answers the questions under keys below that of these bytes, and where there are none, all: no slice under such a key
 /// is after those that came.
 fn answer_passed<A: Archive + Drop, Q: Questions>(
-    asked: &mut Asked<A, Q>,
+    held: &mut A,
+    questions: &mut Q,
     heap: &Heap,
     prefix: Option<&[u8]>,
 ) -> Result<(), NoMemory>
     ensures asked { OnOk result ((start : Q) (records : List (List ℕ))
-        → AreAsked (Begins (option_map (λ bytes. bytes.now) prefix.entry)) (Q.left asked.old.questions)
-        (λ o. Q.answered start o asked.old.questions) (A.content asked.old.held) records
-        → AreAsked (Begins (option_map (λ bytes. bytes.now) prefix.entry)) (Q.left asked.new.questions)
-        (λ o. Q.answered start o asked.new.questions) (A.content asked.new.held) records) }
-    ensures passed { OnOk result (ForSome (first_key (Q.left asked.new.questions))
+        → AreAsked (Begins (option_map (λ bytes. bytes.now) prefix.entry)) (Q.left questions.old)
+        (λ o. Q.answered start o questions.old) (A.content held.old) records
+        → AreAsked (Begins (option_map (λ bytes. bytes.now) prefix.entry)) (Q.left questions.new)
+        (λ o. Q.answered start o questions.new) (A.content held.new) records) }
+    ensures passed { OnOk result (ForSome (first_key (Q.left questions.new))
         (λ key. is_passed key (option_map (λ bytes. bytes.now) prefix.entry) ≡ false)) }
 {
-    'questions: while let Some(key) = asked.questions.next_key() {
+    'questions: while let Some(key) = questions.next_key() {
         if !is_passed(&key, prefix) {
             return Ok(());
         }
-        answer_next(asked, heap, &key)?;
+        answer_next(held, questions, heap, &key)?;
     }
     Ok(())
 }
 
-impl<A: Archive + Drop, Q: Questions + Drop> FromRecords for Asked<A, Q> {
-    ghost use Rattle.std.specs.Prelude.{⊤, ◌≡◌, []};
-    ghost use Rattle.archive_core.specs.Content.{Operations};
-    ghost use Rattle.archive_records.specs.declared.kind.TextKind.TheVariants.{Archive};
+/// Questions, for the next of which slices are held.
+#[derive(Drop)]
+struct Asked<Q>(Q);
+
+impl<Q: Questions> Keeper for Asked<Q> {
+    ghost use Rattle.std.specs.Prelude.{⊤};
     ghost use Rattle.archive_read.specs.InnerKeys.{AreAsked};
-    ghost use Rattle.archive_read.specs.Keys.{AreInOrder};
 
-    type Question = Q;
+    ghost has_kept = { λ start records held now. AreAsked (λ _. ⊤) (Q.left now.0)
+        (λ o. Q.answered start.0 o now.0) held records };
 
-    type Told = Q;
-
-    ghost file = { Archive };
-
-    ghost may_ask = { λ questions. AreInOrder (Q.left questions)
-        × ((o : Operations) → Q.answered questions o questions) };
-
-    ghost makes = { λ questions records now. AreAsked (λ _. ⊤) (Q.left now.questions)
-        (λ o. Q.answered questions o now.questions) (A.content now.held) records };
-
-    ghost tells = { λ questions told o. (Q.left told ≡ []) × Q.answered questions o told };
-
-    fn begin(heap: Heap, questions: Q) -> Asked<A, Q> {
-        let held = A::empty(heap);
-        Asked { held, questions }
-    }
-
-    fn take(&mut self, heap: &Heap, reader: &RecordReader) -> Result<(), NoMemory> {
-        let record = reader.record();
-        let Record::Admit(_) = &record else {
+    fn keep<A: Archive + Drop>(
+        &mut self,
+        heap: &Heap,
+        kept: &mut Kept<A>,
+        reader: &mut RecordReader,
+    ) -> Result<(), NoMemory> {
+        let Record::Admit(_) = reader.record() else {
             return Ok(());
         };
         let prefix = &reader.last()[1..25];
-        answer_passed(self, heap, Some(prefix))?;
-        if !is_next(&self.questions, prefix) {
+        answer_passed(&mut kept.archive, &mut self.0, heap, Some(prefix))?;
+        if !is_next(&self.0, prefix) {
             return Ok(());
         }
-        take_record(&mut self.held, heap, &record)
-    }
-
-    fn finish(self, heap: &Heap) -> Result<Q, NoMemory> {
-        let mut asked = self;
-        answer_passed(&mut asked, heap, None)?;
-        Ok(asked.questions)
+        kept.keep_last(heap, reader)
     }
 }
 
+/// Answers the questions that are left where no record is.
+fn answer_rest<A: Archive + Drop, Q: Questions + Drop>(
+    asked: Keeping<A, Asked<Q>>,
+    heap: &Heap,
+) -> Result<Q, NoMemory>
+    ensures { IfOk result (λ told. (start : Q) (o : Operations) → IsContent o
+        → AreAsked (λ _. ⊤) (Q.left asked.keeper.0) (λ p. Q.answered start p asked.keeper.0)
+        (with_last (A.content asked.kept.archive) asked.kept.last) (listing o)
+        → (Q.left told ≡ []) × Q.answered start o told) }
+{
+    let mut rest = asked;
+    rest.kept.settle()?;
+    answer_passed(&mut rest.kept.archive, &mut rest.keeper.0, heap, None)?;
+    Ok(rest.keeper.0)
+}
+
 /// Reads an archive, and answers questions by its content: the whole input is read and tested as by
-/// [`crate::read_archive`], in the memory of the slices under one of the keys, of one record and of 57 bytes for each
-/// retirement.
+/// [`crate::read_archive`], in the memory of the slices under one of the keys, of one other record and of 57 bytes for
+/// each retirement. Slices that are held are not copied.
 ///
 /// The questions come in the order of their keys, as the slices do.
 pub fn answer_by_key<A: Archive + Drop, Q: Questions + Drop, R: Source>(
@@ -172,5 +169,9 @@ pub fn answer_by_key<A: Archive + Drop, Q: Questions + Drop, R: Source>(
     ensures { ReadsInPart Archive (λ told o. (Q.left told ≡ []) × Q.answered questions o told)
         R.left R.failures r.old r.new result }
 {
-    tell_text::<Asked<A, Q>, R>(&heap, TextKind::Archive, questions, r)
+    let asked = keep_whole::<A, Asked<Q>, R>(&heap, Asked(questions), r)?;
+    match answer_rest(asked, &heap) {
+        Ok(told) => Ok(told),
+        Err(NoMemory) => Err(RecordFault::out_of_memory(MAGIC_LEN)),
+    }
 }

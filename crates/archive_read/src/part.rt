@@ -1,15 +1,14 @@
 //! Archives of which a part is kept.
 
 ghost use Rattle.std.specs.Prelude.{◌≡◌, ℕ, List, Bool};
-ghost use Rattle.std.specs.FinSet as set;
 ghost use Rattle.archive_core.specs.Record.{IsRecord};
 ghost use Rattle.archive_core.specs.Part.{is_under, part};
 ghost use Rattle.archive_records.specs.declared.kind.TextKind.TheVariants.{Archive};
 ghost use Rattle.archive_records.specs.Reading.{ReadsInPart};
 
-use crate::reading::take_record;
+use crate::keeping::{Keeper, Kept, keep_whole};
 use archive_core::Archive;
-use archive_records::{FromRecords, RecordFault, RecordReader, TextKind, tell_text};
+use archive_records::{MAGIC_LEN, RecordFault, RecordReader};
 use byte_device::Source;
 use memory::{Heap, NoMemory};
 
@@ -37,50 +36,34 @@ impl<'a> Selects for Under<'a> {
     }
 }
 
-/// An archive that is made of the records that are picked.
+/// What keeps the records that are picked.
 #[derive(Drop)]
-struct Part<'a, A, S> {
-    archive: A,
-    select: &'a S,
-}
+struct Picked<'a, S>(&'a S);
 
-impl<'a, A: Archive + Drop, S: Selects> FromRecords for Part<'a, A, S> {
+impl<'a, S: Selects> Keeper for Picked<'a, S> {
     ghost use Rattle.std.specs.Prelude.{◌≡◌};
     ghost use Rattle.std.specs.FinSet as set;
     ghost use Rattle.archive_core.specs.Part.{part};
-    ghost use Rattle.archive_records.specs.declared.kind.TextKind.TheVariants.{Archive};
 
-    type Question = &'a S;
+    ghost has_kept = { λ start records o now. (S.picked now.0.now ≡ S.picked start.0.now)
+        × (o ≡ part (set.from_list records) (S.picked start.0.now)) };
 
-    type Told = A;
-
-    ghost file = { Archive };
-
-    ghost makes = { λ select records now. (S.picked now.select.now ≡ S.picked select.now)
-        × (A.content now.archive ≡ part (set.from_list records) (S.picked select.now)) };
-
-    ghost tells = { λ select archive o. A.content archive ≡ part o (S.picked select.now) };
-
-    fn begin(heap: Heap, select: &'a S) -> Part<'a, A, S> {
-        let archive = A::empty(heap);
-        Part { archive, select }
-    }
-
-    fn take(&mut self, heap: &Heap, reader: &RecordReader) -> Result<(), NoMemory> {
-        if !self.select.picks(reader.last()) {
+    fn keep<A: Archive + Drop>(
+        &mut self,
+        heap: &Heap,
+        kept: &mut Kept<A>,
+        reader: &mut RecordReader,
+    ) -> Result<(), NoMemory> {
+        if !self.0.picks(reader.last()) {
             return Ok(());
         }
-        take_record(&mut self.archive, heap, &reader.record())
-    }
-
-    fn finish(self, _heap: &Heap) -> Result<A, NoMemory> {
-        Ok(self.archive)
+        kept.keep_last(heap, reader)
     }
 }
 
 /// Reads an archive, and keeps the records that are picked: the whole input is read and tested as by
 /// [`crate::read_archive`], and what is kept is a part of the content that this gives, in the memory of that part, of
-/// one record and of 57 bytes for each retirement.
+/// one record that is not picked and of 57 bytes for each retirement. Slices that are picked are not copied.
 pub fn read_part<A: Archive + Drop, S: Selects, R: Source>(
     heap: Heap,
     select: &S,
@@ -89,5 +72,9 @@ pub fn read_part<A: Archive + Drop, S: Selects, R: Source>(
     ensures { ReadsInPart Archive (λ archive o. A.content archive ≡ part o (S.picked select.now))
         R.left R.failures r.old r.new result }
 {
-    tell_text::<Part<'_, A, S>, R>(&heap, TextKind::Archive, select, r)
+    let mut picked = keep_whole::<A, Picked<'_, S>, R>(&heap, Picked(select), r)?;
+    match picked.kept.settle() {
+        Ok(()) => Ok(picked.kept.archive),
+        Err(NoMemory) => Err(RecordFault::out_of_memory(MAGIC_LEN)),
+    }
 }

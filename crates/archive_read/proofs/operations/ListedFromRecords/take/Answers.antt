@@ -6,4 +6,9 @@ use Rattle.archive_read.proofs.operations.ListedFromRecords.take.Goals as goal
 pub returns : goal.returns
 returns c = λ question records apart is.
     let copied = c.in_ok-operation.ensures in
-    listed_more _ _ records c.args.reader.now.last (_, c.in_ok-push.ensures.items, subst IsOperation (sym copied) c.record.ensures.operation, ap record_bytes copied ∙ c.record.ensures.bytes) is
+    listed_more _ _ records c.args.reader.now.last (
+      _,
+      c.in_ok-push.ensures.items,
+      subst IsOperation (sym copied) c.record.ensures.operation,
+      ap record_bytes copied ∙ c.record.ensures.bytes,
+    ) is
