@@ -7,4 +7,5 @@ mod PlacesHeld
 pub mod Described
 mod DraftNames
 mod Said
+mod Comparisons
 mod ByHand

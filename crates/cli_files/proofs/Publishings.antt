@@ -77,10 +77,10 @@ found_begun path found bytes calls opened new first after is =
     is ∙ ap (λ cs. cs ++ Begins path bytes ∷ []) (after ∙ append-nil calls ∙ first)
 
 pub finds_replaced : (replaces : ReplaceRule) (path : List ℕ) (found : Found) (bytes : List ℕ) (new : List FileCall)
-    → found.is_file ≡ true → GivesWay replaces bytes → new ≡ Finds path found ∷ Begins path bytes ∷ []
-    → FindsReplaced replaces path new
-finds_replaced replaces path found bytes new file gives is =
-    record { found = found; bytes = bytes; is_file = file; gives_way = gives; probes_are = is }
+    → found.is_file ≡ true → GivesWay replaces bytes → (bytes ≡ [] → found.size ≡ 0)
+    → new ≡ Finds path found ∷ Begins path bytes ∷ [] → FindsReplaced replaces path new
+finds_replaced replaces path found bytes new file gives size is =
+    record { found = found; bytes = bytes; is_file = file; gives_way = gives; empty = size; probes_are = is }
 
 -- OUT is begun
 pub begun_through : (replaces : ReplaceRule) (path : List ℕ) (probes new : List FileCall) → IsWritable path probes → new ≡ probes ++ Opens path ∷ []
@@ -168,7 +168,7 @@ hands_on_through path replaces calls so =
 
 pub begins_probes : (path bytes : List ℕ) (calls : List FileCall) → BeginsSo path bytes calls → are_probes calls ≡ true
 begins_probes path bytes calls (inl (none, is)) = ap are_probes is
-begins_probes path bytes calls (inr (found, is)) = ap are_probes is
+begins_probes path bytes calls (inr (found, size, is)) = ap are_probes is
 
 pub tested_probes : (replaces : ReplaceRule) (draft target : List ℕ) (tests : List FileCall)
     → IsTested replaces draft target tests → are_probes tests ≡ true

@@ -4,7 +4,7 @@ use Rattle.std.proofs.Common.{append_assoc, arith, inl, inr, is_some, length, su
 use Rattle.std.specs.IoError.{error_kind}
 use Rattle.std.specs.declared.io.Error.{Error}
 use Rattle.std.specs.declared.io.ErrorKind.TheVariants.{NotFound}
-use Rattle.cli_files.specs.FileCalls.{Begins, FileCall, Finds, FindsLink, FindsNoLink, FindsNothing, Leads, failed, first_bytes}
+use Rattle.cli_files.specs.FileCalls.{Begins, Compares, FileCall, Finds, FindsLink, FindsNoLink, FindsNothing, Leads, failed, first_bytes}
 use Rattle.archive_records.specs.declared.fault.MergeCause.{MergeCause}
 use Rattle.archive_records.specs.declared.fault.MergeCause.TheVariants.{Left, Right, Write}
 use Rattle.cli_files.specs.Refusals.{IsSaid, IsUncompared, IsUnread, is_failure}
@@ -12,7 +12,7 @@ use Rattle.archive_records.specs.Kind.{magic_of}
 use Rattle.archive_records.specs.declared.format.Format.{Format}
 use Rattle.archive_records.specs.declared.format.Format.TheVariants.{Archive, OldArchive, Operations, Summary}
 use Rattle.cli_files.specs.declared.replaceable.ReplaceRule.TheVariants.{ArchivesBelow}
-use Rattle.cli_files.specs.Publishing.{BeginsSo, IsTargetOf}
+use Rattle.cli_files.specs.Publishing.{BeginsSo, IsTargetOf, IsTested, comparing}
 use Rattle.cli_files.specs.Replacing.{IsOfKind}
 use Rattle.cli_files.specs.declared.replaceable.{Obstacle.Obstacle, OutFault.OutFault, ReplaceRule.ReplaceRule}
 use Rattle.cli_files.specs.declared.replaceable.Obstacle.TheVariants.{Damaged, Differs, Loses, OtherKind, Refused}
@@ -64,12 +64,28 @@ pub begun_uncompared : (target : List ℕ) (beginning : Option (List ℕ)) (old 
 begun_uncompared target None old new tests some kind begins after = cc some
 begun_uncompared target (Some bytes) old new tests some kind (inl (empty, is)) after =
     absurd (no_archive (subst (IsOfKind ArchivesBelow) empty (kind bytes refl)))
-begun_uncompared target (Some bytes) old new tests some kind (inr (found, is)) after = (
+begun_uncompared target (Some bytes) old new tests some kind (inr (found, size, is)) after = (
   old ++ Finds target found ∷ [],
   target,
   bytes,
   kind bytes refl,
   after ∙ ap (λ ts. old ++ ts) is ∙ sym (append_assoc old (Finds target found ∷ []) (Begins target bytes ∷ [])),
+)
+
+-- and it was compared then, and nothing of it is lost
+pub compared_tested : (draft target : List ℕ) (beginning : Option (List ℕ)) (lost : ℕ) (old mid new tests : List FileCall)
+    → is_some beginning ≡ true → ((bytes : List ℕ) → beginning ≡ Some bytes → IsOfKind ArchivesBelow bytes)
+    → BeginsSo target (first_bytes beginning) tests → mid ≡ old ++ tests → new ≡ mid ++ Compares draft target lost ∷ []
+    → lost ≡ 0 → (tests : List FileCall) × IsTested ArchivesBelow draft target tests × (new ≡ old ++ tests)
+compared_tested draft target None lost old mid new tests some kind begins after next zero = cc some
+compared_tested draft target (Some bytes) lost old mid new tests some kind (inl (empty, is)) after next zero =
+    absurd (no_archive (subst (IsOfKind ArchivesBelow) empty (kind bytes refl)))
+compared_tested draft target (Some bytes) lost old mid new tests some kind (inr (found, size, is)) after next zero = (
+  comparing draft target found bytes 0,
+  inr (found, bytes, kind bytes refl, refl),
+  next ∙ ap (λ n. mid ++ Compares draft target n ∷ []) zero
+      ∙ ap (λ cs. cs ++ Compares draft target 0 ∷ []) (after ∙ ap (λ ts. old ++ ts) is)
+      ∙ append_assoc old (Finds target found ∷ Begins target bytes ∷ []) (Compares draft target 0 ∷ []),
 )
 
 -- what was said last of a path that a draft may be made for is no failure
@@ -99,7 +115,7 @@ no_kind (Left stop) bytes unread = unread
 no_kind (Right stop) bytes unread = unread
 no_kind Write bytes unread = unread
 
-no_loss : (stop : MergeCause) (lost : ℕ) → IsUnread stop (NotReplaced (Loses lost)) → ⊥
+pub no_loss : (stop : MergeCause) (lost : ℕ) → IsUnread stop (NotReplaced (Loses lost)) → ⊥
 no_loss (Left stop) lost unread = unread
 no_loss (Right stop) lost unread = unread
 no_loss Write lost unread = unread

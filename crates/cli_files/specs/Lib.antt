@@ -6,5 +6,6 @@ pub mod Identities
 pub mod OutFiles
 pub mod Refusals
 pub mod Replacing
+pub mod Comparing
 pub mod Publishing
 pub mod Fresh

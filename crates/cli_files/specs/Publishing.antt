@@ -53,12 +53,14 @@ pub record IsBeside (draft target : List ℕ) : Type 0 where
 
 -- ---- calls
 
--- At a path is a regular file, as the system said, which begins so that it may be replaced.
+-- At a path is a regular file, as the system said, which begins so that it may be replaced; with no byte only if it has
+-- none.
 pub record FindsReplaced (replaces : ReplaceRule) (path : List ℕ) (probes : List FileCall) : Type 0 where
   pub found : Found
   pub bytes : List ℕ
   pub is_file : found.is_file ≡ true
   pub gives_way : GivesWay replaces bytes
+  pub empty : bytes ≡ [] → found.size ≡ 0
   pub probes_are : probes ≡ Finds path found ∷ Begins path bytes ∷ []
 
 -- What a path leads to is replaced at the target, as the system said: nothing, or a regular file that may be replaced,
@@ -86,11 +88,12 @@ IsWritable path probes =
     ((found : Found) × (found.is_file ≡ false) × (probes ≡ Finds path found ∷ []))
     ⊎ ((probes ≡ []) × IsDescriptor path)
 
--- The file at a path begins with these bytes, as the system said, or nothing is there.
+-- The file at a path begins with these bytes, as the system said, and with none only if it has none; or nothing is
+-- there.
 abbrev pub BeginsSo : List ℕ → List ℕ → List FileCall → Type 0
 BeginsSo path bytes calls =
     ((bytes ≡ []) × (calls ≡ FindsNothing path ∷ []))
-    ⊎ ((found : Found) × (calls ≡ Finds path found ∷ Begins path bytes ∷ []))
+    ⊎ ((found : Found) × (bytes ≡ [] → found.size ≡ 0) × (calls ≡ Finds path found ∷ Begins path bytes ∷ []))
 
 -- an archive there, which begins so, is compared with the draft, which neither has nor covers so many records of it
 abbrev pub comparing : List ℕ → List ℕ → Found → List ℕ → ℕ → List FileCall

@@ -7,6 +7,7 @@ ghost use Rattle.std.specs.IoError.{error_kind};
 ghost use Rattle.byte_device.specs.Devices.{stream};
 ghost use Rattle.archive_merge.specs.Losses.{IsNotCompared, Loses};
 ghost use Rattle.archive_records.specs.declared.fault.MergeCause.{MergeCause};
+ghost use Rattle.cli_files.specs.Comparing.{AreCompared, IsBeforeComparison, IsOfComparison, NoneLost};
 ghost use Rattle.cli_files.specs.FileCalls.{Begins, Compares, FileCall, are_probes, first_bytes};
 ghost use Rattle.cli_files.specs.Publishing.{BeginsSo, IsTested};
 ghost use Rattle.cli_files.specs.Refusals.{Fails, IsSaid, IsUncompared, IsUnread};
@@ -29,11 +30,11 @@ use std::rt::Files;
 
 /// Tests whether an archive may take the place of what is at its target: nothing, an empty file, or an archive that has
 /// no record which the draft neither has nor covers.
-pub fn check_losses<F: Files>(
+pub fn check_losses<'d, 't, F: Files>(
     alloc: Global,
     system: &System<'_, F>,
-    draft: &str,
-    target: &str,
+    draft: &'d str,
+    target: &'t str,
     calls: &mut FileCalls,
 ) -> Result<(), OutFault>
     ensures tested { OnOk result ((tests : List FileCall) × IsTested ArchivesBelow draft.now target.now tests
@@ -41,6 +42,10 @@ pub fn check_losses<F: Files>(
     ensures refused { OnErr result ((tests : List FileCall) × (are_probes tests ≡ true)
         × (calls.new.entries ≡ calls.old.entries ++ tests)) }
     ensures said { IfErr result (λ fault. IsSaid ArchivesBelow fault calls.new.entries) }
+    ensures compared { OnOk result (NoneLost ⟦<ArchiveSide<'d, F::File> as Source>⟧
+        ⟦<ArchiveSide<'t, F::File> as Source>⟧ draft.now target.now calls.old.entries calls.new.entries) }
+    ensures uncompared { IfErr result (λ fault. IsOfComparison ⟦<ArchiveSide<'d, F::File> as Source>⟧
+        ⟦<ArchiveSide<'t, F::File> as Source>⟧ draft.now target.now fault) }
 {
     if replaceable_beginning(system, target, ReplaceRule::ArchivesBelow, calls)?.is_none() {
         return Ok(());
@@ -52,11 +57,11 @@ pub fn check_losses<F: Files>(
 }
 
 /// How many records of the archive at the target the draft neither has nor covers.
-fn lost_at<F: Files>(
+fn lost_at<'d, 't, F: Files>(
     alloc: Global,
     system: &System<'_, F>,
-    draft: &str,
-    target: &str,
+    draft: &'d str,
+    target: &'t str,
     calls: &mut FileCalls,
 ) -> Result<u64, OutFault>
     ensures lost { IfOk result
@@ -65,6 +70,10 @@ fn lost_at<F: Files>(
         × (calls.new.entries ≡ calls.old.entries ++ tests)) }
     ensures said { (replaces : ReplaceRule) → IsUncompared calls.old.entries
         → IfErr result (λ fault. IsSaid replaces fault calls.new.entries) }
+    ensures compared { IfOk result (λ lost. AreCompared ⟦<ArchiveSide<'d, F::File> as Source>⟧
+        ⟦<ArchiveSide<'t, F::File> as Source>⟧ draft.now target.now lost) }
+    ensures uncompared { IfErr result (λ fault. IsOfComparison ⟦<ArchiveSide<'d, F::File> as Source>⟧
+        ⟦<ArchiveSide<'t, F::File> as Source>⟧ draft.now target.now fault) }
 {
     let heap = Heap::new(alloc)?;
     let mut new = side_at(alloc, system, draft, calls)?;
@@ -118,6 +127,7 @@ pub fn replaceable_beginning<F: Files>(
     ensures refused { OnErr result ((tests : List FileCall) × (are_probes tests ≡ true)
         × (calls.new.entries ≡ calls.old.entries ++ tests)) }
     ensures said { IfErr result (λ fault. IsSaid replaces fault calls.new.entries) }
+    ensures before { IfErr result (λ fault. IsBeforeComparison fault) }
 {
     let beginning = match beginning_at(system, path, calls) {
         Ok(beginning) => beginning,
@@ -162,6 +172,7 @@ fn side_at<'p, F: Files>(
         × (calls.new.entries ≡ calls.old.entries ++ tests)) }
     ensures said { (replaces : ReplaceRule) → IsUncompared calls.old.entries
         → IfErr result (λ fault. IsSaid replaces fault calls.new.entries) }
+    ensures before { IfErr result (λ fault. IsBeforeComparison fault) }
 {
     let opened = match system.open(path, false, calls) {
         Ok(opened) => opened,
@@ -180,6 +191,7 @@ fn refused(error: io::Error) -> OutFault
     ensures memory { error_kind error ≡ ErrorKind.OutOfMemory → result ≡ OutFault.OutOfMemory }
     ensures other { error_kind error ≢ ErrorKind.OutOfMemory
         → result ≡ OutFault.NotReplaced (Obstacle.Refused (Some error)) }
+    ensures before { IsBeforeComparison result }
 {
     if error.kind() == ErrorKind::OutOfMemory {
         OutFault::OutOfMemory

@@ -1,6 +1,6 @@
 //! Which file at OUT's path is replaced, by what it begins with, and why one is not. What files hold is in no contract.
 
-ghost use Rattle.std.specs.Prelude.{◌≡◌, ◌≢◌, ℕ, IfErr, IsOk, List, None, Ok, OnOk, Some, false, true};
+ghost use Rattle.std.specs.Prelude.{◌≡◌, ◌≢◌, ℕ, IfErr, IfOk, IsOk, List, None, Ok, OnOk, Some, [], false, true};
 ghost use Rattle.cli_files.specs.FileCalls.{first_bytes};
 ghost use Rattle.cli_files.specs.Replacing.{GivesWay, IsOfKind};
 
@@ -82,6 +82,7 @@ impl ReplaceRule {
 pub fn beginning_of<R: Read>(file: &mut R, size: u64) -> io::Result<Option<LeadingBytes>>
     ensures empty { size ≡ 0 → result ≡ Ok None }
     ensures some { size ≢ 0 → OnOk result (result ≢ Ok None) }
+    ensures none { IfOk result (λ beginning. first_bytes beginning ≡ [] → size ≡ 0) }
 {
     if size == 0 {
         return Ok(None);

@@ -4,7 +4,7 @@
 ghost use Rattle.std.specs.Prelude.{◌≡◌, ◌≤◌, ◌∷◌, ◌++◌, [], IfOk, length, string_bytes};
 ghost use Rattle.std.specs.Io.KnownBytes.{WriteAppends};
 ghost use Rattle.cli_files.specs.FileCalls.{Gives, Opens, Removes, Renames, Syncs, SyncsFolder, answered, begun};
-ghost use Rattle.cli_files.specs.FileCalls.{created, found, led, linked, refused};
+ghost use Rattle.cli_files.specs.FileCalls.{created, first_bytes, found, led, linked, refused};
 
 use crate::file_calls::FileCalls;
 use crate::found::Found;
@@ -227,7 +227,8 @@ impl<'p, T: Read> Opened<'p, T> {
         size: u64,
         calls: &mut FileCalls,
     ) -> io::Result<Option<LeadingBytes>>
-        ensures { calls.new.entries ≡ calls.old.entries ++ begun self.old.path.now result }
+        ensures calls { calls.new.entries ≡ calls.old.entries ++ begun self.old.path.now result }
+        ensures empty { IfOk result (λ beginning. first_bytes beginning ≡ [] → size ≡ 0) }
     {
         let answer = beginning_of(&mut self.file, size);
         calls.note_beginning(self.path, &answer);

@@ -1,6 +1,6 @@
 //! What a crash leaves at the path of an output, whatever call it is stopped after. Each law speaks of the calls that
 //! a command makes for its output.
-ghost use Rattle.std.specs.Prelude.{◌≡◌, ◌⊎◌, ℕ, Contains, List, Option, Some, false, take};
+ghost use Rattle.std.specs.Prelude.{◌≡◌, ◌⊎◌, ℕ, Contains, List, Option, Some, [], false, take};
 ghost use Rattle.cli_files.specs.FileCalls.{Begins, Compares, FileCall, Finds, FindsNothing, Leads};
 ghost use Rattle.cli_files.specs.declared.found.Found.{Found};
 ghost use Rattle.cli_files.specs.Publishing.{IsDescriptor, IsDraftRemoved, IsReplaced, IsWrittenThrough};
@@ -45,7 +45,8 @@ pub fn never_written_through()
 {}
 
 /// What is at the place of OUT's path gives way, whatever the command: what begins as an archive to an archive that has
-/// or covers each of its records; and a file of another kind than the draft to none, but to a slice that it is.
+/// or covers each of its records; and a file of another kind than the draft to none, but to a slice that it is. A file
+/// counts as empty only if the system said that it has no byte.
 pub fn archives_give_way_to_those_above()
     ensures archives { (path text bytes : List ℕ) (replaces : ReplaceRule) (calls : List FileCall)
         (is : IsReplaced path replaces text calls)
@@ -54,5 +55,10 @@ pub fn archives_give_way_to_those_above()
     ensures kinds { (path text : List ℕ) (replaces : ReplaceRule) (calls : List FileCall)
         (is : IsReplaced path replaces text calls)
         → (replaces ≡ SameBytes) ⊎ Contains is.tests (FindsNothing is.target)
-        ⊎ ((bytes : List ℕ) × GivesWay replaces bytes × Contains is.tests (Begins is.target bytes)) }
+        ⊎ ((found : Found) × (bytes : List ℕ) × GivesWay replaces bytes × (bytes ≡ [] → found.size ≡ 0)
+        × Contains is.tests (Finds is.target found) × Contains is.tests (Begins is.target bytes)) }
+    ensures empty { (path text : List ℕ) (replaces : ReplaceRule) (calls : List FileCall) (found : Found)
+        (is : IsReplaced path replaces text calls)
+        → Contains is.tests (Finds is.target found) → Contains is.tests (Begins is.target [])
+        → found.size ≡ 0 }
 {}

@@ -133,7 +133,7 @@ for_lines inputs archives os lines all read its refusal r =
     ]
 
 -- replies of which none is refused are answers
-module _ {AreTexts : List (List ℕ) → Type 0} {all : List (List (List ℕ))} {lines : Bool} where
+module _ (AreTexts : List (List ℕ) → Type 0) (all : List (List (List ℕ))) (lines : Bool) where
   record AreRows (few : List Frame) (replies : List Reply) : Type 0 where
     rows : List Answered
     answered : AllZip (IsFrameByTables AreTexts all lines) few rows
@@ -278,7 +278,7 @@ module _ {I P : Type 0} (inputs : List (Reader I)) (archives : List (Reader P)) 
         → text ≡ answers ++ (slices ++ refusal_lines refusals) → TellsFramesOrBesides lines true os listed status text
     and_slices [] answers slices told sliced is = inl (record {
       answers = answers;
-      told = frames_by_tables status answers (none_refused (IsKeyRefused lines inputs all) listed status answers told);
+      told = frames_by_tables status answers (none_refused (AreGiven inputs) all lines (IsKeyRefused lines inputs all) listed status answers told);
       slices = slices;
       tells_slices = slices_told slices sliced;
       text_is = is ∙ ap (λ (l : List ℕ). answers ++ l) (append-nil slices);

@@ -1,11 +1,12 @@
 """ARCHIVE.log, the lines of the commands with their dates; and ARCHIVE.log.next, the lines of a new archive that is
 being put in place, which are added to it once that is there."""
 import contextlib
+import functools
 import os
 import shutil
 import time
 from dataclasses import dataclass
-from typing import Callable, Collection, ContextManager, Dict, Iterable
+from typing import Callable, Collection, ContextManager, Dict, Iterable, List, Sequence
 
 from ..console.faults import system_text
 from ..console.screen import Screen
@@ -98,15 +99,35 @@ class Log:
 
 def begun_at_end(end: bytes, text: bytes) -> int:
     """How many bytes of a text stand at the end of another one, from the beginning of a line there. The last line may
-    be cut."""
-    first = text[: text.find(b"\n") + 1]
-    at = end.find(first) if first else -1
-    while at >= 0:
-        if end[at - 1 : at] in (b"", b"\n") and text.startswith(end[at:]):
-            return len(end) - at
-        at = end.find(first, at + 1)
-    cut = end[end.rfind(b"\n") + 1 :]
-    return len(cut) if text.startswith(cut) else 0
+    be cut. By the rule of Knuth, Morris and Pratt, over lines."""
+    *whole, cut = end.split(b"\n")
+    lines = text.split(b"\n")[:-1]
+    shorter = borders(lines)
+    count = functools.reduce(functools.partial(extended, lines, shorter), whole, 0)
+    while count and not is_begun(lines, count, cut):
+        count = shorter[count]
+    begun = len(cut) if is_begun(lines, count, cut) else 0
+    return sum(len(line) + 1 for line in lines[:count]) + begun
+
+
+def is_begun(lines: Sequence[bytes], count: int, cut: bytes) -> bool:
+    """Whether the line after so many begins so."""
+    return not cut or count < len(lines) and lines[count].startswith(cut)
+
+
+def borders(lines: Sequence[bytes]) -> List[int]:
+    """For each number of lines how many of them, but not all, stand both first and last among so many."""
+    found = [0, 0]
+    for line in lines[1:]:
+        found.append(extended(lines, found, found[-1], line))
+    return found
+
+
+def extended(lines: Sequence[bytes], shorter: Sequence[int], count: int, line: bytes) -> int:
+    """How many of the first lines end with one more line, where so many did before it."""
+    while count and (count == len(lines) or lines[count] != line):
+        count = shorter[count]
+    return count + 1 if count < len(lines) and lines[count] == line else 0
 
 
 def dated_at(seconds: float) -> str:

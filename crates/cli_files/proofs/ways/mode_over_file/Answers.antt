@@ -11,9 +11,9 @@ returns-clause-way g c = λ first.
     let calls : c.beginning.new.calls.entries ≡ Finds path c.args.found ∷ Begins path bytes ∷ [] =
     found_begun path c.args.found bytes c.args.calls.now.entries opened c.beginning.new.calls.entries first
     c.in-Ok.ensures.calls
-    (c.in-Ok-beginning.ensures ∙ ap (λ at. opened ++ Begins at bytes ∷ []) c.in-Ok.ensures.path) in (
+    (c.in-Ok-beginning.ensures.calls ∙ ap (λ at. opened ++ Begins at bytes ∷ []) c.in-Ok.ensures.path) in (
       c.in_ok-target.ensures.target c.args.replaces (finds_replaced c.args.replaces path c.args.found bytes
-          c.beginning.new.calls.entries c.requires.regular c.in_ok-check_kind.ensures.gives_way calls),
+          c.beginning.new.calls.entries c.requires.regular c.in_ok-check_kind.ensures.gives_way c.in-Ok-beginning.ensures.empty calls),
       sym (c.in_ok-target.ensures.found c.args.found (Begins path bytes ∷ []) calls),
       c.requires.no_descriptor,
     )

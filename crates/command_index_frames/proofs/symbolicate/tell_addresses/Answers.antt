@@ -1,4 +1,4 @@
-use Rattle.std.proofs.Common.{inl}
+use Rattle.std.proofs.Common.{inl, inr, rules}
 use Rattle.std.proofs.lemmas.Result.{err_from_is_err_and}
 use Rattle.command_common.proofs.Readers.{none_failed}
 use Rattle.command_common.proofs.Parts.{refusal_of}
@@ -15,3 +15,20 @@ returns-in-Some g c = record {
   is = inl (rw c.in-Some.is at c.in_ok-told.ensures.is.0);
   unfailed = (c.in_ok-told.ensures.unfailed, none_failed g.P.Placed.whole g.P.Placed.failures c.args.archives.now);
 }
+
+pub returns-in_ok-status-in-None : goal.returns-in_ok-status-in-None
+returns-in_ok-status-in-None g c =
+    let held = c.in_ok-status-in-None.ensures.is in
+    record {
+      is = inr (
+        rw c.in-None.is at c.in_ok-told.ensures.is.0,
+        record {
+          keys = held.keys;
+          sought = held.sought;
+          content = held.content;
+          held = held.held;
+          is_true = (held.is_true, search rules);
+        },
+      );
+      unfailed = (c.in_ok-told.ensures.unfailed, c.in_ok-status-in-None.ensures.unfailed);
+    }

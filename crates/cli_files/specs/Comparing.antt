@@ -1,0 +1,65 @@
+-- The archive of a draft, and the one at its target, which are compared before the draft takes its place.
+use Rattle.std.specs.Prelude.{◌≡◌, ◌⊎◌, ℕ, List, [], ◌++◌, Some, None, ⊤}
+use Rattle.byte_device.specs.Devices.{stream}
+use Rattle.byte_device.specs.declared.Source.{Ghosts as Sources}
+use Rattle.archive_merge.specs.Losses.{IsNotCompared, Loses}
+use Rattle.archive_records.specs.declared.fault.MergeCause.{MergeCause}
+use Rattle.cli_files.specs.FileCalls.{FileCall}
+use Rattle.cli_files.specs.Publishing.{BeginsSo}
+use Rattle.cli_files.specs.Refusals.{IsUnread}
+use Rattle.cli_files.specs.declared.replaceable.OutFault.{OutFault}
+use Rattle.cli_files.specs.declared.replaceable.Obstacle.TheVariants as obstacle
+use Rattle.cli_files.specs.declared.replaceable.OutFault.TheVariants as fault
+use Rattle.cli_files.specs.declared.sides.ArchiveSide.{ArchiveSide}
+
+-- The archives in the files that were opened at these two paths, each between two of its states.
+pub record Sides (R : Type 0) (draft target : List ℕ) : Type 0 where
+  pub new_before : ArchiveSide R
+  pub new_after : ArchiveSide R
+  pub old_before : ArchiveSide R
+  pub old_after : ArchiveSide R
+  pub new_at : new_before.path.now ≡ draft
+  pub old_at : old_before.path.now ≡ target
+
+-- Both were read to their ends: the draft neither has nor covers so many records of the archive at the target.
+pub record AreCompared {R : Type 0} (new old : Sources (ArchiveSide R)) (draft target : List ℕ) (lost : ℕ)
+    : Type 0 where
+  pub sides : Sides R draft target
+  pub loses : Loses (stream new.left new.failures sides.new_before sides.new_after)
+      (stream old.left old.failures sides.old_before sides.old_after) lost
+
+-- One was not read to its end, and OUT is refused for that.
+pub record AreUncompared {R : Type 0} (new old : Sources (ArchiveSide R)) (draft target : List ℕ) (refusal : OutFault)
+    : Type 0 where
+  pub sides : Sides R draft target
+  pub stop : MergeCause
+  pub stops : IsNotCompared (stream new.left new.failures sides.new_before sides.new_after)
+      (stream old.left old.failures sides.old_before sides.old_after) stop
+  pub unread : IsUnread stop refusal
+
+-- OUT is refused before the two are read: a call of the system failed, memory was wanting, or what is at the target is
+-- of another kind.
+abbrev pub IsBeforeComparison : OutFault → Type 0
+IsBeforeComparison fault.OutOfMemory = ⊤
+IsBeforeComparison (fault.NotReplaced (obstacle.OtherKind bytes)) = ⊤
+IsBeforeComparison (fault.NotReplaced (obstacle.Refused (Some error))) = ⊤
+IsBeforeComparison refusal = ⊥
+
+-- If only the comparison of the two gives this fault, it did: so many records would be lost, or one of the two was not
+-- read to its end.
+abbrev pub IsOfComparison : {R : Type 0} → Sources (ArchiveSide R) → Sources (ArchiveSide R) → List ℕ → List ℕ
+    → OutFault → Type 0
+IsOfComparison new old draft target (fault.NotReplaced (obstacle.Loses lost)) = AreCompared new old draft target lost
+IsOfComparison new old draft target (fault.NotReplaced obstacle.Damaged) =
+    AreUncompared new old draft target (fault.NotReplaced obstacle.Damaged)
+IsOfComparison new old draft target (fault.NotReplaced (obstacle.Refused None)) =
+    AreUncompared new old draft target (fault.NotReplaced (obstacle.Refused None))
+IsOfComparison new old draft target refusal = ⊤
+
+-- Nothing is at the target, or an empty file, as the last calls say; or the archive there was compared with the draft,
+-- which has or covers each of its records.
+abbrev pub NoneLost : {R : Type 0} → Sources (ArchiveSide R) → Sources (ArchiveSide R) → List ℕ → List ℕ
+    → List FileCall → List FileCall → Type 0
+NoneLost new old draft target before calls =
+    ((tests : List FileCall) × BeginsSo target [] tests × (calls ≡ before ++ tests))
+    ⊎ AreCompared new old draft target 0
