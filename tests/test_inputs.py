@@ -98,6 +98,24 @@ class Larger(InputsCase):
         """64 MB in 6,400 slices."""
         self.larger([image(number, more=bytes([number % 256]) * 10_000) for number in range(6_400)])
 
+    def test_an_answering_slice(self) -> None:
+        """A slice of 24 MB that answers is held once, whatever asks for it without an index."""
+        made = image(1, more=bytes(24 * MEGABYTE))
+        words = slice_words(made)
+        self.put("in.sym", archive([made, image(2)]))
+        self.put("asked", f"{words[0]} {words[1]} - 0\n".encode())
+        for command in (
+            ["find", "in.sym", words[0]],
+            ["symbolicate", "in.sym", *words[:2], "0"],
+            ["symbolicate", "in.sym", *words[:2], "--lines", "0"],
+            ["frames", "asked", "in.sym"],
+            ["extract", "in.sym", *words[:2], "out.sym"],
+        ):
+            came = self.run_program(*command, limit=LIMIT)
+            with self.subTest(command):
+                self.assertIn(came.status, (0, 1))
+                self.assertEqual(came.error_lines, [])
+
     def test_one_slice(self) -> None:
         """A slice of 24 MB, the one record that each of these commands holds, needs no more than its length."""
         made, other = image(1, more=bytes(24 * MEGABYTE)), image(2)

@@ -236,8 +236,8 @@ class Run:
     def by_tables(
         self, indexed: Sequence[Indexed], asked: Sequence[Asked], plan: Plan, refused: Dict[bytes, KeyFault]
     ) -> Optional[List[Answer]]:
-        """The answers of tables to places under keys, key by key; None if slices have to be read. With --slices `refused`
-        are the faults of keys by then."""
+        """The answers of tables to places under keys, key by key; None if slices have to be read. `refused` gets the
+        faults of keys with --slices."""
         told: Dict[Asked, Answer] = {}
         for key in sorted({it.key for it in asked}):
             those = answering(key, [it.entries for it in indexed])

@@ -135,9 +135,10 @@ class Server:
         wait_until(lambda: self.ask("/status").status == 200, self.process)
 
     def is_reached(self) -> bool:
-        """Whether it takes connections."""
-        with contextlib.suppress(ConnectionRefusedError), socket.create_connection(("127.0.0.1", self.port)):
-            return True
+        """Whether it takes connections. One that comes as it closes is reset."""
+        with contextlib.suppress(ConnectionRefusedError, ConnectionResetError):
+            with socket.create_connection(("127.0.0.1", self.port)):
+                return True
         return False
 
     def end(self, number: int = signal.SIGTERM) -> int:

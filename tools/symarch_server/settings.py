@@ -30,7 +30,8 @@ Each answer is that of ARCHIVE, its levels, indexes and names of builds as they 
 only ARCHIVE.missing, unless --uploads lets clients add. SIGTERM ends it after the answers that it has begun. The log is
 standard error.
 
-The server finds the program symarch as symarch-keep does. It needs Flask and waitress.
+The server finds the program symarch as symarch-keep does. It needs Flask and waitress, which Debian has as
+python3-flask and python3-waitress.
 
 Status:
   0    a signal ended it

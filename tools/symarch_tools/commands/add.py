@@ -30,8 +30,9 @@ Adds the Mach-O images and dSYMs of files and folders to ARCHIVE, and makes ARCH
 
 It finds each 64-bit slice with a UUID by its first bytes, at any depth of a PATH. A zip file or a gzipped tar file is
 read as a folder if it is a PATH, or if its name ends in .zip, .ipa, .tar.gz or .tgz, to three levels; - is standard
-input. Files that are passed over are counted, and named with --verbose. A file that cannot be read, or that symarch
-refuses, is reported, and the others are added.
+input. Files that are passed over are counted, and named with --verbose; a PATH that has no image is no fault: the
+status is 1 only if none has one. A file that cannot be read, or that symarch refuses, is reported, and the others are
+added.
 
 Each slice gets a line, in the order in which they were found:
 

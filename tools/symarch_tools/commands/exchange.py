@@ -29,7 +29,8 @@ With --key and --signers each file has a signature by `ssh-keygen -Y sign`, and 
 made it. A site that signed once needs keys from then on. Files that do not count are named, and the call ends with 2;
 so it does as long as something is lost.
 
-The lines, which ARCHIVE.log keeps with their dates:
+The last line on standard error has counts: `not whole` of files that are not yet copied to their end, `refused` of
+those that do not count. The other lines, which ARCHIVE.log keeps with their dates:
 
   added UUID ARCH DIGEST SITE      the slice came from SITE
   retired UUID ARCH DIGEST SITE    the retirement came from SITE

@@ -21,7 +21,7 @@ from .arguments import define_archive, digest_of, uuid_of
 
 DESCRIPTION = """\
 Makes dSYM bundles of UUIDs in FOLDER, with the bytes that were added: NAME.dSYM, and next to it NAME, of the slices
-that are no companions. NAME is the first name that `list` prints, or else the UUID.
+that are no companions. NAME is the first name under which the slice itself was added, or else the UUID.
 
   symarch-keep get builds.sym 4c4c4419-5555-3144-a1d2-4341c97782f0 --to debug
   (lldb) target symbols add debug/spool.dSYM

@@ -24,13 +24,14 @@ from ..store.slices import Slice, compared
 
 DESCRIPTION = """\
 Restores the changed bytes of ARCHIVE, as `check` finds them: copies the good bytes of each changed slice from FROM, an
-archive of another site, with its levels and FROM.today, or one to which you added the dSYM.
+archive of another site, with its levels and FROM.today, or one to which you added the dSYM. A changed table is made
+anew from its slice, so for tables alone FROM may be ARCHIVE itself.
 
   symarch-keep repair builds.sym west.sym
+  symarch-keep repair builds.sym builds.sym
 
-Each file is then as it was, byte for byte. A changed table is made anew from its slice. The lines are those of `check`
-with `repaired` in place of `changed`; a record that could not be repaired is printed with `changed`, and the status
-is 2."""
+Each file is then as it was, byte for byte. The lines are those of `check` with `repaired` in place of `changed`; a
+record that could not be repaired is printed with `changed`, and the status is 2."""
 USAGE = "symarch-keep repair [--quiet] [--wait SECONDS] ARCHIVE FROM"
 ABOUT = "restore changed bytes from another archive"
 # So many bytes the system copies at once.

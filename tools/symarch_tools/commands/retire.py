@@ -24,8 +24,8 @@ Withdraws a slice for good, as `find` prints it; or all slices of an app from be
   symarch-keep retire builds.sym 4c4c4419-5555-3144-a1d2-4341c97782f0 arm64 DIGEST
   symarch-keep retire --dry-run --app com.example.spool --before 2026-01-01 builds.sym
 
-No lookup finds the slice any more. The retirement reaches each site by `exchange`, and a `fold` removes the bytes. A
-slice that is not there is refused, unless --before-it-comes is given.
+No lookup finds the slice any more. The retirement reaches each site by `exchange`, and a `fold` removes the bytes. If
+the slice is not there, nothing is retired, and the status is 1, unless --before-it-comes is given.
 
 The line is `retired UUID ARCH DIGEST`, or `known UUID ARCH DIGEST` if it was retired before. With --app each slice gets
 one before anything is written:

@@ -33,13 +33,13 @@ the whole archive.
   today N             bytes of ARCHIVE.today
   levels N            bytes of ARCHIVE.1, ARCHIVE.2 and so on together
   waiting N           bytes of retired slices that are still in a file
-  site NAME ...       when that site last asked, was last answered, and its answer last joined
+  site NAME ...       when that site was last `answered`, last `asked`, and its answer was last `joined`
   conflict ...        UUID and ARCH of each conflict, and how many slices answer
   lost ...            UUID, ARCH and DIGEST of a slice that was there and is not, or the same after `retired`
   left PATH           a file that a kill left, which the next command that writes removes
 
-`exchange` brings back a lost record if another site has it; --accept gives up the others. The status is 2 if something
-is lost or damaged."""
+`today`, `levels` and `waiting` are omitted if they are 0. `exchange` brings back a lost record if another site has it;
+--accept gives up the others. The status is 2 if something is lost or damaged."""
 USAGE = "symarch-keep status [--quiet] [--wait SECONDS] [--json] [--accept] ARCHIVE"
 ABOUT = "print the content of an archive in numbers"
 NUMBERS = ("images", "companions", "retirements", "conflicts", "bytes", "today", "levels", "waiting")

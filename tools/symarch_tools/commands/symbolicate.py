@@ -29,7 +29,8 @@ For example, of an image that was loaded at 0x104d38000, and by an offset of a r
   symarch-keep symbolicate --load 0x104d38000 builds.sym 4c4c4419-5555-3144-a1d2-4341c97782f0 arm64 0x104d38410
   symarch-keep symbolicate --offset --demangle builds.sym 4c4c4419-5555-3144-a1d2-4341c97782f0 arm64 1040
 
-Numbers are hexadecimal, unless an option changes that. - means the addresses on standard input.
+Numbers are hexadecimal, unless an option changes that; without --load and --offset an ADDRESS is one of the file, as
+`name` prints it. - means the addresses on standard input.
 The status is 1 unless each address has one symbol."""
 OPTIONS = "[--json] [--load HEX | --offset] [--decimal] [--lines] [--demangle]"
 USAGE = f"symarch-keep symbolicate {OPTIONS} ARCHIVE UUID ARCH ADDRESS..."

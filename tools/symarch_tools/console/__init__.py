@@ -14,4 +14,5 @@
 - version             the version of the tools
 - answer_lines        what the program prints of an address and of the slices under a key
 - program_faults      the faults of an input, as the program prints them
+- packed_kinds        how a packed file is called
 """

@@ -16,8 +16,8 @@ from typing import Dict, Iterable, List, NamedTuple, Optional, Tuple
 
 from ..formats.contents import Content, kept_text
 from ..store.archive import ASKED, Archive
+from ..store.archive_file import kept_at
 from ..store.log import DATE
-from ..store.upgrades import kept_at
 from .shared_folder import digest_of
 from .times import fault_of_time, time_after
 

@@ -2,18 +2,11 @@
 import re
 from typing import Optional, Tuple
 
+from ..console.packed_kinds import PACKED
+
 UNPACKED, NO_WORD = "which has to be unpacked first", "which no word takes"
 # How much of a file is looked at: the magic of a tar file stands in its first header.
 MOST_LOOKED_AT, TAR_MAGIC = 512, 257
-# What is packed, by its first bytes.
-PACKED: Tuple[Tuple[bytes, str], ...] = (
-    (b"PK\3\4", "a zip file"),
-    (b"\x1f\x8b", "a gzip file"),
-    (b"BZh", "a bzip2 file"),
-    (b"\xfd7zXZ\0", "an xz file"),
-    (b"\x28\xb5\x2f\xfd", "a zstd file"),
-    (b"7z\xbc\xaf\x27\x1c", "a 7z file"),
-)
 BEGINNINGS: Tuple[Tuple[bytes, str], ...] = (
     (b"MSYMARC1", "an archive, which `symarch merge` takes"),
     (b"MSYMARC2", "an archive, which `symarch merge` takes"),

@@ -16,7 +16,6 @@ from typing import Dict, Iterable, List, Mapping, Optional, Sequence, Set, Tuple
 from ..console.escapes import shown
 from ..console.program_faults import InputFault
 from ..console.streams import note
-from ..formats.files import identity_of
 from ..store import file_names
 from ..store.archive_file import ArchiveFile
 from ..store.file_names import INDEX, NEXT_INDEX
@@ -32,7 +31,7 @@ from .source_lines import Chains
 # What `symarch-keep` has next to an archive: what came in lately.
 TODAY = os.fsdecode(file_names.TODAY)
 # Which files stand at paths.
-Places = List[Tuple[bytes, Optional[Tuple[int, int]]]]
+Places = List[Tuple[bytes, Optional[int]]]
 # What is said of an index that is another one's, or is not there any more, and of a slice whose table has no lines.
 OF_ANOTHER, NO_LINES = ("Stale", "cannot open"), "NoLines"
 
@@ -125,10 +124,18 @@ def refuse_missing(path: str) -> None:
         pass
 
 
+def place_of(path: bytes) -> Tuple[bytes, Optional[int]]:
+    """Which file stands under a path."""
+    try:
+        return path, os.stat(path).st_ino
+    except OSError:
+        return path, None
+
+
 def places_of(paths: Iterable[str]) -> Places:
     """Which files archives and their levels are. A fold makes others; what comes in lately does not."""
-    files = [file for its in map(files_of, paths) for file in (its.main, *filter(ArchiveFile.exists, its.levels))]
-    return [(file.path, identity_of(file.path)) for file in files]
+    files = map(files_of, paths)
+    return [place_of(file.path) for its in files for file in (its.main, *filter(ArchiveFile.exists, its.levels))]
 
 
 @dataclass(eq=False)
@@ -167,6 +174,8 @@ class Attempt:
                 raise cut_short(file.path)
             if fault.kind == "archive":
                 break
+            if fault.entry is not None:
+                return self.ask_apart(answers, has_lines, fault)
             if fault.reason not in OF_ANOTHER:
                 file.refuse(f"{shown(file.index)} is not read: {fault.text}")
             file.take_other_index()
@@ -180,6 +189,13 @@ class Attempt:
             for file in self.files:
                 if not file.index:
                     file.make_index(self.program, self.folder)
+
+    def ask_apart(self, answers: Sequence[Answers], has_lines: bool, fault: InputFault) -> bool:
+        """Asks for each half alone after a fault of one slice that was read, which is that of the key that is left."""
+        if len(answers) == 1:
+            return self.take_refused(answers, has_lines, {answers[0].key: fault})
+        half = len(answers) // 2
+        return self.ask(answers[:half], has_lines) and self.ask(answers[half:], has_lines)
 
     def take_refused(
         self, answers: Sequence[Answers], has_lines: bool, refused: Mapping[Key, InputFault]

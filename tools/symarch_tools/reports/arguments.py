@@ -13,9 +13,7 @@ from ..console.escapes import line_shown, shown
 from ..console.streams import printing, say
 from ..console.unforeseen_faults import DEBUG, HELP
 from ..console.version import PrintVersion
-from ..formats.files import beginning
-from ..formats.packed_files import ZIP
-from ..store.file_names import is_archive
+from ..store.file_names import beginning, is_archive, is_zip_file
 from .encodings import decoded
 from .faults import Failure, Status
 from .images import GivenImage
@@ -311,7 +309,7 @@ def is_point(path: str) -> bool:
 
 
 def is_zip(path: str) -> bool:
-    return path != STANDARD_INPUT and beginning(path, len(ZIP)) == ZIP
+    return path != STANDARD_INPUT and is_zip_file(path)
 
 
 def is_dsym(path: str) -> bool:

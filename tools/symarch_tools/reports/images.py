@@ -13,12 +13,11 @@ from typing import TypeVar
 from uuid import UUID
 
 from ..console.escapes import line_shown
-from ..formats.contents import NUMBERS
 from .answers import Answers, Origin, Symbol
 from .source_lines import NOTHING, Lines
 
 # The architectures that a report may name, and what reports call the processors that run them.
-ARCHITECTURES = tuple(NUMBERS)
+ARCHITECTURES = ("x86_64", "x86_64h", "arm64", "arm64e")
 PROCESSORS = {"X86-64": "x86_64", "ARM-64": "arm64", "ARM64": "arm64"}
 DIGITS = re.compile("[0-9a-f]{32}")
 # So many offsets are sorted at once.

@@ -8,8 +8,8 @@ from dataclasses import dataclass
 from typing import TYPE_CHECKING, Iterator, List, Match, Optional, Sequence, Union
 
 from ..console.escapes import line_shown, shown
+from ..console.packed_kinds import PACKED
 from ..console.streams import standard_input
-from ..formats.file_kinds import PACKED
 from .encodings import decoded
 from .faults import Failure, NoReport, NoStacks, Status
 from .images import HAD_NAME, IS_INLINED, MOST_IMAGES, NO_IMAGE, Frames, GivenImage, Images, one_of

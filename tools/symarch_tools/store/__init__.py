@@ -4,7 +4,6 @@
 - program           the program symarch, as it is run
 - refusals          why the program refuses files and slices
 - file_names        the names of the files of an archive
-- upgrades          what 2.2 kept next to an archive file
 - lock              the lock of an archive, and how those look at files who take none
 - archive_file      an archive file, and what is known of it
 - log               the lines of the commands with their dates

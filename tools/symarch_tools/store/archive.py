@@ -13,9 +13,8 @@ from ..formats.file_kinds import MOST_LOOKED_AT, look_of
 from ..formats.files import remove, size_of, write_synced
 from ..formats.indexes import Index, held_against, index_at, index_by, index_of
 from ..formats.tables import Tables, write_index
-from . import upgrades
 from .archive_file import ArchiveFile
-from .file_names import INDEX, LOCK, NEXT_INDEX, NO_FILE, no_files_beside, refuse_other, refuse_part
+from .file_names import INDEX, LOCK, NEXT_INDEX, NEXT_SUM, NO_FILE, SUM, no_files_beside, refuse_other, refuse_part
 from .folder import ArchiveFolder, watched
 from .levels import ArchiveFiles
 from .lock import Lock
@@ -169,7 +168,7 @@ class Archive:
                 self.folder.lay_index(file, INDEX, index, file.path)
             else:
                 file.drop(INDEX)
-            file.drop(upgrades.SUM)
+            file.drop(SUM)
 
     # ---- what is lost
 
@@ -232,9 +231,9 @@ class Archive:
             if file in following:
                 self.folder.finish(file, screen)
             elif file in before:
-                self.folder.finish(file, screen, upgrades.NEXT_SUM, upgrades.SUM)
+                self.folder.finish(file, screen, NEXT_SUM, SUM)
             else:
-                file.drop(NEXT_INDEX, upgrades.NEXT_SUM)
+                file.drop(NEXT_INDEX, NEXT_SUM)
         if not following and not before:
             self.folder.log.drop_pending()
             self.folder.builds.drop_next()

@@ -10,12 +10,11 @@ from typing import BinaryIO, Iterator, List, Optional, Tuple
 from ..console.escapes import shown
 from ..console.faults import Failed
 from ..console.screen import Screen
-from ..formats.contents import EMPTY, MAGIC, MAGICS, RETIREMENT, Content, EndsEarly, Malformed, content_in, heads_in
-from ..formats.contents import records_in
+from ..formats.contents import EMPTY, MAGIC, MAGICS, RETIREMENT, Content, EndsEarly, KeptFile, Malformed, content_in
+from ..formats.contents import heads_in, records_in
 from ..formats.files import remove, size_of, time_of
 from ..formats.indexes import Index, OtherKind, changes, index_at
-from . import upgrades
-from .file_names import INDEX, NEXT_INDEX
+from .file_names import INDEX, NEXT_INDEX, NEXT_SUM, SUM
 from .lock import State, state_of
 from .program import Program
 
@@ -146,18 +145,18 @@ class ArchiveFile:
 
     def is_in_place_of_sums(self) -> bool:
         """Whether it took the place of the one that FILE.sum is of, and a kill left FILE.sum.next."""
-        return os.path.exists(self.beside(upgrades.NEXT_SUM)) and upgrades.is_in_place(self.path, self.heads())
+        return os.path.exists(self.beside(NEXT_SUM)) and is_in_place(self.path, self.heads())
 
     def content_of_sums(self, screen: Optional[Screen]) -> Optional[Content]:
         """What the last command left by FILE.sum, or None."""
         is_next = self.is_in_place_of_sums()
-        kept = upgrades.kept_at(self.beside(upgrades.NEXT_SUM if is_next else upgrades.SUM), screen)
+        kept = kept_at(self.beside(NEXT_SUM if is_next else SUM), screen)
         return kept.content() if kept else None
 
     def drop_sums(self) -> None:
         """Removes the sums next to an index that needs none."""
-        if os.path.exists(self.beside(upgrades.SUM)) and self.kept_index() is not None:
-            self.drop(upgrades.SUM)
+        if os.path.exists(self.beside(SUM)) and self.kept_index() is not None:
+            self.drop(SUM)
 
     def has_index(self) -> bool:
         """Whether its index is kept, with tables."""
@@ -244,3 +243,29 @@ def is_same_but_for_retirements(heads: List[bytes], others: List[bytes]) -> bool
     return all(
         one[:1] == other[:1] == RETIREMENT and sum(map(operator.ne, one, other)) <= MOST_CHANGED for one, other in pairs
     )
+
+
+# ---- the sums of 2.2, by which the next command that writes makes the index, until the next major release
+
+
+def kept_at(path: bytes, screen: Optional[Screen] = None) -> Optional[KeptFile]:
+    """What a file that is kept next to an archive has; None if it is not there, or is damaged."""
+    try:
+        with open(path, "rb") as opened:
+            return KeptFile(opened.read())
+    except FileNotFoundError:
+        return None
+    except Malformed as fault:
+        if screen:
+            screen.line(f"{shown(path)}: {fault}, and is passed over")
+        return None
+
+
+def is_in_place(path: bytes, heads: Optional[List[bytes]]) -> bool:
+    """Whether a kill left FILE.sum.next of an archive file with these heads, and it is the one of which that was
+    written."""
+    found = kept_at(path + NEXT_SUM)
+    with contextlib.suppress(FileNotFoundError):
+        is_of_this = found and found.notes == [f"file {os.stat(path).st_ino}"]
+        return bool(found and is_of_this and found.content().heads() == heads)
+    return False

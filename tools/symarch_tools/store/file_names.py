@@ -8,11 +8,14 @@ from typing import Iterator, List, Optional, Set
 from ..console.escapes import shown
 from ..console.faults import Failed
 from ..formats.contents import MAGIC, MAGICS
-from ..formats.files import beginning
+from ..formats.files import beginning as beginning
+from ..formats.packed_files import ZIP
 from .slices import is_dsym
 
 TODAY, LOCK = b".today", b".lock"
 INDEX, NEXT_INDEX = b".idx", b".idx.next"
+# The sums of 2.2, and those of a new file which takes the place of one.
+SUM, NEXT_SUM = b".sum", b".sum.next"
 # What no archive is.
 NO_FILE = "a pipe, a socket or a device"
 # No level has a greater number.
@@ -27,7 +30,7 @@ NUMBERS = {level_ending(number): number for number in range(1, MOST_LEVELS + 1)}
 # What makes a file a level if it stands next to it.
 MARKS = INDEX, NEXT_INDEX
 # What is read next to each file of an archive, and next to the archive alone.
-OF_EACH = *MARKS, b".sum", b".sum.next"
+OF_EACH = *MARKS, SUM, NEXT_SUM
 OF_ARCHIVE = b".builds", b".builds.next", b".log", b".log.next", b".asked", b".site", b".signers", b".lost", b".changed"
 
 
@@ -102,6 +105,10 @@ def endings_beside(path: bytes) -> Set[bytes]:
 
 def is_archive(path: str) -> bool:
     return beginning(path, MAGIC) in MAGICS
+
+
+def is_zip_file(path: str) -> bool:
+    return beginning(path, len(ZIP)) == ZIP
 
 
 # ---- paths that are no archive
