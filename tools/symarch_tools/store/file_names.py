@@ -8,7 +8,7 @@ from typing import Iterator, List, Optional, Set
 from ..console.escapes import shown
 from ..console.faults import Failed
 from ..formats.contents import MAGIC, MAGICS
-from ..formats.files import beginning as beginning
+from ..formats.files import beginning as beginning  # Also for reports, which import no format.
 from ..formats.packed_files import ZIP
 from .slices import is_dsym
 
