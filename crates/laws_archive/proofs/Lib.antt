@@ -7,6 +7,8 @@ pub mod Sides
 pub mod Accepted
 pub mod Joins
 pub mod Least
+pub mod Sequences
+pub mod Stops
 pub mod Viewed
 pub mod SlicesTold
 pub mod FramesTold

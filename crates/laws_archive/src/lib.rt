@@ -10,6 +10,8 @@
 //!   one OUT and one report, whatever the order of files, archives and records and the repeats;
 //! - [`report_laws`]: of the commands that only report, in the words of their user, and of several archives, asked as
 //!   their join;
+//! - [`sequence_laws`]: of commands that are called one after another, in any order: the same operations make the same
+//!   bytes, and the same answers;
 //! - [`refusal_laws`]: two calls whose inputs hold the same refuse one of them, for one reason, and those that only
 //!   report end alike;
 //! - [`out_laws`]: what a crash leaves at OUT's path.
@@ -39,4 +41,5 @@ pub mod out_laws;
 pub mod outcome_laws;
 pub mod refusal_laws;
 pub mod report_laws;
+pub mod sequence_laws;
 pub mod text_laws;
