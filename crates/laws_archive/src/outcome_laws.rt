@@ -10,21 +10,26 @@ ghost use Rattle.archive_core.specs.declared.operations.Operation.{Operation};
 ghost use Rattle.archive_core.specs.Summary.{Entries};
 ghost use Rattle.archive_records.specs.Entry.{AreEntries};
 ghost use Rattle.archive_records.specs.Text.{IsOperationsText, summary_text, AreOperations, old_written, written};
+ghost use Rattle.archive_merge.specs.Merging.{AreGoodRecords, of_both};
+ghost use Rattle.byte_device.specs.Writes.{WritesFirst};
 ghost use Rattle.archive_admission.specs.File.{IsAcceptedFile, parts};
 ghost use Rattle.byte_openings.specs.declared.openings.Opening.{Opening};
 ghost use Rattle.command_common.specs.declared.faults.Status.TheVariants.{Done};
-ghost use Rattle.command_write.specs.Admit.{MakesAdmitted, admit, admit_rows, file_rows, images_of};
-ghost use Rattle.command_write.specs.PassedOver.{MakesPassing};
-ghost use Rattle.command_write.specs.Apply.{apply};
-ghost use Rattle.command_write.specs.Delta.{delta};
-ghost use Rattle.command_common.specs.Ends.{MakeOne, Ends, EndsStreamed};
+ghost use Rattle.command_write.specs.Admit.{MakesAdmitted, admit, admit_as_it_comes, admit_rows, file_rows};
+ghost use Rattle.command_write.specs.Admit.{images_of};
+ghost use Rattle.command_write.specs.PassedOver.{EachCounted, MakesPassing, admit_passing};
+ghost use Rattle.command_write.specs.PassedOver.{admit_passing_as_it_comes};
+ghost use Rattle.command_write.specs.Apply.{apply, apply_as_it_comes};
+ghost use Rattle.command_write.specs.Delta.{delta, delta_as_it_comes};
+ghost use Rattle.command_common.specs.Ends.{MakeOne, Ends, EndsStreamed, IsStopped};
 ghost use Rattle.command_common.specs.Inputs.{EachUnfailed, IsGiven, IsGivenArchive, Reader, RefusesDevicesAlone};
-ghost use Rattle.command_common.specs.Inputs.{IsDeviceFault};
+ghost use Rattle.command_common.specs.Inputs.{EachKnown, IsDeviceFault, IsKnown};
 ghost use Rattle.command_write.specs.Merge.{merge, operations_of, MakesMerged};
-ghost use Rattle.command_write.specs.Migrate.{migrate, MakesMigrated};
-ghost use Rattle.command_write.specs.Retire.{retire};
+ghost use Rattle.command_write.specs.Migrate.{migrate, migrate_as_it_comes, MakesMigrated};
+ghost use Rattle.command_write.specs.Retire.{retire, retire_as_it_comes};
 ghost use Rattle.command_write.specs.Summary.{summary};
 ghost use Rattle.laws_archive.specs.Joins.{AreDevicesAlone};
+ghost use Rattle.laws_archive.specs.Stops.{LeavesBeginningIfStopped};
 ghost use Rattle.std.specs.FinSet as set;
 ghost use Rattle.archive_core.specs.Record.{admission_record, record_bytes};
 ghost use Rattle.archive_admission.specs.Take.{admitted, taken_rows};
@@ -33,12 +38,12 @@ ghost use Rattle.command_common.specs.declared.faults.Why.{Why};
 ghost use Rattle.command_common.specs.declared.faults.CommandFault.{CommandFault};
 ghost use Rattle.command_common.specs.declared.faults.CommandFault.TheVariants.{Input, Report};
 ghost use Rattle.command_common.specs.declared.faults.Status.{Status};
-ghost use Rattle.command_write.specs.MergeStreams.{merge_of_one};
+ghost use Rattle.command_write.specs.MergeStreams.{merge_as_it_comes, merge_of_one};
 ghost use Rattle.command_common.specs.Outputs.{Outs, Writer, draft_of, out_of, Out, Publishes, report_of};
 ghost use Rattle.command_common.specs.Archives.{merged};
 
 use crate::content_laws::{contents_join, migrate_joins, takes_in_any_order};
-use crate::text_laws::{one_list_of_operations, one_summary};
+use crate::text_laws::{one_list_of_operations, one_summary, stopped_merge_of_texts};
 use archive_admission::laws::one_take_fault;
 use byte_device::{Sink, Source, Target};
 
@@ -217,6 +222,42 @@ pub fn merge_of_one_keeps_out<R: Source, S: Source, D: Sink, T: Target>()
         → EndsStreamed (merge_of_one input file (draft_of out)) (out_of out) report (Err fault)
         → out.published out.new.target ≡ out.published out.old.target }
 {}
+
+/// A command that is stopped before its text is whole leaves OUT as it was, also if OUT was begun: an input that is
+/// refused (`Err (Input ..)` of `EndsStreamed`) is such a stop. A pipe, like a draft, has a beginning of the text then.
+pub fn stopped_commands_keep_out<R: Source, S: Source, D: Sink, T: Target>()
+    ensures admit { (input : Reader R) (files : List (Reader S)) (out : Out) (report : Writer)
+        → LeavesBeginningIfStopped (admit_as_it_comes input files out.draft) (admit input files)
+        (IsKnown input × EachKnown files) out report }
+    ensures passing { (opening : S → Opening) (input : Reader R) (files : List (Reader S)) (out : Out) (report : Writer)
+        → LeavesBeginningIfStopped (admit_passing_as_it_comes opening input files out.draft).streamed
+        (admit_passing opening input files) (IsKnown input × EachCounted files) out report }
+    ensures retire { (input : Reader R) (key : SliceKey) (digest : Digest) (out : Out) (report : Writer)
+        → LeavesBeginningIfStopped (retire_as_it_comes input key digest out.draft) (retire input key digest)
+        (IsKnown input) out report }
+    ensures merge { (input : Reader R) (files : List (Reader S)) (out : Outs D T) (report : Writer)
+        → LeavesBeginningIfStopped (merge_as_it_comes input files out) (merge input files)
+        (IsKnown input × EachKnown files) (out_of out) report }
+    // With one FILE there is such a text of whatever bytes, of their good records.
+    ensures faulty { (input : Reader R) (file : Reader S) (out : Outs D T) (report : Writer) (fault : CommandFault)
+        (text other : List ℕ) (records others : List (List ℕ))
+        → IsStopped (merge_of_one input file (draft_of out)) (out_of out) report fault
+        → IsGiven input text
+        → IsGiven file other
+        → AreGoodRecords text records
+        → AreGoodRecords other others
+        → (n : ℕ) × WritesFirst (out_of out).draft.old (out_of out).draft.new (written (of_both records others)) n }
+    ensures migrate { (input : Reader R) (out : Out) (report : Writer)
+        → LeavesBeginningIfStopped (migrate_as_it_comes input out.draft) (migrate input) (IsKnown input) out report }
+    ensures apply { (input : Reader R) (ops : Reader S) (out : Out) (report : Writer)
+        → LeavesBeginningIfStopped (apply_as_it_comes input ops out.draft) (apply input ops)
+        (IsKnown input × IsKnown ops) out report }
+    ensures delta { (archive : Reader R) (named : Reader S) (out : Out) (report : Writer)
+        → LeavesBeginningIfStopped (delta_as_it_comes archive named out.draft) (delta archive named)
+        (IsKnown archive × IsKnown named) out report }
+{
+    stopped_merge_of_texts::<R, S, D>();
+}
 
 /// Where IN and the one FILE are the texts of contents, neither is refused but for its device.
 pub fn two_accepted_archives_are_not_refused<R: Source, S: Source, D: Sink, T: Target>()
