@@ -1,5 +1,5 @@
 -- Archives and indexes that are handed on, and the query that they make.
-use Rattle.std.proofs.Common.{◌≡◌, ℕ, ◌<◌, List, [], ◌∷◌, length, Option, Result, Bool, false, Ok, Err, refl, sym, subst, arith, inl, inr}
+use Rattle.std.proofs.Common.{◌≡◌, ℕ, ◌<◌, List, [], ◌∷◌, length, Option, Result, Bool, true, false, Ok, Err, refl, sym, subst, arith, inl, inr}
 use Rattle.std.proofs.KnownBytes.{Appends-nil}
 use Rattle.std.proofs.lemmas.Bool.{le-ltb, lt-ltb, Decides.nat_tests}
 use Rattle.std.specs.Prelude.{◌==◌}
@@ -7,10 +7,12 @@ use Rattle.command_common.specs.{Ends.EndsReport, Ends.Query, Outputs.Writer, Ou
 use Rattle.command_common.specs.declared.faults.{CommandFault.CommandFault, CommandFault.TheVariants.Input, Status.Status}
 use Rattle.command_common.specs.declared.faults.InputName.{InputName, TheVariants.Archive, TheVariants.Index}
 use Rattle.command_common.specs.declared.faults.Why.{Why, TheVariants.NoArchive, TheVariants.NoIndex}
+use Rattle.command_common.specs.{Asked.of_first, Asked.prints_rows, Records.rows_found}
 use Rattle.command_common.specs.Inputs.{Reader, readers}
+use Rattle.text_reports.specs.Finds.{find_lines}
 use Rattle.archive_core.specs.declared.keys.SliceKey.{SliceKey}
-use Rattle.command_common.proofs.Readers.{readers_long}
-use Rattle.command_index_queries.specs.Find.{find_together}
+use Rattle.command_common.proofs.{Parts.no_others, Readers.readers_long}
+use Rattle.command_index_queries.specs.Find.{find_by}
 use Rattle.command_index_frames.specs.{Frames.frames_at, Symbolicate.symbolicate_at}
 use Rattle.cli_run.specs.Queries.{IsAlone, find_of, frames_of, if_paired, index_for_each_archive, symbolicate_of}
 
@@ -21,6 +23,10 @@ module _ {S : Type 0} (left : S → Option (List ℕ)) (failures : S → ℕ) wh
   some_read a c same some = omega (arith, readers_long left failures a c same)
 
 -- ---- queries by indexes
+
+-- there is none
+pub none_there : {A : Type 0} (xs : List A) → true ≡ (length xs == 0) → xs ≡ []
+none_there xs is = no_others xs true is refl
 
 -- there is one
 pub not_none : {A : Type 0} (xs : List A) → false ≡ (length xs == 0) → 0 < length xs
@@ -42,14 +48,20 @@ frames_by lines slices crash archives places [] some = absurd (omega arith)
 frames_by lines slices crash [] places (i ∷ indexes) some = refl
 frames_by lines slices crash (a ∷ archives) places (i ∷ indexes) some = refl
 
--- of more than one archive
-pub find_by : {S : Type 0} (archives places indexes : List (Reader S)) (uuid : List ℕ) → 0 < length indexes
-    → (length archives ≡ 1 → length indexes ≡ 1 → ⊥)
+pub find_by_indexes : {S : Type 0} (archives places indexes : List (Reader S)) (uuid : List ℕ) → 0 < length indexes
     → find_of archives places indexes uuid
-    ≡ if_paired (index_for_each_archive (length archives) (length indexes)) (find_together indexes places uuid)
-find_by archives places [] uuid some several = absurd (omega arith)
-find_by (a ∷ []) (p ∷ []) (i ∷ []) uuid some several = absurd (several refl refl)
-find_by archives places indexes uuid some several = refl
+    ≡ if_paired (index_for_each_archive (length archives) (length indexes)) (find_by indexes places uuid)
+find_by_indexes archives places [] uuid some = absurd (omega arith)
+find_by_indexes [] places (i ∷ indexes) uuid some = refl
+find_by_indexes (a ∷ archives) places (i ∷ indexes) uuid some = refl
+
+-- ---- queries by records
+
+pub find_by_records : {S : Type 0} (archives places : List (Reader S)) (uuid : List ℕ) → 0 < length archives
+    → find_of archives places [] uuid
+    ≡ prints_rows find_lines (of_first (λ archive others. rows_found archive others uuid) archives)
+find_by_records [] places uuid some = absurd (omega arith)
+find_by_records (a ∷ archives) places uuid some = refl
 
 -- ---- how they end
 
@@ -66,11 +78,6 @@ alone archives indexes fault (inr fewer) =
 all_paired : (archives indexes : ℕ) → indexes ≡ archives → index_for_each_archive archives indexes ≡ Ok tt
 all_paired archives indexes same =
     rw (le-ltb archives indexes (omega (arith, same)), le-ltb indexes archives (omega (arith, same))) refl
-
--- they are not one each
-pub apart : (archives indexes : ℕ) (fault : CommandFault) → IsAlone archives indexes fault → archives ≡ 1 → indexes ≡ 1 → ⊥
-apart archives indexes fault (inl more) one single = omega (arith, more.0, one, single)
-apart archives indexes fault (inr fewer) one single = omega (arith, fewer.0, one, single)
 
 -- the same of archives and indexes that are handed on
 module _ {S : Type 0} (left whole : S → Option (List ℕ)) (failures place_failures : S → ℕ) where

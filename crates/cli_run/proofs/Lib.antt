@@ -9,5 +9,6 @@ pub mod Spared
 pub mod Openings
 pub mod Extracted
 mod Dispatched
+mod Listed
 mod Asked
 mod First

@@ -1,5 +1,5 @@
 -- No command tells of an input that it could not be opened: that is told of the device's fault that it comes as.
-use Rattle.std.proofs.Common.{◌⊎◌, ℕ, Bool, true, false, List, [], ◌∷◌, length, if◌then◌else◌, Option, Ok, Err, inl, inr}
+use Rattle.std.proofs.Common.{ℕ, Bool, true, false, List, [], ◌∷◌, length, if◌then◌else◌, Option, Ok, Err, inl, inr}
 use Rattle.std.specs.Prelude.{nat_lt}
 use Rattle.archive_core.specs.declared.keys.{Digest.Digest, SliceKey.SliceKey}
 use Rattle.archive_records.specs.declared.fault.MergeCause.{MergeCause}
@@ -31,11 +31,12 @@ use Rattle.command_index_queries.specs.{Indexes.IsOfOtherLength, Indexes.IsRefus
 use Rattle.command_index_queries.specs.Together.{IsFirstRefusedByIndex, IsRefusedAtPlaces}
 use Rattle.command_index_frames.specs.Asking.{AreRefusedAsking, IsTableRefused}
 use Rattle.command_index_frames.specs.{Frames.RefusesFramesAt, Frames.frames_at, Symbolicate.symbolicate_at}
-use Rattle.command_index_queries.specs.Find.{find_together}
+use Rattle.command_index_queries.specs.Find.{find_by}
 use Rattle.command_extract.specs.{Entries.IsRefusedSlice, Extract.Extraction, Extract.Extracts, Indexed.AreRefusedBefore, Indexed.extract_at}
 use Rattle.byte_openings.specs.declared.openings.Opening.{Opening}
 use Rattle.command_write.specs.PassedOver.{admit_passing_as_it_comes}
-use Rattle.cli_run.specs.Plans.{Deed, EndsDeed, Executes, answers, none, of_first, passes, streams, summary_of}
+use Rattle.cli_run.specs.Plans.{Deed, EndsDeed, Executes, answers, listed_of, none, of_first, passes, streams}
+use Rattle.cli_run.specs.Plans.{summarized_of, summary_of}
 use Rattle.cli_run.specs.Queries.{extract_of, extraction_if_paired, find_of, frames_of, if_paired, list_of, no_archive}
 use Rattle.cli_run.specs.Queries.{no_index, index_for_each_archive, symbolicate_of}
 
@@ -117,10 +118,15 @@ of_several : {I P : Type 0} (prefixes : List (List ℕ)) (indexes : List (Reader
 of_several prefixes indexes archives at (inl r) = by_indexes indexes archives at r
 of_several prefixes indexes archives at (inr r) = later prefixes indexes archives at r
 
+found_by : {I P : Type 0} (indexes : List (Reader I)) (archives : List (Reader P)) (uuid : List ℕ)
+    → Spares (find_by indexes archives uuid).Refuses
+found_by (index ∷ []) (archive ∷ []) uuid at r = by_index 0 index archive at r
+found_by indexes archives uuid at r = of_several _ indexes archives at r
+
 asking : {I P : Type 0} (lines slices : Bool) (keys : List (List ℕ)) (indexes : List (Reader I))
     (archives : List (Reader P)) → Spares (AreRefusedAsking lines slices keys indexes archives)
 asking lines slices keys indexes archives at (inl r) = by_indexes indexes archives at r
-asking lines slices keys indexes archives at (inr (inl r)) = later keys indexes archives at r.0
+asking lines slices keys indexes archives at (inr (inl r)) = later (r.key ∷ []) indexes archives at r.refused
 asking lines slices keys indexes archives at (inr (inr r)) = go slices r.untold.untold
   where
     go : (wanted : Bool) → IsTableRefused lines wanted indexes r.untold.answering at CannotOpen → ⊥
@@ -132,7 +138,7 @@ asking lines slices keys indexes archives at (inr (inr r)) = go slices r.untold.
 framed_at : {Q I P : Type 0} (lines slices : Bool) (crash : Reader Q) (indexes : List (Reader I))
     (archives : List (Reader P)) → Spares (RefusesFramesAt lines slices crash indexes archives)
 framed_at lines slices crash indexes archives at (inl r) = r.0.1
-framed_at lines slices crash indexes archives at (inr r) = asking lines slices r.3.0 indexes archives at r.3.2
+framed_at lines slices crash indexes archives at (inr r) = asking lines slices _ indexes archives at r.3
 
 -- a command that writes a slice, where that of its writing is
 extracted : {D T : Type 0} (command : Extraction) (out : Outs D T) (report : Writer) (at : InputName)
@@ -155,10 +161,8 @@ when_paired archives indexes query spares = go (nat_lt archives indexes) (nat_lt
 find : {S : Type 0} (archives places indexes : List (Reader S)) (uuid : List ℕ)
     → Spares (find_of archives places indexes uuid).Refuses
 find (archive ∷ others) places [] uuid at r = together archive others at r
-find (archive ∷ []) (place ∷ []) (index ∷ []) uuid at r = by_index 0 index place at r
 find archives places indexes uuid at r =
-    when_paired (length archives) (length indexes) (find_together indexes places uuid)
-    (of_several _ indexes places) at r
+    when_paired (length archives) (length indexes) (find_by indexes places uuid) (found_by indexes places uuid) at r
 
 list : {S : Type 0} (archive place : Reader S) (indexes : List (Reader S))
     → Spares (list_of archive place indexes).Refuses
@@ -238,6 +242,18 @@ summing : {S D T : Type 0} (archive place : Reader S) (indexes : List (Reader S)
 summing archive place [] out report at e = text _ archive e.0.1
 summing archive place (index ∷ _) out report at e = by_index 0 index place at e.0
 
+listing : {S D T : Type 0} (archives places indexes : List (Reader S)) (out : Outs D T) (report : Writer)
+    (at : InputName) → EndsDeed (listed_of archives places indexes) out report (Err (Input at CannotOpen)) → ⊥
+listing [] places indexes out report at e = e
+listing (archive ∷ _) [] indexes out report at e = e
+listing (archive ∷ _) (place ∷ _) indexes out report at e = list archive place indexes at e.0.0
+
+summarizing : {S D T : Type 0} (archives places indexes : List (Reader S)) (out : Outs D T) (report : Writer)
+    (at : InputName) → EndsDeed (summarized_of archives places indexes) out report (Err (Input at CannotOpen)) → ⊥
+summarizing [] places indexes out report at e = e
+summarizing (archive ∷ _) [] indexes out report at e = e
+summarizing (archive ∷ _) (place ∷ _) indexes out report at e = summing archive place indexes out report at e
+
 pub spared : {S D T : Type 0} (opening : S → Opening) (asked : Plan) (inputs places : Inputs (Reader S)) (out : Outs D T) (report : Writer)
     (at : InputName) → Executes opening asked inputs places out report (Err (Input at CannotOpen)) → ⊥
 spared opening (plan.Admit false) inputs places out report at e =
@@ -267,11 +283,7 @@ spared opening plan.Apply inputs places out report at e =
 spared opening (plan.Find uuid) inputs places out report at e =
     find inputs.archives places.archives places.indexes uuid at e.0.0
 spared opening plan.List inputs places out report at e =
-    at_first inputs.archives
-    (λ archive _. of_first none (λ place _. answers (list_of archive place places.indexes)) places.archives) out report
-    at
-    (λ archive _ e. at_first places.archives (λ place _. answers (list_of archive place places.indexes)) out report at
-    (λ place _ e. list archive place places.indexes at e.0.0) e) e
+    listing inputs.archives places.archives places.indexes out report at e
 spared opening (plan.Extract key digest) inputs places out report at e =
     extracted (extract_of inputs.archives places.archives places.indexes key digest (out_of out).draft) out report at
     (extract inputs.archives places.archives places.indexes key digest (out_of out).draft at) e
@@ -285,10 +297,7 @@ spared opening (plan.Frames lines slices) inputs places out report at e =
     (λ crash _. answers (frames_of lines slices crash inputs.archives places.archives places.indexes)) out report at
     (λ crash _ e. frames lines slices crash inputs.archives places.archives places.indexes at e.0.0) e
 spared opening plan.Summary inputs places out report at e =
-    at_first inputs.archives
-    (λ archive _. of_first none (λ place _. summary_of archive place places.indexes) places.archives) out report at
-    (λ archive _ e. at_first places.archives (λ place _. summary_of archive place places.indexes) out report at
-    (λ place _ e. summing archive place places.indexes out report at e) e) e
+    summarizing inputs.archives places.archives places.indexes out report at e
 spared opening plan.Index inputs places out report at e =
     at_first inputs.archives (λ archive _. streams (index_of archive (draft_of out))) out report at
     (λ archive _ e. making e.stops.stopped at e.stops.tells) e

@@ -65,14 +65,17 @@ of_first otherwise says (x ∷ xs) = says x xs
 abbrev pub named_of : {S : Type 0} → List (Reader S) → List ℕ → Deed
 named_of archives sought = of_first none (λ archive others. answers (name archive others sought)) archives
 
+-- what `list` asks of the first archive, and its index, if there is one
+abbrev pub listed_of : {S : Type 0} → List (Reader S) → List (Reader S) → List (Reader S) → Deed
+listed_of (archive ∷ _) (place ∷ _) indexes = answers (list_of archive place indexes)
+listed_of _ _ _ = none
+
 -- what a plan without OUT asks of its inputs, as they are read from their start, and from any place: an archive and the
 -- further ones are asked as their join
 abbrev pub asked_of : {S : Type 0} → Plan → Inputs (Reader S) → Inputs (Reader S) → Deed
 asked_of (plan.Find uuid) inputs places =
     answers (find_of inputs.archives places.archives places.indexes uuid)
-asked_of plan.List inputs places =
-    of_first none (λ archive _. of_first none (λ place _. answers (list_of archive place places.indexes))
-    places.archives) inputs.archives
+asked_of plan.List inputs places = listed_of inputs.archives places.archives places.indexes
 asked_of (plan.Name sought) inputs places = named_of inputs.archives sought.now
 asked_of (plan.Symbolicate key load lines slices addresses) inputs places =
     answers (symbolicate_of inputs.archives places.archives places.indexes key load lines slices addresses.now)
@@ -92,17 +95,23 @@ only_reports (plan.Frames _ _) = true
 only_reports plan.Rehearse = true
 only_reports _ = false
 
--- it writes OUT while it reads one archive, or once it has read it
+-- it writes OUT while it reads one archive
 abbrev pub writes_archive : Plan → Bool
 writes_archive plan.New = false
 writes_archive plan.Merge = false
 writes_archive (plan.Extract _ _) = false
+writes_archive plan.Summary = false
 writes_archive asked = not (only_reports asked)
 
 -- what `summary` does, over an archive, and its index, if there is one
 abbrev pub summary_of : {S : Type 0} → Reader S → Reader S → List (Reader S) → Deed
 summary_of archive place [] = changes (summary archive)
 summary_of archive place (named ∷ _) = changes (summary_at named place)
+
+-- the same over the first archive
+abbrev pub summarized_of : {S : Type 0} → List (Reader S) → List (Reader S) → List (Reader S) → Deed
+summarized_of (archive ∷ _) (place ∷ _) indexes = summary_of archive place indexes
+summarized_of _ _ _ = none
 
 -- what `merge` does, over an archive and the further ones
 abbrev pub merged_of : {S D T : Type 0} → List (Reader S) → Outs D T → Deed
@@ -128,9 +137,7 @@ deed_of opening plan.Apply inputs places out =
     inputs.ops) inputs.archives
 deed_of opening (plan.Extract key digest) inputs places out =
     extracts (extract_of inputs.archives places.archives places.indexes key digest (out_of out).draft)
-deed_of opening plan.Summary inputs places out =
-    of_first none (λ archive _. of_first none (λ place _. summary_of archive place places.indexes) places.archives)
-    inputs.archives
+deed_of opening plan.Summary inputs places out = summarized_of inputs.archives places.archives places.indexes
 deed_of opening plan.Index inputs places out =
     of_first none (λ archive _. streams (index archive (draft_of out))) inputs.archives
 deed_of opening plan.Delta inputs places out =

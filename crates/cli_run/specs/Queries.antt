@@ -11,7 +11,7 @@ use Rattle.command_queries.specs.{Find.find, List.list, Name.SaysUnderscored}
 use Rattle.command_queries.specs.{Frames.frames, Symbolicate.symbolicate}
 use Rattle.command_common.specs.declared.notes.Note.{Note}
 use Rattle.command_common.specs.declared.notes.Note.TheVariants.{Retired, Missing, Underscored}
-use Rattle.command_index_queries.specs.{Find.find_at, Find.find_together, List.list_at}
+use Rattle.command_index_queries.specs.{Find.find_by, List.list_at}
 use Rattle.command_index_frames.specs.{Frames.frames_at, Symbolicate.symbolicate_at}
 use Rattle.command_extract.specs.{Extract.Extraction, Extract.extract, Indexed.extract_at}
 
@@ -43,13 +43,11 @@ if_paired (Err fault) query = record {
   Unfailed = ⊥;
 }
 
--- `find`, over archives as they are read from their start, and from any place, and their indexes, if they have some. Of
--- one archive the index alone is read.
+-- `find`, over archives as they are read from their start, and from any place, and their indexes, if they have some
 abbrev pub find_of : {S : Type 0} → List (Reader S) → List (Reader S) → List (Reader S) → List ℕ → Query
 find_of (archive ∷ others) places [] uuid = find archive others uuid
-find_of (archive ∷ []) (place ∷ []) (index ∷ []) uuid = find_at index place uuid
 find_of archives places indexes uuid =
-    if_paired (index_for_each_archive (length archives) (length indexes)) (find_together indexes places uuid)
+    if_paired (index_for_each_archive (length archives) (length indexes)) (find_by indexes places uuid)
 
 -- `list`, over an archive, and its index, if there is one
 abbrev pub list_of : {S : Type 0} → Reader S → Reader S → List (Reader S) → Query

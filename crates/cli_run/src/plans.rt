@@ -8,7 +8,7 @@ ghost use Rattle.cli_run.specs.Disks.{AreAsMany};
 ghost use Rattle.cli_run.specs.Plans.{Executes, Notes, readers_by, replaces_of};
 
 use crate::queries::answer;
-use crate::updates::{extract, merge, write};
+use crate::updates::{extract, merge, summary, write};
 use archive_core::Archive;
 use byte_device::{Output, Placed, Sink, Source, Target};
 use byte_openings::Opens;
@@ -70,6 +70,13 @@ pub fn execute_plan<
             out,
             report,
         ),
+        Plan::Summary => summary::<_, T, _>(
+            heap,
+            &mut inputs.archives,
+            &mut inputs.indexes,
+            out,
+            report,
+        ),
         Plan::Find { .. }
         | Plan::List
         | Plan::Name { .. }
@@ -80,7 +87,6 @@ pub fn execute_plan<
         | Plan::Retire { .. }
         | Plan::Migrate
         | Plan::Apply
-        | Plan::Summary
         | Plan::Index
         | Plan::Delta => write(heap, plan, inputs, notes, out, report),
     }

@@ -1,7 +1,6 @@
 //! The plans that write no OUT, over their inputs: archives are read whole, or by their indexes.
 
-ghost use Rattle.std.specs.Prelude.{◌≡◌, ◌<◌, ◌∷◌, IfErr, OnOk, length, true};
-ghost use Rattle.std.specs.Borrow.{Array, LendsBoth, sem};
+ghost use Rattle.std.specs.Prelude.{◌≡◌, ◌<◌, IfErr, OnOk, length, true};
 ghost use Rattle.command_common.specs.Ends.{EndsReport};
 ghost use Rattle.command_common.specs.Inputs.{reader, readers};
 ghost use Rattle.command_common.specs.Outputs.{writer};
@@ -9,31 +8,24 @@ ghost use Rattle.cli_arguments.specs.Inputs.{inputs_view};
 ghost use Rattle.cli_arguments.specs.Plan.{HasInputs};
 ghost use Rattle.command_queries.specs.Name.{name as name_of};
 ghost use Rattle.cli_run.specs.Disks.{AreAsMany};
-ghost use Rattle.cli_run.specs.Plans.{Answers, EndsAsked, Notes, NotesNamed, named_of, only_reports, readers_by};
+ghost use Rattle.cli_run.specs.Plans.{Answers, EndsAsked, Notes, NotesNamed, listed_of, named_of, only_reports};
+ghost use Rattle.cli_run.specs.Plans.{readers_by};
 ghost use Rattle.cli_run.specs.Queries.{AddsUnderscored, NotesUnderscored};
-ghost use Rattle.cli_run.specs.Queries.{IsAlone, find_of, frames_of, list_of, symbolicate_of};
+ghost use Rattle.cli_run.specs.Queries.{IsAlone, find_of, frames_of, symbolicate_of};
 
 use archive_core::{Archive, SliceKey};
 use archive_exchange::run_rehearse;
 use byte_device::{Placed, Sink, Source};
 use byte_openings::Opens;
 use cli_arguments::{Inputs, Plan};
-use command_common::{CommandFault, InputName, Note, Status, Why, write_report};
+use command_common::{
+    CommandFault, InputName, Note, Records, Status, Why, first_and_rest, write_report,
+};
 use command_index_frames::{run_frames_at, run_symbolicate_at};
-use command_index_queries::{run_find_at, run_find_together, run_list_at};
+use command_index_queries::Indexes;
 use command_queries::{answer_name, run_find, run_frames, run_list, run_symbolicate};
 use memory::{Heap, NoMemory};
 use uuid::Uuid;
-
-/// The first of some, and the rest.
-pub fn first_and_rest<T>(items: &mut [T]) -> (&mut T, &mut [T])
-    requires { 0 < length items.old }
-    ensures parts { items.old ≡ result.0.now ∷ result.1.now }
-    ensures* writes_back { sem 𝓛 (LendsBoth (Array T.row 0) T.row (Array T.row 0) items.entry result ◌∷◌) }
-{
-    let (first, rest) = items.split_at_mut(1);
-    (&mut first[0], rest)
-}
 
 /// Refuses the first index that has no archive, or the first archive that has no index.
 pub fn check_pairs(archives: usize, indexes: usize) -> Result<(), CommandFault>
@@ -49,7 +41,7 @@ pub fn check_pairs(archives: usize, indexes: usize) -> Result<(), CommandFault>
     Ok(())
 }
 
-/// `find` over archives, which are read by these indexes, if there are some: of one archive by its index alone.
+/// `find` over archives, which are read by these indexes, if there are some.
 fn find<A: Archive + Drop, S: Source + Placed, P: Sink>(
     heap: Heap,
     archives: &mut [S],
@@ -65,36 +57,30 @@ fn find<A: Archive + Drop, S: Source + Placed, P: Sink>(
         (writer P.held P.failures report.old report.new) result }
 {
     if indexes.is_empty() {
-        let (archive, others) = first_and_rest(archives);
-        return run_find::<A, _, _>(heap, archive, others, uuid, report);
+        return run_find::<A, _, _>(heap, &mut Records { archives }, uuid, report);
     }
     check_pairs(archives.len(), indexes.len())?;
-    if archives.len() == 1 {
-        return match (indexes, archives) {
-            ([index], [archive]) => run_find_at(heap, index, archive, uuid, report),
-            _ => unreachable!(),
-        };
-    }
-    run_find_together::<A, _, _, _>(heap, indexes, archives, uuid, report)
+    run_find::<A, _, _>(heap, &mut Indexes { indexes, archives }, uuid, report)
 }
 
-/// `list` over an archive, which is read by its index, if there is one.
+/// `list` over the first archive, which is read by the first index, if there is one.
 fn list<S: Source + Placed, P: Sink>(
     heap: Heap,
-    archive: &mut S,
+    archives: &mut [S],
     indexes: &mut [S],
     report: &mut P,
 ) -> Result<Status, CommandFault>
-    ensures { EndsReport (list_of
-        (reader ⟦<S as Source>⟧.left ⟦<S as Source>⟧.failures archive.old archive.new)
-        (reader ⟦<S as Placed>⟧.whole ⟦<S as Placed>⟧.failures archive.old archive.new)
+    requires { 0 < length archives.old }
+    ensures { EndsAsked (listed_of
+        (readers ⟦<S as Source>⟧.left ⟦<S as Source>⟧.failures archives.old archives.new)
+        (readers ⟦<S as Placed>⟧.whole ⟦<S as Placed>⟧.failures archives.old archives.new)
         (readers ⟦<S as Placed>⟧.whole ⟦<S as Placed>⟧.failures indexes.old indexes.new))
         (writer P.held P.failures report.old report.new) result }
 {
-    match indexes {
-        [] => run_list(heap, archive, report),
-        [index, ..] => run_list_at(heap, index, archive, report),
+    if indexes.is_empty() {
+        return run_list(heap, &mut Records { archives }, report);
     }
+    run_list(heap, &mut Indexes { indexes, archives }, report)
 }
 
 /// Adds a note that a symbol has this name with a `_` before it, if that is so.
@@ -241,10 +227,7 @@ pub fn answer<A: Archive + Drop, L: Archive + Drop, S: Source + Placed + Opens, 
     } = inputs;
     match plan {
         Plan::Find { uuid } => find::<A, _, _>(heap, archives, indexes, uuid, report),
-        Plan::List => match archives.as_mut_slice() {
-            [archive, ..] => list(heap, archive, indexes, report),
-            [] => unreachable!(),
-        },
+        Plan::List => list(heap, archives, indexes, report),
         Plan::Name { name } => name_in(heap, archives, name.as_bytes(), notes, report),
         Plan::Symbolicate {
             key,

@@ -6,18 +6,19 @@ ghost use Rattle.command_common.specs.Outputs.{out_of, outs, writer};
 ghost use Rattle.cli_arguments.specs.Inputs.{inputs_view};
 ghost use Rattle.cli_arguments.specs.Plan.{HasInputs};
 ghost use Rattle.cli_run.specs.Disks.{AreAsMany};
-ghost use Rattle.cli_run.specs.Plans.{EndsDeed, Executes, Notes, merged_of, readers_by, writes_archive};
+ghost use Rattle.cli_run.specs.Plans.{EndsDeed, Executes, Notes, merged_of, readers_by, summarized_of};
+ghost use Rattle.cli_run.specs.Plans.{writes_archive};
 ghost use Rattle.cli_run.specs.Queries.{extract_of};
 ghost use Rattle.command_extract.specs.Extract.{Extracts};
 
-use crate::queries::{check_pairs, first_and_rest};
+use crate::queries::check_pairs;
 use archive_core::{Archive, Digest, SliceKey};
 use byte_device::{Output, Placed, Sink, Source, Target};
 use byte_openings::Opens;
 use cli_arguments::{Inputs, Plan};
-use command_common::{CommandFault, Note, Status};
+use command_common::{CommandFault, Note, Records, Status, first_and_rest};
 use command_extract::{run_extract, run_extract_at};
-use command_index_queries::run_summary_at;
+use command_index_queries::Indexes;
 use command_write::{
     run_admit, run_apply, run_delta, run_merge, run_migrate, run_retire, run_summary,
 };
@@ -66,6 +67,28 @@ pub fn merge<A: Archive + Drop, S: Source, T: Target, P: Sink>(
     run_merge::<A, _, _, _, _>(heap, archive, others, out, report)
 }
 
+/// `summary` of the first archive, which is read by the first index, if there is one.
+pub fn summary<S: Source + Placed, T: Target, P: Sink>(
+    heap: Heap,
+    archives: &mut [S],
+    indexes: &mut [S],
+    out: &mut Output<T::Draft, T>,
+    report: &mut P,
+) -> Result<Status, CommandFault>
+    requires { 0 < length archives.old }
+    ensures { let known = outs T.Draft.held T.Draft.failures T.published T.failures out.old out.new in
+        EndsDeed (summarized_of
+        (readers ⟦<S as Source>⟧.left ⟦<S as Source>⟧.failures archives.old archives.new)
+        (readers ⟦<S as Placed>⟧.whole ⟦<S as Placed>⟧.failures archives.old archives.new)
+        (readers ⟦<S as Placed>⟧.whole ⟦<S as Placed>⟧.failures indexes.old indexes.new)) known
+        (writer P.held P.failures report.old report.new) result }
+{
+    if indexes.is_empty() {
+        return run_summary(heap, &mut Records { archives }, out, report);
+    }
+    run_summary(heap, &mut Indexes { indexes, archives }, out, report)
+}
+
 /// Carries out a plan that writes OUT from one archive. What the command notes is added to `notes`.
 pub fn write<S: Source + Placed + Opens, T: Target, P: Sink>(
     heap: Heap,
@@ -89,7 +112,6 @@ pub fn write<S: Source + Placed + Opens, T: Target, P: Sink>(
 {
     let Inputs {
         archives,
-        indexes,
         files,
         ops,
         summaries,
@@ -109,10 +131,6 @@ pub fn write<S: Source + Placed + Opens, T: Target, P: Sink>(
         Plan::Apply => match ops.as_mut_slice() {
             [ops, ..] => run_apply(heap, archive, ops, out, report),
             [] => unreachable!(),
-        },
-        Plan::Summary => match indexes.as_mut_slice() {
-            [] => run_summary(heap, archive, out, report),
-            [index, ..] => run_summary_at(heap, index, archive, out, report),
         },
         Plan::Index => run_index(heap, archive, out, report),
         Plan::Delta => match summaries.as_mut_slice() {

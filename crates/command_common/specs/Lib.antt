@@ -6,5 +6,7 @@ pub mod Ends
 pub mod Statuses
 pub mod Notes
 pub mod Found
+pub mod Asked
+pub mod Records
 pub mod Together
 pub mod InnerTogether

@@ -9,7 +9,9 @@
 //! - `statuses`: how a search ends, and the exit status of what was carried out;
 //! - `publishing`: the end of each command;
 //! - `sources`: what one input holds, or its refusal;
-//! - `together`: archives of which parts are kept and joined, and questions that their join answers.
+//! - `together`: archives of which parts are kept and joined, and questions that their join answers;
+//! - `evidence`: [`Evidence`], by which a command answers, so that it is written once; `records`: the records of
+//!   archives as such.
 //!
 //! # Why it is so
 //!
@@ -19,23 +21,27 @@
 //! - An output that could not be published failed after all of its bytes.
 #![tactic(auto)]
 
+mod evidence;
 mod failures;
 mod faults;
 mod notes;
 mod publishing;
+mod records;
 mod sources;
 mod statuses;
 mod together;
 
+pub use evidence::Evidence;
 pub use failures::Failure;
 pub use faults::{CommandFault, InputName, Status, Why};
 pub use notes::Note;
 pub use publishing::{
     publish, publish_draft, publish_output, publish_summary, write_report, write_report_bytes,
 };
+pub use records::{Records, first_and_rest};
 pub use sources::{
-    first_refusal, read_archive_input, read_file, read_frames_input, read_operations, read_rows,
-    read_script_input, read_summary_input, refusal, summarize_archive,
+    first_refusal, read_archive_input, read_file, read_frames_input, read_operations,
+    read_script_input, read_summary_input, refusal,
 };
 pub use statuses::{exit_status, found_status};
-pub use together::{answer_all, answer_archives, bytes_of, read_parts};
+pub use together::{answer_all, answer_archives, bytes_of, read_parts, uuid_bytes};

@@ -17,6 +17,7 @@ use archive_read::{Questions, Selects};
 use archive_records::key_prefix;
 use byte_device::Source;
 use memory::{Heap, NoMemory};
+use uuid::Uuid;
 
 /// Joins what is picked of the archive with this number on the command line.
 pub fn join_part<A: Archive + Drop, S: Selects, R: Source>(
@@ -67,6 +68,14 @@ pub fn read_parts<A: Archive + Drop, S: Selects, R: Source>(
     let mut kept: A = read_archive_part(heap.share(), 0, select, archive)?;
     join_parts(&heap, &mut kept, select, others)?;
     Ok(kept)
+}
+
+/// The bytes of a UUID.
+pub fn uuid_bytes(uuid: Uuid) -> [u8; 16]
+    ensures bytes { result ≡ uuid }
+    ensures long { length uuid ≡ 16 }
+{
+    *uuid.as_bytes()
 }
 
 pub fn bytes_of(key: &SliceKey) -> [u8; 24]

@@ -3,3 +3,4 @@ pub mod Refused
 pub mod Joined
 pub mod Groups
 pub mod RowsAmong
+mod Found

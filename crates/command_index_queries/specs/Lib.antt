@@ -1,4 +1,5 @@
 pub mod Rows
+pub mod Answered
 pub mod Find
 pub mod List
 pub mod Summary

@@ -1,7 +1,6 @@
 -- The reports of commands over archives that are asked together by their indexes.
 use Rattle.std.specs.Prelude.{ℕ, List, ◌⊎◌}
 use Rattle.archive_core.specs.Content.{Operations}
-use Rattle.command_common.specs.Ends.{Query}
 use Rattle.command_common.specs.Inputs.{Reader, EachUnfailed}
 use Rattle.command_common.specs.declared.faults.InputName.{InputName}
 use Rattle.command_common.specs.declared.faults.Status.{Status}
@@ -45,12 +44,3 @@ pub record MakesTogether {I P : Type 0} (prefixes : List (List ℕ)) (indexes : 
   pub content : Operations
   pub held : HoldTogether prefixes indexes archives content
   pub tells : Tells content status text
-
--- a command that tells so of what is joined under these prefixes
-abbrev pub asks_together : {I P : Type 0} → List (List ℕ) → List (Reader I) → List (Reader P)
-    → (Operations → Status → List ℕ → Type 0) → Query
-asks_together prefixes indexes archives Tells = record {
-  Makes = MakesTogether prefixes indexes archives Tells;
-  Refuses = AreRefusedTogether prefixes indexes archives;
-  Unfailed = AreUnfailedTogether indexes archives;
-}

@@ -5,6 +5,7 @@ ghost use Rattle.archive_core.specs.Key.{key_bytes};
 
 use archive_core::SliceKey;
 use archive_records::key_prefix;
+pub use command_common::uuid_bytes;
 use uuid::Uuid;
 
 /// What a key begins with.
@@ -14,14 +15,6 @@ pub enum KeyPrefix {
     Uuid(Uuid),
     /// A whole key.
     Key(SliceKey),
-}
-
-/// The bytes of a UUID.
-pub fn uuid_bytes(uuid: Uuid) -> [u8; 16]
-    ensures bytes { result ≡ uuid }
-    ensures long { length uuid ≡ 16 }
-{
-    *uuid.as_bytes()
 }
 
 /// The bytes of a key.

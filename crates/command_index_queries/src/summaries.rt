@@ -5,7 +5,7 @@ ghost use Rattle.archive_core.specs.Key.{IsKey, key_bytes};
 ghost use Rattle.index_format.specs.Entry.{placed_bytes, tag_byte};
 ghost use Rattle.index_format.specs.Text.{placed_of};
 ghost use Rattle.archive_records.specs.Entry.{entry_bytes};
-ghost use Rattle.command_index_queries.specs.Summary.{summary_in};
+ghost use Rattle.command_index_queries.specs.Answered.{summary_in};
 
 use archive_core::{Digest, FindState, SliceKey};
 use archive_records::{Entry, Summary};

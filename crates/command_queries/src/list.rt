@@ -1,31 +1,33 @@
 //! `list ARCHIVE`.
+ghost use Rattle.text_reports.specs.Finds.{list_lines};
+ghost use Rattle.command_common.specs.Asked.{prints_rows};
 ghost use Rattle.command_common.specs.Ends.{EndsReport};
-ghost use Rattle.command_common.specs.Inputs.{reader};
-ghost use Rattle.command_queries.specs.List.{list};
 ghost use Rattle.command_common.specs.Outputs.{writer};
 
-use byte_device::{Sink, Source};
-use command_common::{CommandFault, Status, found_status, read_rows, write_report};
+use byte_device::Sink;
+use command_common::{CommandFault, Evidence, Status, found_status, write_report};
 use memory::Heap;
 use text_reports::list_lines;
 
 /// Writes a row for each retirement and each live slice of the archive to the report, by UUID and then as `find` has
-/// them, and after the rows of a UUID and an architecture how many slices answer for it, where these are several.
+/// them, and after the rows of a UUID and an architecture how many slices answer for it, if there are several.
 ///
-/// The status is `Done` where there is a row, and else `Partial`.
+/// The status is `Done` if there is a row, and else `Partial`.
 ///
 /// # Errors
 ///
-/// `Input` where the archive is refused; `Report` where the report failed; `OutOfMemory`.
-pub fn run_list<R: Source, P: Sink>(
+/// `Input` for the first input that is refused; `Report` if the report failed; `OutOfMemory`.
+pub fn run_list<E: Evidence, P: Sink>(
     heap: Heap,
-    archive: &mut R,
+    evidence: &mut E,
     report: &mut P,
 ) -> Result<Status, CommandFault>
-    ensures { EndsReport (list (reader R.left R.failures archive.old archive.new))
+    requires { E.can_list evidence.old }
+    ensures keeps { E.keeps evidence.old evidence.new }
+    ensures ends { EndsReport (prints_rows list_lines (E.listed evidence.old evidence.new))
         (writer P.held P.failures report.old report.new) result }
 {
-    let rows = read_rows(heap.share(), archive)?;
+    let rows = evidence.list(heap.share())?;
     let text = list_lines(heap, &rows)?;
     write_report(found_status(&rows), &text, report)
 }

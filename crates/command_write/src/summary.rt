@@ -1,28 +1,29 @@
 //! `summary ARCHIVE OUT`.
+ghost use Rattle.command_common.specs.Asked.{writes_summary};
 ghost use Rattle.command_common.specs.Ends.{Ends};
-ghost use Rattle.command_common.specs.Inputs.{reader};
 ghost use Rattle.command_common.specs.Outputs.{out_of, outs, writer};
-ghost use Rattle.command_write.specs.Summary.{summary};
 
-use byte_device::{Output, Sink, Source, Target};
-use command_common::{CommandFault, Status, publish_summary, summarize_archive};
+use byte_device::{Output, Sink, Target};
+use command_common::{CommandFault, Evidence, Status, publish_summary};
 use memory::Heap;
 
 /// Writes the summary of ARCHIVE's content to OUT, and to the report how many entries and bytes it has.
 ///
 /// # Errors
 ///
-/// `Input` where the archive is refused; `Output` and `Report` where that writer failed; `OutOfMemory`.
-pub fn run_summary<R: Source, T: Target, P: Sink>(
+/// `Input` for the first input that is refused; `Output` and `Report` if that writer failed; `OutOfMemory`.
+pub fn run_summary<E: Evidence, T: Target, P: Sink>(
     heap: Heap,
-    archive: &mut R,
+    evidence: &mut E,
     out: &mut Output<T::Draft, T>,
     report: &mut P,
 ) -> Result<Status, CommandFault>
-    ensures { Ends (summary (reader R.left R.failures archive.old archive.new))
+    requires { E.can_list evidence.old }
+    ensures keeps { E.keeps evidence.old evidence.new }
+    ensures ends { Ends (writes_summary (E.summarized evidence.old evidence.new))
         (out_of (outs T.Draft.held T.Draft.failures T.published T.failures out.old out.new))
         (writer P.held P.failures report.old report.new) result }
 {
-    let summary = summarize_archive(heap.share(), archive)?;
+    let summary = evidence.summarize(heap.share())?;
     publish_summary(heap, &summary, out, report)
 }

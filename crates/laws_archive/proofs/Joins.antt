@@ -14,9 +14,11 @@ use Rattle.command_common.specs.declared.faults.InputName.{InputName}
 use Rattle.command_common.specs.declared.faults.Status.{Status}
 use Rattle.command_common.specs.declared.faults.Why.{Why}
 use Rattle.command_common.specs.Archives.{AreRefused, HoldTogether, merged}
-use Rattle.command_common.specs.Found.{TellsFound, found_status}
+use Rattle.command_common.specs.Found.{found_status}
 use Rattle.command_common.specs.Inputs.{Reader, HoldsArchive, HoldsContent, IsDeviceFault, IsGiven, IsGivenArchive}
-use Rattle.command_queries.specs.List.{MakesListed}
+use Rattle.command_common.specs.Records.{TellsFound}
+use Rattle.command_queries.specs.Find.{find}
+use Rattle.command_queries.specs.List.{list}
 use Rattle.command_queries.specs.Name.{TellsNamed}
 use Rattle.command_write.specs.Merge.{MakesMerged, merge}
 use Rattle.laws_archive.specs.Joins.{IsGivenJoin, IsMergedFile, TellOne}
@@ -61,23 +63,25 @@ module _ {R S : Type 0} (archive : Reader R) (others : List (Reader S)) (o : Ope
       merge_refused archive others given.content given.contents at why given.is_content given.are_contents given.archive_is given.others_are
       (elim refused [ inl first ↦ inl first.0 | inr behind ↦ inr behind ])
 
-  -- the file that `merge` of them writes is the text of their join
-  pub merge_given : {T : Type 0} (file : Reader T) (made told : List ℕ) → (merge archive others).Makes made told
-      → IsGiven file made → IsGivenJoin {S = S} file [] o
-  merge_given file made told makes is =
-      let m = makes.makes in
+  -- what `merge` of them makes is their join
+  pub merged_content : (content : Operations) (lines : List ℕ) → MakesMerged archive others content lines → content ≡ o
+  merged_content content lines m =
       let first = one_given archive given.content m.before given.is_content m.is_content given.archive_is m.archive in
       let rest = contents_given others given.contents m.contents given.are_contents m.are_contents given.others_are m.files_are in
-      let join : makes.content ≡ o = m.content_is ∙ (λ i. merged (first i) (rest i)) ∙ sym given.join_is in
-      record {
-        content = o;
-        contents = [];
-        is_content = join_content;
-        are_contents = tt;
-        archive_is = (made, inl (makes.text_is ∙ ap written join), is);
-        others_are = tt;
-        join_is = refl;
-      }
+      m.content_is ∙ (λ i. merged (first i) (rest i)) ∙ sym given.join_is
+
+  -- the file that it writes is the text of their join
+  pub merge_given : {T : Type 0} (file : Reader T) (made told : List ℕ) → (merge archive others).Makes made told
+      → IsGiven file made → IsGivenJoin {S = S} file [] o
+  merge_given file made told makes is = record {
+    content = o;
+    contents = [];
+    is_content = join_content;
+    are_contents = tt;
+    archive_is = (made, inl (makes.text_is ∙ ap written (merged_content makes.content makes.lines makes.makes)), is);
+    others_are = tt;
+    join_is = refl;
+  }
 
 -- the same of a file that holds the join
 pub as_merged : {R S T : Type 0} (archive : Reader R) (others : List (Reader S)) (file : Reader T)
@@ -141,7 +145,7 @@ told_once archive others also more o Tells one given also_given status other_sta
 pub found_once : ((o : Operations) (uuid : List ℕ) (rows others : List FindRow) → IsFinds o uuid rows → IsFinds o uuid others → rows ≡ others)
     → (o : Operations) (uuid : List ℕ) → TellOne (TellsFound o uuid) (TellsFound o uuid)
 found_once one o uuid status other_status text other_text a b =
-    let rows = one o uuid a.rows b.rows a.finds b.finds in
+    let rows = one o uuid a.rows b.rows a.have b.have in
     (a.status_is ∙ ap found_status rows ∙ sym b.status_is, a.text_is ∙ ap find_lines rows ∙ sym b.text_is)
 
 pub named_once : ((o : Operations) (name : List ℕ) (rows others : List NameRecord) → IsNames o name rows → IsNames o name others → rows ≡ others)
@@ -150,11 +154,22 @@ named_once one o sought status other_status text other_text a b =
     let rows = one o sought a.rows b.rows a.names b.names in
     (a.status_is ∙ ap found_status rows ∙ sym b.status_is, a.text_is ∙ ap name_lines rows ∙ sym b.text_is)
 
+-- what is found in several archives, their join has
+pub found_of_join : {R S : Type 0} (archive : Reader R) (others : List (Reader S)) (o : Operations) (uuid : List ℕ) (status : Status) (text : List ℕ)
+    → IsGivenJoin archive others o → (find archive others uuid).Makes status text → TellsFound o uuid status text
+found_of_join archive others o uuid status text given found = record {
+  rows = found.rows;
+  have = told_of_join archive others o given (λ p. IsFinds p uuid found.rows) found.have;
+  status_is = found.status_is;
+  text_is = found.text_is;
+}
+
 pub listed_once : ((o : Operations) (rows others : List FindRow) → IsList o rows → IsList o others → rows ≡ others)
     → {R S : Type 0} (archive : Reader R) (other : Reader S) (o : Operations) → IsContent o → IsGivenArchive archive o → IsGivenArchive other o
-    → TellOne (MakesListed archive) (MakesListed other)
+    → TellOne (list archive).Makes (list other).Makes
 listed_once one archive other o content given also_given status other_status text other_text a b =
-    let first = one_given archive o a.content content a.is_content given a.archive_is in
-    let second = one_given other o b.content content b.is_content also_given b.archive_is in
-    let rows = one o a.rows b.rows (subst (λ (p : Operations). IsList p a.rows) first a.lists) (subst (λ (p : Operations). IsList p b.rows) second b.lists) in
+    let first = one_given archive o a.have.content content a.have.is_content given a.have.text in
+    let second = one_given other o b.have.content content b.have.is_content also_given b.have.text in
+    let rows = one o a.rows b.rows (subst (λ (p : Operations). IsList p a.rows) first a.have.is_true)
+    (subst (λ (p : Operations). IsList p b.rows) second b.have.is_true) in
     (a.status_is ∙ ap found_status rows ∙ sym b.status_is, a.text_is ∙ ap list_lines rows ∙ sym b.text_is)

@@ -14,12 +14,12 @@ ghost use Rattle.command_common.specs.declared.faults.InputName.{InputName};
 ghost use Rattle.command_common.specs.declared.faults.Status.{Status};
 ghost use Rattle.command_common.specs.declared.faults.Why.{Why};
 ghost use Rattle.command_common.specs.Archives.{AreRefused, AreUnfailed, merged};
-ghost use Rattle.command_common.specs.Found.{TellsFound};
 ghost use Rattle.command_common.specs.Inputs.{Gives, HoldsContent, IsGiven, IsGivenArchive, IsRefusedArchive, Reader};
 ghost use Rattle.command_common.specs.Inputs.{RefusesDevicesAlone, Unfailed};
-ghost use Rattle.command_queries.specs.Find.{MakesFound, find};
+ghost use Rattle.command_common.specs.Records.{TellsFound};
+ghost use Rattle.command_queries.specs.Find.{find};
 ghost use Rattle.command_queries.specs.Frames.{MakesFramed, SymbolicatesEach, TellsFramesWith, frames};
-ghost use Rattle.command_queries.specs.List.{MakesListed, list};
+ghost use Rattle.command_queries.specs.List.{list};
 ghost use Rattle.command_queries.specs.Name.{MakesNamed, TellsNamed, name};
 ghost use Rattle.command_queries.specs.Symbolicate.{MakesAnswered, TellsAddresses, TellsAddressesWith, symbolicate};
 ghost use Rattle.archive_exchange.specs.Rehearse.{MakesRehearsed, rehearse, held_line};
@@ -83,12 +83,12 @@ pub fn one_report<Q: Source, R: Source, S: Source, T: Source, U: Source, V: Sour
         (o : Operations) (uuid : List ℕ)
         → IsGivenJoin archive others o
         → IsGivenJoin also more o
-        → TellOne (MakesFound archive others uuid) (MakesFound also more uuid) }
+        → TellOne (find archive others uuid).Makes (find also more uuid).Makes }
     ensures list { (archive : Reader R) (other : Reader S) (o : Operations)
         → IsContent o
         → IsGivenArchive archive o
         → IsGivenArchive other o
-        → TellOne (MakesListed archive) (MakesListed other) }
+        → TellOne (list archive).Makes (list other).Makes }
     ensures name { (archive : Reader R) (others : List (Reader S)) (also : Reader T) (more : List (Reader U))
         (o : Operations) (sought : List ℕ)
         → IsGivenJoin archive others o
@@ -124,7 +124,7 @@ pub fn one_report<Q: Source, R: Source, S: Source, T: Source, U: Source, V: Sour
 pub fn asked_together<Q: Source, R: Source, S: Source, T: Source>()
     ensures find { (archive : Reader R) (others : List (Reader S)) (file : Reader T) (uuid : List ℕ)
         → IsMergedFile archive others file
-        → TellAlike (MakesFound archive others uuid) (MakesFound {S = S} file [] uuid) }
+        → TellAlike (find archive others uuid).Makes (find {S = S} file [] uuid).Makes }
     ensures name { (archive : Reader R) (others : List (Reader S)) (file : Reader T) (sought : List ℕ)
         → IsMergedFile archive others file
         → TellAlike (MakesNamed archive others sought) (MakesNamed {S = S} file [] sought) }
@@ -142,7 +142,7 @@ pub fn asked_together<Q: Source, R: Source, S: Source, T: Source>()
 /// What is told of one archive is what its content tells.
 pub fn one_archive<Q: Source, R: Source, S: Source>()
     ensures find { (archive : Reader R) (uuid : List ℕ)
-        → TellAlike (MakesFound {S = S} archive [] uuid)
+        → TellAlike (find {S = S} archive [] uuid).Makes
         (λ status text. HoldsContent archive (λ o. TellsFound o uuid status text)) }
     ensures name { (archive : Reader R) (sought : List ℕ)
         → TellAlike (MakesNamed {S = S} archive [] sought)

@@ -58,10 +58,9 @@ returns g c = record {
             ∙ sym n.lines_are,
       ));
   summary = λ archive other o content given other_given text told other_text other_told m n.
-      let same = before archive other o m.content n.content content m.is_content n.is_content given other_given m.archive_is n.archive_is in (
-        m.text_is ∙ ap (λ (p : Operations). summary_text (exchange.summary p)) same ∙ sym n.text_is,
-        m.told_is ∙ ap (λ (p : Operations). summary_report_of (exchange.summary p)) same ∙ sym n.told_is,
-      );
+      let same = before archive other o m.have.content n.have.content content m.have.is_content n.have.is_content given other_given m.have.text n.have.text in
+      let one = m.have.is_true ∙ ap (λ (p : Operations). exchange.summary p) same ∙ sym n.have.is_true in
+      (m.text_is ∙ ap summary_text one ∙ sym n.text_is, m.told_is ∙ ap summary_report_of one ∙ sym n.told_is);
   delta = λ archive other named others o text content given other_given named_given others_given. of_content _ _ (λ _ _ _ _ m n.
       let old = before archive other o m.before n.before content m.is_content n.is_content given other_given m.archive_is n.archive_is in
       let said = is_given named text (λ t. t ≡ summary_text m.entries) named_given m.summary_is in

@@ -22,7 +22,8 @@ use Rattle.laws_archive.proofs.Refusals.{all_good, archives_agree, carried, each
 use Rattle.laws_archive.proofs.Refusals.{one_first, one_frames, one_in_turn, swapped, one_archive, one_script}
 use Rattle.laws_archive.proofs.Refusals.{script_accepted}
 use Rattle.text_inputs.specs.Script.{acts, script_of}
-use Rattle.command_common.specs.Found.{TellsFound}
+use Rattle.archive_core.specs.Find.{IsFinds}
+use Rattle.command_queries.specs.Find.{find}
 use Rattle.command_queries.specs.List.{list}
 use Rattle.command_queries.specs.Name.{TellsNamed}
 use Rattle.command_queries.specs.Symbolicate.{TellsAddressesWith}
@@ -159,15 +160,22 @@ module _ {O P Q R S T : Type 0} (input : Reader O) (archive : Reader Q) (others 
 
 pub returns : goal.returns
 returns g c = record {
-  find = λ archive others also more uuid.
-      asked_alike archive others also more (λ o status text. TellsFound o uuid status text) (λ o. found_once c.one_find.ensures.one o uuid);
+  find = λ archive others also more uuid alike. ends_alike (find archive others uuid) (find also more uuid)
+      (λ status other_status text other_text a b.
+      let both = both_tell archive others also more alike (λ o. IsFinds o uuid a.rows) (λ o. IsFinds o uuid b.rows) a.have b.have in
+      found_once c.one_find.ensures.one both.0 uuid status other_status text other_text
+      (record { rows = a.rows; have = both.1; status_is = a.status_is; text_is = a.text_is })
+      (record { rows = b.rows; have = both.2; status_is = b.status_is; text_is = b.text_is }))
+      (one_of_archives archive others also more alike)
+      (λ status text at why a b. held_fails archive others also more alike (λ o. IsFinds o uuid a.rows) at why a.have b)
+      (λ status text at why a b. held_fails also more archive others (alike_too archive others also more alike) (λ o. IsFinds o uuid a.rows) at why a.have b);
   list = λ archive other alike. ends_alike (list archive) (list other)
       (λ status other_status text other_text a b.
-      let k = carried archive other (IsArchiveOf a.content) alike a.archive_is in
-      listed_once c.one_list.ensures.one archive other a.content a.is_content (k.0, k.3, k.1) (k.0, k.3, k.2) status other_status text other_text a b)
+      let k = carried archive other (IsArchiveOf a.have.content) alike a.have.text in
+      listed_once c.one_list.ensures.one archive other a.have.content a.have.is_content (k.0, k.3, k.1) (k.0, k.3, k.2) status other_status text other_text a b)
       (one_archive archive other alike)
-      (λ status text at why a b. archives_agree.left archive other why alike (a.content, a.is_content, a.archive_is) b.1)
-      (λ status text at why a b. archives_agree.left other archive why (swapped archive other alike) (a.content, a.is_content, a.archive_is) b.1);
+      (λ status text at why a b. archives_agree.left archive other why alike (a.have.content, a.have.is_content, a.have.text) b.1)
+      (λ status text at why a b. archives_agree.left other archive why (swapped archive other alike) (a.have.content, a.have.is_content, a.have.text) b.1);
   name = λ archive others also more sought.
       asked_alike archive others also more (λ o status text. TellsNamed o sought status text) (λ o. named_once c.one_find_name.ensures.one o sought);
   symbolicate = λ archive others also more key load lines slices addresses.
