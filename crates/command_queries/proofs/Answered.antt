@@ -1,45 +1,20 @@
--- What is told of addresses, one after another.
-use Rattle.std.proofs.Common.{arith, ◌≡◌, ℕ, Bool, if◌then◌else◌, List, [], ◌∷◌, ◌++◌, Option, sym, ap, ◌∙◌}
-use Rattle.std.proofs.lemmas.List.{map-append, flat_map_more}
+-- What is told of addresses under a key.
+use Rattle.std.proofs.Common.{◌≡◌, ℕ, Bool, true, false, List, [], ◌∷◌, map, Option, refl, sym, ap, subst}
+use Rattle.std.specs.List.{AllByRecursion, AllZip, Contains}
 use Rattle.std.proofs.lemmas.List.Elements.{All-from_recursion, All-weaker, recursion_from_All}
-use Rattle.std.proofs.lemmas.List.Folds.{list_all-append}
 use Rattle.archive_core.specs.Content.{Operations}
 use Rattle.archive_core.specs.Lookup.{answer_view}
 use Rattle.archive_core.specs.Key.{key_bytes}
 use Rattle.archive_core.specs.Part.{AreAlikeUnder}
 use Rattle.archive_core.specs.declared.keys.SliceKey.{SliceKey}
-use Rattle.archive_core.specs.declared.lookup.Answer.{Answer}
-use Rattle.command_common.proofs.Readers.{all_more}
-use Rattle.text_reports.specs.Answers.{answer_lines}
+use Rattle.archive_core.proofs.Members.{in_front, in_map}
+use Rattle.text_inputs.specs.declared.frame.Frame.{Frame}
 use Rattle.command_common.specs.declared.faults.Status.{Status}
-use Rattle.command_common.specs.declared.faults.Status.TheVariants.{Partial}
-use Rattle.command_queries.proofs.Sourced.{sourced_as}
 use Rattle.command_common.proofs.Alike.{answers_alike}
-use Rattle.command_queries.specs.Sources.{IsSourced}
-use Rattle.dwarf_source_frames.specs.Frames.{FrameRecord}
-use Rattle.command_queries.specs.Symbolicate.{asked_of, is_symbol, Answered, IsAnswered, answers_status, TellsAddresses}
-
-pub status_more : (rows : List Answered) (row : Answered) → (if is_symbol row.answer then answers_status rows else Partial) ≡ answers_status (rows ++ row ∷ [])
-status_more rows row = grind (arith, list_all-append (λ row. is_symbol row.answer) rows (row ∷ []))
-
-pub more_told : (content : Operations) (key : SliceKey) (load : Option ℕ) (lines : Bool) (before addresses : List ℕ)
-    (status next : Status) (text printed : List ℕ) (address : ℕ) (answer : Answer) (frames : List (List FrameRecord))
-    → TellsAddresses content key load lines before status text
-    → addresses ≡ before ++ address ∷ []
-    → IsSourced content key lines (asked_of load address) (answer_view answer) frames
-    → next ≡ (if is_symbol answer then status else Partial)
-    → printed ≡ text ++ answer_lines address answer frames
-    → TellsAddresses content key load lines addresses next printed
-more_told content key load lines before addresses status next text printed address answer frames told more is_answer next_is printed_is =
-    let row : Answered = record { address = address; answer = answer; frames = frames } in
-    record {
-      rows = told.rows ++ row ∷ [];
-      addresses_are = map-append (λ row. row.address) told.rows (row ∷ []) ∙ ap (λ xs. xs ++ address ∷ []) told.addresses_are ∙ sym more;
-      answered = all_more (IsAnswered content key load lines) told.rows row told.answered is_answer;
-      status_is = next_is ∙ ap (λ (s : Status). if is_symbol answer then s else Partial) told.status_is ∙ status_more told.rows row;
-      text_is = printed_is ∙ ap (λ t. t ++ answer_lines address answer frames) told.text_is
-          ∙ flat_map_more (λ (row : Answered). answer_lines row.address row.answer row.frames) [] told.rows row;
-    }
+use Rattle.command_queries.proofs.Sourced.{sourced_as}
+use Rattle.command_queries.specs.Frames.{IsFrameAnswered, TellsFrames, frames_at}
+use Rattle.command_queries.specs.Slices.{IsAnsweringRow, WithSlices}
+use Rattle.command_queries.specs.Symbolicate.{Answered, IsAnswered, TellsAddresses, TellsAddressesWith, asked_of}
 
 -- contents that are alike under the key tell the same
 pub told_alike : (o p : Operations) (key : SliceKey) (load : Option ℕ) (lines : Bool) (addresses : List ℕ)
@@ -53,4 +28,46 @@ told_alike o p key load lines addresses status text same told = record {
       (All-from_recursion _ _ told.answered));
   status_is = told.status_is;
   text_is = told.text_is;
+}
+
+-- ---- the frames of one key
+
+-- each is under the key
+pub under_key : (key : SliceKey) (load : Option ℕ) (addresses : List ℕ) (frame : Frame)
+    → Contains (frames_at key load addresses) frame → Contains (key ∷ []) frame.key
+under_key key load addresses frame there =
+    let at : ℕ → Frame = λ address. record { key = key; load = load; address = address } in
+    let one = in_map at addresses frame there in
+    subst (Contains (key ∷ [])) (sym (ap (λ (f : Frame). f.key) one.2)) (in_front key [])
+
+rows_at : (o : Operations) (key : SliceKey) (load : Option ℕ) (lines : Bool) (addresses : List ℕ) (rows : List Answered)
+    → AllZip (IsFrameAnswered lines o) (frames_at key load addresses) rows
+    → (map (λ (row : Answered). row.address) rows ≡ addresses) × AllByRecursion (IsAnswered o key load lines) rows
+rows_at o key load lines [] [] all = (refl, tt)
+rows_at o key load lines (address ∷ addresses) (row ∷ rows) all =
+    let behind = rows_at o key load lines addresses rows all.1 in
+    ((λ i. all.0.0 i ∷ behind.0 i), (all.0.1, behind.1))
+rows_at o key load lines [] (row ∷ rows) all = absurd all
+rows_at o key load lines (address ∷ addresses) [] all = absurd all
+
+-- what is told of them is told of the addresses
+pub addresses_told : (o : Operations) (key : SliceKey) (load : Option ℕ) (lines : Bool) (addresses : List ℕ)
+    (status : Status) (text : List ℕ) → TellsFrames lines o (frames_at key load addresses) status text
+    → TellsAddresses o key load lines addresses status text
+addresses_told o key load lines addresses status text told =
+    let are = rows_at o key load lines addresses told.rows told.answered in
+    record { rows = told.rows; addresses_are = are.0; answered = are.1; status_is = told.status_is; text_is = told.text_is }
+
+-- and so it is with the lines of the slices that answer
+pub addresses_told_with : (slices : Bool) (o : Operations) (key : SliceKey) (load : Option ℕ) (lines : Bool) (addresses : List ℕ)
+    (status : Status) (text : List ℕ)
+    → WithSlices slices (TellsFrames lines o (frames_at key load addresses)) (IsAnsweringRow o (key ∷ [])) (key ∷ []) status text
+    → TellsAddressesWith o key load lines slices addresses status text
+addresses_told_with false o key load lines addresses status text told = addresses_told o key load lines addresses status text told
+addresses_told_with true o key load lines addresses status text after = record {
+  answers = after.answers;
+  told = addresses_told o key load lines addresses status after.answers after.told;
+  slices = after.slices;
+  tells_slices = after.tells_slices;
+  text_is = after.text_is;
 }

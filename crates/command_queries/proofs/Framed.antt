@@ -6,12 +6,12 @@ use Rattle.std.specs.Prelude.{slice_get, slice_range}
 use Rattle.std.specs.List.{All, AllByRecursion, AllZip, Contains, HoldsAt, flat_map, list_all, list_any, prefix_len}
 use Rattle.std.specs.Str.{bytes_eq}
 use Rattle.std.specs.List.Sorted.{IsBinarySearchResult, IsPartitionPoint, IsPermutation, IsSearchInRange, IsSortedBy, IsSortedByKey}
-use Rattle.std.specs.Ordering.{nat_cmp, is_lt, ordering_then}
+use Rattle.std.specs.Ordering.{nat_cmp, is_lt}
 use Rattle.std.specs.declared.cmp.Ordering.{Ordering}
 use Rattle.std.specs.declared.cmp.Ordering.TheVariants.{Less, Equal, Greater}
 use Rattle.std.specs.Cmp.{IsTotalOrder, tied_itself}
 use Rattle.std.specs.Cmp.Lexicographic.{slice_cmp, nat_list_cmp_total}
-use Rattle.std.proofs.lemmas.Cmp.{nat_cmp_total, on_total, then_total}
+use Rattle.std.proofs.lemmas.Cmp.{on_total}
 use Rattle.std.proofs.lemmas.Bool.{cases_eq, cases_lt, false_from_ne_true}
 use Rattle.std.proofs.Math.Seq.{drop-nil}
 use Rattle.std.proofs.lemmas.List.Elements.{All-from_recursion}
@@ -85,12 +85,7 @@ lines_of frames asked moved are permuted = λ one. (
         )
 
 pub asked_total : IsTotalOrder asked_cmp
-asked_total = then_total (on_total (λ (a : AskedFrame). key_bytes a.frame.key) nat_list_cmp_total)
-    (on_total (λ (a : AskedFrame). a.frame.address) nat_cmp_total)
-
--- the first part of an order
-no_less_first : (a b : Ordering) → is_lt (ordering_then a b) ≡ false → is_lt a ≡ false
-no_less_first a b h = grind arith
+asked_total = on_total (λ (a : AskedFrame). key_bytes a.frame.key) nat_list_cmp_total
 
 -- they stand in the order of their keys
 pub keys_in_order : (asked : List AskedFrame) → IsSortedBy (λ (a b : AskedFrame). is_lt (asked_cmp a b)) asked → AreInOrder (map key_of_asked asked)
@@ -98,11 +93,11 @@ keys_in_order [] sorted = λ j d _ below. absurd (omega (arith, below))
 keys_in_order (first ∷ asked) sorted = λ j d _ below.
     let within : j + 1 < length (first ∷ asked) = omega (arith, below, length-map (first ∷ asked) key_of_asked) in
     rw (get_or-map key_of_asked (first ∷ asked) (j + 1) first d within, get_or-map key_of_asked (first ∷ asked) j first d (omega (arith, within)))
-    (no_less_first _ _ (sorted j first (omega arith) within))
+    (sorted j first (omega arith) within)
 
 pub by_keys : (asked : List AskedFrame) → IsSortedBy (λ (a b : AskedFrame). is_lt (asked_cmp a b)) asked
     → IsSortedByKey (λ (one : AskedFrame). key_bytes one.frame.key) (slice_cmp nat_cmp) asked
-by_keys asked sorted = λ j d below within. no_less_first _ _ (sorted j d below within)
+by_keys asked sorted = λ j d below within. sorted j d below within
 
 -- ---- whether a record is under one of their keys
 

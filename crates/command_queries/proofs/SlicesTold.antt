@@ -1,5 +1,5 @@
 -- What is told of the slices under UUIDs: which records are read, and that what was kept tells what the join does.
-use Rattle.std.proofs.Common.{◌≡◌, ℕ, ◌+◌, ◌<◌, Bool, ◌||◌, if◌then◌else◌, true, false, Option, List, [], ◌∷◌, ◌++◌}
+use Rattle.std.proofs.Common.{◌≡◌, ℕ, ◌+◌, ◌<◌, Bool, true, false, List, [], ◌∷◌, ◌++◌}
 use Rattle.std.proofs.Common.{length, map, take, drop, get_or, Result, Ok, Err, is_ok, refl, sym, ap, ◌∙◌, subst, arith}
 use Rattle.std.proofs.Common.{inl, inr, length-append}
 use Rattle.std.specs.Cmp.{tied_itself}
@@ -13,7 +13,7 @@ use Rattle.std.specs.declared.cmp.Ordering.TheVariants.{Less, Equal, Greater}
 use Rattle.std.proofs.lemmas.Bool.{cases_lt, false_from_ne_true}
 use Rattle.std.proofs.lemmas.Cmp.{eq_by_cmp_equiv}
 use Rattle.std.proofs.lemmas.List.{flat_map_more, take-take, take_at, take_more}
-use Rattle.std.proofs.lemmas.List.Elements.{All-cons, All-contains, All-nil}
+use Rattle.std.proofs.lemmas.List.Elements.{All-contains}
 use Rattle.std.proofs.lemmas.List.Folds.{Any-from_list_any, list_any-from_Any, list_any_at}
 use Rattle.std.proofs.lemmas.List.Kept.{Any-dedup, Contains-from_dedup, IsStrictlySortedBy-dedup}
 use Rattle.std.proofs.lemmas.List.Sorted.{Contains-permutation, IsPermutation-sym, searchable_from_sorted}
@@ -26,7 +26,7 @@ use Rattle.archive_core.specs.Part.{AreAlikeUnder, is_under}
 use Rattle.archive_core.specs.declared.find.FindRow.{FindRow}
 use Rattle.archive_core.specs.declared.keys.SliceKey.{SliceKey}
 use Rattle.archive_core.proofs.Made.{bytes_same, joined_content}
-use Rattle.archive_core.proofs.Members.{in_cons, in_front, in_map, in_rest, pairs_more, to_map}
+use Rattle.archive_core.proofs.Members.{in_front, in_map, in_rest, pairs_more, to_map}
 use Rattle.archive_core.proofs.Compare.{length_key_bytes}
 use Rattle.archive_core.proofs.Picked.{finds_alike}
 use Rattle.archive_read.specs.Keys.{AnswersAs}
@@ -38,11 +38,10 @@ use Rattle.command_common.specs.Archives.{HoldTogether, merged}
 use Rattle.command_common.specs.Inputs.{Reader}
 use Rattle.command_common.specs.Together.{AreAlikeWhere}
 use Rattle.command_common.proofs.Alike.{answers_alike}
-use Rattle.command_queries.specs.Frames.{IsFrameAnswered, TellsFrames, frame_keys}
-use Rattle.command_queries.specs.Slices.{AreUuidsOf, IsAnsweringRow, TellsSlicesAfter}
-use Rattle.command_queries.specs.InnerSlices.{AreRowsUnder, TellsRowsAfter, WithRows, is_under_one}
-use Rattle.command_queries.specs.Symbolicate.{Answered, TellsAddresses, TellsAddressesWith, asked_of}
-use Rattle.command_queries.proofs.Answered.{told_alike}
+use Rattle.command_queries.specs.Frames.{IsFrameAnswered, TellsFrames}
+use Rattle.command_queries.specs.Slices.{AreUuidsOf, IsAnsweringRow, TellsSlicesAfter, WithSlices}
+use Rattle.command_queries.specs.InnerSlices.{AreRowsUnder, TellsRowsAfter, is_under_one}
+use Rattle.command_queries.specs.Symbolicate.{Answered, asked_of}
 use Rattle.command_queries.proofs.RowsAnswering.{answer_answers, answers_answer}
 use Rattle.command_queries.proofs.Sourced.{sourced_as}
 
@@ -251,66 +250,23 @@ module _ (kept o : Operations) (keys : List SliceKey) (uuids : List (List ℕ)) 
         text_is = after.text_is;
       }
 
--- the same of frames, with their keys
+-- the same of frames under these keys
 pub frames_after : (lines : Bool) (kept o : Operations) (frames : List Frame) (keys : List SliceKey) (uuids : List (List ℕ)) (status : Status) (text : List ℕ)
-    → IsContent o → keys ≡ frame_keys frames → All IsKey keys → AreUuidsOf keys uuids → AreAlikeWhere (is_under_one uuids) kept o
+    → IsContent o → ((frame : Frame) → Contains frames frame → Contains keys frame.key) → All IsKey keys → AreUuidsOf keys uuids
+    → AreAlikeWhere (is_under_one uuids) kept o
     → TellsRowsAfter (TellsFrames lines kept frames) kept uuids keys status text
-    → TellsSlicesAfter (TellsFrames lines o frames) (IsAnsweringRow o (frame_keys frames)) (frame_keys frames)
-    status text
-frames_after lines kept o frames keys uuids status text content same keyed are alike after =
-    subst (λ (ks : List SliceKey). TellsSlicesAfter (TellsFrames lines o frames) (IsAnsweringRow o ks) ks status text) same
-    (tells_after kept o keys uuids content keyed are alike (TellsFrames lines kept frames) (TellsFrames lines o frames) status text
+    → TellsSlicesAfter (TellsFrames lines o frames) (IsAnsweringRow o keys) keys status text
+frames_after lines kept o frames keys uuids status text content under keyed are alike after =
+    tells_after kept o keys uuids content keyed are alike (TellsFrames lines kept frames) (TellsFrames lines o frames) status text
     (λ answers told. frames_alike lines kept o frames status answers
-    (λ frame there. answers_of kept o keys uuids content keyed are alike frame.key
-    (subst (λ (ks : List SliceKey). Contains ks frame.key) (sym same)
-    (to_map (λ (one : Frame). one.key) frames frame there))) told) after)
+    (λ frame there. answers_of kept o keys uuids content keyed are alike frame.key (under frame there)) told) after
 
--- ---- one key
-
-only : (key : SliceKey) (uuid : List ℕ) → Contains (key.uuid ∷ []) uuid → key.uuid ≡ uuid
-only key uuid there = elim (in_cons key.uuid [] uuid there) [
-  | inl same ↦ same
-  | inr none ↦ absurd (omega (arith, none.1))
-]
-
-only_key : (key other : SliceKey) → Contains (key ∷ []) other → key ≡ other
-only_key key other there = elim (in_cons key [] other there) [
-  | inl same ↦ same
-  | inr none ↦ absurd (omega (arith, none.1))
-]
-
-own_uuid : (key : SliceKey) → AreUuidsOf (key ∷ []) (key.uuid ∷ [])
-own_uuid key = λ uuid. (
-  λ there. (key, in_front key [], only key uuid there),
-  λ has. subst (Contains (key.uuid ∷ [])) (ap (λ (k : SliceKey). k.uuid) (only_key key has.0 has.1) ∙ has.2) (in_front key.uuid []),
-)
-
-or_only : (b : Bool) → (b || false) ≡ true → b ≡ true
-or_only true e = refl
-or_only false e = e
-
-one_picked : (uuid r : List ℕ) → length uuid ≡ 16 → is_under_one (uuid ∷ []) r ≡ true → is_under uuid r ≡ true
-unfolding is_under
-one_picked uuid r long picked = ap (λ (n : ℕ). bytes_eq uuid (take n (drop 1 r))) long ∙ or_only (bytes_eq uuid (take 16 (drop 1 r))) picked
-
-front_uuid : (key : SliceKey) → length key.uuid ≡ 16 → take 16 (key_bytes key) ≡ key.uuid
-unfolding key_bytes
-front_uuid key long = take_at key.uuid _ 16 long
-
-pub addresses_with : (slices : Bool) (kept o : Operations) (key : SliceKey) (load : Option ℕ) (lines : Bool)
-    (addresses : List ℕ) (status : Status) (text : List ℕ) → IsContent o → IsKey key
-    → AreAlikeWhere (is_under (if slices then take 16 (key_bytes key) else key_bytes key)) kept o
-    → WithRows slices (TellsAddresses kept key load lines addresses) kept (key.uuid ∷ []) (key ∷ []) status text
-    → TellsAddressesWith o key load lines slices addresses status text
-addresses_with false kept o key load lines addresses status text content is_key alike told =
-    told_alike kept o key load lines addresses status text (alike (key_bytes key) (omega (arith, length_key_bytes key is_key.uuid)) (λ r under. under)) told
-addresses_with true kept o key load lines addresses status text content is_key alike told =
-    let by_uuid : AreAlikeWhere (is_under key.uuid) kept o =
-    subst (λ (front : List ℕ). AreAlikeWhere (is_under front) kept o) (front_uuid key is_key.uuid) alike in
-    let by_one : AreAlikeWhere (is_under_one (key.uuid ∷ [])) kept o =
-    λ prefix short all. by_uuid prefix short (λ r under. one_picked key.uuid r is_key.uuid (all r under)) in
-    let whole = All-cons IsKey key [] is_key (All-nil IsKey) in
-    tells_after kept o (key ∷ []) (key.uuid ∷ []) content whole (own_uuid key) by_one
-    (TellsAddresses kept key load lines addresses) (TellsAddresses o key load lines addresses) status text
-    (λ answers before. told_alike kept o key load lines addresses status answers
-    (by_uuid (key_bytes key) (omega (arith, length_key_bytes key is_key.uuid)) (λ r under. under_uuid key r under)) before) told
+-- the same, of other names of the frames, of the keys and of the text
+pub told_as : (lines slices : Bool) (o : Operations) (frames listed : List Frame) (keys asked : List SliceKey) (status : Status)
+    (text printed : List ℕ) → frames ≡ listed → keys ≡ asked → printed ≡ text
+    → WithSlices slices (TellsFrames lines o frames) (IsAnsweringRow o keys) keys status text
+    → WithSlices slices (TellsFrames lines o listed) (IsAnsweringRow o asked) asked status printed
+told_as lines slices o frames listed keys asked status text printed same also is told =
+    subst (λ (t : List ℕ). WithSlices slices (TellsFrames lines o listed) (IsAnsweringRow o asked) asked status t) (sym is)
+    (subst (λ (ks : List SliceKey). WithSlices slices (TellsFrames lines o listed) (IsAnsweringRow o ks) ks status text) also
+    (subst (λ (fs : List Frame). WithSlices slices (TellsFrames lines o fs) (IsAnsweringRow o keys) keys status text) same told))

@@ -1,5 +1,5 @@
 -- The report of `frames` for the frames of a crash.
-use Rattle.std.specs.Prelude.{◌≡◌, ℕ, List, [], ◌∷◌, Bool, true, false, Ok, ◌⊎◌, if◌then◌else◌, map}
+use Rattle.std.specs.Prelude.{◌≡◌, ℕ, List, [], ◌∷◌, Bool, true, false, Ok, Option, ◌⊎◌, if◌then◌else◌, map}
 use Rattle.std.specs.List.{AllZip, flat_map, list_all}
 use Rattle.archive_core.specs.Content.{Operations}
 use Rattle.archive_core.specs.declared.keys.SliceKey.{SliceKey}
@@ -32,6 +32,10 @@ pub record TellsFrames (lines : Bool) (content : Operations) (frames : List Fram
 -- the key of each frame
 abbrev pub frame_keys : List Frame → List SliceKey
 frame_keys frames = map (λ frame. frame.key) frames
+
+-- the frames that addresses in an image are
+abbrev pub frames_at : SliceKey → Option ℕ → List ℕ → List Frame
+frames_at key load addresses = map (λ address. record { key = key; load = load; address = address }) addresses
 
 -- what a content tells of frames, and if they are wanted the lines of the slices that answer
 abbrev pub TellsFramesWith : Bool → Bool → Operations → List Frame → Status → List ℕ → Type 0

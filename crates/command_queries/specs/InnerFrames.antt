@@ -3,7 +3,7 @@ use Rattle.std.specs.Prelude.{◌≡◌, ◌↔◌, ◌⊎◌, ℕ, ◌<◌, ◌
 use Rattle.std.specs.Prelude.{slice_range, take}
 use Rattle.std.specs.List.{list_any}
 use Rattle.std.specs.Str.{bytes_eq}
-use Rattle.std.specs.Ordering.{nat_cmp, ordering_then}
+use Rattle.std.specs.Ordering.{nat_cmp}
 use Rattle.std.specs.Cmp.Lexicographic.{slice_cmp}
 use Rattle.std.specs.declared.cmp.Ordering.{Ordering}
 use Rattle.archive_core.specs.Content.{Operations}
@@ -25,11 +25,9 @@ pub record AreNumbered (frames : List Frame) (asked : List AskedFrame) : Type 0 
 abbrev pub AreLines : List Frame → List AskedFrame → Type 0
 AreLines frames asked = (one : AskedFrame) → Contains asked one ↔ (slice_get frames one.line ≡ Some one.frame)
 
--- the order in which frames are asked: by key, and under one key by address
+-- the order in which frames are asked: by key
 abbrev pub asked_cmp : AskedFrame → AskedFrame → Ordering
-asked_cmp a b =
-    ordering_then (slice_cmp nat_cmp (key_bytes a.frame.key) (key_bytes b.frame.key))
-    (nat_cmp a.frame.address b.frame.address)
+asked_cmp a b = slice_cmp nat_cmp (key_bytes a.frame.key) (key_bytes b.frame.key)
 
 -- the bytes after the tag of a record begin with the key of one of the frames
 abbrev pub is_asked : List AskedFrame → List ℕ → Bool

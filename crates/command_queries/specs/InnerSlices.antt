@@ -1,5 +1,5 @@
 -- The rows under UUIDs that a content has: definitions for private functions. No public contract uses them.
-use Rattle.std.specs.Prelude.{◌≡◌, ℕ, List, ◌++◌, Bool, true, false, drop, take}
+use Rattle.std.specs.Prelude.{◌≡◌, ℕ, List, ◌++◌, Bool, drop, take}
 use Rattle.std.specs.List.{AllZip, flat_map, list_any}
 use Rattle.std.specs.Str.{bytes_eq}
 use Rattle.archive_core.specs.Content.{Operations}
@@ -33,9 +33,3 @@ pub record TellsRowsAfter (Tells : Status → List ℕ → Type 0) (o : Operatio
   pub slices : List ℕ
   pub rows : TellsRowsUnder o uuids keys slices
   pub text_is : text ≡ answers ++ slices
-
--- answers, and after them such lines if these are wanted
-abbrev pub WithRows : Bool → (Status → List ℕ → Type 0) → Operations → List (List ℕ) → List SliceKey → Status → List ℕ
-    → Type 0
-WithRows false Tells o uuids keys status text = Tells status text
-WithRows true Tells o uuids keys status text = TellsRowsAfter Tells o uuids keys status text

@@ -16,8 +16,8 @@ ghost use Rattle.command_queries.specs.InnerSources.{AreSourcesOf};
 ghost use Rattle.command_queries.specs.Symbolicate.{asked_of, is_symbol};
 ghost use Rattle.command_queries.specs.declared.asked_frames.AskedFrame.{AskedFrame};
 
+use crate::addresses::asked_of;
 use crate::sources::Sources;
-use crate::symbolicate::asked_of;
 use archive_core::{Answer, Archive, SliceKey, Where, compare_keys};
 use archive_read::{Questions, Selects};
 use archive_records::key_prefix;
@@ -35,14 +35,11 @@ pub(crate) struct AskedFrame {
 }
 
 impl AskedFrame {
-    /// Compares two frames by their keys, and under one key by their addresses, so that the answers to near ones are
-    /// near.
+    /// Compares two frames by their keys. Those of one key, as of all addresses of `symbolicate`, stay where they are.
     fn compare(&self, other: &AskedFrame) -> Ordering
         ensures { result ≡ asked_cmp self.now other.now }
     {
-        compare_keys(&self.frame.key, &other.frame.key).then(
-            self.frame.address.cmp(&other.frame.address),
-        )
+        compare_keys(&self.frame.key, &other.frame.key)
     }
 }
 
@@ -103,7 +100,7 @@ fn numbered(heap: Heap, frames: &[Frame]) -> Result<Vec<AskedFrame, Heap>, NoMem
     Ok(asked)
 }
 
-/// The frames with their numbers, by key and under one key by address.
+/// The frames with their numbers, by key.
 pub(crate) fn in_key_order(heap: Heap, frames: &[Frame]) -> Result<Vec<AskedFrame, Heap>, NoMemory>
     ensures lines { IfOk result (λ asked. AreLines frames.now asked.items) }
     ensures long { IfOk result (λ asked. length asked.items ≡ length frames.now) }

@@ -1,11 +1,14 @@
 //! `frames FRAMES [--lines] [--slices] ARCHIVE...`.
-ghost use Rattle.std.specs.Prelude.{IfOk, true};
+ghost use Rattle.std.specs.Prelude.{All, Contains, IfOk};
+ghost use Rattle.archive_core.specs.Key.{IsKey};
 ghost use Rattle.command_common.specs.Archives.{ReadsTogether};
 ghost use Rattle.command_common.specs.Ends.{EndsReport};
-ghost use Rattle.command_queries.specs.Frames.{TellsFrames, TellsFramesWith, frames};
+ghost use Rattle.command_queries.specs.Frames.{TellsFrames, frames};
 ghost use Rattle.command_queries.specs.InnerSlices.{TellsRowsAfter};
+ghost use Rattle.command_queries.specs.Slices.{IsAnsweringRow, TellsSlicesAfter, WithSlices};
 ghost use Rattle.command_common.specs.Inputs.{reader, readers};
 ghost use Rattle.command_common.specs.Outputs.{writer};
+ghost use Rattle.text_inputs.specs.declared.frame.Frame.{Frame};
 
 use crate::asked_frames::{AskedKeys, FrameQuestions, in_key_order};
 use crate::slices::{UnderUuids, frame_keys, slices_under, uuids_of};
@@ -21,7 +24,7 @@ use uuid::Uuid;
 
 /// The status, and the lines of the answers to frames, in their order. The frames are asked in the order of their keys;
 /// if `lines`, the DWARF of each slice is read once for all frames of its key.
-pub fn answer_frames<A: Archive>(
+fn answer_frames<A: Archive>(
     heap: Heap,
     archive: &A,
     frames: &[Frame],
@@ -84,40 +87,48 @@ fn answers_then_slices<A: Archive>(
 }
 
 /// Reads the archives, and returns the status, and the lines of the answers of their join to the frames, and after them
-/// those of the slices that answer under the UUIDs of the frames.
+/// those of the slices that answer under the UUIDs of keys.
 fn read_and_answer_with_slices<A: Archive + Drop, R: Source>(
     heap: &Heap,
     lines: bool,
     frames: &[Frame],
+    keys: &[SliceKey],
     archive: &mut R,
     others: &mut [R],
 ) -> Result<(Status, Vec<u8, Heap>), CommandFault>
+    requires keyed { All IsKey keys.now }
+    requires under { (frame : Frame) → Contains frames.now frame → Contains keys.now frame.key }
     ensures { ReadsTogether (reader R.left R.failures archive.old archive.new)
         (readers R.left R.failures others.old others.new) result
-        (λ told o. TellsFramesWith lines true o frames.now told.0 told.1.items) }
+        (λ told o. TellsSlicesAfter (TellsFrames lines o frames.now) (IsAnsweringRow o keys.now) keys.now
+        told.0 told.1.items) }
 {
-    let keys = frame_keys(heap.share(), frames)?;
-    let uuids = uuids_of(heap.share(), &keys)?;
+    let uuids = uuids_of(heap.share(), keys)?;
     let kept: A = read_parts(heap.share(), &UnderUuids { uuids: &uuids }, archive, others)?;
-    let told = answers_then_slices(heap, &kept, &uuids, &keys, frames, lines)?;
+    let told = answers_then_slices(heap, &kept, &uuids, keys, frames, lines)?;
     Ok(told)
 }
 
-/// The status, and the lines of the answers to frames, and if `slices` those of the slices that answer.
-fn frames_text<A: Archive + Drop, R: Source>(
+/// The status, and the lines of the answers to frames, and if `slices` those of the slices that answer under the UUIDs
+/// of keys.
+pub(crate) fn frames_text<A: Archive + Drop, R: Source>(
     heap: &Heap,
     lines: bool,
     slices: bool,
     frames: &[Frame],
+    keys: &[SliceKey],
     archive: &mut R,
     others: &mut [R],
 ) -> Result<(Status, Vec<u8, Heap>), CommandFault>
+    requires keyed { All IsKey keys.now }
+    requires under { (frame : Frame) → Contains frames.now frame → Contains keys.now frame.key }
     ensures { ReadsTogether (reader R.left R.failures archive.old archive.new)
         (readers R.left R.failures others.old others.new) result
-        (λ told o. TellsFramesWith lines slices o frames.now told.0 told.1.items) }
+        (λ told o. WithSlices slices (TellsFrames lines o frames.now) (IsAnsweringRow o keys.now) keys.now
+        told.0 told.1.items) }
 {
     if slices {
-        read_and_answer_with_slices::<A, R>(heap, lines, frames, archive, others)
+        read_and_answer_with_slices::<A, R>(heap, lines, frames, keys, archive, others)
     } else {
         read_and_answer::<A, R>(heap, lines, frames, archive, others)
     }
@@ -152,6 +163,9 @@ pub fn run_frames<A: Archive + Drop, R: Source, P: Sink>(
         (writer P.held P.failures report.old report.new) result }
 {
     let frames = read_frames_input(heap.share(), crash)?;
-    let (status, text) = frames_text::<A, R>(&heap, lines, slices, &frames, archive, others)?;
+    let keys = frame_keys(heap.share(), &frames)?;
+    let (status, text) = frames_text::<A, R>(
+        &heap, lines, slices, &frames, &keys, archive, others,
+    )?;
     write_report_bytes(status, &text, report)
 }

@@ -37,7 +37,7 @@ impl<'u> Selects for UnderUuids<'u> {
 }
 
 /// The key, of which the parts have their widths.
-fn whole_key(key: SliceKey) -> SliceKey
+pub fn whole_key(key: SliceKey) -> SliceKey
     ensures same { result ≡ key }
     ensures key { IsKey key }
 {
