@@ -37,7 +37,8 @@ class CommandFault(Exception):
 
 
 class KeyFault(CommandFault):
-    """A table was changed, or has no lines, which are asked for: with --slices its key alone is refused."""
+    """A table was changed, or has no lines, which are asked for, or a slice that is read was changed: with --slices its
+    key alone is refused."""
 
 
 class NoMemory(CommandFault):
@@ -175,7 +176,7 @@ class Run:
         except Fault as fault:
             raise CommandFault(f"archive {number}", fault.text) from None
         except Stale as stale:
-            raise CommandFault(f"index {number}", stale.text) from None
+            raise (CommandFault if stale.number is None else KeyFault)(f"index {number}", stale.text) from None
 
     @staticmethod
     def test_pairs(archives: Sequence[str], indexes: Sequence[str]) -> None:
@@ -233,45 +234,42 @@ class Run:
             raise CommandFault(f"index {it.input}", f"Device at {claim.offset}") from None
         return [(it.entry[25:57], text, own) for text, own in zip(texts, frames)]
 
-    def by_tables(
-        self, indexed: Sequence[Indexed], asked: Sequence[Asked], plan: Plan, refused: Dict[bytes, KeyFault]
-    ) -> Optional[List[Answer]]:
-        """The answers of tables to places under keys, key by key; None if slices have to be read. `refused` gets the
-        faults of keys with --slices."""
+    def by_index(self, indexed: Sequence[Indexed], key: bytes, places: Sequence[Where], plan: Plan) -> List[Answer]:
+        """The answers to places under a key: of tables, or of the slices under this key alone if two are tied."""
+        those = answering(key, [it.entries for it in indexed])
+        if those is None:
+            images = self.named(indexed, [key]).answering(key)
+            return [answer_lines(images, *where, plan.lines) for where in places]
+        columns = [self.told_of(it, indexed[it.input].tables, places, plan.lines) for it in those]
+        return [told_lines(where[0], [column[number] for column in columns]) for number, where in enumerate(places)]
+
+    def by_indexes(
+        self, indexed: Sequence[Indexed], asked: Sequence[Asked], plan: Plan
+    ) -> Tuple[List[Answer], Dict[bytes, KeyFault]]:
+        """The answers to places under keys, key by key; and with --slices the faults of keys that are refused."""
         told: Dict[Asked, Answer] = {}
+        refused: Dict[bytes, KeyFault] = {}
         for key in sorted({it.key for it in asked}):
-            those = answering(key, [it.entries for it in indexed])
-            if those is None:
-                return None
             places = sorted({it.where for it in asked if it.key == key}, key=lambda where: (where[1] or 0, where[0]))
             try:
-                columns = [self.told_of(it, indexed[it.input].tables, places, plan.lines) for it in those]
+                answers = self.by_index(indexed, key, places, plan)
             except KeyFault as fault:
                 if not plan.slices:
                     raise
                 refused[key] = fault
-                told.update({Asked(key, where): ([f"{address_text(where[0])} !"], False) for where in places})
-                continue
-            for number, where in enumerate(places):
-                told[Asked(key, where)] = told_lines(where[0], [column[number] for column in columns])
-        return [told[it] for it in asked]
+                answers = [([f"{address_text(where[0])} !"], False) for where in places]
+            told.update({Asked(key, where): answer for where, answer in zip(places, answers)})
+        return [told[it] for it in asked], refused
 
     def answers(
         self, plan: Plan, archives: Sequence[str], asked: Sequence[Asked]
     ) -> Tuple[List[Answer], Dict[bytes, KeyFault]]:
         """The answers to places under keys: of the archives, or by their indexes if they have some; and the faults of
         keys that are refused."""
-        keys = sorted({it.key for it in asked})
         if plan.indexes:
-            indexed = self.indexed(archives, plan.indexes)
-            refused: Dict[bytes, KeyFault] = {}
-            told = self.by_tables(indexed, asked, plan, refused)
-            if told is not None:
-                return told, refused
-            content = self.named(indexed, keys)
-        else:
-            content = self.join(archives)
-        images = {key: content.answering(key) for key in keys}
+            return self.by_indexes(self.indexed(archives, plan.indexes), asked, plan)
+        content = self.join(archives)
+        images = {key: content.answering(key) for key in {it.key for it in asked}}
         return [answer_lines(images[it.key], *it.where, plan.lines) for it in asked], {}
 
     def whole(self, path: str, place: str) -> bytes:

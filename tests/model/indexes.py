@@ -192,6 +192,7 @@ class Stale(Exception):
 
     def __init__(self, number: Optional[int] = None) -> None:
         super().__init__(number)
+        self.number = number
         self.text = "Stale" if number is None else f"Stale at entry {number}"
 
 

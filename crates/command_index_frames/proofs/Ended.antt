@@ -1,16 +1,14 @@
--- How commands end that ask by tables, or by slices: `frames` under the keys of frames, and `symbolicate` under one.
-use Rattle.std.proofs.Common.{◌≡◌, ℕ, ◌⊎◌, Bool, true, false, List, [], ◌∷◌, length, Option, Some, None, refl, sym, ap, ◌∙◌, subst, inl, inr}
+-- How commands end that ask key by key.
+use Rattle.std.proofs.Common.{◌≡◌, ℕ, ◌⊎◌, Bool, true, false, List, [], ◌∷◌, length, Option, refl, sym, ap, ◌∙◌, subst, inl, inr}
 use Rattle.std.specs.Prelude.{slice_get, slice_set}
-use Rattle.std.specs.List.{AllZip}
+use Rattle.std.specs.List.{AllZip, Contains}
 use Rattle.std.proofs.lemmas.List.Elements.{All-weaker}
 use Rattle.std.proofs.lemmas.Slice.Zip.{AllZip-long}
-use Rattle.archive_core.specs.Content.{HaveSameMembers, Operations}
 use Rattle.archive_core.specs.Key.{key_bytes}
-use Rattle.archive_core.specs.declared.find.FindRow.{FindRow}
+use Rattle.archive_core.specs.Lookup.{AnswerRecord}
 use Rattle.archive_core.specs.declared.keys.SliceKey.{SliceKey}
-use Rattle.command_queries.specs.Frames.{TellsFrames, frame_keys}
-use Rattle.command_queries.specs.Slices.{WithSlices}
-use Rattle.command_queries.specs.Symbolicate.{Answered, TellsAddresses}
+use Rattle.archive_core.specs.declared.lookup.Where.{Where}
+use Rattle.dwarf_source_frames.specs.Frames.{FrameRecord}
 use Rattle.text_inputs.specs.declared.frame.Frame.{Frame}
 use Rattle.command_common.specs.Inputs.{AreRead, Reader, readers, EachUnfailed, IsRefusal}
 use Rattle.command_common.specs.declared.faults.CommandFault.{CommandFault}
@@ -18,24 +16,27 @@ use Rattle.command_common.specs.declared.faults.CommandFault.TheVariants.{Input,
 use Rattle.command_common.specs.declared.faults.InputName.{InputName}
 use Rattle.command_common.specs.declared.faults.Status.{Status}
 use Rattle.command_common.specs.declared.faults.Why.{Why}
-use Rattle.command_common.proofs.Parts.{refusal_of}
 use Rattle.index_lookup.specs.Among.{EntryAt}
 use Rattle.index_lookup.specs.AmongAsked.{BlamesAmong, HasText, HaveTexts, IsUntoldAmong, each_known}
 use Rattle.index_lookup.specs.declared.fault.AnswerFault.{AnswerFault}
 use Rattle.index_lookup.specs.declared.fault.AnswerFault.TheVariants as answer
-use Rattle.index_lookup.proofs.Columns.{zip_as}
-use Rattle.command_index_queries.specs.Several.{AreRefusedLater, AreUnfailedTogether, MakesTogether}
-use Rattle.command_index_queries.specs.Together.{AreAllKept, AreReadWith, HoldNamed, IsKept}
+use Rattle.command_index_queries.specs.Several.{AreRefusedLater, AreUnfailedTogether}
+use Rattle.command_index_queries.specs.Together.{AreAllKept, AreReadWith, IsKept}
 use Rattle.command_index_queries.proofs.Groups.{later_readers, read_earlier, unfailed_through}
-use Rattle.command_index_frames.specs.Asking.{AreGiven, AreRefusedAsking, AreTiedUnder, AreUntold, IsAnsweredByTables}
+use Rattle.command_index_frames.specs.Asking.{AreGiven, AreRefusedAsking, AreUnread, AreUntold, IsAnsweredAt, IsAnsweredByTables}
 use Rattle.command_index_frames.specs.Asking.{IsChanged, IsLineless, IsTableRefused, IsUntoldUnder, IsUnreadTable}
-use Rattle.command_index_frames.specs.Asking.{TellTables}
-use Rattle.command_index_frames.specs.Frames.{AreToldAt, IsAnsweredOrRefused, IsFrameByTables, IsFrameReplied, TellTablesOfFrames, TellTablesWith, keys_of}
-use Rattle.command_index_frames.specs.InnerAsking.{AreHeldUnder, AreRefusedUnder, IsOfKey, IsUntoldBy, NoneFailed, RefusesAll, command_fault}
-use Rattle.command_index_frames.specs.InnerReplies.{IsRefusalOf}
-use Rattle.command_index_frames.specs.Refusals.{IsKeyRefused, KeyRefusal, Reply}
-use Rattle.command_index_frames.specs.Slices.{IsAnsweringEntryRow}
-use Rattle.command_index_frames.specs.Symbolicate.{TellTablesOfKey, symbolicate_at}
+use Rattle.command_index_frames.specs.Frames.{AreToldAt}
+use Rattle.command_index_frames.specs.InnerAsking.{IsKeyFault, IsOfKey, IsUnreadBy, IsUntoldBy, NoneFailed, RefusesAll, command_fault}
+use Rattle.command_index_frames.specs.InnerPlaces.{AreAskedOf}
+use Rattle.command_index_frames.specs.InnerReplies.{PrintsFrames}
+use Rattle.command_index_frames.specs.InnerTold.{AreTold, IsRefusedAt}
+use Rattle.command_index_frames.specs.Refusals.{IsKeyRefused, IsRefusedBySlice, IsRefusedByTable, KeyRefusal}
+use Rattle.command_index_frames.specs.declared.places.AskedPlace.{AskedPlace}
+use Rattle.command_index_frames.specs.declared.told.KeyAnswers.{KeyAnswers}
+use Rattle.command_index_frames.proofs.Archives.{HaveBytesOf, bytes_kept, kept_then, same_bytes, slices_same, stale_same}
+use Rattle.command_index_frames.proofs.Followed.{followed}
+use Rattle.command_index_frames.proofs.Refused.{part_told}
+use Rattle.command_index_frames.proofs.Shown.{under_as}
 use Rattle.command_index_frames.proofs.States.{all_kept, fails_alone, none_failed_of, read_before, texts_of}
 
 -- after the indexes were read
@@ -53,12 +54,6 @@ module _ {I P : Type 0} (left : I → Option (List ℕ)) (failures : I → ℕ) 
 
   abbrev later : List (Reader P)
   later = readers whole failures_at seen after
-
-  -- tables are refused, or slices that are read for them
-  abbrev IsEitherRefused : List (List ℕ) → (List (List ℕ) → Type 0) → InputName → Why → Type 0
-  IsEitherRefused keys IsSought at why =
-      (EachUnfailed later × IsUntoldBy left failures lines slices keys all mid new at why)
-      ⊎ (AreTiedUnder keys all × NoneFailed failures mid new × AreRefusedUnder IsSought all later at why)
 
   long : length mid ≡ length old
   long = AllZip-long (IsKept left failures) old mid kept.0
@@ -86,7 +81,7 @@ module _ {I P : Type 0} (left : I → Option (List ℕ)) (failures : I → ℕ) 
   unfailed_known : EachUnfailed later → EachUnfailed known
   unfailed_known each = unfailed_through whole failures_at before seen after long_at (more_at ∙ long_at) read.unfailed.1 each
 
-  unfailed_all : NoneFailed failures mid new × EachUnfailed later → AreUnfailedTogether named known
+  pub unfailed_all : NoneFailed failures mid new × EachUnfailed later → AreUnfailedTogether named known
   unfailed_all u = (none_failed_named u.0, unfailed_known u.1)
 
   -- ---- a table is not told
@@ -149,9 +144,10 @@ module _ {I P : Type 0} (left : I → Option (List ℕ)) (failures : I → ℕ) 
   fault_of true answering (answer.Device input offset) at why told refuses says counts = unread_of answering input offset at why told counts
   fault_of true answering answer.OutOfMemory at why told refuses says counts = absurd (cc told)
 
-  -- a key that is refused alone
-  key_given : EachUnfailed named → (refusal : KeyRefusal) → IsRefusalOf (HaveTexts left mid) all lines refusal → IsKeyRefused lines named all refusal
-  key_given unfailed refusal r = record { answering = r.answering; are = r.are; untold = by r.fault r.told_as r.of_key r.says }
+  -- a key that is refused alone, for a table
+  table_given : EachUnfailed named → (refusal : KeyRefusal)
+      → IsKeyFault (HaveTexts left mid) all lines (key_bytes refusal.key) refusal.at refusal.why → IsRefusedByTable lines named all refusal
+  table_given unfailed refusal r = record { answering = r.answering; are = r.are; untold = by r.fault r.told_as r.of_key r.says }
     where
       by : (fault : AnswerFault) → command_fault fault ≡ Input refusal.at refusal.why → IsOfKey lines fault
           → ((texts : List (List ℕ)) → HaveTexts left mid texts → IsUntoldAmong texts r.answering fault)
@@ -171,214 +167,90 @@ module _ {I P : Type 0} (left : I → Option (List ℕ)) (failures : I → ℕ) 
     untold = fault_of slices r.answering r.fault at why r.told_as r.refuses r.says r.counts;
   }
 
-  -- ---- the first that is refused
+  -- ---- what is told
 
-  module _ (keys : List (List ℕ)) (IsSought : List (List ℕ) → Type 0) (own : IsSought keys)
-      (same : (others : List (List ℕ)) → IsSought others → AreTiedUnder keys all → AreTiedUnder others all) where
-    asked_refused : (fault : CommandFault) → IsRefusal (IsEitherRefused keys IsSought) (NoneFailed failures mid new × EachUnfailed later) fault
-        → IsRefusal (λ at why. (others : List (List ℕ)) × IsSought others × AreRefusedAsking lines slices others named known at why)
-        (AreUnfailedTogether named known) fault
-    asked_refused (Input at why) (inl (each, untold)) =
-        let told : AreUntold lines slices keys named known at why =
-        record { all = all; read = read_all; unfailed = unfailed_known each; untold = untold_named keys at why untold } in
-        (keys, own, inr (inr told))
-    asked_refused (Input at why) (inr (tied, none, (others, sought, refused))) =
-        let told : AreRefusedLater others named known at why = record {
+  same_known : HaveBytesOf (readers whole failures_at seen seen) known
+  same_known = same_bytes whole failures_at seen seen before after refl (more_at ∙ long_at) (sym (bytes_kept whole failures_at before seen kept.1))
+
+  said_given : (key : SliceKey) (place : Where) (told : AnswerRecord) (frames : List (List FrameRecord))
+      → IsAnsweredAt (HaveTexts left mid) (readers whole failures_at seen seen) all lines key place told frames
+      → IsAnsweredAt (AreGiven named) known all lines key place told frames
+  said_given key place told frames (inl is) =
+      let by : IsAnsweredByTables (AreGiven named) all lines key place told frames =
+      record { answer_is = λ texts given. is.answer_is texts (given_texts texts given); none_shown = is.none_shown } in
+      inl by
+  said_given key place told frames (inr is) =
+      inr (slices_same (readers whole failures_at seen seen) known all lines key place told frames same_known is)
+
+  abbrev IsOneRefused : SliceKey → InputName → Why → Type 0
+  IsOneRefused key at why = IsKeyRefused lines named known all (record { key = key; at = at; why = why })
+
+  refused_given : EachUnfailed named → EachUnfailed known → (key : SliceKey) (at : InputName) (why : Why)
+      → IsRefusedAt (HaveTexts left mid) (readers whole failures_at seen seen) all lines key at why → IsOneRefused key at why
+  refused_given unfailed unfailed_at key at why (inl is) = inl (table_given unfailed (record { key = key; at = at; why = why }) is)
+  refused_given unfailed unfailed_at key at why (inr is) =
+      let by : IsRefusedBySlice known all (record { key = key; at = at; why = why }) = record {
+        tied = is.0;
+        stale = stale_same (readers whole failures_at seen seen) known all (key_bytes key) at why same_known is.1;
+        unfailed = unfailed_at;
+      } in
+      inr by
+
+  pub frames_told : (keys : List SliceKey) (frames : List Frame) (asked : List AskedPlace) (told : List KeyAnswers) → AreAskedOf frames asked
+      → AreRead (AreTold (IsAnsweredAt (HaveTexts left mid) (readers whole failures_at seen seen) all lines)
+      (IsRefusedAt (HaveTexts left mid) (readers whole failures_at seen seen) all lines) slices asked told
+      × (each_known left new ≡ each_known left mid) × AreAllKept whole failures_at seen after)
+      (NoneFailed failures mid new × EachUnfailed later)
+      → (status : Status) (text : List ℕ) → PrintsFrames told slices all keys frames status text
+      → AreRead (AreToldAt lines slices named known keys frames status text) (AreUnfailedTogether named known)
+  frames_told keys frames asked told of r status text prints =
+      let unfailed = unfailed_all r.unfailed in
+      let are = r.is.0 in
+      let true_now = All-weaker _ _ (under_as (IsAnsweredAt (HaveTexts left mid) (readers whole failures_at seen seen) all lines)
+      (IsAnsweredAt (AreGiven named) known all lines) (IsRefusedAt (HaveTexts left mid) (readers whole failures_at seen seen) all lines)
+      IsOneRefused said_given (refused_given unfailed.0 unfailed.1) slices) told are.are_true in
+      let now : AreTold (IsAnsweredAt (AreGiven named) known all lines) IsOneRefused slices asked told =
+      record { order = are.order; of_asked = are.of_asked; whole = are.whole; are_true = true_now } in
+      let part = part_told slices now frames of status prints.answers prints.refused prints.shown prints.refused_is in
+      record {
+        is = record {
           all = all;
           read = read_all;
-          unfailed = none_failed_named none;
-          later = later;
-          are_later = later_readers whole failures_at before seen after more_at kept.1;
-          refused = refused;
-        } in
-        (others, sought, inr (inl (told, same others sought tied)))
-    asked_refused OutOfMemory r = unfailed_all r
-    asked_refused fault r = absurd r
+          told = followed slices (IsAnsweredAt (AreGiven named) known all lines) (IsKeyRefused lines named known all) all keys frames
+              status prints.answers prints.refused text part prints.followed;
+        };
+        unfailed = unfailed;
+      }
 
-  -- ---- told
+  -- ---- what is refused
 
-  -- what tables tell of a row
-  row_given : (key : SliceKey) (load : Option ℕ) (row : Answered) → IsAnsweredByTables (HaveTexts left mid) all key load lines row
-      → IsAnsweredByTables (AreGiven named) all key load lines row
-  row_given key load row is = record { answer_is = λ texts given. is.answer_is texts (given_texts texts given); none_shown = is.none_shown }
-
-  -- what slices hold
-  abbrev made : (IsSought : List (List ℕ) → Type 0) (Tells : Operations → Status → List ℕ → Type 0) (status : Status) (text : List ℕ)
-      (held : AreHeldUnder IsSought all later (λ content. Tells content status text)) → MakesTogether held.keys named known Tells status text
-  made IsSought Tells status text held = record {
-    content = held.content;
-    held = record {
-      all = all;
-      read = read_all;
-      later = later;
-      are_later = later_readers whole failures_at before seen after more_at kept.1;
-      named = held.held;
-    };
-    tells = held.is_true;
-  }
-
-  -- ---- of frames
-
-  module _ (listed : List Frame) where
-    abbrev AreKeys : List (List ℕ) → Type 0
-    AreKeys keys = HaveSameMembers keys (keys_of listed)
-
-    still_tied : (keys : List (List ℕ)) → AreKeys keys → AreTiedUnder (keys_of listed) all → AreTiedUnder keys all
-    still_tied keys same (key, there, tied) = (key, (same key).1 there, tied)
-
-    pub frames_refused : (fault : CommandFault) → IsRefusal (IsEitherRefused (keys_of listed) AreKeys) (NoneFailed failures mid new × EachUnfailed later) fault
-        → IsRefusal (λ at why. (keys : List (List ℕ)) × AreKeys keys
-        × AreRefusedAsking lines slices keys named known at why) (AreUnfailedTogether named known) fault
-    frames_refused fault r = asked_refused (keys_of listed) AreKeys (λ b. (λ there. there, λ there. there)) still_tied fault r
-
-    -- what tables tell, of the bytes that the indexes are given with
-    frames_given : (status : Status) (text : List ℕ) → TellTablesOfFrames (HaveTexts left mid) all lines listed status
-        text → TellTablesOfFrames (AreGiven named) all lines listed status text
-    frames_given status text by = record {
-      rows = by.rows;
-      answered = zip_as (IsFrameByTables (HaveTexts left mid) all lines) (IsFrameByTables (AreGiven named) all lines) listed by.rows
-          (λ frame row a. (a.0, row_given frame.key frame.load row a.1)) by.answered;
-      status_is = by.status_is;
-      text_is = by.text_is;
-    }
-
-    abbrev OwnRow : FindRow → Type 0
-    OwnRow = IsAnsweringEntryRow all (frame_keys listed)
-
-    reply_given : (refusals : List KeyRefusal) (frame : Frame) (reply : Reply)
-        → IsFrameReplied (HaveTexts left mid) all lines refusals frame reply
-        → IsFrameReplied (AreGiven named) all lines refusals frame reply
-    reply_given refusals frame reply (address_is, is) = (address_is, by reply.answered is)
-      where
-        by : (r : Option Answered) → IsAnsweredOrRefused (HaveTexts left mid) all lines refusals frame r
-            → IsAnsweredOrRefused (AreGiven named) all lines refusals frame r
-        by None h = h
-        by (Some row) h = ((h.0.0, row_given frame.key frame.load row h.0.1), h.1)
-
-    with_given : (wanted : Bool) → EachUnfailed named → (status : Status) (text : List ℕ)
-        → TellTablesWith wanted (HaveTexts left mid) (IsRefusalOf (HaveTexts left mid) all lines) all lines listed
-        status text
-        → TellTablesWith wanted (AreGiven named) (IsKeyRefused lines named all) all lines listed status text
-    with_given false unfailed status text by = frames_given status text by
-    with_given true unfailed status text by = record {
-      refusals = by.refusals;
-      answers = by.answers;
-      told = record {
-        replies = by.told.replies;
-        replied = zip_as (IsFrameReplied (HaveTexts left mid) all lines by.refusals)
-            (IsFrameReplied (AreGiven named) all lines by.refusals) listed by.told.replies (reply_given by.refusals)
-            by.told.replied;
-        ascending = by.told.ascending;
-        of_frames = by.told.of_frames;
-        refused = All-weaker (IsRefusalOf (HaveTexts left mid) all lines) (IsKeyRefused lines named all) (key_given unfailed) by.refusals by.told.refused;
-        status_is = by.told.status_is;
-        status_refused = by.told.status_refused;
-        text_is = by.told.text_is;
-      };
-      slices = by.slices;
-      sliced = by.sliced;
-      text_is = by.text_is;
-    }
-
-    pub frames_told : (status : Status) (text : List ℕ)
-        → AreRead (TellTablesWith slices (HaveTexts left mid) (IsRefusalOf (HaveTexts left mid) all lines) all lines listed status text ⊎
-        (AreTiedUnder (keys_of listed) all × AreHeldUnder AreKeys all later
-        (λ content. WithSlices slices (TellsFrames lines content listed) OwnRow (frame_keys listed) status text)))
-        (NoneFailed failures mid new × EachUnfailed later)
-        → AreRead (AreToldAt lines slices named known listed status text) (AreUnfailedTogether named known)
-    frames_told status text told = record {
-      is = elim told.is [
-        | inl by ↦ inl (record { all = all; read = read_all; tells = with_given slices (none_failed_named told.unfailed.0) status text by })
-        | inr (tied, held) ↦ inr (record {
-          keys = held.keys;
-          are_keys = held.sought;
-          all = all;
-          makes = made AreKeys (λ o. WithSlices slices (TellsFrames lines o listed) OwnRow (frame_keys listed)) status text held;
-          all_is = refl;
-          tied = still_tied held.keys held.sought tied;
-        })
-      ];
-      unfailed = unfailed_all told.unfailed;
-    }
-
-  -- ---- of addresses, under one key
-
-  module _ (key : SliceKey) (load : Option ℕ) (addresses : List ℕ) where
-    abbrev keys : List (List ℕ)
-    keys = key_bytes key ∷ []
-
-    pub key_refused : (fault : CommandFault)
-        → IsRefusal (IsEitherRefused keys (λ others. others ≡ keys)) (NoneFailed failures mid new × EachUnfailed later) fault
-        → IsRefusal (AreRefusedAsking lines slices keys named known) (AreUnfailedTogether named known) fault
-    key_refused fault r =
-        refusal_of (λ at why. (others : List (List ℕ)) × (others ≡ keys) × AreRefusedAsking lines slices others named known at why)
-        (AreRefusedAsking lines slices keys named known) _ _ fault
-        (λ at why refused. subst (λ (others : List (List ℕ)). AreRefusedAsking lines slices others named known at why) refused.1 refused.2) (λ u. u)
-        (asked_refused keys (λ others. others ≡ keys) refl (λ others same tied. subst (λ (ks : List (List ℕ)). AreTiedUnder ks all) (sym same) tied) fault r)
-
-    -- what tables tell, of the bytes that the indexes are given with
-    addresses_given : (status : Status) (text : List ℕ)
-        → TellTables (HaveTexts left mid) all key load lines addresses status text
-        → TellTables (AreGiven named) all key load lines addresses status text
-    addresses_given status text by = record {
-      rows = by.rows;
-      addresses_are = by.addresses_are;
-      answered = All-weaker (IsAnsweredByTables (HaveTexts left mid) all key load lines) (IsAnsweredByTables (AreGiven named) all key load lines)
-          (row_given key load) by.rows by.answered;
-      status_is = by.status_is;
-      text_is = by.text_is;
-    }
-
-    abbrev KeyRow : FindRow → Type 0
-    KeyRow = IsAnsweringEntryRow all (key ∷ [])
-
-    key_with_given : (wanted : Bool) → EachUnfailed named → (status : Status) (text : List ℕ)
-        → TellTablesOfKey wanted (HaveTexts left mid) (IsRefusalOf (HaveTexts left mid) all lines) all key load lines addresses status text
-        → TellTablesOfKey wanted (AreGiven named) (IsKeyRefused lines named all) all key load lines addresses status text
-    key_with_given false unfailed status text by = addresses_given status text by
-    key_with_given true unfailed status text (inl by) = inl (record {
-      answers = by.answers;
-      told = addresses_given status by.answers by.told;
-      slices = by.slices;
-      tells_slices = by.tells_slices;
-      text_is = by.text_is;
-    })
-    key_with_given true unfailed status text (inr by) = inr (record {
-      refusal = by.refusal;
-      key_is = by.key_is;
-      refused = key_given unfailed by.refusal by.refused;
-      slices = by.slices;
-      tells_slices = by.tells_slices;
-      status_is = by.status_is;
-      text_is = by.text_is;
-    })
-
-    pub key_told : (status : Status) (text : List ℕ)
-        → AreRead (TellTablesOfKey slices (HaveTexts left mid) (IsRefusalOf (HaveTexts left mid) all lines) all key load lines addresses status text ⊎
-        (AreTiedUnder keys all × AreHeldUnder (λ others. others ≡ keys) all later
-        (λ content. WithSlices slices (TellsAddresses content key load lines addresses) KeyRow (key ∷ []) status
-        text)))
-        (NoneFailed failures mid new × EachUnfailed later)
-        → AreRead ((symbolicate_at named known key load lines slices addresses).Makes status text) (AreUnfailedTogether named known)
-    key_told status text told = record {
-      is = elim told.is [
-        | inl by ↦ inl (record { all = all; read = read_all; tells = key_with_given slices (none_failed_named told.unfailed.0) status text by })
-        | inr (tied, held) ↦
-            let own : AreHeldUnder (λ others. others ≡ keys) all later
-            (λ content. WithSlices slices (TellsAddresses content key load lines addresses) KeyRow (key ∷ []) status
-            text) = record {
-              keys = keys;
-              sought = refl;
-              content = held.content;
-              held = subst (λ (ks : List (List ℕ)). HoldNamed ks later all held.content) held.sought held.held;
-              is_true = held.is_true;
-            } in
-            inr (record {
-              all = all;
-              makes = made (λ others. others ≡ keys) (λ o. WithSlices slices (TellsAddresses o key load lines addresses) KeyRow (key ∷ [])) status text own;
-              all_is = refl;
-              tied = tied;
-            })
-      ];
-      unfailed = unfailed_all told.unfailed;
-    }
+  pub frames_refused : (asked keys : List (List ℕ)) → ((key : List ℕ) → Contains asked key → Contains keys key) → (fault : CommandFault)
+      → IsRefusal (λ at why. (EachUnfailed later × IsUntoldBy left failures lines slices asked all mid new at why)
+      ⊎ (NoneFailed failures mid new × IsUnreadBy whole failures_at slices asked all seen after at why))
+      (NoneFailed failures mid new × EachUnfailed later) fault
+      → IsRefusal (AreRefusedAsking lines slices keys named known) (AreUnfailedTogether named known) fault
+  frames_refused asked keys among (Input at why) (inl (each, untold)) =
+      let u = untold_named asked at why untold in
+      let told : AreUntold lines slices keys named known at why = record {
+        all = all;
+        read = read_all;
+        unfailed = unfailed_known each;
+        untold = record { key = u.key; key_is = among u.key u.key_is; answering = u.answering; are = u.are; untold = u.untold };
+      } in
+      inr (inr told)
+  frames_refused asked keys among (Input at why) (inr (none, r)) =
+      let long_mid : length r.mid ≡ length seen = AllZip-long (IsKept whole failures_at) seen r.mid r.kept in
+      let later_refused : AreRefusedLater (r.key ∷ []) named known at why = record {
+        all = all;
+        read = read_all;
+        unfailed = none_failed_named none;
+        later = readers whole failures_at r.mid after;
+        are_later = later_readers whole failures_at before r.mid after (more_at ∙ sym long_mid)
+            (kept_then whole failures_at before seen r.mid kept.1 r.kept);
+        refused = r.refused;
+      } in
+      let told : AreUnread slices keys named known at why =
+      record { key = r.key; key_is = among r.key r.key_is; refused = later_refused; tied = r.tied; of_all = r.of_all } in
+      inr (inl told)
+  frames_refused asked keys among OutOfMemory r = unfailed_all r
+  frames_refused asked keys among fault r = absurd r

@@ -1,6 +1,9 @@
 pub mod Runs
+pub mod Archives
 pub mod Shown
 pub mod States
+pub mod TiedSlices
+pub mod Keys
 pub mod SliceRows
 pub mod Followed
 pub mod Refused

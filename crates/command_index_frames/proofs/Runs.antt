@@ -22,12 +22,12 @@ use Rattle.std.proofs.lemmas.List.Elements.{recursion_from_All}
 use Rattle.std.proofs.lemmas.List.Kept.{Any-dedup, Contains-from_dedup, IsStrictlySortedBy-dedup}
 use Rattle.std.proofs.lemmas.List.Sorted.{Contains-permutation, IsPermutation-sym, searchable_from_sorted}
 use Rattle.std.proofs.lemmas.List.Sums.{prefix_len_passes, prefix_len_stops}
-use Rattle.archive_core.specs.Content.{HaveSameMembers}
-use Rattle.archive_core.specs.Key.{key_bytes}
+use Rattle.archive_core.specs.Key.{IsKey, key_bytes}
 use Rattle.archive_core.specs.declared.keys.SliceKey.{SliceKey}
 use Rattle.archive_core.specs.declared.lookup.Where.{Where}
 use Rattle.archive_core.specs.declared.lookup.Where.TheVariants.{File, Loaded}
 use Rattle.archive_core.proofs.Made.{bytes_same}
+use Rattle.archive_core.proofs.Records.{one_key}
 use Rattle.archive_core.proofs.Members.{ascending_finer, ascending_map, in_map, to_map}
 use Rattle.command_queries.specs.Symbolicate.{asked_of}
 use Rattle.text_inputs.specs.declared.frame.Frame.{Frame}
@@ -35,7 +35,7 @@ use Rattle.command_common.proofs.Readers.{all_more, all_take}
 use Rattle.command_index_frames.specs.declared.places.AskedPlace.{AskedPlace}
 use Rattle.command_index_frames.specs.declared.told.KeyAnswers.{KeyAnswers}
 use Rattle.command_index_frames.specs.InnerPlaces.{AreAskedOf, asked_cmp, has_key, key_cmp, numbers_of, place_cmp, place_of}
-use Rattle.command_index_frames.specs.InnerTold.{AreInOrder, HasTold, IsToldSoFar, StandsAt}
+use Rattle.command_index_frames.specs.InnerTold.{AreInOrder, HasTold, HaveEach, IsToldSoFar, StandsAt}
 
 -- ---- lists that ascend, each element once
 
@@ -147,30 +147,6 @@ asked_are frames asked sorted kept are moved once = record {
 pub once_sorted : (sorted kept : List AskedPlace) → IsSorted asked_cmp sorted → kept ≡ dedup (eq_by_cmp asked_cmp) sorted → IsStrictlySortedBy asked_cmp kept
 once_sorted sorted kept up once = subst (IsStrictlySortedBy asked_cmp) (sym once) (IsStrictlySortedBy-dedup asked_total (λ x y. refl) sorted up)
 
--- keys that are kept once each, as their bytes
-pub keys_kept : (keys sorted kept : List SliceKey) (bytes : List (List ℕ)) → map key_bytes keys ≡ bytes
-    → IsPermutation keys sorted → kept ≡ dedup (eq_by_cmp key_cmp) sorted → HaveSameMembers (map key_bytes kept) bytes
-keys_kept keys sorted kept bytes are moved once = λ b. (
-  λ there.
-      let one = in_map key_bytes kept b there in
-      subst (λ (l : List (List ℕ)). Contains l b) are
-      (subst (Contains (map key_bytes keys)) (sym one.2) (to_map key_bytes keys one.0 (of_kept keys_total keys sorted kept moved once one.0 one.1))),
-  λ there.
-      let one = in_map key_bytes keys b (subst (λ (l : List (List ℕ)). Contains l b) (sym are) there) in
-      let any = to_kept keys_total keys sorted kept moved once one.0 one.1 in
-      subst (Contains (map key_bytes kept)) (sym (one.2 ∙ bytes_same (key_bytes one.0) (key_bytes any.0) any.2)) (to_map key_bytes kept any.0 any.1),
-)
-
--- bytes that are kept once each
-pub bytes_kept : (all sorted kept bytes : List (List ℕ)) → all ≡ bytes → IsPermutation all sorted → kept
-    ≡ dedup (eq_by_cmp (slice_cmp nat_cmp)) sorted → HaveSameMembers kept bytes
-bytes_kept all sorted kept bytes are moved once = λ b. (
-  λ there. subst (λ (l : List (List ℕ)). Contains l b) are (of_kept nat_list_cmp_total all sorted kept moved once b there),
-  λ there.
-      let one = to_kept nat_list_cmp_total all sorted kept moved once b (subst (λ (l : List (List ℕ)). Contains l b) (sym are) there) in
-      subst (Contains kept) (sym (bytes_same b one.0 one.2)) one.1,
-)
-
 -- ---- those of a key
 
 with_key : (key : SliceKey) (one : AskedPlace) → key_bytes one.key ≡ key_bytes key → has_key key one ≡ true
@@ -259,7 +235,11 @@ pub all_left : (asked : List AskedPlace) → IsStrictlySortedBy asked_cmp asked 
 all_left asked up = record {
   up = up;
   of_asked = λ one there. there;
-  order = record { keys = none_ascend _; places = λ k d lt. absurd (omega (arith, lt)) };
+  order = record {
+    keys = none_ascend _;
+    places = λ k d lt. absurd (omega (arith, lt));
+    even = λ k d lt. absurd (omega (arith, lt));
+  };
   below = λ one next there left. absurd (omega (arith, there.1));
   each = λ one there. inl there;
 }
@@ -274,7 +254,8 @@ none_left asked told so one there = elim (so.each one there) [
 module _ (asked left : List AskedPlace) (told : List KeyAnswers) (so : IsToldSoFar asked left told) (first : AskedPlace)
     (is_first : Some first ≡ slice_get left 0)
     (n : ℕ) (long : n ≡ prefix_len (has_key first.key) left) (next : KeyAnswers) (key_is : next.key ≡ first.key)
-    (places_are : next.places.items ≡ map (λ (one : AskedPlace). one.place) (take n left)) where
+    (places_are : next.places.items ≡ map (λ (one : AskedPlace). one.place) (take n left))
+    (even : HaveEach next.told next.places.items) where
   abbrev rest : List AskedPlace
   rest = drop n left
 
@@ -354,6 +335,7 @@ module _ (asked left : List AskedPlace) (told : List KeyAnswers) (so : IsToldSoF
           (recursion_from_All (λ (one : KeyAnswers). key_cmp one.key next.key ≡ Less) told
           (λ k d lt. now_below (get_or told k d) (Contains-get_or told k d lt)));
       places = All-push (λ (one : KeyAnswers). IsStrictlySortedBy place_cmp one.places.items) told next so.order.places places_up;
+      even = All-push (λ (one : KeyAnswers). HaveEach one.told one.places.items) told next so.order.even even;
     };
     below = λ one later there left_there. elim (Contains-push_cases told next one there) [
       | inl before ↦ so.below one later before (in_rest_left later left_there)
@@ -389,10 +371,11 @@ module _ (told : List KeyAnswers) (key : SliceKey) (place : Where) (order : AreI
 pub told_in : (told : List KeyAnswers) (key : SliceKey) (place : Where) (i n : ℕ) (one other : KeyAnswers) (places : List Where)
     → i < length told → HoldsAt (λ (one : KeyAnswers). key_cmp one.key key ≡ Equal) told i
     → places ≡ (get_or told i one).places.items → n < length places → HoldsAt (λ (p : Where). place_cmp p place ≡ Equal) places n
-    → one ≡ get_or told i one → other ≡ get_or told i other → StandsAt told (key_bytes key) place other n
-told_in told key place i n one other places lt at are within at_place one_is other_is = record {
+    → one ≡ get_or told i one → other ≡ get_or told i other → IsKey other.key → IsKey key → StandsAt told key place other n
+told_in told key place i n one other places lt at are within at_place one_is other_is is_other is_key = record {
   is_one = (i, lt, sym other_is);
-  key_is = ap (λ (k : KeyAnswers). key_bytes k.key) other_is ∙ bytes_same (key_bytes (get_or told i other).key) (key_bytes key) (at other);
+  key_is = one_key other.key key is_other is_key
+      (ap (λ (k : KeyAnswers). key_bytes k.key) other_is ∙ bytes_same (key_bytes (get_or told i other).key) (key_bytes key) (at other));
   place_is =
       let same : one ≡ other = one_is ∙ get_or_default told i one other lt ∙ sym other_is in
       let places_are : other.places.items ≡ places = ap (λ (k : KeyAnswers). k.places.items) (sym same ∙ one_is) ∙ sym are in

@@ -1,36 +1,36 @@
--- What is asked of tables, told by them and shown of it.
-use Rattle.std.proofs.Common.{◌≡◌, ℕ, zero, suc, ◌+◌, ◌<◌, ◌⊎◌, ◌&&◌, ◌||◌, if◌then◌else◌, Bool, true, false, List, []}
-use Rattle.std.proofs.Common.{◌∷◌, ◌++◌, length, take, map, get_or, Option, Some, None, refl, sym, ap, ◌∙◌, subst}
-use Rattle.std.proofs.Common.{arith, inl, inr, Ok, Err}
+-- What is asked of tables and of slices, told by them and shown of it.
+use Rattle.std.proofs.Common.{◌≡◌, ℕ, zero, suc, ◌+◌, ◌<◌, Bool, true, false, List, [], ◌∷◌, ◌++◌, length, take, map}
+use Rattle.std.proofs.Common.{get_or, Option, Some, None, refl, sym, ap, ◌∙◌, subst, arith, inl, inr, Ok, Err}
 use Rattle.std.specs.Prelude.{slice_get, MatchOption}
-use Rattle.std.specs.List.{AllByRecursion, AllZip, Contains, cons_option, filter_map, flat_map, list_all, list_any}
+use Rattle.std.specs.List.{AllByRecursion, AllZip, Contains, cons_option}
 use Rattle.std.specs.List.Sorted.{IsStrictlySortedBy}
 use Rattle.std.specs.Option.{option_to_list}
 use Rattle.std.specs.declared.cmp.Ordering.TheVariants.{Less}
-use Rattle.std.proofs.Math.ListN.{length-map}
-use Rattle.std.proofs.lemmas.Bool.{true≢false}
 use Rattle.std.proofs.lemmas.Grind.{flat_map-append}
-use Rattle.std.proofs.lemmas.List.{flat_map_more, get_or-map, length-take, map-append, take_more}
+use Rattle.std.proofs.lemmas.List.{flat_map_more, take_more}
 use Rattle.std.proofs.lemmas.List.Elements.{filter_map-append}
-use Rattle.std.proofs.lemmas.List.Folds.{list_all-append, list_any-append}
-use Rattle.std.proofs.lemmas.Option.{slice_get-get_or, get_or_from_slice_get, slice_get_within}
+use Rattle.std.proofs.lemmas.List.Sums.{fold-append}
+use Rattle.std.proofs.lemmas.Option.{get_or_from_slice_get, slice_get_within}
+use Rattle.std.proofs.lemmas.Slice.Zip.{AllZip-long}
 use Rattle.archive_core.specs.Key.{key_bytes}
-use Rattle.archive_core.specs.Lookup.{answer_view}
+use Rattle.archive_core.specs.Lookup.{AnswerRecord}
 use Rattle.archive_core.specs.declared.keys.SliceKey.{SliceKey}
 use Rattle.archive_core.specs.declared.lookup.Where.{Where}
 use Rattle.archive_core.proofs.Members.{in_cons, in_front, in_map, in_rest, to_map}
+use Rattle.dwarf_source_frames.specs.Frames.{FrameRecord}
 use Rattle.text_inputs.specs.declared.frame.Frame.{Frame}
 use Rattle.command_common.specs.declared.faults.InputName.{InputName}
 use Rattle.command_common.specs.declared.faults.InputName.TheVariants.{Index}
 use Rattle.command_common.specs.declared.faults.Status.{Status}
-use Rattle.command_common.specs.declared.faults.Status.TheVariants.{Done, Partial, Refused as Refused'}
 use Rattle.command_common.specs.declared.faults.Why.{Why}
 use Rattle.command_common.specs.declared.faults.Why.TheVariants as why
 use Rattle.command_common.proofs.Readers.{pairs_more}
-use Rattle.command_common.specs.Inputs.{AreRead, IsRefusal, ReadsInputs}
-use Rattle.command_common.specs.declared.faults.CommandFault.{CommandFault}
-use Rattle.command_common.specs.declared.faults.CommandFault.TheVariants.{Input, OutOfMemory}
-use Rattle.command_queries.specs.Symbolicate.{Answered, answers_text, asked_of, is_symbol}
+use Rattle.command_common.specs.Inputs.{AreRead, ReadsInputs}
+use Rattle.command_common.specs.declared.faults.CommandFault.TheVariants.{Input}
+use Rattle.command_queries.specs.Places.{IsPlaceTold}
+use Rattle.command_queries.specs.Symbolicate.{asked_of}
+use Rattle.command_queries.specs.declared.places.PlaceAnswer.{PlaceAnswer}
+use Rattle.index_lookup.proofs.Columns.{zip_as}
 use Rattle.index_lookup.specs.declared.answers.Answers.{Answers}
 use Rattle.index_lookup.specs.Among.{AreAnsweringAmong, AreTied, EntryAt}
 use Rattle.index_lookup.specs.AmongAsked.{AsksAmong, BlamesAmong, HasText, HaveTexts, each_known}
@@ -39,15 +39,14 @@ use Rattle.index_lookup.specs.Views.{IsColumnAt, answer_of, row_at, shown_of}
 use Rattle.index_lookup.specs.declared.answers.EntryAnswers.{EntryAnswers}
 use Rattle.index_lookup.specs.declared.fault.AnswerFault.{AnswerFault}
 use Rattle.index_lookup.specs.declared.fault.AnswerFault.TheVariants as faults
-use Rattle.command_index_frames.specs.Asking.{TellTables}
+use Rattle.command_index_frames.specs.Asking.{IsAnsweredByTables}
 use Rattle.command_index_frames.specs.Frames.{keys_of}
-use Rattle.command_index_frames.specs.InnerAsking.{IsOfKey, IsUntoldBy, NoneFailed, RefusesAll, command_fault}
+use Rattle.command_index_frames.specs.InnerAsking.{IsKeyFault, IsOfKey, IsUntoldBy, NoneFailed, RefusesAll, command_fault}
 use Rattle.command_index_frames.specs.InnerPlaces.{AreAskedOf, key_cmp}
-use Rattle.command_index_frames.specs.InnerReplies.{TellKeyPart}
-use Rattle.command_index_frames.specs.InnerTold.{AreTold, AreToldOf, HasTold, HaveToldEach, IsFrameTold, IsKeyTold, IsPrinted, IsReplyOf, IsToldUnder}
-use Rattle.command_index_frames.specs.InnerTold.{ShowsAddresses, ShowsFrames, StandsAt, answer_at, refusal_in, refusals_in, shown_at}
-use Rattle.command_index_frames.specs.InnerTold.{status_replied, status_under, told_fault}
-use Rattle.command_index_frames.specs.Refusals.{KeyRefusal, Reply, is_found, is_refused, refusal_lines, replies_status, replies_text, reply_text}
+use Rattle.command_index_frames.specs.InnerTold.{AreTold, AreToldOf, HasNumber, HasTold, HaveEach, HaveToldEach, IsAnswerIn, IsFrameTold, IsKeyTold, IsPrinted}
+use Rattle.command_index_frames.specs.InnerTold.{IsToldUnder, Printed, ShowsFrames, StandsAt, answer_at, refusal_in, refusals_in}
+use Rattle.command_index_frames.specs.InnerTold.{shown_at, status_with, told_fault}
+use Rattle.command_index_frames.specs.Refusals.{KeyRefusal, refusal_lines}
 use Rattle.command_index_frames.specs.declared.places.AskedPlace.{AskedPlace}
 use Rattle.command_index_frames.specs.declared.tables.KeyTold.{KeyTold}
 use Rattle.command_index_frames.specs.declared.tables.KeyTold.TheVariants.{Told, Refused}
@@ -60,6 +59,67 @@ one_key key = (0, omega arith, refl)
 pub only_key : (key other : List ℕ) → Contains (key ∷ []) other → key ≡ other
 only_key key other (zero, lt, e) = e
 only_key key other (suc n, lt, e) = absurd (omega (arith, lt))
+
+-- ---- what is true of answers
+
+-- what is true of an answer, and more so
+pub place_as : (IsSaid IsMore : Where → AnswerRecord → List (List FrameRecord) → Type 0)
+    → ((place : Where) (answer : AnswerRecord) (frames : List (List FrameRecord)) → IsSaid place answer frames → IsMore place answer frames)
+    → (place : Where) (told : PlaceAnswer) → IsPlaceTold IsSaid place told → IsPlaceTold IsMore place told
+place_as IsSaid IsMore more place told is = record {
+  row = is.row;
+  address_is = is.address_is;
+  is_said = more place _ is.row.frames is.is_said;
+  status_is = is.status_is;
+  text_is = is.text_is;
+}
+
+pub places_as : (IsSaid IsMore : Where → AnswerRecord → List (List FrameRecord) → Type 0)
+    → ((place : Where) (answer : AnswerRecord) (frames : List (List FrameRecord)) → IsSaid place answer frames → IsMore place answer frames)
+    → (places : List Where) (answers : List PlaceAnswer) → AllZip (IsPlaceTold IsSaid) places answers → AllZip (IsPlaceTold IsMore) places answers
+places_as IsSaid IsMore more places answers zip =
+    zip_as (IsPlaceTold IsSaid) (IsPlaceTold IsMore) places answers (place_as IsSaid IsMore more) zip
+
+pub key_as : (IsSaid IsMore : Where → AnswerRecord → List (List FrameRecord) → Type 0) (IsRefused IsNot : InputName → Why → Type 0)
+    → ((place : Where) (answer : AnswerRecord) (frames : List (List FrameRecord)) → IsSaid place answer frames → IsMore place answer frames)
+    → ((at : InputName) (why : Why) → IsRefused at why → IsNot at why)
+    → (slices : Bool) (places : List Where) (told : KeyTold) → IsKeyTold IsSaid IsRefused slices places told → IsKeyTold IsMore IsNot slices places told
+key_as IsSaid IsMore IsRefused IsNot more also slices places (Told answers) is = places_as IsSaid IsMore more places answers.items is
+key_as IsSaid IsMore IsRefused IsNot more also slices places (Refused at why) (wanted, is) = (wanted, also at why is)
+
+pub under_as : (IsSaid IsMore : SliceKey → Where → AnswerRecord → List (List FrameRecord) → Type 0) (IsRefused IsNot : SliceKey → InputName → Why → Type 0)
+    → ((key : SliceKey) (place : Where) (answer : AnswerRecord) (frames : List (List FrameRecord)) → IsSaid key place answer frames → IsMore key place answer frames)
+    → ((key : SliceKey) (at : InputName) (why : Why) → IsRefused key at why → IsNot key at why)
+    → (slices : Bool) (one : KeyAnswers) → IsToldUnder IsSaid IsRefused slices one → IsToldUnder IsMore IsNot slices one
+under_as IsSaid IsMore IsRefused IsNot more also slices one is =
+    key_as (IsSaid one.key) (IsMore one.key) (IsRefused one.key) (IsNot one.key) (more one.key) (also one.key) slices one.places.items one.told is
+
+-- there are as many answers as places
+pub even_of : (IsSaid : Where → AnswerRecord → List (List FrameRecord) → Type 0) (IsRefused : InputName → Why → Type 0)
+    (slices : Bool) (places : List Where) (told : KeyTold) → IsKeyTold IsSaid IsRefused slices places told → HaveEach told places
+even_of IsSaid IsRefused slices places (Told answers) is = AllZip-long (IsPlaceTold IsSaid) places answers.items is
+even_of IsSaid IsRefused slices places (Refused at why) is = tt
+
+-- and one of the number of each
+pub numbered_there : (told : KeyTold) (places : List Where) (number : ℕ) (place : Where) → HaveEach told places
+    → slice_get places number ≡ Some place → HasNumber told number
+numbered_there (Told answers) places number place even at = omega (arith, even, slice_get_within places number place at)
+numbered_there (Refused at why) places number place even there = tt
+
+-- no frames are shown if no lines are wanted
+none_shown : (lines : Bool) (answers : Answers) (number : ℕ) → lines ≡ false → shown_at lines answers number ≡ []
+none_shown lines answers number none = subst (λ (l : Bool). shown_at l answers number ≡ []) (sym none) refl
+
+-- the answers in their places are what tables tell of these
+pub tables_tell : (AreTexts : List (List ℕ) → Type 0) (all : List (List (List ℕ))) (key : SliceKey) (lines : Bool)
+    (places : List Where) (answers : Answers) (told : List PlaceAnswer) → AreToldOf AreTexts all key lines places answers
+    → AllZip (IsPlaceTold (IsAnswerIn answers lines places)) places told
+    → AllZip (IsPlaceTold (IsAnsweredByTables AreTexts all lines key)) places told
+tables_tell AreTexts all key lines places answers told are zip =
+    places_as (IsAnswerIn answers lines places) (IsAnsweredByTables AreTexts all lines key) (λ place answer frames is. record {
+      answer_is = λ texts given. rw (is.2.0, is.2.1) (are texts given is.0 place is.1);
+      none_shown = λ none. is.2.1 ∙ none_shown lines answers is.0 none;
+    }) places told zip
 
 -- ---- under one key
 
@@ -85,7 +145,8 @@ module _ {D : Type 0} (whole : D → Option (List ℕ)) (failures : D → ℕ) (
   -- a fault refuses all keys, or the key alone if slices are wanted
   abbrev IsKeyOutcome : Bool → Option KeyTold → Type 0
   IsKeyOutcome slices told = MatchOption told (AreTied (key_bytes key) all)
-      (IsKeyTold (HaveTexts whole old) all key lines slices places) × (each_known whole new ≡ each_known whole old)
+      (IsKeyTold (IsAnsweredByTables (HaveTexts whole old) all lines key) (IsKeyFault (HaveTexts whole old) all lines (key_bytes key)) slices places)
+      × (each_known whole new ≡ each_known whole old)
 
   refuses_all : (slices : Bool) (fault : AnswerFault) (at : InputName) (why : Why) → command_fault fault ≡ Input at why
       → RefusesAll slices fault → AsksAmong whole failures lines answering old new (Err fault) AreColumns
@@ -132,32 +193,27 @@ module _ {D : Type 0} (whole : D → Option (List ℕ)) (failures : D → ℕ) (
   texts_first texts have = subst (λ (ds : List (Option (List ℕ))). AllZip HasText ds texts) (sym texts_kept) have
 
   -- what is true of later states is true of the first
-  key_first : (key : SliceKey) (slices : Bool) (places : List Where) (told : KeyTold)
-      → IsKeyTold (HaveTexts whole mid) all key lines slices places told
-      → IsKeyTold (HaveTexts whole first) all key lines slices places told
-  key_first key slices places (Told answers) is = λ texts have. is texts (texts_first texts have)
-  key_first key slices places (Refused at why) (wanted, is) = (
-    wanted,
-    record {
-      answering = is.answering;
-      are = is.are;
-      fault = is.fault;
-      told_as = is.told_as;
-      of_key = is.of_key;
-      says = λ texts have. is.says texts (texts_first texts have);
-    },
-  )
+  pub tables_first : (key : SliceKey) (place : Where) (answer : AnswerRecord) (frames : List (List FrameRecord))
+      → IsAnsweredByTables (HaveTexts whole mid) all lines key place answer frames
+      → IsAnsweredByTables (HaveTexts whole first) all lines key place answer frames
+  tables_first key place answer frames is = record { answer_is = λ texts have. is.answer_is texts (texts_first texts have); none_shown = is.none_shown }
 
-  pub true_first : (slices : Bool) (one : KeyAnswers) → IsToldUnder (HaveTexts whole mid) all lines slices one
-      → IsToldUnder (HaveTexts whole first) all lines slices one
-  true_first slices one told = key_first one.key slices one.places.items one.told told
+  pub fault_first : (key : List ℕ) (at : InputName) (why : Why) → IsKeyFault (HaveTexts whole mid) all lines key at why
+      → IsKeyFault (HaveTexts whole first) all lines key at why
+  fault_first key at why is = record {
+    answering = is.answering;
+    are = is.are;
+    fault = is.fault;
+    told_as = is.told_as;
+    of_key = is.of_key;
+    says = λ texts have. is.says texts (texts_first texts have);
+  }
 
   -- what is not told under some keys is not told under others, among which they are
   pub untold_first : (slices : Bool) (counts_kept : each_known failures mid ≡ each_known failures first) (new : List D) (keys others : List (List ℕ))
-      (fault : CommandFault) → ((key : List ℕ) → Contains keys key → Contains others key)
-      → IsRefusal (IsUntoldBy whole failures lines slices keys all mid new) (NoneFailed failures mid new) fault
-      → IsRefusal (IsUntoldBy whole failures lines slices others all first new) (NoneFailed failures first new) fault
-  untold_first slices counts_kept new keys others (Input at why) among r = record {
+      (at : InputName) (why : Why) → ((key : List ℕ) → Contains keys key → Contains others key)
+      → IsUntoldBy whole failures lines slices keys all mid new at why → IsUntoldBy whole failures lines slices others all first new at why
+  untold_first slices counts_kept new keys others at why among r = record {
     key = r.key;
     key_is = among r.key r.key_is;
     answering = r.answering;
@@ -168,8 +224,6 @@ module _ {D : Type 0} (whole : D → Option (List ℕ)) (failures : D → ℕ) (
     says = λ texts have. r.says texts (texts_first texts have);
     counts = subst (λ (olds : List ℕ). BlamesAmong lines r.answering olds (each_known failures new) r.fault) counts_kept r.counts;
   }
-  untold_first slices counts_kept new keys others OutOfMemory among r = r ∙ counts_kept
-  untold_first slices counts_kept new keys others fault among r = absurd r
 
 -- the keys that are asked are those of frames
 pub among_frames : (frames : List Frame) (asked : List AskedPlace) → AreAskedOf frames asked → (key : List ℕ)
@@ -182,62 +236,32 @@ among_frames frames asked of key there =
 
 -- ---- frames
 
--- no frames are shown if no lines are wanted
-pub none_shown : (lines : Bool) (answers : Answers) (number : ℕ) → lines ≡ false → shown_at lines answers number ≡ []
-none_shown lines answers number none = subst (λ (l : Bool). shown_at l answers number ≡ []) (sym none) refl
-
 -- something is told of each
-pub told_each : {AreTexts : List (List ℕ) → Type 0} {all : List (List (List ℕ))} {lines slices : Bool} {asked : List AskedPlace}
-    {told : List KeyAnswers} → AreTold AreTexts all lines slices asked told → (frames : List Frame) → AreAskedOf frames asked → HaveToldEach told frames
+pub told_each : {IsSaid : SliceKey → Where → AnswerRecord → List (List FrameRecord) → Type 0} {IsRefused : SliceKey → InputName → Why → Type 0}
+    {slices : Bool} {asked : List AskedPlace} {told : List KeyAnswers} → AreTold IsSaid IsRefused slices asked told
+    → (frames : List Frame) → AreAskedOf frames asked → HaveToldEach told frames
 told_each {told = told} are frames of frame there =
     let one = of.whole frame there in
     subst (λ (p : Where). HasTold told (key_bytes frame.key) p) one.3 (subst (λ (b : List ℕ). HasTold told b one.0.place) one.2 (are.whole one.0 one.1))
 
--- the status with one reply more
-status_of : (any each : Bool) (reply : Option Answered)
-    → (if any || is_refused reply then Refused' else if each && is_found reply then Done else Partial)
-    ≡ status_replied (if any then Refused' else if each then Done else Partial) reply
-status_of true each None = refl
-status_of true each (Some row) = refl
-status_of false each None = refl
-status_of false true (Some row) = refl
-status_of false false (Some row) = refl
-
-replies_more : (replies : List Reply) (reply : Reply) → replies_status (replies ++ reply ∷ []) ≡ status_replied (replies_status replies) reply.answered
-replies_more replies reply =
-    let any = list_any-append (λ (r : Reply). is_refused r.answered) replies (reply ∷ [])
-    ∙ ap (λ (b : Bool). list_any (λ (r : Reply). is_refused r.answered) replies || b)
-    (or_none (is_refused reply.answered)) in
-    let each = list_all-append (λ (r : Reply). is_found r.answered) replies (reply ∷ [])
-    ∙ ap (λ (b : Bool). list_all (λ (r : Reply). is_found r.answered) replies && b)
-    (and_all (is_found reply.answered)) in
-    (λ i. if any i then Refused' else if each i then Done else Partial)
-    ∙ status_of (list_any (λ (r : Reply). is_refused r.answered) replies) (list_all (λ (r : Reply). is_found r.answered) replies) reply.answered
-  where
-    or_none : (b : Bool) → (b || false) ≡ b
-    or_none b = grind arith
-
-    and_all : (b : Bool) → (b && true) ≡ b
-    and_all b = grind arith
-
-pub more_frames : (told : List KeyAnswers) (lines : Bool) (frames : List Frame) (i : ℕ) (frame : Frame)
+pub more_frames : (told : List KeyAnswers) (frames : List Frame) (i : ℕ) (frame : Frame)
     (status next : Status) (text printed : List ℕ) (one : KeyAnswers) (number : ℕ) → i < length frames → frame
     ≡ get_or frames i frame
-    → ShowsFrames told lines (take i frames) status text
-    → StandsAt told (key_bytes frame.key) (asked_of frame.load frame.address) one number
-    → IsPrinted lines one.told frame.address number status next text printed
-    → ShowsFrames told lines (take (i + 1) frames) next printed
-more_frames told lines frames i frame status next text printed one number lt is shown stands done =
-    let reply : Reply = record { address = frame.address; answered = done.reply } in
+    → ShowsFrames told (take i frames) status text
+    → StandsAt told frame.key (asked_of frame.load frame.address) one number
+    → IsPrinted one.told frame.address number status next text printed
+    → ShowsFrames told (take (i + 1) frames) next printed
+more_frames told frames i frame status next text printed one number lt is shown stands done =
     let seen : take (i + 1) frames ≡ take i frames ++ frame ∷ [] = take_more frames i frame lt ∙ ap (λ (f : Frame). take i frames ++ f ∷ []) (sym is) in
     record {
-      replies = shown.replies ++ reply ∷ [];
-      answered = subst (λ (fs : List Frame). AllZip (IsFrameTold told lines) fs (shown.replies ++ reply ∷ [])) (sym seen)
-          (pairs_more (IsFrameTold told lines) (take i frames) shown.replies frame reply shown.answered
-          (refl, record { one = one; number = number; stands = stands; reply_is = done.reply_is }));
-      status_is = done.status_is ∙ ap (λ (s : Status). status_replied s done.reply) shown.status_is ∙ sym (replies_more shown.replies reply);
-      text_is = done.text_is ∙ ap (λ (t : List ℕ). t ++ reply_text frame.address done.reply) shown.text_is
-          ∙ flat_map_more (λ (r : Reply). reply_text r.address r.answered) [] shown.replies reply;
+      printed = shown.printed ++ done.printed ∷ [];
+      each = subst (λ (fs : List Frame). AllZip (IsFrameTold told) fs (shown.printed ++ done.printed ∷ [])) (sym seen)
+          (pairs_more (IsFrameTold told) (take i frames) shown.printed frame done.printed shown.each
+          (record { one = one; number = number; stands = stands; printed_is = done.printed_is }));
+      status_is = done.status_is ∙ ap (λ (s : Status). status_with s done.printed.status) shown.status_is
+          ∙ sym (fold-append (λ (s : Status) (p : Printed). status_with s p.status) _ shown.printed (done.printed ∷ []));
+      text_is = done.text_is ∙ ap (λ (t : List ℕ). t ++ done.printed.text) shown.text_is
+          ∙ flat_map_more (λ (p : Printed). p.text) [] shown.printed done.printed;
     }
 
 -- ---- what is refused
@@ -324,158 +348,3 @@ refusals_more told i one lt is =
     last : (r : Option KeyRefusal) → cons_option r [] ≡ option_to_list r
     last None = refl
     last (Some r) = refl
-
--- ---- addresses
-
--- what stands in a list with one more
-pushed : (replies : List Reply) (reply : Reply) (n : ℕ) (one : Reply) → slice_get (replies ++ reply ∷ []) n ≡ Some one
-    → (slice_get replies n ≡ Some one) ⊎ ((n ≡ length replies) × (reply ≡ one))
-pushed [] reply zero one at = inr (refl, cc)
-pushed [] reply (suc n) one at = absurd (cc at)
-pushed (r ∷ replies) reply zero one at = inl at
-pushed (r ∷ replies) reply (suc n) one at = elim (pushed replies reply n one at) [
-  | inl before ↦ inl before
-  | inr (long, same) ↦ inr (ap suc long, same)
-]
-
--- under a key that is refused all replies are so
-status_more : (told : KeyTold) (replies : List Reply) (reply : Reply) (lines : Bool) (number : ℕ) → IsReplyOf lines told reply.address number reply.answered
-    → status_under told (replies ++ reply ∷ []) ≡ status_replied (status_under told replies) reply.answered
-status_more (Told answers) replies reply lines number is = replies_more replies reply
-status_more (Refused at why) replies reply lines number is = ap (status_replied Refused') (sym is)
-
-pub more_addresses : (told : KeyTold) (lines : Bool) (addresses : List ℕ) (i address : ℕ) (status next : Status)
-    (text printed : List ℕ) → i < length addresses → address ≡ get_or addresses i 0
-    → ShowsAddresses told lines (take i addresses) status text → IsPrinted lines told address i status next text printed
-    → ShowsAddresses told lines (take (i + 1) addresses) next printed
-more_addresses told lines addresses i address status next text printed lt is shown done =
-    let reply : Reply = record { address = address; answered = done.reply } in
-    let seen : take (i + 1) addresses ≡ take i addresses ++ address ∷ [] = take_more addresses i 0 lt ∙ ap (λ (a : ℕ). take i addresses ++ a ∷ []) (sym is) in
-    let long : length shown.replies ≡ i = omega (
-      arith,
-      length-map shown.replies (λ (r : Reply). r.address),
-      ap length shown.addresses_are,
-      length-take i addresses,
-      lt,
-    ) in
-    record {
-      replies = shown.replies ++ reply ∷ [];
-      addresses_are = map-append (λ (r : Reply). r.address) shown.replies (reply ∷ []) ∙ ap (λ (l : List ℕ). l ++ address ∷ []) shown.addresses_are ∙ sym seen;
-      numbered = λ number one at. elim (pushed shown.replies reply number one at) [
-        | inl before ↦ shown.numbered number one before
-        | inr (last, same) ↦ subst (λ (r : Reply). IsReplyOf lines told r.address number r.answered) same
-            (subst (λ (n : ℕ). IsReplyOf lines told address n done.reply) (sym (last ∙ long)) done.reply_is)
-      ];
-      status_is = done.status_is ∙ ap (λ (s : Status). status_replied s done.reply) shown.status_is
-          ∙ sym (status_more told shown.replies reply lines i done.reply_is);
-      text_is = done.text_is ∙ ap (λ (t : List ℕ). t ++ reply_text address done.reply) shown.text_is
-          ∙ flat_map_more (λ (r : Reply). reply_text r.address r.answered) [] shown.replies reply;
-    }
-
--- replies that are answers, each with its row
-record AreAnswers (IsRow : ℕ → Answered → Type 0) (replies : List Reply) : Type 0 where
-  rows : List Answered
-  addresses_are : map (λ row. row.address) rows ≡ map (λ reply. reply.address) replies
-  numbered : (number : ℕ) (row : Answered) → slice_get rows number ≡ Some row → IsRow number row
-  none : list_any (λ reply. is_refused reply.answered) replies ≡ false
-  each : list_all (λ reply. is_found reply.answered) replies ≡ list_all (λ row. is_symbol row.answer) rows
-  text_is : replies_text replies ≡ answers_text rows
-
-abbrev HasRow : (ℕ → Answered → Type 0) → ℕ → Reply → Type 0
-HasRow IsRow number reply = (row : Answered) × (reply.answered ≡ Some row) × (row.address ≡ reply.address) × IsRow number row
-
-answers_of : (IsRow : ℕ → Answered → Type 0) (replies : List Reply)
-    → ((number : ℕ) (reply : Reply) → slice_get replies number ≡ Some reply → HasRow IsRow number reply) → AreAnswers IsRow replies
-answers_of IsRow [] each = record {
-  rows = [];
-  addresses_are = refl;
-  numbered = λ number row at. absurd (cc at);
-  none = refl;
-  each = refl;
-  text_is = refl;
-}
-answers_of IsRow (reply ∷ replies) each =
-    let first = each 0 reply refl in
-    let more = answers_of (λ number row. IsRow (suc number) row) replies (λ number one at. each (suc number) one at) in
-    record {
-      rows = first.0 ∷ more.rows;
-      addresses_are = (λ i. first.2 i ∷ more.addresses_are i);
-      numbered = numbered_of IsRow first.0 more.rows first.3 more.numbered;
-      none = (λ i. is_refused (first.1 i) || more.none i);
-      each = (λ i. is_found (first.1 i) && more.each i);
-      text_is = (λ i. reply_text reply.address (first.1 i) ++ more.text_is i);
-    }
-  where
-    numbered_of : (IsRow : ℕ → Answered → Type 0) (row : Answered) (rows : List Answered) → IsRow 0 row
-        → ((number : ℕ) (one : Answered) → slice_get rows number ≡ Some one → IsRow (suc number) one)
-        → (number : ℕ) (one : Answered) → slice_get (row ∷ rows) number ≡ Some one → IsRow number one
-    numbered_of IsRow row rows here later zero one at = subst (IsRow 0) (cc at) here
-    numbered_of IsRow row rows here later (suc number) one at = later number one at
-
--- what is shown of addresses is what tables tell of them
-module _ (AreTexts : List (List ℕ) → Type 0) (all : List (List (List ℕ))) (key : SliceKey) (load : Option ℕ)
-    (lines : Bool) (addresses : List ℕ) (places : List Where) (places_are : places ≡ map (asked_of load) addresses) where
-  abbrev IsOwnRow : Answers → ℕ → Answered → Type 0
-  IsOwnRow answers number row = (answer_view row.answer ≡ answer_at answers number) × (row.frames ≡ shown_at lines answers number)
-
-  own_row : (answers : Answers) (number : ℕ) (reply : Reply)
-      → IsReplyOf lines (Told answers) reply.address number reply.answered → HasRow (IsOwnRow answers) number reply
-  own_row answers number reply is = by reply.answered refl is
-    where
-      by : (r : Option Answered) → reply.answered ≡ r → IsReplyOf lines (Told answers) reply.address number r → HasRow (IsOwnRow answers) number reply
-      by None same h = absurd h
-      by (Some row) same h = (row, same, h.0, (h.1, h.2))
-
-  answered_told : (answers : Answers) (status : Status) (text : List ℕ) → AreToldOf AreTexts all key lines places answers
-      → ShowsAddresses (Told answers) lines addresses status text → TellTables AreTexts all key load lines addresses status text
-  answered_told answers status text told shown =
-      let are = answers_of (IsOwnRow answers) shown.replies (λ number reply at. own_row answers number reply (shown.numbered number reply at)) in
-      let addresses_are : map (λ (r : Answered). r.address) are.rows ≡ addresses = are.addresses_are ∙ shown.addresses_are in
-      record {
-        rows = are.rows;
-        addresses_are = addresses_are;
-        answered = λ k d lt.
-            let row = get_or are.rows k d in
-            let at : slice_get are.rows k ≡ Some row = slice_get-get_or are.rows k d lt in
-            let is = are.numbered k row at in
-            let among : k < length addresses = omega (arith, lt, length-map are.rows (λ (r : Answered). r.address), ap length addresses_are) in
-            let address : get_or addresses k d.address ≡ row.address =
-            ap (λ (l : List ℕ). get_or l k d.address) (sym addresses_are)
-            ∙ get_or-map (λ (r : Answered). r.address) are.rows k d d.address lt in
-            let placed : k < length places = omega (arith, among, ap length places_are, length-map addresses (asked_of load)) in
-            let place : slice_get places k ≡ Some (asked_of load row.address) =
-            slice_get-get_or places k (asked_of load row.address) placed
-            ∙ ap (λ (l : List Where). Some (get_or l k (asked_of load row.address))) places_are
-            ∙ ap Some (get_or-map (asked_of load) addresses k d.address (asked_of load row.address) among ∙ ap (asked_of load) address) in
-            record {
-              answer_is = λ texts given. rw (is.1, is.0) (told texts given k (asked_of load row.address) place);
-              none_shown = λ none. is.1 ∙ none_shown lines answers k none;
-            };
-        status_is = shown.status_is ∙ (λ i. if are.none i then Refused' else if are.each i then Done else Partial);
-        text_is = shown.text_is ∙ are.text_is;
-      }
-
-  -- a key that is refused has a mark for each address
-  marks : (replies : List Reply) → ((number : ℕ) (reply : Reply) → slice_get replies number ≡ Some reply → reply.answered ≡ None)
-      → replies_text replies ≡ flat_map (λ address. reply_text address None) (map (λ (reply : Reply). reply.address) replies)
-  marks [] each = refl
-  marks (reply ∷ replies) each =
-      let first = each 0 reply refl in
-      let more = marks replies (λ number one at. each (suc number) one at) in
-      (λ i. reply_text reply.address (first i) ++ more i)
-
-  pub addresses_by_tables : (slices : Bool) (told : KeyTold) (status : Status) (text refused : List ℕ)
-      → IsKeyTold AreTexts all key lines slices places told → ShowsAddresses told lines addresses status text
-      → refused ≡ refusal_lines (option_to_list (refusal_in key told))
-      → TellKeyPart slices AreTexts all key load lines addresses status text refused
-  addresses_by_tables false (Told answers) status text refused told shown is = answered_told answers status text told shown
-  addresses_by_tables true (Told answers) status text refused told shown is = inl (answered_told answers status text told shown, is)
-  addresses_by_tables false (Refused at why) status text refused told shown is = absurd (true≢false (sym told.0))
-  addresses_by_tables true (Refused at why) status text refused told shown is = inr (
-    record { key = key; at = at; why = why },
-    refl,
-    told.1,
-    shown.status_is,
-    shown.text_is ∙ marks shown.replies shown.numbered ∙ ap (flat_map (λ address. reply_text address None)) shown.addresses_are,
-    is,
-  )

@@ -1,18 +1,18 @@
 -- The rows of entries under UUIDs, and those of the entries that answer.
-use Rattle.std.proofs.Common.{◌≡◌, ◌≢◌, ◌↔◌, ℕ, ◌+◌, ◌<◌, ◌≤◌, ◌⊎◌, Bool, true, false, not, ◌&&◌, ◌||◌, List, [], ◌∷◌}
-use Rattle.std.proofs.Common.{◌++◌, length, map, take, drop, get_or, refl, sym, ap, ◌∙◌, subst, inl, inr, arith, eqb}
+use Rattle.std.proofs.Common.{◌≡◌, ◌≢◌, ℕ, ◌+◌, ◌<◌, Bool, true, not, ◌&&◌, ◌||◌, List, [], ◌∷◌}
+use Rattle.std.proofs.Common.{◌++◌, length, take, drop, get_or, refl, sym, ap, ◌∙◌, subst, inl, inr, arith, eqb}
 use Rattle.std.proofs.Common.{take-append-drop}
-use Rattle.std.specs.List.{All, Contains, flat_map, list_any}
+use Rattle.std.specs.List.{All, Contains, list_any}
 use Rattle.std.specs.Str.{bytes_eq}
 use Rattle.std.proofs.Math.Seq.{take-append_seam}
-use Rattle.std.proofs.lemmas.Bool.{and_from, and_parts, cases_Bool, false_from_ne_true, not-true, not_from_false, or_cases, or_left, or_right, true≢false}
+use Rattle.std.proofs.lemmas.Bool.{and_from, and_parts, false_from_ne_true, not-true, not_from_false, or_cases, or_left, or_right, true≢false}
 use Rattle.std.proofs.lemmas.Bool.Decides.{Decides-eqb}
 use Rattle.std.proofs.lemmas.List.{drop-take, flat_map_more, take-take, take_more}
 use Rattle.std.proofs.lemmas.List.Elements.{All-more}
 use Rattle.std.proofs.lemmas.List.Folds.{Any-from_list_any, list_any-from_Any, list_any_more}
 use Rattle.std.proofs.lemmas.Slice.Eq.{bytes_eq-Decides}
 use Rattle.archive_core.specs.Content.{is_admission}
-use Rattle.archive_core.specs.Key.{IsKey, key_bytes}
+use Rattle.archive_core.specs.Key.{key_bytes}
 use Rattle.archive_core.specs.Part.{is_under}
 use Rattle.archive_core.specs.declared.find.FindRow.{FindRow}
 use Rattle.archive_core.specs.declared.find.FindState.{FindState}
@@ -22,7 +22,7 @@ use Rattle.archive_core.proofs.Compare.{length_key_bytes}
 use Rattle.archive_core.proofs.Records.{one_key, same_parts}
 use Rattle.text_reports.specs.Slices.{AnswersAmong, HasNoCompanionAmong, IsRetiredAmong, LivesAmong, TellsSlices}
 use Rattle.index_format.specs.Entry.{dsym_byte, tag_byte}
-use Rattle.index_lookup.specs.Among.{all_of, answers_among, covers, has_live_companion, lives_under, subject_of}
+use Rattle.index_lookup.specs.Among.{all_of, covers, has_live_companion, lives_under, subject_of}
 use Rattle.index_lookup.specs.Told.{admits_under, is_companion}
 use Rattle.command_queries.specs.Slices.{AreUuidsOf}
 use Rattle.command_index_queries.specs.Rows.{AreRowsAmong, IsEntryRow, is_under_one}

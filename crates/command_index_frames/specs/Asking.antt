@@ -1,12 +1,16 @@
--- The answers for addresses by indexes: from the tables of the slices that answer, or from these slices.
-use Rattle.std.specs.Prelude.{◌≡◌, ◌+◌, ◌⊎◌, ℕ, List, [], Bool, true, false, Option, Some, All, Contains, map}
-use Rattle.std.specs.Prelude.{take, drop, slice_get}
+-- The answers for addresses by indexes: under each key from the tables of the slices that answer, or from these slices.
+use Rattle.std.specs.Prelude.{◌≡◌, ◌+◌, ◌⊎◌, ◌&&◌, ℕ, List, [], ◌∷◌, Bool, true, false, Some, Contains, take, drop}
+use Rattle.std.specs.Prelude.{slice_get}
 use Rattle.std.specs.List.{AllZip}
+use Rattle.std.specs.Option.{is_some}
 use Rattle.byte_device.specs.Devices.{FailedIn}
+use Rattle.archive_core.specs.Content.{Operations}
 use Rattle.archive_core.specs.Key.{key_bytes}
-use Rattle.archive_core.specs.Lookup.{answer_view}
+use Rattle.archive_core.specs.Lookup.{AnswerRecord}
 use Rattle.archive_core.specs.declared.keys.SliceKey.{SliceKey}
-use Rattle.command_queries.specs.Symbolicate.{Answered, answers_status, answers_text, asked_of}
+use Rattle.archive_core.specs.declared.lookup.Where.{Where}
+use Rattle.dwarf_source_frames.specs.Frames.{FrameRecord}
+use Rattle.command_queries.specs.Sources.{IsSourced}
 use Rattle.index_format.specs.declared.index_fault.IndexFaultKind.TheVariants.{Device}
 use Rattle.index_lookup.specs.Among.{AreAnsweringAmong, AreTied, EntryAt}
 use Rattle.index_lookup.specs.AmongAsked.{IsAskedAt, IsDamagedAt, IsLinelessAt}
@@ -14,11 +18,12 @@ use Rattle.index_lookup.specs.AmongTold.{IsAnswerAmong}
 use Rattle.command_common.specs.Inputs.{Reader, EachUnfailed, IsGiven}
 use Rattle.command_common.specs.declared.faults.InputName.{InputName}
 use Rattle.command_common.specs.declared.faults.InputName.TheVariants.{Index}
-use Rattle.command_common.specs.declared.faults.Status.{Status}
 use Rattle.command_common.specs.declared.faults.Why.{Why}
-use Rattle.command_common.specs.declared.faults.Why.TheVariants.{Damaged, Index as IndexFaulty, NoLines}
+use Rattle.command_common.specs.declared.faults.Why.TheVariants.{CannotOpen, Device as CannotRead, Record, Take, Script}
+use Rattle.command_common.specs.declared.faults.Why.TheVariants.{BadFrame, OldArchive, TooLong, Index as IndexFaulty}
+use Rattle.command_common.specs.declared.faults.Why.TheVariants.{Stale, Damaged, NoLines, NoArchive, NoIndex}
 use Rattle.command_index_queries.specs.Several.{AreRefusedLater}
-use Rattle.command_index_queries.specs.Together.{AreReadWith, IsFirstRefusedByIndex}
+use Rattle.command_index_queries.specs.Together.{AreReadWith, HoldNamed, IsFirstRefusedByIndex}
 
 -- ---- by tables
 
@@ -26,29 +31,31 @@ use Rattle.command_index_queries.specs.Together.{AreReadWith, IsFirstRefusedByIn
 abbrev pub AreGiven : {I : Type 0} → List (Reader I) → List (List ℕ) → Type 0
 AreGiven indexes texts = AllZip IsGiven indexes texts
 
--- The answer is what the tables of these entries tell under the key, whatever bytes the indexes have of which this is
+-- The answer is what the tables of the entries tell under the key, whatever bytes the indexes have of which this is
 -- true, and so are the frames that are shown; none are if no lines are wanted.
-pub record IsAnsweredByTables (AreTexts : List (List ℕ) → Type 0) (all : List (List (List ℕ))) (key : SliceKey)
-    (load : Option ℕ) (lines : Bool) (row : Answered) : Type 0 where
+pub record IsAnsweredByTables (AreTexts : List (List ℕ) → Type 0) (all : List (List (List ℕ))) (lines : Bool)
+    (key : SliceKey) (asked : Where) (answer : AnswerRecord) (frames : List (List FrameRecord)) : Type 0 where
   pub answer_is : (texts : List (List ℕ)) → AreTexts texts
-      → IsAnswerAmong texts all (key_bytes key) lines (asked_of load row.address) (answer_view row.answer) row.frames
-  pub none_shown : lines ≡ false → row.frames ≡ []
-
--- tables tell this of addresses, one answer an address and in their order
-pub record TellTables (AreTexts : List (List ℕ) → Type 0) (all : List (List (List ℕ))) (key : SliceKey)
-    (load : Option ℕ) (lines : Bool) (addresses : List ℕ) (status : Status) (text : List ℕ) : Type 0 where
-  pub rows : List Answered
-  pub addresses_are : map (λ row. row.address) rows ≡ addresses
-  pub answered : All (IsAnsweredByTables AreTexts all key load lines) rows
-  pub status_is : status ≡ answers_status rows
-  pub text_is : text ≡ answers_text rows
+      → IsAnswerAmong texts all (key_bytes key) lines asked answer frames
+  pub none_shown : lines ≡ false → frames ≡ []
 
 -- ---- by slices
 
--- Of two slices of one length under one of these keys, in two archives, no entry says which comes first: so the slices
--- are read, though tables are there.
-abbrev pub AreTiedUnder : List (List ℕ) → List (List (List ℕ)) → Type 0
-AreTiedUnder keys all = (key : List ℕ) × Contains keys key × AreTied key all
+-- Of two slices of one length under the key, in two archives, no entry says which comes first: so the slices that the
+-- indexes name under this key are read, and tell the answer, and the frames that are shown.
+pub record IsAnsweredBySlices {P : Type 0} (archives : List (Reader P)) (all : List (List (List ℕ))) (lines : Bool)
+    (key : SliceKey) (asked : Where) (answer : AnswerRecord) (frames : List (List FrameRecord)) : Type 0 where
+  pub tied : AreTied (key_bytes key) all
+  pub content : Operations
+  pub held : HoldNamed (key_bytes key ∷ []) archives all content
+  pub answered : IsSourced content key lines asked answer frames
+
+-- tables tell the answer, or slices do, if two are tied
+abbrev pub IsAnsweredAt : {P : Type 0} → (List (List ℕ) → Type 0) → List (Reader P) → List (List (List ℕ)) → Bool
+    → SliceKey → Where → AnswerRecord → List (List FrameRecord) → Type 0
+IsAnsweredAt AreTexts archives all lines key asked answer frames =
+    IsAnsweredByTables AreTexts all lines key asked answer frames
+    ⊎ IsAnsweredBySlices archives all lines key asked answer frames
 
 -- ---- refused
 
@@ -117,11 +124,37 @@ pub record AreUntold {I P : Type 0} (lines slices : Bool) (keys : List (List ℕ
   pub unfailed : EachUnfailed archives
   pub untold : IsUntoldUnder lines slices keys indexes all at why
 
+-- it is stale at an entry: no record of its archive is there
+abbrev pub is_stale_entry : Why → Bool
+is_stale_entry CannotOpen = false
+is_stale_entry CannotRead = false
+is_stale_entry (Record _) = false
+is_stale_entry (Take _) = false
+is_stale_entry (Script _ _ _) = false
+is_stale_entry (BadFrame _ _) = false
+is_stale_entry OldArchive = false
+is_stale_entry TooLong = false
+is_stale_entry (IndexFaulty _) = false
+is_stale_entry (Stale entry) = is_some entry
+is_stale_entry (Damaged _) = false
+is_stale_entry (NoLines _) = false
+is_stale_entry NoArchive = false
+is_stale_entry NoIndex = false
+
+-- Two slices are tied under one of these keys, and of the archives, which are read for it, one is refused. If slices
+-- are wanted, that is not for an entry: otherwise its key is refused, and the others are answered.
+pub record AreUnread {I P : Type 0} (slices : Bool) (keys : List (List ℕ)) (indexes : List (Reader I))
+    (archives : List (Reader P)) (at : InputName) (why : Why) : Type 0 where
+  pub key : List ℕ
+  pub key_is : Contains keys key
+  pub refused : AreRefusedLater (key ∷ []) indexes archives at why
+  pub tied : AreTied key refused.all
+  pub of_all : (slices && is_stale_entry why) ≡ false
+
 -- The first that is refused, of commands that ask under these keys: an index, or the length of its archive; after that
 -- an archive whose slices are read, since two are tied; or a table.
 abbrev pub AreRefusedAsking : {I P : Type 0} → Bool → Bool → List (List ℕ) → List (Reader I) → List (Reader P)
     → InputName → Why → Type 0
 AreRefusedAsking lines slices keys indexes archives at why =
     IsFirstRefusedByIndex indexes archives at why
-    ⊎ (((refused : AreRefusedLater keys indexes archives at why) × AreTiedUnder keys refused.all)
-    ⊎ AreUntold lines slices keys indexes archives at why)
+    ⊎ (AreUnread slices keys indexes archives at why ⊎ AreUntold lines slices keys indexes archives at why)

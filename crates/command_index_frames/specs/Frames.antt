@@ -3,11 +3,13 @@ use Rattle.std.specs.Prelude.{◌≡◌, ◌≢◌, ◌⊎◌, ◌↔◌, ℕ, L
 use Rattle.std.specs.Prelude.{Contains, map}
 use Rattle.std.specs.List.{AllZip}
 use Rattle.std.specs.List.Sorted.{IsStrictlySortedBy}
-use Rattle.archive_core.specs.Content.{HaveSameMembers}
 use Rattle.archive_core.specs.Key.{key_bytes}
-use Rattle.command_queries.specs.Frames.{TellsFrames, frame_keys}
-use Rattle.command_queries.specs.Slices.{WithSlices}
-use Rattle.command_queries.specs.Symbolicate.{Answered, answers_status, answers_text}
+use Rattle.archive_core.specs.Lookup.{AnswerRecord, answer_view}
+use Rattle.archive_core.specs.declared.keys.SliceKey.{SliceKey}
+use Rattle.archive_core.specs.declared.lookup.Where.{Where}
+use Rattle.dwarf_source_frames.specs.Frames.{FrameRecord}
+use Rattle.command_queries.specs.Frames.{frame_keys}
+use Rattle.command_queries.specs.Symbolicate.{Answered, answers_status, answers_text, asked_of}
 use Rattle.text_inputs.specs.Frames.{frames_of}
 use Rattle.text_inputs.specs.declared.frame.Frame.{Frame}
 use Rattle.text_reports.specs.Slices.{TellsSlices, slice_key_cmp}
@@ -17,9 +19,9 @@ use Rattle.command_common.specs.declared.faults.InputName.{InputName}
 use Rattle.command_common.specs.declared.faults.Status.{Status}
 use Rattle.command_common.specs.declared.faults.Status.TheVariants.{Refused}
 use Rattle.command_common.specs.declared.faults.Why.{Why}
-use Rattle.command_index_queries.specs.Several.{AreUnfailedTogether, MakesTogether}
+use Rattle.command_index_queries.specs.Several.{AreUnfailedTogether}
 use Rattle.command_index_queries.specs.Together.{AreReadWith}
-use Rattle.command_index_frames.specs.Asking.{AreGiven, AreRefusedAsking, AreTiedUnder, IsAnsweredByTables}
+use Rattle.command_index_frames.specs.Asking.{AreGiven, AreRefusedAsking, IsAnsweredAt}
 use Rattle.command_index_frames.specs.Refusals.{AreRefusing, IsKeyRefused, KeyRefusal, Reply, refusal_lines}
 use Rattle.command_index_frames.specs.Refusals.{replies_status, replies_text}
 use Rattle.command_index_frames.specs.Slices.{IsAnsweringEntryRow}
@@ -28,39 +30,41 @@ use Rattle.command_index_frames.specs.Slices.{IsAnsweringEntryRow}
 abbrev pub keys_of : List Frame → List (List ℕ)
 keys_of frames = map (λ frame. key_bytes frame.key) frames
 
--- the row is that of the frame's address, and tables tell its answer
-abbrev pub IsFrameByTables : (List (List ℕ) → Type 0) → List (List (List ℕ)) → Bool → Frame → Answered → Type 0
-IsFrameByTables AreTexts all lines frame row =
-    (row.address ≡ frame.address) × IsAnsweredByTables AreTexts all frame.key frame.load lines row
+-- the row is that of the frame's address, and this is true of its answer
+abbrev pub IsFrameSaid : (SliceKey → Where → AnswerRecord → List (List FrameRecord) → Type 0)
+    → Frame → Answered → Type 0
+IsFrameSaid IsSaid frame row =
+    (row.address ≡ frame.address)
+    × IsSaid frame.key (asked_of frame.load frame.address) (answer_view row.answer) row.frames
 
--- tables tell this of frames, one answer a frame and in their order
-pub record TellTablesOfFrames (AreTexts : List (List ℕ) → Type 0) (all : List (List (List ℕ))) (lines : Bool)
+-- Frames are answered, one answer a frame and in their order, and this is true of each.
+pub record TellFrames (IsSaid : SliceKey → Where → AnswerRecord → List (List FrameRecord) → Type 0)
     (frames : List Frame) (status : Status) (text : List ℕ) : Type 0 where
   pub rows : List Answered
-  pub answered : AllZip (IsFrameByTables AreTexts all lines) frames rows
+  pub answered : AllZip (IsFrameSaid IsSaid) frames rows
   pub status_is : status ≡ answers_status rows
   pub text_is : text ≡ answers_text rows
 
--- a frame of a key that is not refused has the answer that tables tell, and else none
-abbrev pub IsAnsweredOrRefused : (List (List ℕ) → Type 0) → List (List (List ℕ)) → Bool → List KeyRefusal → Frame
-    → Option Answered → Type 0
-IsAnsweredOrRefused AreTexts all lines refusals frame None = AreRefusing refusals (key_bytes frame.key)
-IsAnsweredOrRefused AreTexts all lines refusals frame (Some row) =
-    IsFrameByTables AreTexts all lines frame row × (AreRefusing refusals (key_bytes frame.key) → ⊥)
+-- a frame of a key that is not refused has an answer, of which this is true, and else none
+abbrev pub IsAnsweredOrRefused : (SliceKey → Where → AnswerRecord → List (List FrameRecord) → Type 0)
+    → List KeyRefusal → Frame → Option Answered → Type 0
+IsAnsweredOrRefused IsSaid refusals frame None = AreRefusing refusals (key_bytes frame.key)
+IsAnsweredOrRefused IsSaid refusals frame (Some row) =
+    IsFrameSaid IsSaid frame row × (AreRefusing refusals (key_bytes frame.key) → ⊥)
 
 -- the reply is to the address of the frame
-abbrev pub IsFrameReplied : (List (List ℕ) → Type 0) → List (List (List ℕ)) → Bool → List KeyRefusal → Frame → Reply
-    → Type 0
-IsFrameReplied AreTexts all lines refusals frame reply =
-    (reply.address ≡ frame.address) × IsAnsweredOrRefused AreTexts all lines refusals frame reply.answered
+abbrev pub IsFrameReplied : (SliceKey → Where → AnswerRecord → List (List FrameRecord) → Type 0) → List KeyRefusal
+    → Frame → Reply → Type 0
+IsFrameReplied IsSaid refusals frame reply =
+    (reply.address ≡ frame.address) × IsAnsweredOrRefused IsSaid refusals frame reply.answered
 
--- Tables tell this of frames, one reply a frame and in their order, and refuse these keys of theirs, by the bytes of
--- the keys and each once, of each of which this is true. The status is `Refused` exactly if a key is.
-pub record TellTablesBesides (AreTexts : List (List ℕ) → Type 0) (IsRefused : KeyRefusal → Type 0)
-    (all : List (List (List ℕ))) (lines : Bool) (frames : List Frame) (refusals : List KeyRefusal) (status : Status)
+-- Frames have replies, one a frame and in their order, and these keys of theirs are refused, by the bytes of the keys
+-- and each once, of each of which this is true. The status is `Refused` exactly if a key is.
+pub record TellFramesBesides (IsSaid : SliceKey → Where → AnswerRecord → List (List FrameRecord) → Type 0)
+    (IsRefused : KeyRefusal → Type 0) (frames : List Frame) (refusals : List KeyRefusal) (status : Status)
     (text : List ℕ) : Type 0 where
   pub replies : List Reply
-  pub replied : AllZip (IsFrameReplied AreTexts all lines refusals) frames replies
+  pub replied : AllZip (IsFrameReplied IsSaid refusals) frames replies
   pub ascending : IsStrictlySortedBy (λ a b. slice_key_cmp a.key b.key) refusals
   pub of_frames : All (λ refusal. Contains (keys_of frames) (key_bytes refusal.key)) refusals
   pub refused : All IsRefused refusals
@@ -68,64 +72,40 @@ pub record TellTablesBesides (AreTexts : List (List ℕ) → Type 0) (IsRefused 
   pub status_refused : (status ≡ Refused) ↔ (refusals ≢ [])
   pub text_is : text ≡ replies_text replies
 
--- The same, and after it the lines of the slices that answer, as entries have them, and of the keys that are refused.
-pub record TellTablesAndSlices (AreTexts : List (List ℕ) → Type 0) (IsRefused : KeyRefusal → Type 0)
-    (all : List (List (List ℕ))) (lines : Bool) (frames : List Frame) (status : Status) (text : List ℕ) : Type 0 where
+-- The same, and after it the lines of the slices that answer under these keys, as entries have them, and of the keys
+-- that are refused.
+pub record TellFramesAndSlices (IsSaid : SliceKey → Where → AnswerRecord → List (List FrameRecord) → Type 0)
+    (IsRefused : KeyRefusal → Type 0) (all : List (List (List ℕ))) (keys : List SliceKey) (frames : List Frame)
+    (status : Status) (text : List ℕ) : Type 0 where
   pub refusals : List KeyRefusal
   pub answers : List ℕ
-  pub told : TellTablesBesides AreTexts IsRefused all lines frames refusals status answers
+  pub told : TellFramesBesides IsSaid IsRefused frames refusals status answers
   pub slices : List ℕ
-  pub sliced : TellsSlices (IsAnsweringEntryRow all (frame_keys frames)) (frame_keys frames) slices
+  pub sliced : TellsSlices (IsAnsweringEntryRow all keys) keys slices
   pub text_is : text ≡ answers ++ (slices ++ refusal_lines refusals)
 
--- tables tell this of frames, and if slices are wanted of them and of the keys that are refused
-abbrev pub TellTablesWith : Bool → (List (List ℕ) → Type 0) → (KeyRefusal → Type 0) → List (List (List ℕ)) → Bool
-    → List Frame → Status → List ℕ → Type 0
-TellTablesWith false AreTexts IsRefused all lines frames status text =
-    TellTablesOfFrames AreTexts all lines frames status text
-TellTablesWith true AreTexts IsRefused all lines frames status text =
-    TellTablesAndSlices AreTexts IsRefused all lines frames status text
+-- frames are answered, and if slices are wanted also these and the keys that are refused
+abbrev pub TellFramesWith : Bool → (SliceKey → Where → AnswerRecord → List (List FrameRecord) → Type 0)
+    → (KeyRefusal → Type 0) → List (List (List ℕ)) → List SliceKey → List Frame → Status → List ℕ → Type 0
+TellFramesWith false IsSaid IsRefused all keys frames status text = TellFrames IsSaid frames status text
+TellFramesWith true IsSaid IsRefused all keys frames status text =
+    TellFramesAndSlices IsSaid IsRefused all keys frames status text
 
--- The indexes were read, and their tables tell this of the frames; and if slices are wanted their entries tell which
--- answer, and a key whose table is changed, or has no lines, is refused alone.
-pub record TellsFramesByTables {I P : Type 0} (lines slices : Bool) (indexes : List (Reader I))
-    (archives : List (Reader P)) (frames : List Frame) (status : Status) (text : List ℕ) : Type 0 where
+-- The indexes were read, and tell this of the frames, and if slices are wanted which answer under these keys. Under
+-- each key tables answer, or slices if two are tied; and a key is refused alone only if slices are wanted.
+pub record AreToldAt {I P : Type 0} (lines slices : Bool) (indexes : List (Reader I)) (archives : List (Reader P))
+    (keys : List SliceKey) (frames : List Frame) (status : Status) (text : List ℕ) : Type 0 where
   pub all : List (List (List ℕ))
   pub read : AreReadWith indexes archives all
-  pub tells : TellTablesWith slices (AreGiven indexes) (IsKeyRefused lines indexes all) all lines frames status text
-
--- The slices that the indexes name under the keys of the frames, in some order, tell this of them, since two are tied;
--- and their entries tell which slices answer, if these are wanted.
-pub record TellsFramesBySlices {I P : Type 0} (lines slices : Bool) (indexes : List (Reader I))
-    (archives : List (Reader P)) (frames : List Frame) (status : Status) (text : List ℕ) : Type 0 where
-  pub keys : List (List ℕ)
-  pub are_keys : HaveSameMembers keys (keys_of frames)
-  pub all : List (List (List ℕ))
-  pub makes : MakesTogether keys indexes archives (λ o. WithSlices slices (TellsFrames lines o frames)
-      (IsAnsweringEntryRow all (frame_keys frames)) (frame_keys frames)) status text
-  pub all_is : makes.held.all ≡ all
-  pub tied : AreTiedUnder keys all
-
--- tables tell this of the frames, or slices do
-abbrev pub AreToldAt : {I P : Type 0} → Bool → Bool → List (Reader I) → List (Reader P) → List Frame → Status
-    → List ℕ → Type 0
-AreToldAt lines slices indexes archives frames status text =
-    TellsFramesByTables lines slices indexes archives frames status text
-    ⊎ TellsFramesBySlices lines slices indexes archives frames status text
-
--- An index, an archive or a table is refused, as far as the keys of the frames, in some order, tell.
-abbrev pub AreRefusedAt : {I P : Type 0} → Bool → Bool → List (Reader I) → List (Reader P) → List Frame → InputName
-    → Why → Type 0
-AreRefusedAt lines slices indexes archives frames at why =
-    (keys : List (List ℕ)) × HaveSameMembers keys (keys_of frames)
-    × AreRefusedAsking lines slices keys indexes archives at why
+  pub told : TellFramesWith slices (IsAnsweredAt (AreGiven indexes) archives all lines)
+      (IsKeyRefused lines indexes archives all) all keys frames status text
 
 -- FRAMES says these frames, and this is told of them.
 pub record MakesFramedAt {Q I P : Type 0} (lines slices : Bool) (frames : Reader Q) (indexes : List (Reader I))
     (archives : List (Reader P)) (status : Status) (text : List ℕ) : Type 0 where
   pub listed : List Frame
   pub frames_are : Gives frames (λ bytes. frames_of bytes ≡ Ok listed)
-  pub told : AreToldAt lines slices indexes archives listed status text
+  pub told : AreToldAt lines slices indexes archives (frame_keys listed) listed status text
 
 -- FRAMES is refused, and nothing else is touched; or FRAMES says frames, its reader does not fail, and another is
 -- refused
@@ -134,7 +114,7 @@ abbrev pub RefusesFramesAt : {Q I P : Type 0} → Bool → Bool → Reader Q →
 RefusesFramesAt lines slices frames indexes archives at why =
     (IsRefusedFrames frames at why × EachUntouched indexes × EachUntouched archives)
     ⊎ ((listed : List Frame) × Gives frames (λ bytes. frames_of bytes ≡ Ok listed) × Unfailed frames
-    × AreRefusedAt lines slices indexes archives listed at why)
+    × AreRefusedAsking lines slices (keys_of listed) indexes archives at why)
 
 -- `frames`, over these frames and these archives
 abbrev pub frames_at : {Q I P : Type 0} → Bool → Bool → Reader Q → List (Reader I) → List (Reader P) → Query

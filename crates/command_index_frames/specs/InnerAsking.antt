@@ -1,21 +1,20 @@
 -- What comes of asking by tables, and of asking by slices if two are tied: the words of inner functions. No contract of
 -- a public one has them.
-use Rattle.std.specs.Prelude.{◌≡◌, ◌⊎◌, ℕ, List, Bool, true, false, Option, Result, Contains}
-use Rattle.archive_core.specs.Content.{Operations}
+use Rattle.std.specs.Prelude.{◌≡◌, ◌⊎◌, ◌&&◌, ℕ, List, [], ◌∷◌, Bool, true, false, Option, Result, Contains}
 use Rattle.index_format.specs.declared.index_fault.IndexFaultKind.TheVariants.{Device as DeviceKind}
-use Rattle.index_lookup.specs.Among.{AreAnsweringAmong, EntryAt}
+use Rattle.index_lookup.specs.Among.{AreAnsweringAmong, AreTied, EntryAt}
 use Rattle.index_lookup.specs.AmongAsked.{BlamesAmong, HaveTexts, IsUntoldAmong, each_known}
 use Rattle.index_lookup.specs.declared.fault.AnswerFault.{AnswerFault}
 use Rattle.index_lookup.specs.declared.fault.AnswerFault.TheVariants.{Damaged, Device, NoLines, OutOfMemory}
-use Rattle.command_common.specs.Inputs.{Reader, EachUnfailed, ReadsInputs}
+use Rattle.command_common.specs.Inputs.{EachUnfailed, ReadsInputs, readers}
 use Rattle.command_common.specs.declared.faults.CommandFault.{CommandFault}
 use Rattle.command_common.specs.declared.faults.CommandFault.TheVariants as command
 use Rattle.command_common.specs.declared.faults.InputName.{InputName}
 use Rattle.command_common.specs.declared.faults.InputName.TheVariants.{Index}
 use Rattle.command_common.specs.declared.faults.Why.{Why}
 use Rattle.command_common.specs.declared.faults.Why.TheVariants as why
-use Rattle.command_index_queries.specs.Together.{HoldNamed, IsFirstRefusedAtPlaces}
-use Rattle.command_index_frames.specs.Asking.{AreTiedUnder}
+use Rattle.command_index_queries.specs.Together.{AreAllKept, IsFirstRefusedAtPlaces}
+use Rattle.command_index_frames.specs.Asking.{is_stale_entry}
 
 -- how a command tells a fault of answers
 abbrev pub command_fault : AnswerFault → CommandFault
@@ -77,36 +76,35 @@ AsksTables whole failures lines slices keys all old new result IsTrue =
     ReadsInputs result (λ value. IsTrue value × (each_known whole new ≡ each_known whole old))
     (IsUntoldBy whole failures lines slices keys all old new) (NoneFailed failures old new)
 
--- What the archives hold under such keys: this is true of it.
-pub record AreHeldUnder {P : Type 0} (IsSought : List (List ℕ) → Type 0) (all : List (List (List ℕ)))
-    (archives : List (Reader P)) (IsTrue : Operations → Type 0) : Type 0 where
-  pub keys : List (List ℕ)
-  pub sought : IsSought keys
-  pub content : Operations
-  pub held : HoldNamed keys archives all content
-  pub is_true : IsTrue content
+-- Under one of these keys two slices are tied, and of the archives, which were kept up to then, one is refused.
+pub record IsUnreadBy {P : Type 0} (whole : P → Option (List ℕ)) (failures : P → ℕ) (slices : Bool)
+    (keys : List (List ℕ)) (all : List (List (List ℕ))) (old new : List P) (at : InputName) (why : Why) : Type 0 where
+  pub key : List ℕ
+  pub key_is : Contains keys key
+  pub tied : AreTied key all
+  pub mid : List P
+  pub kept : AreAllKept whole failures old mid
+  pub refused : IsFirstRefusedAtPlaces (key ∷ []) (readers whole failures mid new) all at why
+  pub of_all : (slices && is_stale_entry why) ≡ false
 
--- an archive is refused, as far as such keys tell
-abbrev pub AreRefusedUnder : {P : Type 0} → (List (List ℕ) → Type 0) → List (List (List ℕ)) → List (Reader P)
-    → InputName → Why → Type 0
-AreRefusedUnder IsSought all archives at why =
-    (keys : List (List ℕ)) × IsSought keys × IsFirstRefusedAtPlaces keys archives all at why
+-- What came of asking the slices under these keys: something of which this is true, and each archive is kept; or an
+-- archive is refused.
+abbrev pub AsksSlices : {P T : Type 0} → (P → Option (List ℕ)) → (P → ℕ) → Bool → List (List ℕ)
+    → List (List (List ℕ)) → List P → List P → Result T CommandFault → (T → Type 0) → Type 0
+AsksSlices whole failures slices keys all old new result IsTrue =
+    ReadsInputs result (λ value. IsTrue value × AreAllKept whole failures old new)
+    (IsUnreadBy whole failures slices keys all old new) (EachUnfailed (readers whole failures old new))
 
--- what came of asking by slices under such keys
-abbrev pub AsksSlices : {P T : Type 0} → (List (List ℕ) → Type 0) → List (List (List ℕ)) → List (Reader P)
-    → Result T CommandFault → (Operations → T → Type 0) → Type 0
-AsksSlices IsSought all archives result IsTrue =
-    ReadsInputs result (λ told. AreHeldUnder IsSought all archives (λ content. IsTrue content told))
-    (AreRefusedUnder IsSought all archives) (EachUnfailed archives)
-
--- What came of asking by tables under these keys; or by slices under such keys, if two are tied.
-abbrev pub AsksEither : {D P T : Type 0} → Bool → Bool → (List (List ℕ) → Type 0) → (D → Option (List ℕ)) → (D → ℕ)
-    → List (List ℕ) → List (List (List ℕ)) → List D → List D
-    → List (Reader P) → Result T CommandFault → (T → Type 0) → (Operations → T → Type 0) → Type 0
-AsksEither lines slices IsSought whole failures keys all old new archives result ByTables BySlices =
+-- What came of asking under these keys: something of which this is true, each index has its bytes, and each archive is
+-- kept; or a table is not told, or an archive is refused.
+abbrev pub AsksKeys : {D P T : Type 0} → (D → Option (List ℕ)) → (D → ℕ) → (P → Option (List ℕ)) → (P → ℕ) → Bool
+    → Bool → List (List ℕ) → List (List (List ℕ)) → List D → List D → List P → List P → Result T CommandFault
+    → (T → Type 0) → Type 0
+AsksKeys whole failures whole_at failures_at lines slices keys all old new old_at new_at result IsTrue =
     ReadsInputs result
-    (λ told. ByTables told
-    ⊎ (AreTiedUnder keys all × AreHeldUnder IsSought all archives (λ content. BySlices content told)))
-    (λ at why. (EachUnfailed archives × IsUntoldBy whole failures lines slices keys all old new at why)
-    ⊎ (AreTiedUnder keys all × NoneFailed failures old new × AreRefusedUnder IsSought all archives at why))
-    (NoneFailed failures old new × EachUnfailed archives)
+    (λ value. IsTrue value × (each_known whole new ≡ each_known whole old)
+    × AreAllKept whole_at failures_at old_at new_at)
+    (λ at why. (EachUnfailed (readers whole_at failures_at old_at new_at)
+    × IsUntoldBy whole failures lines slices keys all old new at why)
+    ⊎ (NoneFailed failures old new × IsUnreadBy whole_at failures_at slices keys all old_at new_at at why))
+    (NoneFailed failures old new × EachUnfailed (readers whole_at failures_at old_at new_at))

@@ -1,39 +1,30 @@
--- Replies by tables, and the lines of what is refused: the words of inner functions. No contract of a public one has
--- them.
-use Rattle.std.specs.Prelude.{◌≡◌, ◌⊎◌, ℕ, Bool, true, false, List, [], ◌∷◌, Option, None}
-use Rattle.std.specs.List.{flat_map}
-use Rattle.archive_core.specs.Key.{key_bytes}
+-- Replies to frames, with the lines of the keys that are refused: the words of inner functions. No contract of a public
+-- one has them.
+use Rattle.std.specs.Prelude.{◌≡◌, ℕ, Bool, true, false, List}
+use Rattle.archive_core.specs.Lookup.{AnswerRecord}
 use Rattle.archive_core.specs.declared.keys.SliceKey.{SliceKey}
+use Rattle.archive_core.specs.declared.lookup.Where.{Where}
+use Rattle.dwarf_source_frames.specs.Frames.{FrameRecord}
 use Rattle.text_inputs.specs.declared.frame.Frame.{Frame}
 use Rattle.command_common.specs.declared.faults.Status.{Status}
-use Rattle.command_common.specs.declared.faults.Status.TheVariants.{Refused as StatusRefused}
-use Rattle.command_index_frames.specs.Frames.{TellTablesBesides, TellTablesOfFrames}
-use Rattle.command_index_frames.specs.InnerAsking.{IsKeyFault}
-use Rattle.command_index_frames.specs.Asking.{TellTables}
-use Rattle.command_index_frames.specs.Refusals.{KeyRefusal, refusal_lines, reply_text}
+use Rattle.command_index_frames.specs.declared.told.KeyAnswers.{KeyAnswers}
+use Rattle.command_index_frames.specs.Frames.{TellFrames, TellFramesBesides}
+use Rattle.command_index_frames.specs.InnerSlices.{AreFollowed}
+use Rattle.command_index_frames.specs.InnerTold.{ShowsFrames, refusals_in}
+use Rattle.command_index_frames.specs.Refusals.{KeyRefusal, refusal_lines}
 
--- a key is refused for a fault of its own, whatever bytes the indexes have of which this is true
-abbrev pub IsRefusalOf : (List (List ℕ) → Type 0) → List (List (List ℕ)) → Bool → KeyRefusal → Type 0
-IsRefusalOf AreTexts all lines refusal =
-    IsKeyFault AreTexts all lines (key_bytes refusal.key) refusal.at refusal.why
+-- frames are answered, and if slices are wanted these are the lines of the keys that are refused
+abbrev pub TellFramesPart : Bool → (SliceKey → Where → AnswerRecord → List (List FrameRecord) → Type 0)
+    → (KeyRefusal → Type 0) → List Frame → Status → List ℕ → List ℕ → Type 0
+TellFramesPart false IsSaid IsRefused frames status answers refused = TellFrames IsSaid frames status answers
+TellFramesPart true IsSaid IsRefused frames status answers refused = (refusals : List KeyRefusal)
+    × TellFramesBesides IsSaid IsRefused frames refusals status answers × (refused ≡ refusal_lines refusals)
 
--- tables tell this of frames, and if slices are wanted these are the lines of the keys that are refused
-abbrev pub TellTablesPart : Bool → (List (List ℕ) → Type 0) → List (List (List ℕ)) → Bool → List Frame → Status
-    → List ℕ → List ℕ → Type 0
-TellTablesPart false AreTexts all lines frames status answers refused =
-    TellTablesOfFrames AreTexts all lines frames status answers
-TellTablesPart true AreTexts all lines frames status answers refused =
-    (refusals : List KeyRefusal)
-    × TellTablesBesides AreTexts (IsRefusalOf AreTexts all lines) all lines frames refusals status answers
-    × (refused ≡ refusal_lines refusals)
-
--- the same of addresses under one key
-abbrev pub TellKeyPart : Bool → (List (List ℕ) → Type 0) → List (List (List ℕ)) → SliceKey → Option ℕ → Bool → List ℕ
-    → Status → List ℕ → List ℕ → Type 0
-TellKeyPart false AreTexts all key load lines addresses status answers refused =
-    TellTables AreTexts all key load lines addresses status answers
-TellKeyPart true AreTexts all key load lines addresses status answers refused =
-    (TellTables AreTexts all key load lines addresses status answers × (refused ≡ []))
-    ⊎ ((refusal : KeyRefusal) × (refusal.key ≡ key) × IsRefusalOf AreTexts all lines refusal
-    × (status ≡ StatusRefused) × (answers ≡ flat_map (λ address. reply_text address None) addresses)
-    × (refused ≡ refusal_lines (refusal ∷ [])))
+-- This is printed of frames, and after it the lines of slices and of the keys that are refused, if these are wanted.
+pub record PrintsFrames (told : List KeyAnswers) (slices : Bool) (all : List (List (List ℕ))) (keys : List SliceKey)
+    (frames : List Frame) (status : Status) (text : List ℕ) : Type 0 where
+  pub answers : List ℕ
+  pub shown : ShowsFrames told frames status answers
+  pub refused : List ℕ
+  pub refused_is : refused ≡ refusal_lines (refusals_in told)
+  pub followed : AreFollowed slices all keys answers refused text

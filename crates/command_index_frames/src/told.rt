@@ -1,34 +1,31 @@
-//! What the tables of indexes tell of the places that frames mean.
+//! What indexes tell of the places that frames mean, key by key.
 
-ghost use Rattle.std.specs.Prelude.{◌≡◌, ◌∷◌, [], ◌≤◌, IfOk, MatchOption, length, map, string_bytes};
+ghost use Rattle.std.specs.Prelude.{◌≡◌, ◌∷◌, [], ◌≤◌, IfOk, length, map};
 ghost use Rattle.std.specs.List.{prefix_len};
 ghost use Rattle.std.specs.List.Sorted.{IsStrictlySortedBy};
 ghost use Rattle.archive_core.specs.Key.{key_bytes};
-ghost use Rattle.command_queries.specs.Symbolicate.{asked_of};
-ghost use Rattle.index_lookup.specs.Among.{AreTied};
+ghost use Rattle.command_common.specs.Inputs.{readers};
 ghost use Rattle.index_lookup.specs.AmongAsked.{HaveTexts};
-ghost use Rattle.command_index_frames.specs.Asking.{AreTiedUnder};
-ghost use Rattle.command_index_frames.specs.InnerAsking.{AsksTables};
+ghost use Rattle.command_index_frames.specs.Asking.{IsAnsweredAt};
+ghost use Rattle.command_index_frames.specs.InnerAsking.{AsksKeys};
 ghost use Rattle.command_index_frames.specs.InnerPlaces.{asked_cmp, has_key};
-ghost use Rattle.command_index_frames.specs.InnerTold.{AreInOrder, AreTold, HasTold, HaveToldEach, IsToldUnder};
-ghost use Rattle.command_index_frames.specs.InnerTold.{ShowsFrames, StandsAt, refusals_in};
-ghost use Rattle.command_index_frames.specs.Refusals.{refusal_lines};
+ghost use Rattle.command_index_frames.specs.InnerTold.{AreTold, IsKeyTold, IsRefusedAt, IsToldUnder};
 
-use crate::places::{AskedPlace, compare_places};
-use crate::tables::{KeyTold, push_refusal, push_reply, tell_key};
-use archive_core::{SliceKey, Where, compare_keys};
+use crate::places::AskedPlace;
+use crate::tables::{KeyTold, tell_by_tables};
+use crate::tied::tell_by_slices;
+use archive_core::{Archive, SliceKey, Where, compare_keys};
 use byte_device::Placed;
-use command_common::{CommandFault, Status};
+use command_common::CommandFault;
 use index_format::Index;
 use memory::{Heap, NoMemory};
-use text_inputs::Frame;
 
 /// What is told of places under a key, or that the key is refused. The places ascend.
 #[derive(Drop)]
 pub(crate) struct KeyAnswers {
-    key: SliceKey,
-    places: Vec<Where, Heap>,
-    told: KeyTold,
+    pub(crate) key: SliceKey,
+    pub(crate) places: Vec<Where, Heap>,
+    pub(crate) told: KeyTold,
 }
 
 /// How many of the first places are of a key.
@@ -49,117 +46,85 @@ fn places_in(heap: Heap, asked: &[AskedPlace]) -> Result<Vec<Where, Heap>, NoMem
     asked.iter().map(|one| one.place).collect(heap)
 }
 
-/// What the tables of indexes that were read tell of places of one key; or none, if of two slices in two archives no
-/// entry says which comes first.
-fn tell_run<I: Placed>(
+/// What is told of places under a key: by the tables of the indexes, or by the slices that these name under it, if two
+/// are tied.
+fn tell_key<A: Archive + Drop, I: Placed, P: Placed>(
     heap: &Heap,
     read: &[Index],
     indexes: &mut [I],
+    archives: &mut [P],
+    key: &SliceKey,
+    lines: bool,
+    slices: bool,
+    places: &[Where],
+) -> Result<KeyTold, CommandFault>
+    requires same { length read.now ≡ length indexes.old }
+    requires many { length read.now ≡ length archives.old }
+    ensures { let known = readers P.whole P.failures archives.old archives.old in
+        AsksKeys I.whole I.failures P.whole P.failures lines slices (key_bytes key.now ∷ []) read.now indexes.old
+        indexes.new archives.old archives.new result
+        (IsKeyTold (IsAnsweredAt (HaveTexts I.whole indexes.old) known read.now lines key.now)
+        (IsRefusedAt (HaveTexts I.whole indexes.old) known read.now lines key.now) slices places.now) }
+{
+    match tell_by_tables(heap, read, indexes, key, lines, slices, places)? {
+        Some(told) => Ok(told),
+        None => tell_by_slices::<A, P>(heap, read, archives, key, lines, slices, places),
+    }
+}
+
+/// The same of a run of places of one key.
+fn tell_run<A: Archive + Drop, I: Placed, P: Placed>(
+    heap: &Heap,
+    read: &[Index],
+    indexes: &mut [I],
+    archives: &mut [P],
     key: SliceKey,
     lines: bool,
     slices: bool,
     run: &[AskedPlace],
-) -> Result<Option<KeyAnswers>, CommandFault>
-    requires { length read.now ≡ length indexes.old }
-    ensures { AsksTables I.whole I.failures lines slices (key_bytes key ∷ []) read.now indexes.old indexes.new result
-        (λ told. MatchOption told (AreTied (key_bytes key) read.now)
+) -> Result<KeyAnswers, CommandFault>
+    requires same { length read.now ≡ length indexes.old }
+    requires many { length read.now ≡ length archives.old }
+    ensures { let known = readers P.whole P.failures archives.old archives.old in
+        AsksKeys I.whole I.failures P.whole P.failures lines slices (key_bytes key ∷ []) read.now indexes.old
+        indexes.new archives.old archives.new result
         (λ one. (one.key ≡ key) × (one.places.items ≡ map (λ asked. asked.place) run.now)
-        × IsToldUnder (HaveTexts I.whole indexes.old) read.now lines slices one)) }
+        × IsToldUnder (IsAnsweredAt (HaveTexts I.whole indexes.old) known read.now lines)
+        (IsRefusedAt (HaveTexts I.whole indexes.old) known read.now lines) slices one) }
 {
     let places = places_in(heap.share(), run)?;
-    let Some(told) = tell_key(heap, read, indexes, &key, lines, slices, &places)? else {
-        return Ok(None);
-    };
-    Ok(Some(KeyAnswers { key, places, told }))
+    let told = tell_key::<A, I, P>(heap, read, indexes, archives, &key, lines, slices, &places)?;
+    Ok(KeyAnswers { key, places, told })
 }
 
-/// What the tables of indexes that were read tell of places, key by key; or none, if of two slices in two archives no
-/// entry says which comes first. The places stand in the order of their keys, each once. If slices are wanted, a table
-/// that was changed, or has no lines, refuses its key alone.
-pub(crate) fn tell_keys<I: Placed>(
+/// What is told of places, one key after another. The places stand in the order of their keys, each once. If slices are
+/// wanted, a table that was changed, or has no lines, and a slice that changed, refuse their key alone.
+pub(crate) fn tell_keys<A: Archive + Drop, I: Placed, P: Placed>(
     heap: &Heap,
     read: &[Index],
     indexes: &mut [I],
+    archives: &mut [P],
     lines: bool,
     slices: bool,
     asked: &[AskedPlace],
-) -> Result<Option<Vec<KeyAnswers, Heap>>, CommandFault>
+) -> Result<Vec<KeyAnswers, Heap>, CommandFault>
     requires same { length read.now ≡ length indexes.old }
+    requires many { length read.now ≡ length archives.old }
     requires sorted { IsStrictlySortedBy asked_cmp asked.now }
-    ensures { let keys = map (λ one. key_bytes one.key) asked.now in
-        AsksTables I.whole I.failures lines slices keys read.now indexes.old indexes.new result
-        (λ told. MatchOption told (AreTiedUnder keys read.now)
-        (λ each. AreTold (HaveTexts I.whole indexes.old) read.now lines slices asked.now each.items)) }
+    ensures { let known = readers P.whole P.failures archives.old archives.old in
+        AsksKeys I.whole I.failures P.whole P.failures lines slices (map (λ one. key_bytes one.key) asked.now) read.now
+        indexes.old indexes.new archives.old archives.new result
+        (λ told. AreTold (IsAnsweredAt (HaveTexts I.whole indexes.old) known read.now lines)
+        (IsRefusedAt (HaveTexts I.whole indexes.old) known read.now lines) slices asked.now told.items) }
 {
     let mut told = Vec::new(heap.share());
     let mut left = asked;
     'keys: while let Some(first) = left.first() {
         let key = first.key;
         let (run, rest) = left.split_at(run_len(left, &key));
-        let Some(one) = tell_run(heap, read, indexes, key, lines, slices, run)? else {
-            return Ok(None);
-        };
+        let one = tell_run::<A, I, P>(heap, read, indexes, archives, key, lines, slices, run)?;
         told.push(one)?;
         left = rest;
     }
-    Ok(Some(told))
-}
-
-/// Where what is told of a frame stands: under its key, and the number of its place there.
-fn told_at<'t>(told: &'t [KeyAnswers], frame: &Frame) -> (&'t KeyAnswers, usize)
-    requires order { AreInOrder told.now }
-    requires there { HasTold told.now (key_bytes frame.now.key) (asked_of frame.now.load frame.now.address) }
-    ensures { StandsAt told.now (key_bytes frame.now.key) (asked_of frame.now.load frame.now.address) result.0.now
-        result.1 }
-{
-    let asked = AskedPlace::of(frame);
-    let Ok(key) = told.binary_search_by(|one| compare_keys(&one.key, &asked.key)) else {
-        unreachable!()
-    };
-    let Ok(number) = told[key]
-        .places
-        .binary_search_by(|place| compare_places(*place, asked.place))
-    else {
-        unreachable!()
-    };
-    (&told[key], number)
-}
-
-/// The lines of the replies of tables to frames, in their order, with how a command ends that prints them.
-pub(crate) fn answer_frames_by_tables(
-    heap: Heap,
-    told: &[KeyAnswers],
-    lines: bool,
-    frames: &[Frame],
-) -> Result<(Status, String<Heap>), NoMemory>
-    requires order { AreInOrder told.now }
-    requires there { HaveToldEach told.now frames.now }
-    ensures { IfOk result (λ shown. ShowsFrames told.now lines frames.now shown.0 (string_bytes shown.1)) }
-{
-    let mut status = Status::Done;
-    let mut text = String::new(heap.share());
-    'frames: for frame in frames {
-        let (one, number) = told_at(told, frame);
-        status = push_reply(
-            &heap,
-            &mut text,
-            status,
-            frame.address,
-            &one.told,
-            lines,
-            number,
-        )?;
-    }
-    Ok((status, text))
-}
-
-/// The lines of the keys that are refused, in their order.
-pub(crate) fn refused_lines(heap: Heap, told: &[KeyAnswers]) -> Result<String<Heap>, NoMemory>
-    ensures { IfOk result (λ text. string_bytes text ≡ refusal_lines (refusals_in told.now)) }
-{
-    let mut text = String::new(heap);
-    'keys: for one in told {
-        push_refusal(&mut text, one.key, &one.told)?;
-    }
-    Ok(text)
+    Ok(told)
 }

@@ -1,5 +1,5 @@
 -- Indexes and their archives, one more of which was read.
-use Rattle.std.proofs.Common.{arith, ◌≡◌, ℕ, zero, suc, ◌+◌, ◌<◌, List, [], ◌∷◌, ◌++◌, length, take, drop, get_or, set}
+use Rattle.std.proofs.Common.{arith, ◌≡◌, ℕ, zero, suc, ◌+◌, ◌<◌, List, [], ◌∷◌, ◌++◌, length, map, take, drop, get_or, set}
 use Rattle.std.proofs.Common.{Option, Some, Result, Ok, Err, refl, sym, ap, ◌∙◌, subst, inl, inr}
 use Rattle.std.specs.Prelude.{slice_get}
 use Rattle.std.specs.FinSet as sets
@@ -20,7 +20,7 @@ use Rattle.command_index_queries.specs.InnerParts.{HaveJoinedGroups, IsNamedIn}
 use Rattle.command_index_queries.specs.Several.{AreRefusedLater, AreRefusedTogether, AreUnfailedTogether, HoldTogether}
 use Rattle.command_index_queries.specs.Together.{AllThree, AreAllKept, AreLater, AreNamedBy, AreReadWith, HoldNamed}
 use Rattle.command_index_queries.specs.Together.{IsFirstRefusedAtPlaces, IsFirstRefusedByIndex, IsKept, IsOneOf}
-use Rattle.command_index_queries.specs.Together.{IsReadWith, IsRefusedAtPlaces}
+use Rattle.command_index_queries.specs.Together.{HaveSameBytes, IsReadWith, IsRefusedAtPlaces}
 
 three_more : {X Y Z : Type 0} (R : X → Y → Z → Type 0) (xs : List X) (ys : List Y) (zs : List Z) (x : X) (y : Y) (z : Z)
     → AllThree R xs ys zs → R x y z → AllThree R (xs ++ x ∷ []) (ys ++ y ∷ []) (zs ++ z ∷ [])
@@ -103,6 +103,14 @@ module _ {S : Type 0} (left : S → Option (List ℕ)) (failures : S → ℕ) wh
             ∙ slice_get-get_or (set seen place x) place x within_set ∙ ap Some (get_or-set_same seen place x x within);
         behind = untouched_behind left failures old (set now place after) (place + 1) (rest_kept now old place after rest);
       }
+
+  -- one more was read, which has the same bytes
+  pub bytes_more : (now : List S) (place : ℕ) (file after : S) → file ≡ get_or now place file → left after ≡ left file
+      → HaveSameBytes left now (set now place after)
+  bytes_more [] place file after is same = refl
+  bytes_more (y ∷ ys) zero file after is same = ap (λ (b : Option (List ℕ)). b ∷ map left ys) (same ∙ ap left is)
+  bytes_more (y ∷ ys) (suc place) file after is same =
+      ap (λ (bs : List (Option (List ℕ))). left y ∷ bs) (bytes_more ys place file after is same)
 
   -- ---- which are kept
 

@@ -1,5 +1,5 @@
 -- Archives that are asked together by their indexes: read, and which of them is refused first.
-use Rattle.std.specs.Prelude.{◌≡◌, ℕ, ◌+◌, List, [], ◌∷◌, Some, Option, fold, take, drop, slice_get, ◌⊎◌}
+use Rattle.std.specs.Prelude.{◌≡◌, ℕ, ◌+◌, List, [], ◌∷◌, Some, Option, fold, map, take, drop, slice_get, ◌⊎◌}
 use Rattle.std.specs.List.{AllZip}
 use Rattle.std.specs.FinSet as set
 use Rattle.archive_core.specs.Content.{Operations}
@@ -52,6 +52,10 @@ pub record IsFirstRefusedByIndex {I P : Type 0} (indexes : List (Reader I)) (arc
 -- an input has the same bytes, and no further failure
 abbrev pub IsKept : {S : Type 0} → (S → Option (List ℕ)) → (S → ℕ) → S → S → Type 0
 IsKept left failures old new = (left new ≡ left old) × (failures new ≡ failures old)
+
+-- each of these has the same bytes
+abbrev pub HaveSameBytes : {S : Type 0} → (S → Option (List ℕ)) → List S → List S → Type 0
+HaveSameBytes left old new = map left new ≡ map left old
 
 -- so it is with each of these, as many
 abbrev pub AreAllKept : {S : Type 0} → (S → Option (List ℕ)) → (S → ℕ) → List S → List S → Type 0

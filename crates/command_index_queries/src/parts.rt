@@ -130,10 +130,11 @@ pub(crate) fn join_archive<A: Archive + Drop, P: Placed>(
     tables: &Index,
     archive: &mut P,
 ) -> Result<(), CommandFault>
-    ensures { let sought = map prefix_bytes prefixes.now in
+    ensures read { let sought = map prefix_bytes prefixes.now in
         ReadsInput (reader P.whole P.failures archive.old archive.new) result
         (λ archive _. IsNamedIn archive sought (placed_of tables.now) (A.content kept.old) (A.content kept.new))
         (λ archive. IsRefusedAtPlaces sought number archive tables.now) }
+    ensures kept { P.whole archive.new ≡ P.whole archive.old }
 {
     match join_prefixes(heap, kept, prefixes, tables, archive) {
         Ok(()) => Ok(()),

@@ -6,7 +6,7 @@ ghost use Rattle.command_index_queries.specs.Prefixes.{prefix_bytes};
 ghost use Rattle.command_index_queries.specs.InnerParts.{HaveJoinedGroups};
 ghost use Rattle.command_index_queries.specs.Several.{AreRefusedTogether, AreUnfailedTogether, HoldTogether};
 ghost use Rattle.command_index_queries.specs.Together.{AreAllKept, AreReadWith, HoldNamed, IsFirstRefusedAtPlaces};
-ghost use Rattle.command_index_queries.specs.Together.{IsFirstRefusedByIndex};
+ghost use Rattle.command_index_queries.specs.Together.{HaveSameBytes, IsFirstRefusedByIndex};
 
 use crate::inputs::read_with_tables;
 use crate::parts::join_archive;
@@ -59,11 +59,12 @@ fn join_archives<A: Archive + Drop, P: Placed>(
     archives: &mut [P],
 ) -> Result<(), CommandFault>
     requires { length read.now ≡ length archives.old }
-    ensures { let sought = map prefix_bytes prefixes.now in
+    ensures read { let sought = map prefix_bytes prefixes.now in
         let known = readers P.whole P.failures archives.old archives.new in
         ReadsInputs result
         (λ _. HaveJoinedGroups sought known read.now (A.content kept.old) (A.content kept.new))
         (IsFirstRefusedAtPlaces sought known read.now) (EachUnfailed known) }
+    ensures kept { HaveSameBytes P.whole archives.old archives.new }
 {
     'archives: for number in 0..read.len() {
         join_archive(
@@ -79,7 +80,8 @@ fn join_archives<A: Archive + Drop, P: Placed>(
 }
 
 /// Reads what archives have under these prefixes, whose indexes were read: the slices that these name, at their places,
-/// in the order of the command line. The length of each archive is compared again before that.
+/// in the order of the command line. The length of each archive is compared again before that. An archive keeps its
+/// bytes also if one is refused, so that others may be read after that.
 ///
 /// # Errors
 ///
@@ -91,10 +93,11 @@ pub fn read_prefixes<A: Archive + Drop, P: Placed>(
     archives: &mut [P],
 ) -> Result<A, CommandFault>
     requires { length read.now ≡ length archives.old }
-    ensures { let sought = map prefix_bytes prefixes.now in
+    ensures read { let sought = map prefix_bytes prefixes.now in
         let known = readers P.whole P.failures archives.old archives.new in
         ReadsInputs result (λ kept. HoldNamed sought known read.now (A.content kept))
         (IsFirstRefusedAtPlaces sought known read.now) (EachUnfailed known) }
+    ensures kept { HaveSameBytes P.whole archives.old archives.new }
 {
     let mut kept = A::empty(heap.share());
     join_archives(heap, &mut kept, prefixes, read, archives)?;

@@ -6,6 +6,7 @@ pub mod Sources
 pub mod Slices
 pub mod InnerSlices
 pub mod Symbolicate
+pub mod Places
 pub mod Frames
 pub mod InnerSources
 pub mod InnerFrames

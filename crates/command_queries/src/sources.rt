@@ -85,6 +85,24 @@ impl<'s> Sources<'s> {
         Ok(Sources { found })
     }
 
+    /// The same if `lines`; else none.
+    pub(crate) fn wanted<A: Archive>(
+        heap: &Heap,
+        archive: &'s A,
+        key: &SliceKey,
+        lines: bool,
+        places: &[Where],
+    ) -> Result<Sources<'s>, NoMemory>
+        ensures { IfOk result (λ sources. (place : Where) → Contains places.now place
+            → AreSourcesOf (A.content archive.now) key.now lines place sources.found.items) }
+    {
+        if lines {
+            Sources::of(heap, archive, key, places)
+        } else {
+            Ok(Sources::none(heap.share()))
+        }
+    }
+
     /// The source frames of an address in each slice, in the order of `found`; an empty list if a slice has none.
     pub(crate) fn at(&self, heap: Heap, place: Where) -> Result<Vec<&[Frame<'_>], Heap>, NoMemory>
         ensures { IfOk result (λ lists. lists_view lists.items ≡ map (frames_in place) self.now.found.items) }

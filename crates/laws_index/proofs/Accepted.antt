@@ -263,7 +263,7 @@ pub record IsOwnRead {P : Type 0} (archive : Reader P) (all : List (List ℕ)) (
   pub entries : placed_of all ≡ index o
   pub known : IsGiven archive (written o)
 
-own_read : {I P : Type 0} (index : Reader I) (archive : Reader P) (o : Operations) (all : List (List ℕ))
+pub own_read : {I P : Type 0} (index : Reader I) (archive : Reader P) (o : Operations) (all : List (List ℕ))
     → IsOwnIndex index archive o → IsReadWith index archive all → IsOwnRead archive all o
 own_read index archive o all ((text, given, file), known) read =
     record {

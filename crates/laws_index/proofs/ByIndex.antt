@@ -7,35 +7,25 @@ use Rattle.std.proofs.lemmas.List.Elements.{All-contains, All-from_recursion}
 use Rattle.std.specs.FinSet as set
 use Rattle.std.specs.FinSet.{contains-union, same_set}
 use Rattle.archive_core.specs.Content.{IsContent, Operations, content_of, joined}
-use Rattle.archive_core.specs.Key.{key_bytes}
-use Rattle.archive_core.specs.Lookup.{answer_view}
 use Rattle.archive_core.specs.Part.{AreAlikeUnder, is_under, part}
 use Rattle.archive_core.specs.Record.{admission_record}
 use Rattle.archive_core.specs.Summary.{Entries}
 use Rattle.archive_core.proofs.Made.{alike_union, bytes_same, joined_content, joined_made_right, made_alike, made_is_alike, union_assoc}
-use Rattle.archive_core.proofs.Members.{in_rest}
 use Rattle.archive_core.proofs.Picked.{contains_part, part_alike, part_content}
 use Rattle.archive_records.specs.Text.{written}
 use Rattle.index_format.specs.Index.{index}
 use Rattle.index_format.specs.Places.{AreNamed, HasIndexedLength, IsNamedBy, TellsFound}
 use Rattle.index_format.proofs.Named.{of_the_index, right}
 use Rattle.index_format.specs.Text.{placed_of}
-use Rattle.command_queries.specs.Frames.{IsFrameAnswered, TellsFrames}
-use Rattle.command_queries.specs.Symbolicate.{Answered, asked_of}
 use Rattle.command_common.proofs.Parts.{joined_alike}
-use Rattle.command_queries.proofs.Sourced.{sourced_as}
-use Rattle.command_common.proofs.Alike.{answers_alike}
-use Rattle.text_inputs.specs.declared.frame.Frame.{Frame}
 use Rattle.command_common.specs.Archives.{merged}
 use Rattle.command_common.specs.Inputs.{IsGiven, Reader}
-use Rattle.command_common.specs.declared.faults.Status.{Status}
 use Rattle.laws_index.specs.Indexes.{IsIndexFile, all_joined}
 use Rattle.laws_index.proofs.Joined.{empty_content, to_any}
 use Rattle.laws_index.proofs.Right.{zip_right}
 use Rattle.command_index_queries.specs.Prefixes.{AreNamedUnder, HoldsNamed}
 use Rattle.command_index_queries.specs.Several.{HoldTogether}
 use Rattle.command_index_queries.specs.Together.{IsLater, IsReadWith, merged_each}
-use Rattle.command_index_frames.specs.Frames.{keys_of}
 use Rattle.laws_index.specs.Contents.{AreIndexed, DigestsTellOver, IsIndexed}
 use Rattle.laws_index.proofs.Accepted.{still_given, held_tables, of_given, for_first, third_fourth, with_fourth}
 
@@ -224,29 +214,3 @@ held_alike prefixes inputs archives os p short are h prefix in_prefixes =
     let whole = groups_alike prefix prefixes le in_prefixes os h.named.groups set.empty set.empty groups
     (record { alike = λ r under. refl; content = empty_content }) in
     subst (λ (m : Operations). AreAlikeUnder prefix m (all_joined os)) (sym h.named.content_is) whole.alike
-
--- ---- frames
-
-rows_told : (lines : Bool) (m o : Operations) (frames : List Frame) (rows : List Answered)
-    → ((frame : Frame) → Contains (keys_of frames) (key_bytes frame.key) → AreAlikeUnder (key_bytes frame.key) m o)
-    → AllZip (IsFrameAnswered lines m) frames rows → AllZip (IsFrameAnswered lines o) frames rows
-rows_told lines m o [] [] alike zip = tt
-rows_told lines m o (frame ∷ frames) (row ∷ rows) alike zip = (
-  (
-    zip.0.0,
-    sourced_as m o frame.key lines (asked_of frame.load row.address) (answer_view row.answer) row.frames
-        (answers_alike m o frame.key (alike frame (0, omega arith, refl))) zip.0.1,
-  ),
-  rows_told lines m o frames rows (λ f h. alike f (in_rest (key_bytes frame.key) (keys_of frames) (key_bytes f.key) h)) zip.1,
-)
-rows_told lines m o frames rows alike zip = absurd zip
-
-pub frames_told : (lines : Bool) (m o : Operations) (frames : List Frame) (status : Status) (text : List ℕ)
-    → ((key : List ℕ) → Contains (keys_of frames) key → AreAlikeUnder key m o) → TellsFrames lines m frames status text
-    → TellsFrames lines o frames status text
-frames_told lines m o frames status text alike told = record {
-  rows = told.rows;
-  answered = rows_told lines m o frames told.rows (λ frame h. alike (key_bytes frame.key) h) told.answered;
-  status_is = told.status_is;
-  text_is = told.text_is;
-}

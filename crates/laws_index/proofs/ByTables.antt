@@ -1,47 +1,54 @@
--- What the tables in the indexes of contents tell is what the join of these contents tells.
-use Rattle.std.proofs.Common.{◌≡◌, ◌⊎◌, ℕ, ◌≤◌, ◌≢◌, ◌&&◌, ◌||◌, if◌then◌else◌, Bool, true, false, List, [], ◌∷◌, ◌++◌}
-use Rattle.std.proofs.Common.{length, get_or, Contains, Option, Some, None, refl, sym, ap, ◌∙◌, subst, inl, inr, arith}
-use Rattle.std.specs.List.{AllZip, list_all, list_any}
+-- What the indexes of contents tell is what the join of these contents tells.
+use Rattle.std.proofs.Common.{◌≡◌, ◌⊎◌, ℕ, zero, suc, ◌+◌, ◌≤◌, Bool, true, false, List, [], ◌∷◌, ◌++◌, length, get_or}
+use Rattle.std.proofs.Common.{Contains, Option, Some, None, refl, sym, ap, ◌∙◌, subst, inl, inr, arith, map}
+use Rattle.std.specs.Prelude.{slice_get}
+use Rattle.std.specs.List.{AllByRecursion, AllZip}
 use Rattle.std.proofs.lemmas.List.{append-nil}
-use Rattle.std.proofs.lemmas.List.Elements.{All-weaker, Contains-get_or, recursion_from_All}
+use Rattle.std.proofs.lemmas.Option.{slice_get_within}
 use Rattle.archive_core.specs.Content.{Operations}
 use Rattle.archive_core.specs.Key.{IsKey, key_bytes}
-use Rattle.archive_core.specs.Lookup.{answer_view}
+use Rattle.archive_core.specs.Lookup.{AnswerRecord, answer_view}
 use Rattle.archive_core.specs.declared.keys.SliceKey.{SliceKey}
+use Rattle.archive_core.specs.declared.lookup.Where.{Where}
 use Rattle.archive_core.proofs.Compare.{length_key_bytes}
 use Rattle.archive_core.proofs.Members.{in_cons, in_front, in_map, in_rest}
+use Rattle.dwarf_source_frames.specs.Frames.{FrameRecord}
 use Rattle.command_queries.specs.Frames.{IsFrameAnswered, TellsFrames, TellsFramesWith, frame_keys}
-use Rattle.command_queries.specs.Slices.{IsAnsweringRow}
-use Rattle.command_queries.specs.Symbolicate.{Answered, IsAnswered, TellsAddresses, TellsAddressesWith, answers_text, asked_of, is_symbol}
-use Rattle.command_queries.proofs.Answered.{told_alike}
-use Rattle.command_common.specs.Inputs.{IsDeviceFault, IsGiven, Reader}
+use Rattle.command_queries.specs.Slices.{IsAnsweringRow, WithSlices}
+use Rattle.command_queries.specs.Sources.{IsSourced}
+use Rattle.command_queries.specs.Symbolicate.{Answered, IsAnswered, TellsAddresses, TellsAddressesWith, asked_of}
+use Rattle.command_queries.proofs.Sourced.{sourced_as}
+use Rattle.command_common.proofs.Alike.{answers_alike}
+use Rattle.command_common.specs.Inputs.{EachUnfailed, IsDeviceFault, IsGiven, Reader, Unfailed}
 use Rattle.command_common.specs.declared.faults.InputName.{InputName}
 use Rattle.command_common.specs.declared.faults.Status.{Status}
-use Rattle.command_common.specs.declared.faults.Status.TheVariants.{Done, Partial, Refused as RefusedStatus}
 use Rattle.command_common.specs.declared.faults.Why.{Why}
 use Rattle.command_common.specs.declared.faults.Why.TheVariants.{NoLines}
 use Rattle.text_inputs.specs.declared.frame.Frame.{Frame}
 use Rattle.index_format.specs.Text.{IsIndexText}
-use Rattle.laws_index.specs.Indexes.{AreIndexes, DigestsTell, IsIndexFile, all_joined}
+use Rattle.laws_index.specs.Indexes.{AreIndexes, AreTiedSlices, DigestsTell, IsIndexFile, all_joined}
 use Rattle.laws_index.proofs.Joined.{joined_alone, tells_alone}
 use Rattle.laws_index.proofs.Right as told
-use Rattle.index_lookup.specs.Among.{AreAnsweringAmong, EntryAt}
+use Rattle.index_lookup.specs.Among.{AreAnsweringAmong, AreTied, EntryAt}
 use Rattle.index_lookup.specs.AmongAsked.{IsLinelessAt}
 use Rattle.text_reports.specs.Slices.{TellsSlices}
-use Rattle.command_index_queries.specs.Together.{AreReadWith, IsReadWith}
-use Rattle.command_index_frames.specs.Asking.{AreGiven, AreRefusedAsking, AreUntold, IsAnsweredByTables, IsTableRefused}
-use Rattle.command_index_frames.specs.Asking.{IsUnreadTable, TellTables}
-use Rattle.command_index_frames.specs.Frames.{AreToldAt, IsAnsweredOrRefused, IsFrameByTables, IsFrameReplied, TellTablesBesides}
-use Rattle.command_index_frames.specs.Frames.{TellTablesOfFrames, TellTablesWith, TellsFramesBySlices, TellsFramesByTables, keys_of}
-use Rattle.command_index_frames.specs.Refusals.{IsKeyRefused, KeyRefusal, Reply, is_found, is_refused, refusal_lines, replies_text, reply_text}
+use Rattle.command_index_queries.specs.Several.{HoldTogether}
+use Rattle.command_index_queries.specs.Together.{AreLater, AreReadWith, IsReadWith}
+use Rattle.command_index_frames.specs.Asking.{AreGiven, AreRefusedAsking, AreUntold, IsAnsweredAt, IsAnsweredBySlices, IsAnsweredByTables}
+use Rattle.command_index_frames.specs.Asking.{IsTableRefused, IsUnreadTable, is_stale_entry}
+use Rattle.command_index_frames.specs.Frames.{AreToldAt, IsAnsweredOrRefused, IsFrameReplied, IsFrameSaid}
+use Rattle.command_index_frames.specs.Frames.{TellFrames, TellFramesBesides, TellFramesWith, keys_of}
+use Rattle.command_index_frames.specs.Refusals.{IsKeyRefused, IsRefusedBySlice, IsRefusedByTable, KeyRefusal, Reply, refusal_lines}
 use Rattle.command_index_frames.specs.Slices.{IsAnsweringEntryRow}
-use Rattle.command_index_frames.specs.Symbolicate.{TellTablesOfKey, TellsBySlices, TellsByTables, symbolicate_at}
+use Rattle.command_index_frames.specs.Symbolicate.{frames_under, symbolicate_at}
+use Rattle.command_index_frames.proofs.Refused.{answers_alone}
 use Rattle.laws_index.specs.Contents.{AreIndexed, AreIndexesGiven, AreOwnIndexes, IsForLines, IsIndexGiven, IsIndexed, IsOwnIndex}
-use Rattle.laws_index.specs.Refusing.{IsFrameAnsweredBesides, IsFrameRepliedBesides, IsRefusedForLines}
-use Rattle.laws_index.specs.Refusing.{TellsAddressesBesides, TellsAddressesOrBesides, TellsFramesBesides, TellsFramesOrBesides}
-use Rattle.laws_index.proofs.AnsweringRows.{lines_told, with_slices_told}
-use Rattle.laws_index.proofs.ByIndex.{frames_told, held_alike}
-use Rattle.laws_index.proofs.Accepted.{held_text, first_by_device, later_by_device, first_third, for_first}
+use Rattle.laws_index.specs.Refusing.{AreOwnTexts, IsRefusedFor, IsRefusedForLines}
+use Rattle.laws_index.specs.Refusing.{IsRefusedForSlice, TellsAddressesOrBesides, TellsFramesBesides, TellsFramesOrBesides}
+use Rattle.laws_index.proofs.AnsweringRows.{lines_told}
+use Rattle.laws_index.proofs.ByIndex.{held_alike}
+use Rattle.laws_index.proofs.Accepted.{IsOwnRead, at_places, first_by_device, first_third, for_first}
+use Rattle.laws_index.proofs.Accepted.{held_text, later_by_device, own_read, three_at, with_fourth}
 
 -- ---- the texts of indexes
 
@@ -65,39 +72,36 @@ module _ {I P : Type 0} (inputs : List (Reader I)) (archives : List (Reader P)) 
       let three = for_first IsReadWith IsGiven IsText inputs archives all texts (λ x y z w is known. held_text x w z known is.index_is) read given in
       record { files = files; read = first_third IsText IsIndexText texts archives all (λ x y z is. is) three }
 
-  -- ---- answers
+-- ---- what tables and slices tell
 
-  module _ (os : List Operations) (are : AreTextsOf inputs os) (tell : DigestsTell os) where
-    row_told : (key : SliceKey) (load : Option ℕ) (lines : Bool) (row : Answered) → IsKey key
-        → IsAnsweredByTables (AreGiven inputs) all key load lines row → IsAnswered (all_joined os) key load lines row
-    row_told key load lines row is_key answered =
-        told.right os are.texts all (indexes_are os are.texts are.given are.files) key is_key lines
-        (asked_of load row.address) (answer_view row.answer) row.frames tell
-        (answered.answer_is are.texts are.given)
+module _ {I P : Type 0} (inputs : List (Reader I)) (archives : List (Reader P)) (os : List Operations)
+    (all : List (List (List ℕ))) (read : AreReadWith inputs archives all) where
+  -- the archives, as they are
+  itself_later : {Q : Type 0} (ones : List (Reader Q)) → AreLater ones ones
+  itself_later [] = tt
+  itself_later (one ∷ ones) = (
+    record { left_is = refl; failures_is = refl; new_is = refl; kept = (refl, refl) },
+    itself_later ones,
+  )
 
-    frames_rows : (lines : Bool) (frames : List Frame) (rows : List Answered)
-        → ((frame : Frame) → Contains frames frame → IsKey frame.key)
-        → AllZip (IsFrameByTables (AreGiven inputs) all lines) frames rows
-        → AllZip (IsFrameAnswered lines (all_joined os)) frames rows
-    frames_rows lines [] [] keys zip = tt
-    frames_rows lines (frame ∷ frames) (row ∷ rows) keys (one, more) = (
-      (one.0, row_told frame.key frame.load lines row (keys frame (in_front frame frames)) one.1),
-      frames_rows lines frames rows (λ f there. keys f (in_rest frame frames f there)) more,
-    )
-    frames_rows lines frames rows keys zip = absurd zip
+  pub said_by_tables : (its : AreTextsOf inputs os) → DigestsTell os → (lines : Bool) (key : SliceKey) (asked : Where)
+      (answer : AnswerRecord) (frames : List (List FrameRecord)) → IsKey key
+      → IsAnsweredByTables (AreGiven inputs) all lines key asked answer frames
+      → IsSourced (all_joined os) key lines asked answer frames
+  said_by_tables its tell lines key asked answer frames is_key is =
+      told.right os its.texts all (indexes_are inputs archives all read os its.texts its.given its.files) key is_key lines
+      asked answer frames tell (is.answer_is its.texts its.given)
 
--- the keys that are asked have UUIDs of 16 bytes
-one_long : (key other : SliceKey) → IsKey key → Contains (key ∷ []) other → length other.uuid ≡ 16
-one_long key other is_key there = elim (in_cons key [] other there) [
-  | inl same ↦ subst (λ (k : SliceKey). length k.uuid ≡ 16) same is_key.uuid
-  | inr more ↦ absurd (omega (arith, more.1))
-]
-
-keys_long : (listed : List Frame) → ((frame : Frame) → Contains listed frame → IsKey frame.key) → (key : SliceKey)
-    → Contains (frame_keys listed) key → length key.uuid ≡ 16
-keys_long listed keys key there =
-    let found = in_map (λ (frame : Frame). frame.key) listed key there in
-    ap (λ (k : SliceKey). length k.uuid) found.2 ∙ (keys found.0 found.1).uuid
+  pub said_by_slices : AreIndexed inputs archives os → (lines : Bool) (key : SliceKey) (asked : Where)
+      (answer : AnswerRecord) (frames : List (List FrameRecord)) → length (key_bytes key) ≤ 24
+      → IsAnsweredBySlices archives all lines key asked answer frames
+      → IsSourced (all_joined os) key lines asked answer frames
+  said_by_slices are lines key asked answer frames short is =
+      let held : HoldTogether (key_bytes key ∷ []) inputs archives is.content =
+      record { all = all; read = read; later = archives; are_later = itself_later archives; named = is.held } in
+      sourced_as is.content (all_joined os) key lines asked answer frames
+      (answers_alike is.content (all_joined os) key (held_alike (key_bytes key ∷ []) inputs archives os is.content
+      (short, tt) are held (key_bytes key) (0, omega arith, refl))) is.answered
 
 -- ---- what is refused
 
@@ -119,198 +123,343 @@ lacks_lines os texts all indexes lines key keys there why answering input number
       lacks = slice.2;
     }
 
--- a key that is refused by right indexes is so for lines
-for_lines : {I P : Type 0} (inputs : List (Reader I)) (archives : List (Reader P)) (os : List Operations) (lines : Bool)
-    (all : List (List (List ℕ))) → AreReadWith inputs archives all → AreTextsOf inputs os → (refusal : KeyRefusal)
-    → IsKeyRefused lines inputs all refusal → IsRefusedForLines lines os refusal
-for_lines inputs archives os lines all read its refusal r =
-    let indexes = indexes_are inputs archives all read os its.texts its.given its.files in
-    elim r.untold [
-      | inl changed ↦ absurd (told.none_damaged os its.texts all indexes (key_bytes refusal.key) r.answering changed.input
-          changed.number r.are (changed.changed its.texts its.given))
-      | inr lacking ↦ lacks_lines os its.texts all indexes lines (key_bytes refusal.key) (key_bytes refusal.key ∷ []) (0, omega arith, refl)
-          refusal.why r.answering lacking.input lacking.number r.are lacking.wanted lacking.why_is (lacking.lacks its.texts its.given)
-    ]
+own_given : {I P : Type 0} (inputs : List (Reader I)) (archives : List (Reader P)) (os : List Operations)
+    → AreOwnIndexes inputs archives os → AreIndexesGiven inputs os
+own_given inputs archives os are = first_third IsOwnIndex IsIndexGiven inputs archives os (λ x y z is. is.0) are
 
--- replies of which none is refused are answers
-module _ (AreTexts : List (List ℕ) → Type 0) (all : List (List (List ℕ))) (lines : Bool) where
-  record AreRows (few : List Frame) (replies : List Reply) : Type 0 where
-    rows : List Answered
-    answered : AllZip (IsFrameByTables AreTexts all lines) few rows
-    none : list_any (λ (r : Reply). is_refused r.answered) replies ≡ false
-    each : list_all (λ (r : Reply). is_found r.answered) replies ≡ list_all (λ (row : Answered). is_symbol row.answer) rows
-    text_is : replies_text replies ≡ answers_text rows
+-- indexes of contents whose texts the archives are
+are_own : {I P : Type 0} (inputs : List (Reader I)) (archives : List (Reader P)) (os : List Operations)
+    → AreIndexesGiven inputs os → AreOwnTexts archives os → AreOwnIndexes inputs archives os
+are_own [] [] [] given own = tt
+are_own (input ∷ inputs) (archive ∷ archives) (o ∷ os) given own = ((given.0, own.0), are_own inputs archives os given.1 own.1)
+are_own [] (archive ∷ archives) [] given own = absurd own
+are_own [] archives (o ∷ os) given own = absurd given
+are_own (input ∷ inputs) archives [] given own = absurd given
+are_own (input ∷ inputs) [] (o ∷ os) given own = absurd own
 
-  row_of : (frame : Frame) (reply : Reply) → IsFrameReplied AreTexts all lines [] frame reply
-      → (row : Answered) × (reply.answered ≡ Some row) × IsFrameByTables AreTexts all lines frame row
-  row_of frame reply (address_is, is) = by reply.answered refl is
-    where
-      by : (r : Option Answered) → reply.answered ≡ r → IsAnsweredOrRefused AreTexts all lines [] frame r
-          → (row : Answered) × (reply.answered ≡ Some row) × IsFrameByTables AreTexts all lines frame row
-      by None same h = absurd (omega (arith, h.1))
-      by (Some row) same h = (row, same, h.0)
+module _ {I P : Type 0} (inputs : List (Reader I)) (archives : List (Reader P)) (os : List Operations) (lines : Bool)
+    (all : List (List (List ℕ))) (read : AreReadWith inputs archives all) where
+  -- a table that refuses its key by right indexes does so for lines
+  for_lines : AreTextsOf inputs os → (refusal : KeyRefusal) → IsRefusedByTable lines inputs all refusal
+      → IsRefusedForLines lines os refusal
+  for_lines its refusal r =
+      let indexes = indexes_are inputs archives all read os its.texts its.given its.files in
+      elim r.untold [
+        | inl changed ↦ absurd (told.none_damaged os its.texts all indexes (key_bytes refusal.key) r.answering changed.input
+            changed.number r.are (changed.changed its.texts its.given))
+        | inr lacking ↦ lacks_lines os its.texts all indexes lines (key_bytes refusal.key) (key_bytes refusal.key ∷ []) (0, omega arith, refl)
+            refusal.why r.answering lacking.input lacking.number r.are lacking.wanted lacking.why_is (lacking.lacks its.texts its.given)
+      ]
 
-  rows_of : (few : List Frame) (replies : List Reply) → AllZip (IsFrameReplied AreTexts all lines []) few replies
-      → AreRows few replies
-  rows_of [] [] zip = record { rows = []; answered = tt; none = refl; each = refl; text_is = refl }
-  rows_of [] (reply ∷ replies) zip = absurd zip
-  rows_of (frame ∷ few) [] zip = absurd zip
-  rows_of (frame ∷ few) (reply ∷ replies) (first, rest) =
-      let row = row_of frame reply first in
-      let more = rows_of few replies rest in
-      record {
-        rows = row.0 ∷ more.rows;
-        answered = (row.2, more.answered);
-        none = (λ i. is_refused (row.1 i) || more.none i);
-        each = (λ i. is_found (row.1 i) && more.each i);
-        text_is = (λ i. reply_text reply.address (row.1 i) ++ more.text_is i);
-      }
+  unfailed_at : {Q : Type 0} (ones : List (Reader Q)) (n : ℕ) (one : Reader Q) → EachUnfailed ones
+      → slice_get ones n ≡ Some one → Unfailed one
+  unfailed_at [] n one each at = absurd (cc at)
+  unfailed_at {Q} (x ∷ ones) zero one each at = let is : x ≡ one = cc at in subst (λ (r : Reader Q). Unfailed r) is each.0
+  unfailed_at (x ∷ ones) (suc n) one each at = unfailed_at ones n one each.1 at
 
-  -- and so they are what tables tell without refusals
-  none_refused : (IsRefused : KeyRefusal → Type 0) (listed : List Frame) (status : Status) (text : List ℕ)
-      → TellTablesBesides AreTexts IsRefused all lines listed [] status text → TellTablesOfFrames AreTexts all lines listed status text
-  none_refused IsRefused listed status text told =
-      let are = rows_of listed told.replies told.replied in
-      record {
-        rows = are.rows;
-        answered = are.answered;
-        status_is = told.status_is ∙ (λ i. if are.none i then RefusedStatus else if are.each i then Done else Partial);
-        text_is = told.text_is ∙ are.text_is;
-      }
+  -- no slice of the texts of the contents refuses its key
+  none_stale : AreOwnIndexes inputs archives os → (refusal : KeyRefusal) → IsRefusedBySlice archives all refusal → ⊥
+  none_stale are refusal r =
+      let own = with_fourth IsOwnIndex IsReadWith IsOwnRead inputs archives os all (λ x y z w is read. own_read x y z w is read) are read in
+      let s = r.stale in
+      let found = three_at IsOwnRead archives all os s.number s.archive s.entries own s.archive_is s.entries_are in
+      subst IsDeviceFault s.why_is (at_places found.0 found.1.text found.1.file (key_bytes refusal.key ∷ []) s.number s.archive s.entries
+      refusal.at refusal.why found.1.entries found.1.known
+      (inr (s.at_is, unfailed_at archives s.number s.archive r.unfailed s.archive_is, (Some s.entry, s.why_is, s.stale))))
 
--- ---- what tables tell
+  pub own_key : AreOwnIndexes inputs archives os → (refusal : KeyRefusal) → IsKeyRefused lines inputs archives all refusal
+      → IsRefusedForLines lines os refusal
+  own_key are refusal (inl table) = for_lines (texts_of inputs os (own_given inputs archives os are)) refusal table
+  own_key are refusal (inr slice) = absurd (none_stale are refusal slice)
 
-module _ {I P : Type 0} (inputs : List (Reader I)) (archives : List (Reader P)) (os : List Operations)
-    (are : AreIndexesGiven inputs os) (tell : DigestsTell os) where
-  abbrev its : AreTextsOf inputs os
-  its = texts_of inputs os are
+  key_for : (given : AreIndexesGiven inputs os) (refusal : KeyRefusal) (key : SliceKey) → IsKey key
+      → key_bytes refusal.key ≡ key_bytes key → IsKeyRefused lines inputs archives all refusal → IsRefusedFor lines archives os refusal
+  key_for given refusal key is_key same (inl table) = inl (for_lines (texts_of inputs os given) refusal table)
+  key_for given refusal key is_key same (inr slice) =
+      let its = texts_of inputs os given in
+      let indexes = indexes_are inputs archives all read os its.texts its.given its.files in
+      let by : IsRefusedForSlice archives os refusal = record {
+        key = key;
+        key_is = same;
+        tied = told.tied os its.texts all indexes key is_key (subst (λ (k : List ℕ). AreTied k all) same slice.tied);
+        stale = ap is_stale_entry slice.stale.why_is;
+        changed = λ own. none_stale (are_own inputs archives os given own) refusal slice;
+      } in
+      inr by
 
+-- ---- frames
+
+keys_long : (listed : List Frame) → ((frame : Frame) → Contains listed frame → IsKey frame.key) → (key : SliceKey)
+    → Contains (frame_keys listed) key → length key.uuid ≡ 16
+keys_long listed keyed key there =
+    let found = in_map (λ (frame : Frame). frame.key) listed key there in
+    ap (λ (k : SliceKey). length k.uuid) found.2 ∙ (keyed found.0 found.1).uuid
+
+-- the keys that are asked have UUIDs of 16 bytes
+one_long : (key other : SliceKey) → IsKey key → Contains (key ∷ []) other → length other.uuid ≡ 16
+one_long key other is_key there = elim (in_cons key [] other there) [
+  | inl same ↦ subst (λ (k : SliceKey). length k.uuid ≡ 16) same is_key.uuid
+  | inr more ↦ absurd (omega (arith, more.1))
+]
+
+short_key : (key : SliceKey) → IsKey key → length (key_bytes key) ≤ 24
+short_key key is_key = omega (arith, length_key_bytes key is_key.uuid)
+
+module _ {I P : Type 0} (inputs : List (Reader I)) (archives : List (Reader P)) (os : List Operations) (lines : Bool)
+    (all : List (List (List ℕ))) (read : AreReadWith inputs archives all) (given : AreIndexesGiven inputs os)
+    (keys : List SliceKey) (long : (key : SliceKey) → Contains keys key → length key.uuid ≡ 16) (listed : List Frame)
+    (keyed : (frame : Frame) → Contains listed frame → IsKey frame.key)
+    (said : (frame : Frame) → Contains listed frame → (answer : AnswerRecord) (frames : List (List FrameRecord))
+    → IsAnsweredAt (AreGiven inputs) archives all lines frame.key (asked_of frame.load frame.address) answer frames
+    → IsSourced (all_joined os) frame.key lines (asked_of frame.load frame.address) answer frames) where
   abbrev o : Operations
   o = all_joined os
 
-  -- ---- of addresses
+  abbrev Entries : SliceKey → Where → AnswerRecord → List (List FrameRecord) → Type 0
+  Entries = IsAnsweredAt (AreGiven inputs) archives all lines
 
-  module _ (key : SliceKey) (load : Option ℕ) (lines : Bool) (addresses : List ℕ) (status : Status) (text : List ℕ)
-      (is_key : IsKey key) (all : List (List (List ℕ))) (read : AreReadWith inputs archives all) where
-    abbrev right : AreIndexes os its.texts all
-    right = indexes_are inputs archives all read os its.texts its.given its.files
+  abbrev Sourced : SliceKey → Where → AnswerRecord → List (List FrameRecord) → Type 0
+  Sourced key asked answer frames = IsSourced o key lines asked answer frames
 
-    key_long : (other : SliceKey) → Contains (key ∷ []) other → length other.uuid ≡ 16
-    key_long other there = one_long key other is_key there
+  its : AreTextsOf inputs os
+  its = texts_of inputs os given
 
-    addresses_told : (s : Status) (t : List ℕ) → TellTables (AreGiven inputs) all key load lines addresses s t
-        → TellsAddresses o key load lines addresses s t
-    addresses_told s t told = record {
-      rows = told.rows;
-      addresses_are = told.addresses_are;
-      answered = recursion_from_All _ _ (All-weaker _ _
-          (λ row answered. row_told inputs archives all read os its tell key load lines row is_key answered)
-          told.rows told.answered);
-      status_is = told.status_is;
-      text_is = told.text_is;
-    }
+  row_told : (frame : Frame) (row : Answered) → Contains listed frame → IsFrameSaid Entries frame row → IsFrameAnswered lines o frame row
+  row_told frame row there (address_is, is) = (
+    address_is,
+    subst (λ (a : ℕ). IsSourced o frame.key lines (asked_of frame.load a) (answer_view row.answer) row.frames) (sym address_is)
+        (said frame there (answer_view row.answer) row.frames is),
+  )
 
-    key_told : (slices : Bool) → TellTablesOfKey slices (AreGiven inputs) (IsKeyRefused lines inputs all) all key load lines addresses status text
-        → TellsAddressesOrBesides os key load lines slices addresses status text
-    key_told false by = inl (addresses_told status text by)
-    key_told true (inl by) = inl (with_slices_told os its.texts all right (key ∷ []) true (λ wanted. key_long)
-        (TellTables (AreGiven inputs) all key load lines addresses) (TellsAddresses o key load lines addresses) addresses_told status text by)
-    key_told true (inr by) = inr (
-      refl,
-      record {
-        refusal = by.refusal;
-        key_is = by.key_is;
-        for_lines = for_lines inputs archives os lines all read its by.refusal by.refused;
+  rows_told : (few : List Frame) (rows : List Answered) → ((frame : Frame) → Contains few frame → Contains listed frame)
+      → AllZip (IsFrameSaid Entries) few rows → AllZip (IsFrameAnswered lines o) few rows
+  rows_told [] [] among zip = tt
+  rows_told [] (row ∷ rows) among zip = absurd zip
+  rows_told (frame ∷ few) [] among zip = absurd zip
+  rows_told (frame ∷ few) (row ∷ rows) among (one, more) = (
+    row_told frame row (among frame (in_front frame few)) one,
+    rows_told few rows (λ f there. among f (in_rest frame few f there)) more,
+  )
+
+  frames_told : (s : Status) (t : List ℕ) → TellFrames Entries listed s t → TellsFrames lines o listed s t
+  frames_told s t by = record {
+    rows = by.rows;
+    answered = rows_told listed by.rows (λ frame there. there) by.answered;
+    status_is = by.status_is;
+    text_is = by.text_is;
+  }
+
+  reply_told : (refusals : List KeyRefusal) (frame : Frame) (reply : Reply) → Contains listed frame
+      → IsFrameReplied Entries refusals frame reply → IsFrameReplied Sourced refusals frame reply
+  reply_told refusals frame reply there (address_is, is) = (address_is, by reply.answered is)
+    where
+      by : (r : Option Answered) → IsAnsweredOrRefused Entries refusals frame r → IsAnsweredOrRefused Sourced refusals frame r
+      by None h = h
+      by (Some row) h = ((h.0.0, said frame there (answer_view row.answer) row.frames h.0.1), h.1)
+
+  replies_told : (refusals : List KeyRefusal) (few : List Frame) (replies : List Reply)
+      → ((frame : Frame) → Contains few frame → Contains listed frame)
+      → AllZip (IsFrameReplied Entries refusals) few replies → AllZip (IsFrameReplied Sourced refusals) few replies
+  replies_told refusals [] [] among zip = tt
+  replies_told refusals [] (reply ∷ replies) among zip = absurd zip
+  replies_told refusals (frame ∷ few) [] among zip = absurd zip
+  replies_told refusals (frame ∷ few) (reply ∷ replies) among (one, more) = (
+    reply_told refusals frame reply (among frame (in_front frame few)) one,
+    replies_told refusals few replies (λ f there. among f (in_rest frame few f there)) more,
+  )
+
+  refusal_told : (refusal : KeyRefusal) → Contains (keys_of listed) (key_bytes refusal.key)
+      → IsKeyRefused lines inputs archives all refusal → IsRefusedFor lines archives os refusal
+  refusal_told refusal there is =
+      let frame = in_map (λ (f : Frame). key_bytes f.key) listed (key_bytes refusal.key) there in
+      key_for inputs archives os lines all read given refusal frame.0.key (keyed frame.0 frame.1) frame.2 is
+
+  besides_told : (refusals : List KeyRefusal) (s : Status) (t : List ℕ)
+      → TellFramesBesides Entries (IsKeyRefused lines inputs archives all) listed refusals s t
+      → TellFramesBesides Sourced (IsRefusedFor lines archives os) listed refusals s t
+  besides_told refusals s t by = record {
+    replies = by.replies;
+    replied = replies_told refusals listed by.replies (λ frame there. there) by.replied;
+    ascending = by.ascending;
+    of_frames = by.of_frames;
+    refused = λ k d lt. refusal_told (get_or refusals k d) (by.of_frames k d lt) (by.refused k d lt);
+    status_is = by.status_is;
+    status_refused = by.status_refused;
+    text_is = by.text_is;
+  }
+
+  slices_told : (slices : List ℕ) → TellsSlices (IsAnsweringEntryRow all keys) keys slices → TellsSlices (IsAnsweringRow o keys) keys slices
+  slices_told slices by =
+      lines_told os its.texts all (indexes_are inputs archives all read os its.texts its.given its.files) keys long slices by
+
+  -- what is told is what the content tells, or besides refused keys
+  pub listed_told : (slices : Bool) (status : Status) (text : List ℕ)
+      → TellFramesWith slices Entries (IsKeyRefused lines inputs archives all) all keys listed status text
+      → WithSlices slices (TellsFrames lines o listed) (IsAnsweringRow o keys) keys status text
+      ⊎ ((slices ≡ true) × TellsFramesBesides lines archives os keys listed status text)
+  listed_told false status text by = inl (frames_told status text by)
+  listed_told true status text by = and_slices by.refusals by.told by.text_is
+    where
+      and_slices : (refusals : List KeyRefusal) → TellFramesBesides Entries (IsKeyRefused lines inputs archives all) listed refusals status by.answers
+          → text ≡ by.answers ++ (by.slices ++ refusal_lines refusals)
+          → WithSlices true (TellsFrames lines o listed) (IsAnsweringRow o keys) keys status text
+          ⊎ ((true ≡ true) × TellsFramesBesides lines archives os keys listed status text)
+      and_slices [] besides is = inl (record {
+        answers = by.answers;
+        told = frames_told status by.answers (answers_alone Entries [] (IsKeyRefused lines inputs archives all) listed status by.answers refl besides);
         slices = by.slices;
-        tells_slices = lines_told os its.texts all right (key ∷ []) key_long by.slices by.tells_slices;
-        status_is = by.status_is;
-        text_is = by.text_is;
-      },
-    )
+        tells_slices = slices_told by.slices by.sliced;
+        text_is = is ∙ ap (λ (l : List ℕ). by.answers ++ l) (append-nil by.slices);
+      })
+      and_slices (refusal ∷ refusals) besides is = inr (
+        refl,
+        record {
+          refusals = refusal ∷ refusals;
+          some = λ none. absurd (cc none);
+          answers = by.answers;
+          told = besides_told (refusal ∷ refusals) status by.answers besides;
+          slices = by.slices;
+          tells_slices = slices_told by.slices by.sliced;
+          text_is = is;
+        },
+      )
 
-  pub told_by_tables : (key : SliceKey) (load : Option ℕ) (lines slices : Bool) (addresses : List ℕ) (status : Status)
-      (text : List ℕ) → IsKey key → TellsByTables inputs archives key load lines slices addresses status text
-      → TellsAddressesOrBesides os key load lines slices addresses status text
-  told_by_tables key load lines slices addresses status text is_key by =
-      key_told key load lines addresses status text is_key by.all by.read slices by.tells
+-- ---- the frames of addresses under one key
 
-  -- ---- of frames
+under_key : (key : SliceKey) (load : Option ℕ) (addresses : List ℕ) (frame : Frame)
+    → Contains (frames_under key load addresses) frame → frame.key ≡ key
+under_key key load addresses frame there =
+    let found = in_map (λ (a : ℕ). record { key = key; load = load; address = a }) addresses frame there in
+    ap (λ (f : Frame). f.key) found.2
 
-  module _ (lines : Bool) (listed : List Frame) (status : Status) (text : List ℕ)
-      (keys : (frame : Frame) → Contains listed frame → IsKey frame.key) (all : List (List (List ℕ)))
-      (read : AreReadWith inputs archives all) where
-    abbrev right_all : AreIndexes os its.texts all
-    right_all = indexes_are inputs archives all read os its.texts its.given its.files
+addresses_told : (o : Operations) (key : SliceKey) (load : Option ℕ) (lines : Bool) (addresses : List ℕ) (status : Status) (text : List ℕ)
+    → TellsFrames lines o (frames_under key load addresses) status text → TellsAddresses o key load lines addresses status text
+addresses_told o key load lines addresses status text by =
+    let rows = rows_of addresses by.rows by.answered in
+    record { rows = by.rows; addresses_are = rows.0; answered = rows.1; status_is = by.status_is; text_is = by.text_is }
+  where
+    rows_of : (few : List ℕ) (rows : List Answered) → AllZip (IsFrameAnswered lines o) (frames_under key load few) rows
+        → (map (λ (row : Answered). row.address) rows ≡ few) × AllByRecursion (IsAnswered o key load lines) rows
+    rows_of [] [] zip = (refl, tt)
+    rows_of [] (row ∷ rows) zip = absurd zip
+    rows_of (address ∷ few) [] zip = absurd zip
+    rows_of (address ∷ few) (row ∷ rows) (one, more) =
+        let rest = rows_of few rows more in
+        ((λ i. one.0 i ∷ rest.0 i), (one.1, rest.1))
 
-    frames_by_tables : (s : Status) (t : List ℕ) → TellTablesOfFrames (AreGiven inputs) all lines listed s t → TellsFrames lines o listed s t
-    frames_by_tables s t told = record {
-      rows = told.rows;
-      answered = frames_rows inputs archives all read os its tell lines listed told.rows keys told.answered;
-      status_is = told.status_is;
-      text_is = told.text_is;
-    }
+with_addresses : (slices : Bool) (o : Operations) (key : SliceKey) (load : Option ℕ) (lines : Bool) (addresses : List ℕ) (status : Status) (text : List ℕ)
+    → WithSlices slices (TellsFrames lines o (frames_under key load addresses)) (IsAnsweringRow o (key ∷ [])) (key ∷ []) status text
+    → TellsAddressesWith o key load lines slices addresses status text
+with_addresses false o key load lines addresses status text by = addresses_told o key load lines addresses status text by
+with_addresses true o key load lines addresses status text by = record {
+  answers = by.answers;
+  told = addresses_told o key load lines addresses status by.answers by.told;
+  slices = by.slices;
+  tells_slices = by.tells_slices;
+  text_is = by.text_is;
+}
 
-    reply_told : (refusals : List KeyRefusal) (frame : Frame) (reply : Reply) → IsKey frame.key
-        → IsFrameReplied (AreGiven inputs) all lines refusals frame reply → IsFrameRepliedBesides o lines refusals frame reply
-    reply_told refusals frame reply is_key (address_is, is) = (address_is, by reply.answered is)
-      where
-        by : (r : Option Answered) → IsAnsweredOrRefused (AreGiven inputs) all lines refusals frame r → IsFrameAnsweredBesides o lines refusals frame r
-        by None h = h
-        by (Some row) h = ((h.0.0, row_told inputs archives all read os its tell frame.key frame.load lines row is_key h.0.1), h.1)
+-- ---- one index: no two are tied
 
-    replies_told : (refusals : List KeyRefusal) (few : List Frame) (replies : List Reply)
-        → ((frame : Frame) → Contains few frame → IsKey frame.key)
-        → AllZip (IsFrameReplied (AreGiven inputs) all lines refusals) few replies → AllZip (IsFrameRepliedBesides o lines refusals) few replies
-    replies_told refusals [] [] few_keys zip = tt
-    replies_told refusals (frame ∷ few) (reply ∷ replies) few_keys (one, more) = (
-      reply_told refusals frame reply (few_keys frame (in_front frame few)) one,
-      replies_told refusals few replies (λ f there. few_keys f (in_rest frame few f there)) more,
-    )
-    replies_told refusals few replies few_keys zip = absurd zip
+none_tied : (key : List ℕ) (all : List (List (List ℕ))) → length all ≤ 1 → AreTied key all → ⊥
+none_tied key all few tied =
+    let one = slice_get_within all tied.one.input tied.one_among.entries tied.one_among.index_is in
+    let other = slice_get_within all tied.other.input tied.other_among.entries tied.other_among.index_is in
+    tied.unordered.inputs (omega (arith, few, one, other))
 
-    slices_told : (slices : List ℕ) → TellsSlices (IsAnsweringEntryRow all (frame_keys listed)) (frame_keys listed) slices
-        → TellsSlices (IsAnsweringRow o (frame_keys listed)) (frame_keys listed) slices
-    slices_told slices told = lines_told os its.texts all right_all (frame_keys listed) (λ key there. keys_long listed keys key there) slices told
+-- ---- the laws
 
-    and_slices : (refusals : List KeyRefusal) (answers slices : List ℕ)
-        → TellTablesBesides (AreGiven inputs) (IsKeyRefused lines inputs all) all lines listed refusals status answers
-        → TellsSlices (IsAnsweringEntryRow all (frame_keys listed)) (frame_keys listed) slices
-        → text ≡ answers ++ (slices ++ refusal_lines refusals) → TellsFramesOrBesides lines true os listed status text
-    and_slices [] answers slices told sliced is = inl (record {
-      answers = answers;
-      told = frames_by_tables status answers (none_refused (AreGiven inputs) all lines (IsKeyRefused lines inputs all) listed status answers told);
-      slices = slices;
-      tells_slices = slices_told slices sliced;
-      text_is = is ∙ ap (λ (l : List ℕ). answers ++ l) (append-nil slices);
-    })
-    and_slices (refusal ∷ refusals) answers slices told sliced is =
-        let some : refusal ∷ refusals ≢ [] = λ none. absurd (cc none) in
-        inr (
-          refl,
-          record {
-            refusals = refusal ∷ refusals;
-            some = some;
-            for_lines = All-weaker (IsKeyRefused lines inputs all) (IsRefusedForLines lines os)
-                (for_lines inputs archives os lines all read its) (refusal ∷ refusals) told.refused;
-            replies = told.replies;
-            replied = replies_told (refusal ∷ refusals) listed told.replies keys told.replied;
-            slices = slices;
-            tells_slices = slices_told slices sliced;
-            status_is = told.status_refused.1 some;
-            text_is = is ∙ ap (λ (l : List ℕ). l ++ (slices ++ refusal_lines (refusal ∷ refusals))) told.text_is;
-          },
-        )
+module _ {I P : Type 0} (inputs : List (Reader I)) (archives : List (Reader P)) (os : List Operations) where
+  said_untied : (given : AreIndexesGiven inputs os) → DigestsTell os → (all : List (List (List ℕ))) → AreReadWith inputs archives all
+      → (lines : Bool) (key : SliceKey) → IsKey key → (AreTied (key_bytes key) all → ⊥) → (asked : Where) (answer : AnswerRecord)
+      (frames : List (List FrameRecord)) → IsAnsweredAt (AreGiven inputs) archives all lines key asked answer frames
+      → IsSourced (all_joined os) key lines asked answer frames
+  said_untied given tell all read lines key is_key untied asked answer frames (inl is) =
+      said_by_tables inputs archives os all read (texts_of inputs os given) tell lines key asked answer frames is_key is
+  said_untied given tell all read lines key is_key untied asked answer frames (inr is) = absurd (untied is.tied)
 
-    framed : (slices : Bool) → TellTablesWith slices (AreGiven inputs) (IsKeyRefused lines inputs all) all lines listed status text
-        → TellsFramesOrBesides lines slices os listed status text
-    framed false by = inl (frames_by_tables status text by)
-    framed true by = and_slices by.refusals by.answers by.slices by.told by.sliced by.text_is
+  untied_by : (given : AreIndexesGiven inputs os) (all : List (List (List ℕ))) → AreReadWith inputs archives all → (key : SliceKey)
+      → IsKey key → (AreTiedSlices os key → ⊥) → AreTied (key_bytes key) all → ⊥
+  untied_by given all read key is_key none tied =
+      let its = texts_of inputs os given in
+      none (told.tied os its.texts all (indexes_are inputs archives all read os its.texts its.given its.files) key is_key tied)
 
-  pub framed_by_tables : (lines slices : Bool) (listed : List Frame) (status : Status) (text : List ℕ)
+  pub given_indexes : AreIndexed inputs archives os → AreIndexesGiven inputs os
+  given_indexes are = first_third IsIndexed IsIndexGiven inputs archives os (λ x y z is. is.0) are
+
+  said_either : (are : AreIndexed inputs archives os) → DigestsTell os → (all : List (List (List ℕ))) → AreReadWith inputs archives all
+      → (lines : Bool) (key : SliceKey) → IsKey key → (asked : Where) (answer : AnswerRecord)
+      (frames : List (List FrameRecord)) → IsAnsweredAt (AreGiven inputs) archives all lines key asked answer frames
+      → IsSourced (all_joined os) key lines asked answer frames
+  said_either are tell all read lines key is_key asked answer frames (inl is) =
+      said_by_tables inputs archives os all read (texts_of inputs os (given_indexes are)) tell lines key asked answer frames is_key is
+  said_either are tell all read lines key is_key asked answer frames (inr is) =
+      said_by_slices inputs archives os all read are lines key asked answer frames (short_key key is_key) is
+
+  abbrev Besides : Bool → Bool → List SliceKey → List Frame → Status → List ℕ → Type 0
+  Besides lines slices keys listed status text =
+      WithSlices slices (TellsFrames lines (all_joined os) listed) (IsAnsweringRow (all_joined os) keys) keys status text
+      ⊎ ((slices ≡ true) × TellsFramesBesides lines archives os keys listed status text)
+
+  -- of frames
+  pub framed_untied : (lines slices : Bool) (keys : List SliceKey) (listed : List Frame) (status : Status) (text : List ℕ)
+      → AreIndexesGiven inputs os → DigestsTell os → ((key : SliceKey) → Contains keys key → length key.uuid ≡ 16)
+      → ((frame : Frame) → Contains listed frame → IsKey frame.key × (AreTiedSlices os frame.key → ⊥))
+      → AreToldAt lines slices inputs archives keys listed status text → Besides lines slices keys listed status text
+  framed_untied lines slices keys listed status text given tell long keyed by =
+      listed_told inputs archives os lines by.all by.read given keys long listed (λ frame there. (keyed frame there).0)
+      (λ frame there answer frames is. said_untied given tell by.all by.read lines frame.key (keyed frame there).0
+      (untied_by given by.all by.read frame.key (keyed frame there).0 (keyed frame there).1) (asked_of frame.load frame.address) answer frames is)
+      slices status text by.told
+
+  pub framed_either : (lines slices : Bool) (keys : List SliceKey) (listed : List Frame) (status : Status) (text : List ℕ)
+      → AreIndexed inputs archives os → DigestsTell os → ((key : SliceKey) → Contains keys key → length key.uuid ≡ 16)
       → ((frame : Frame) → Contains listed frame → IsKey frame.key)
-      → TellsFramesByTables lines slices inputs archives listed status text
-      → TellsFramesOrBesides lines slices os listed status text
-  framed_by_tables lines slices listed status text keys by = framed lines listed status text keys by.all by.read slices by.tells
+      → AreToldAt lines slices inputs archives keys listed status text → Besides lines slices keys listed status text
+  framed_either lines slices keys listed status text are tell long keyed by =
+      listed_told inputs archives os lines by.all by.read (given_indexes are) keys long listed keyed
+      (λ frame there answer frames is. said_either are tell by.all by.read lines frame.key (keyed frame there)
+      (asked_of frame.load frame.address) answer frames is) slices status text by.told
+
+  pub frames_untied : (lines slices : Bool) (listed : List Frame) (status : Status) (text : List ℕ)
+      → AreIndexesGiven inputs os → DigestsTell os
+      → ((frame : Frame) → Contains listed frame → IsKey frame.key × (AreTiedSlices os frame.key → ⊥))
+      → AreToldAt lines slices inputs archives (frame_keys listed) listed status text
+      → TellsFramesOrBesides lines slices archives os listed status text
+  frames_untied lines slices listed status text given tell keyed by =
+      framed_untied lines slices (frame_keys listed) listed status text given tell
+      (λ key there. keys_long listed (λ f t. (keyed f t).0) key there) keyed by
+
+  pub frames_either : (lines slices : Bool) (listed : List Frame) (status : Status) (text : List ℕ)
+      → AreIndexed inputs archives os → DigestsTell os
+      → ((frame : Frame) → Contains listed frame → IsKey frame.key)
+      → AreToldAt lines slices inputs archives (frame_keys listed) listed status text
+      → TellsFramesOrBesides lines slices archives os listed status text
+  frames_either lines slices listed status text are tell keyed by =
+      framed_either lines slices (frame_keys listed) listed status text are tell (λ key there. keys_long listed keyed key there) keyed by
+
+  -- of addresses under one key
+  module _ (key : SliceKey) (load : Option ℕ) (lines slices : Bool) (addresses : List ℕ) (status : Status) (text : List ℕ) (is_key : IsKey key) where
+    of_key : (frame : Frame) → Contains (frames_under key load addresses) frame → IsKey frame.key
+    of_key frame there = subst (λ (k : SliceKey). IsKey k) (sym (under_key key load addresses frame there)) is_key
+
+    as_addresses : Besides lines slices (key ∷ []) (frames_under key load addresses) status text
+        → TellsAddressesOrBesides archives os key load lines slices addresses status text
+    as_addresses (inl told) = inl (with_addresses slices (all_joined os) key load lines addresses status text told)
+    as_addresses (inr besides) = inr besides
+
+    pub told_untied : AreIndexesGiven inputs os → DigestsTell os → (AreTiedSlices os key → ⊥)
+        → (symbolicate_at inputs archives key load lines slices addresses).Makes status text
+        → TellsAddressesOrBesides archives os key load lines slices addresses status text
+    told_untied given tell none by = as_addresses (framed_untied lines slices (key ∷ []) (frames_under key load addresses) status text given tell
+        (λ other there. one_long key other is_key there)
+        (λ frame there. (of_key frame there, λ tied. none (subst (λ (k : SliceKey). AreTiedSlices os k) (under_key key load addresses frame there) tied))) by)
+
+    pub told_either : AreIndexed inputs archives os → DigestsTell os
+        → (symbolicate_at inputs archives key load lines slices addresses).Makes status text
+        → TellsAddressesOrBesides archives os key load lines slices addresses status text
+    told_either are tell by = as_addresses (framed_either lines slices (key ∷ []) (frames_under key load addresses) status text are tell
+        (λ other there. one_long key other is_key there) of_key by)
 
 -- ---- one index
 
@@ -318,97 +467,43 @@ module _ {I P : Type 0} (input : Reader I) (archive : Reader P) (o : Operations)
   joined_one : all_joined (o ∷ []) ≡ o
   joined_one = joined_alone o is.2.content.itself
 
-  pub told_alone : (key : SliceKey) (load : Option ℕ) (lines slices : Bool) (addresses : List ℕ) (status : Status)
-      (text : List ℕ) → IsKey key → TellsByTables (input ∷ []) (archive ∷ []) key load lines slices addresses status
-      text → TellsAddressesWith o key load lines slices addresses status text
-      ⊎ ((slices ≡ true) × TellsAddressesBesides (o ∷ []) key lines addresses status text)
-  told_alone key load lines slices addresses status text is_key by =
-      elim (told_by_tables (input ∷ []) (archive ∷ []) (o ∷ []) (is, tt) (tells_alone o) key load lines slices addresses status text is_key by) [
-        | inl told ↦ inl (subst (λ (made : Operations). TellsAddressesWith made key load lines slices addresses status text) joined_one told)
-        | inr besides ↦ inr besides
-      ]
+  one_all : (all : List (List (List ℕ))) → AreReadWith (input ∷ []) (archive ∷ []) all → length all ≤ 1
+  one_all [] read = absurd read
+  one_all (entries ∷ []) read = omega arith
+  one_all (entries ∷ (more ∷ all)) read = absurd read.1
 
-  pub framed_alone : (lines slices : Bool) (listed : List Frame) (status : Status) (text : List ℕ)
+  alone : (lines slices : Bool) (keys : List SliceKey) (listed : List Frame) (status : Status) (text : List ℕ)
+      → ((key : SliceKey) → Contains keys key → length key.uuid ≡ 16) → ((frame : Frame) → Contains listed frame → IsKey frame.key)
+      → AreToldAt lines slices (input ∷ []) (archive ∷ []) keys listed status text
+      → Besides (input ∷ []) (archive ∷ []) (o ∷ []) lines slices keys listed status text
+  alone lines slices keys listed status text long keyed by =
+      listed_told (input ∷ []) (archive ∷ []) (o ∷ []) lines by.all by.read (is, tt) keys long listed keyed
+      (λ frame there answer frames said. said_untied (input ∷ []) (archive ∷ []) (o ∷ []) (is, tt) (tells_alone o) by.all by.read lines frame.key
+      (keyed frame there) (none_tied (key_bytes frame.key) by.all (one_all by.all by.read)) (asked_of frame.load frame.address) answer frames said)
+      slices status text by.told
+
+  pub frames_alone : (lines slices : Bool) (listed : List Frame) (status : Status) (text : List ℕ)
       → ((frame : Frame) → Contains listed frame → IsKey frame.key)
-      → TellsFramesByTables lines slices (input ∷ []) (archive ∷ []) listed status text
+      → AreToldAt lines slices (input ∷ []) (archive ∷ []) (frame_keys listed) listed status text
       → TellsFramesWith lines slices o listed status text
-      ⊎ ((slices ≡ true) × TellsFramesBesides (o ∷ []) lines listed status text)
-  framed_alone lines slices listed status text keys by =
-      elim (framed_by_tables (input ∷ []) (archive ∷ []) (o ∷ []) (is, tt) (tells_alone o) lines slices listed status text keys by) [
+      ⊎ ((slices ≡ true) × TellsFramesBesides lines (archive ∷ []) (o ∷ []) (frame_keys listed) listed status text)
+  frames_alone lines slices listed status text keyed by =
+      elim (alone lines slices (frame_keys listed) listed status text (λ key there. keys_long listed keyed key there) keyed by) [
         | inl told ↦ inl (subst (λ (made : Operations). TellsFramesWith lines slices made listed status text) joined_one told)
         | inr besides ↦ inr besides
       ]
 
--- ---- by slices
-
-module _ {I P : Type 0} (inputs : List (Reader I)) (archives : List (Reader P)) (os : List Operations) (are : AreIndexed inputs archives os) where
-  pub given_indexes : AreIndexesGiven inputs os
-  given_indexes = first_third IsIndexed IsIndexGiven inputs archives os (λ x y z is. is.0) are
-
-  -- the entries that were read are those of the contents
-  read_indexes : (held all : List (List (List ℕ))) → held ≡ all → AreReadWith inputs archives held → AreIndexes os (texts_of inputs os given_indexes).texts all
-  read_indexes held all same read =
-      let its = texts_of inputs os given_indexes in
-      subst (AreIndexes os its.texts) same (indexes_are inputs archives held read os its.texts its.given its.files)
-
-  pub told_by_slices : (key : SliceKey) (load : Option ℕ) (lines slices : Bool) (addresses : List ℕ) (status : Status)
-      (text : List ℕ) → length (key_bytes key) ≤ 24 → (slices ≡ true → IsKey key)
-      → TellsBySlices inputs archives key load lines slices addresses status text
-      → TellsAddressesWith (all_joined os) key load lines slices addresses status text
-  told_by_slices key load lines slices addresses status text short is_key by =
-      let its = texts_of inputs os given_indexes in
-      with_slices_told os its.texts by.all (read_indexes by.makes.held.all by.all by.all_is by.makes.held.read)
-      (key ∷ []) slices (λ wanted other there. one_long key other (is_key wanted) there)
-      (TellsAddresses by.makes.content key load lines addresses) (TellsAddresses (all_joined os) key load lines addresses)
-      (λ s t told. told_alike by.makes.content (all_joined os) key load lines addresses s t
-      (held_alike (key_bytes key ∷ []) inputs archives os by.makes.content (short, tt) are by.makes.held (key_bytes key)
-      (0, omega arith, refl)) told) status text by.makes.tells
-
-  pub framed_by_slices : (lines slices : Bool) (listed : List Frame) (status : Status) (text : List ℕ)
-      → ((key : List ℕ) → Contains (keys_of listed) key → length key ≤ 24)
-      → (slices ≡ true → (frame : Frame) → Contains listed frame → IsKey frame.key)
-      → TellsFramesBySlices lines slices inputs archives listed status text
-      → TellsFramesWith lines slices (all_joined os) listed status text
-  framed_by_slices lines slices listed status text short keys by =
-      let its = texts_of inputs os given_indexes in
-      let few =
-      recursion_from_All (λ (f : List ℕ). length f ≤ 24) by.keys
-      (λ i d lt. short (get_or by.keys i d) ((by.are_keys (get_or by.keys i d)).0 (Contains-get_or by.keys i d lt))) in
-      with_slices_told os its.texts by.all (read_indexes by.makes.held.all by.all by.all_is by.makes.held.read)
-      (frame_keys listed) slices (λ wanted key there. keys_long listed (keys wanted) key there)
-      (TellsFrames lines by.makes.content listed) (TellsFrames lines (all_joined os) listed)
-      (λ s t told. frames_told lines by.makes.content (all_joined os) listed s t
-      (λ key there. held_alike by.keys inputs archives os by.makes.content few are by.makes.held key
-      ((by.are_keys key).1 there)) told) status text by.makes.tells
-
-  -- ---- either way
-
-  short_key : (key : SliceKey) → IsKey key → length (key_bytes key) ≤ 24
-  short_key key is_key = omega (arith, length_key_bytes key is_key.uuid)
-
-  keys_short : (listed : List Frame) → ((frame : Frame) → Contains listed frame → IsKey frame.key) → (key : List ℕ)
-      → Contains (keys_of listed) key → length key ≤ 24
-  keys_short listed keys key there =
-      let found = in_map (λ (frame : Frame). key_bytes frame.key) listed key there in
-      subst (λ (k : List ℕ). length k ≤ 24) (sym found.2) (short_key found.0.key (keys found.0 found.1))
-
-  pub told_either : (key : SliceKey) (load : Option ℕ) (lines slices : Bool) (addresses : List ℕ) (status : Status)
-      (text : List ℕ) → DigestsTell os → IsKey key → (symbolicate_at inputs archives key load lines slices
-      addresses).Makes status text
-      → TellsAddressesOrBesides os key load lines slices addresses status text
-  told_either key load lines slices addresses status text tell is_key (inl by) =
-      told_by_tables inputs archives os given_indexes tell key load lines slices addresses status text is_key by
-  told_either key load lines slices addresses status text tell is_key (inr by) =
-      inl (told_by_slices key load lines slices addresses status text (short_key key is_key) (λ wanted. is_key) by)
-
-  pub framed_either : (lines slices : Bool) (listed : List Frame) (status : Status) (text : List ℕ) → DigestsTell os
-      → ((frame : Frame) → Contains listed frame → IsKey frame.key)
-      → AreToldAt lines slices inputs archives listed status text
-      → TellsFramesOrBesides lines slices os listed status text
-  framed_either lines slices listed status text tell keys (inl by) =
-      framed_by_tables inputs archives os given_indexes tell lines slices listed status text keys by
-  framed_either lines slices listed status text tell keys (inr by) =
-      inl (framed_by_slices lines slices listed status text (keys_short listed keys) (λ wanted. keys) by)
+  pub told_alone : (key : SliceKey) (load : Option ℕ) (lines slices : Bool) (addresses : List ℕ) (status : Status)
+      (text : List ℕ) → IsKey key → (symbolicate_at (input ∷ []) (archive ∷ []) key load lines slices addresses).Makes status text
+      → TellsAddressesWith o key load lines slices addresses status text
+      ⊎ ((slices ≡ true) × TellsFramesBesides lines (archive ∷ []) (o ∷ []) (key ∷ []) (frames_under key load addresses) status text)
+  told_alone key load lines slices addresses status text is_key by =
+      elim (alone lines slices (key ∷ []) (frames_under key load addresses) status text (λ other there. one_long key other is_key there)
+      (λ frame there. subst (λ (k : SliceKey). IsKey k) (sym (under_key key load addresses frame there)) is_key) by) [
+        | inl told ↦ inl (subst (λ (made : Operations). TellsAddressesWith made key load lines slices addresses status text) joined_one
+            (with_addresses slices (all_joined (o ∷ [])) key load lines addresses status text told))
+        | inr besides ↦ inr besides
+      ]
 
 -- ---- what refuses the command
 
@@ -434,11 +529,8 @@ module _ {I P : Type 0} (keys : List (List ℕ)) (inputs : List (Reader I)) (arc
           lacking.input lacking.number u.untold.are lacking.wanted lacking.why_is (lacking.lacks t.texts t.given))
       by false (inr (inr unread)) = inl (untold_table inputs u.untold.answering unread)
 
-  own_given : (os : List Operations) → AreOwnIndexes inputs archives os → AreIndexesGiven inputs os
-  own_given os are = first_third IsOwnIndex IsIndexGiven inputs archives os (λ x y z is. is.0) are
-
   pub asked_by_device : (lines slices : Bool) (os : List Operations) → AreOwnIndexes inputs archives os
       → AreRefusedAsking lines slices keys inputs archives at why → IsDeviceFault why ⊎ IsForLines lines os keys why
   asked_by_device lines slices os are (inl first) = inl (first_by_device keys inputs archives os at why are first)
-  asked_by_device lines slices os are (inr (inl (later, tied))) = inl (later_by_device keys inputs archives os at why are later)
-  asked_by_device lines slices os are (inr (inr untold)) = untold_by_device lines slices os (own_given os are) untold
+  asked_by_device lines slices os are (inr (inl unread)) = inl (later_by_device (unread.key ∷ []) inputs archives os at why are unread.refused)
+  asked_by_device lines slices os are (inr (inr untold)) = untold_by_device lines slices os (own_given inputs archives os are) untold

@@ -6,6 +6,9 @@ ghost use Rattle.std.specs.Prelude.{Some, true};
 ghost use Rattle.std.specs.List.{AllByRecursion};
 ghost use Rattle.archive_core.specs.Content.{IsContent, Operations};
 ghost use Rattle.archive_core.specs.Key.{IsKey, key_bytes};
+ghost use Rattle.archive_core.specs.Lookup.{AnswerRecord};
+ghost use Rattle.archive_core.specs.declared.lookup.Where.{Where};
+ghost use Rattle.dwarf_source_frames.specs.Frames.{FrameRecord};
 ghost use Rattle.archive_core.specs.Lists.{IsList};
 ghost use Rattle.archive_core.specs.Part.{AreAlikeUnder, is_under, part};
 ghost use Rattle.archive_core.specs.Summary.{summary};
@@ -14,8 +17,9 @@ ghost use Rattle.archive_core.specs.declared.keys.Digest.{Digest};
 ghost use Rattle.archive_core.specs.declared.keys.SliceKey.{SliceKey};
 ghost use Rattle.archive_records.specs.Text.{summary_text, written};
 ghost use Rattle.index_format.specs.Index.{index};
-ghost use Rattle.command_common.specs.Found.{TellsFound, found_status};
-ghost use Rattle.command_queries.specs.Frames.{TellsFramesWith};
+ghost use Rattle.command_common.specs.Records.{TellsFound, TellsListed};
+ghost use Rattle.command_queries.specs.Frames.{TellsFramesWith, frame_keys};
+ghost use Rattle.command_queries.specs.Sources.{IsSourced};
 ghost use Rattle.command_queries.specs.Symbolicate.{TellsAddressesWith};
 ghost use Rattle.text_inputs.specs.Frames.{frames_of};
 ghost use Rattle.text_inputs.specs.declared.frame.Frame.{Frame};
@@ -24,23 +28,24 @@ ghost use Rattle.command_common.specs.Outputs.{Writer, summary_report_of};
 ghost use Rattle.command_common.specs.declared.faults.InputName.{InputName};
 ghost use Rattle.command_common.specs.declared.faults.Status.{Status};
 ghost use Rattle.command_common.specs.declared.faults.Why.{Why};
-ghost use Rattle.text_reports.specs.Finds.{list_lines};
-ghost use Rattle.laws_index.specs.Indexes.{DigestsTell, IsIndexFile, all_joined};
-ghost use Rattle.command_index_queries.specs.Find.{MakesFoundAt};
+ghost use Rattle.laws_index.specs.Indexes.{AreTiedSlices, DigestsTell, IsIndexFile, all_joined};
+ghost use Rattle.command_index_queries.specs.Find.{find_at, find_together};
 ghost use Rattle.command_index_queries.specs.Indexes.{IsRefusedByIndex};
-ghost use Rattle.command_index_queries.specs.List.{MakesListedAt};
+ghost use Rattle.command_index_queries.specs.List.{list_at};
 ghost use Rattle.command_index_queries.specs.Rows.{AreIndexRows};
-ghost use Rattle.command_index_queries.specs.Several.{AreRefusedTogether, HoldTogether, MakesTogether};
-ghost use Rattle.command_index_queries.specs.Summary.{MakesSummaryAt};
-ghost use Rattle.command_index_frames.specs.Asking.{AreRefusedAsking, AreUntold};
-ghost use Rattle.command_index_frames.specs.Frames.{AreToldAt, TellsFramesBySlices, TellsFramesByTables, keys_of};
-ghost use Rattle.command_index_frames.specs.Symbolicate.{TellsBySlices, TellsByTables, symbolicate_at};
+ghost use Rattle.command_index_queries.specs.Several.{AreRefusedTogether, HoldTogether};
+ghost use Rattle.command_index_queries.specs.Summary.{summary_at};
+ghost use Rattle.command_index_queries.specs.Together.{AreReadWith};
+ghost use Rattle.command_index_frames.specs.Asking.{AreRefusedAsking, AreUntold, IsAnsweredBySlices};
+ghost use Rattle.command_index_frames.specs.Frames.{AreToldAt};
+ghost use Rattle.command_index_frames.specs.Refusals.{IsKeyRefused, KeyRefusal};
+ghost use Rattle.command_index_frames.specs.Symbolicate.{frames_under, symbolicate_at};
 ghost use Rattle.command_extract.specs.Indexed.{LacksEntry, MakesEntry, extract_at};
 ghost use Rattle.command_extract.specs.Wanted.{AreUndecided, IsWanted, slice_line, slices_text};
 ghost use Rattle.laws_index.specs.Contents.{AreIndexed, AreIndexesGiven, AreOwnIndexes, HaveKeys, IsIndexGiven};
 ghost use Rattle.laws_index.specs.Contents.{IsForLines, IsOwnIndex};
-ghost use Rattle.laws_index.specs.Refusing.{TellsAddressesBesides, TellsAddressesOrBesides};
-ghost use Rattle.laws_index.specs.Refusing.{TellsFramesBesides, TellsFramesOrBesides};
+ghost use Rattle.laws_index.specs.Refusing.{IsRefusedForLines, TellsAddressesOrBesides, TellsFramesBesides};
+ghost use Rattle.laws_index.specs.Refusing.{TellsFramesOrBesides};
 ghost use Rattle.laws_index.specs.Undecided.{TellsUndecided};
 
 use byte_device::Placed;
@@ -57,21 +62,20 @@ pub fn rows_of_index()
 /// If INDEX is that of a content, `find` tells what it tells of that content, whatever bytes ARCHIVE has.
 pub fn found_by_index<I: Placed, P: Placed>()
     ensures { (input : Reader I) (archive : Reader P) (o : Operations) (uuid : List ℕ) (status : Status)
-        (text : List ℕ) → length uuid ≡ 16 → IsIndexGiven input o → MakesFoundAt input archive uuid status text
+        (text : List ℕ) → length uuid ≡ 16 → IsIndexGiven input o → (find_at input archive uuid).Makes status text
         → TellsFound o uuid status text }
 {}
 
 /// If INDEX is that of a content, `list` tells what it tells of that content, whatever bytes ARCHIVE has.
 pub fn listed_by_index<I: Placed, P: Placed>()
     ensures { (input : Reader I) (archive : Reader P) (o : Operations) (status : Status) (text : List ℕ)
-        → IsIndexGiven input o → MakesListedAt input archive status text
-        → (rows : List FindRow) × IsList o rows × (status ≡ found_status rows) × (text ≡ list_lines rows) }
+        → IsIndexGiven input o → (list_at input archive).Makes status text → TellsListed o status text }
 {}
 
 /// If INDEX is that of a content, `summary` makes the summary of that content, whatever bytes ARCHIVE has.
 pub fn summarized_by_index<I: Placed, P: Placed>()
     ensures { (input : Reader I) (archive : Reader P) (o : Operations) (text told : List ℕ) → IsIndexGiven input o
-        → MakesSummaryAt input archive text told
+        → (summary_at input archive).Makes text told
         → (text ≡ summary_text (summary o)) × (told ≡ summary_report_of (summary o)) }
 {}
 
@@ -100,64 +104,60 @@ pub fn held_by_indexes<I: Placed, P: Placed>()
 pub fn found_by_indexes<I: Placed, P: Placed>()
     ensures { (inputs : List (Reader I)) (archives : List (Reader P)) (os : List Operations) (uuid : List ℕ)
         (status : Status) (text : List ℕ) → length uuid ≡ 16 → AreIndexed inputs archives os
-        → MakesTogether (uuid ∷ []) inputs archives (λ o s t. TellsFound o uuid s t) status text
+        → (find_together inputs archives uuid).Makes status text
         → TellsFound (all_joined os) uuid status text }
 {}
 
-/// So does `symbolicate`, with lines and without, and with the lines of the slices that answer: by tables whatever
-/// bytes the archives have, if no two different slices of several contents have one SHA-256; and by slices, where two
-/// are tied. With the lines of slices a key may be refused by tables, where its slice has no lines that are wanted.
+/// So does `symbolicate`, with lines and without, and with the lines of the slices that answer. If no two slices are
+/// tied under the key, that is so whatever bytes the archives have; by the index of one archive none are, and nothing
+/// is supposed of SHA-256. With the lines of slices the key may be refused: if its slice has no lines that are wanted,
+/// or if two are tied and an archive was changed. What slices tell that are read supposes nothing of several contents.
 pub fn answered_by_indexes<I: Placed, P: Placed>()
-    ensures tables { (inputs : List (Reader I)) (archives : List (Reader P)) (os : List Operations) (key : SliceKey)
+    ensures untied { (inputs : List (Reader I)) (archives : List (Reader P)) (os : List Operations) (key : SliceKey)
         (load : Option ℕ) (lines slices : Bool) (addresses : List ℕ) (status : Status) (text : List ℕ)
-        → AreIndexesGiven inputs os → DigestsTell os → IsKey key
-        → TellsByTables inputs archives key load lines slices addresses status text
-        → TellsAddressesOrBesides os key load lines slices addresses status text }
+        → AreIndexesGiven inputs os → DigestsTell os → IsKey key → (AreTiedSlices os key → ⊥)
+        → (symbolicate_at inputs archives key load lines slices addresses).Makes status text
+        → TellsAddressesOrBesides archives os key load lines slices addresses status text }
     ensures alone { (input : Reader I) (archive : Reader P) (o : Operations) (key : SliceKey) (load : Option ℕ)
         (lines slices : Bool) (addresses : List ℕ) (status : Status) (text : List ℕ) → IsIndexGiven input o → IsKey key
-        → TellsByTables (input ∷ []) (archive ∷ []) key load lines slices addresses status text
+        → (symbolicate_at (input ∷ []) (archive ∷ []) key load lines slices addresses).Makes status text
         → TellsAddressesWith o key load lines slices addresses status text
-        ⊎ ((slices ≡ true) × TellsAddressesBesides (o ∷ []) key lines addresses status text) }
-    ensures slices { (inputs : List (Reader I)) (archives : List (Reader P)) (os : List Operations) (key : SliceKey)
-        (load : Option ℕ) (lines slices : Bool) (addresses : List ℕ) (status : Status) (text : List ℕ)
-        → length (key_bytes key) ≤ 24 → (slices ≡ true → IsKey key) → AreIndexed inputs archives os
-        → TellsBySlices inputs archives key load lines slices addresses status text
-        → TellsAddressesWith (all_joined os) key load lines slices addresses status text }
+        ⊎ ((slices ≡ true) × TellsFramesBesides lines (archive ∷ []) (o ∷ []) (key ∷ [])
+        (frames_under key load addresses) status text) }
+    ensures slices { (inputs : List (Reader I)) (archives : List (Reader P)) (os : List Operations)
+        (all : List (List (List ℕ))) (lines : Bool) (key : SliceKey) (asked : Where) (answer : AnswerRecord)
+        (frames : List (List FrameRecord)) → length (key_bytes key) ≤ 24 → AreIndexed inputs archives os
+        → AreReadWith inputs archives all → IsAnsweredBySlices archives all lines key asked answer frames
+        → IsSourced (all_joined os) key lines asked answer frames }
     ensures either { (inputs : List (Reader I)) (archives : List (Reader P)) (os : List Operations) (key : SliceKey)
         (load : Option ℕ) (lines slices : Bool) (addresses : List ℕ) (status : Status) (text : List ℕ)
         → AreIndexed inputs archives os → DigestsTell os → IsKey key
         → (symbolicate_at inputs archives key load lines slices addresses).Makes status text
-        → TellsAddressesOrBesides os key load lines slices addresses status text }
+        → TellsAddressesOrBesides archives os key load lines slices addresses status text }
 {}
 
 /// So does `frames`, where the frames of a key that is not refused have the answers of the join. The frames that a text
 /// says have such keys as this asks.
 pub fn framed_by_indexes<I: Placed, P: Placed>()
-    ensures tables { (inputs : List (Reader I)) (archives : List (Reader P)) (os : List Operations)
+    ensures untied { (inputs : List (Reader I)) (archives : List (Reader P)) (os : List Operations)
         (lines slices : Bool)
         (listed : List Frame) (status : Status) (text : List ℕ) → AreIndexesGiven inputs os → DigestsTell os
-        → ((frame : Frame) → Contains listed frame → IsKey frame.key)
-        → TellsFramesByTables lines slices inputs archives listed status text
-        → TellsFramesOrBesides lines slices os listed status text }
+        → ((frame : Frame) → Contains listed frame → IsKey frame.key × (AreTiedSlices os frame.key → ⊥))
+        → AreToldAt lines slices inputs archives (frame_keys listed) listed status text
+        → TellsFramesOrBesides lines slices archives os listed status text }
     ensures alone { (input : Reader I) (archive : Reader P) (o : Operations) (lines slices : Bool) (listed : List Frame)
         (status : Status) (text : List ℕ) → IsIndexGiven input o
         → ((frame : Frame) → Contains listed frame → IsKey frame.key)
-        → TellsFramesByTables lines slices (input ∷ []) (archive ∷ []) listed status text
+        → AreToldAt lines slices (input ∷ []) (archive ∷ []) (frame_keys listed) listed status text
         → TellsFramesWith lines slices o listed status text
-        ⊎ ((slices ≡ true) × TellsFramesBesides (o ∷ []) lines listed status text) }
-    ensures slices { (inputs : List (Reader I)) (archives : List (Reader P)) (os : List Operations)
-        (lines slices : Bool)
-        (listed : List Frame) (status : Status) (text : List ℕ)
-        → ((key : List ℕ) → Contains (keys_of listed) key → length key ≤ 24)
-        → (slices ≡ true → (frame : Frame) → Contains listed frame → IsKey frame.key) → AreIndexed inputs archives os
-        → TellsFramesBySlices lines slices inputs archives listed status text
-        → TellsFramesWith lines slices (all_joined os) listed status text }
+        ⊎ ((slices ≡ true)
+        × TellsFramesBesides lines (archive ∷ []) (o ∷ []) (frame_keys listed) listed status text) }
     ensures either { (inputs : List (Reader I)) (archives : List (Reader P)) (os : List Operations)
         (lines slices : Bool)
         (listed : List Frame) (status : Status) (text : List ℕ) → AreIndexed inputs archives os → DigestsTell os
         → ((frame : Frame) → Contains listed frame → IsKey frame.key)
-        → AreToldAt lines slices inputs archives listed status text
-        → TellsFramesOrBesides lines slices os listed status text }
+        → AreToldAt lines slices inputs archives (frame_keys listed) listed status text
+        → TellsFramesOrBesides lines slices archives os listed status text }
     ensures keys { (bytes : List ℕ) (listed : List Frame) (frame : Frame) → frames_of bytes ≡ Ok listed
         → Contains listed frame → IsKey frame.key }
 {}
@@ -205,7 +205,8 @@ pub fn undecided_by_indexes<I: Placed, P: Placed>()
 {}
 
 /// By the indexes of contents a table is refused for a device alone, or if lines are wanted for a slice that answers
-/// and has none, whatever bytes the archives have. By the indexes of these very archives all that is refused is so.
+/// and has none, whatever bytes the archives have. By the indexes of these very archives all that is refused is so, and
+/// a key that is refused alone is so for such a slice.
 pub fn undamaged_by_indexes<I: Placed, P: Placed>()
     ensures tables { (lines slices : Bool) (keys : List (List ℕ)) (inputs : List (Reader I))
         (archives : List (Reader P)) (os : List Operations) (at : InputName) (why : Why) → AreIndexesGiven inputs os
@@ -213,4 +214,8 @@ pub fn undamaged_by_indexes<I: Placed, P: Placed>()
     ensures asked { (lines slices : Bool) (keys : List (List ℕ)) (inputs : List (Reader I)) (archives : List (Reader P))
         (os : List Operations) (at : InputName) (why : Why) → AreOwnIndexes inputs archives os
         → AreRefusedAsking lines slices keys inputs archives at why → IsDeviceFault why ⊎ IsForLines lines os keys why }
+    ensures key { (lines : Bool) (inputs : List (Reader I)) (archives : List (Reader P)) (os : List Operations)
+        (all : List (List (List ℕ))) (refusal : KeyRefusal) → AreOwnIndexes inputs archives os
+        → AreReadWith inputs archives all → IsKeyRefused lines inputs archives all refusal
+        → IsRefusedForLines lines os refusal }
 {}

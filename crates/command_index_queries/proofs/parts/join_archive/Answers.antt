@@ -4,8 +4,8 @@ use Rattle.command_index_queries.specs.Prefixes.{prefix_bytes}
 use Rattle.command_index_queries.proofs.Joined.{named_in, told_refused}
 use Rattle.command_index_queries.proofs.parts.join_archive.Goals as goal
 
-pub returns-in-Ok : goal.returns-in-Ok
-returns-in-Ok g c =
+pub returns-in-Ok-clause-read : goal.returns-in-Ok-clause-read
+returns-in-Ok-clause-read g c =
     let j = c.in-Ok.ensures in
     record {
       is = named_in g.P.Placed.whole g.P.Placed.failures c.args.archive.now _ (map prefix_bytes c.args.prefixes.now)
@@ -13,8 +13,14 @@ returns-in-Ok g c =
       unfailed = j.2;
     }
 
-pub returns-in-Err : goal.returns-in-Err
-returns-in-Err g c =
+pub returns-in-Err-clause-read : goal.returns-in-Err-clause-read
+returns-in-Err-clause-read g c =
     rw c.told.ensures
     (told_refused g.P.Placed.whole g.P.Placed.failures c.args.archive.now _ (map prefix_bytes c.args.prefixes.now)
     (placed_of c.args.tables.now) c.args.tables.now refl _ _ c.in-Err.ensures.0 c.in-Err.ensures.2)
+
+pub returns-in-Ok-clause-kept : goal.returns-in-Ok-clause-kept
+returns-in-Ok-clause-kept g c = c.in-Ok.ensures.1
+
+pub returns-in-Err-clause-kept : goal.returns-in-Err-clause-kept
+returns-in-Err-clause-kept g c = c.in-Err.ensures.1

@@ -5,7 +5,7 @@ use Rattle.command_common.specs.Inputs.{reader, readers}
 use Rattle.command_common.proofs.Readers.{all_read, none_failed, one_more, rest_kept, same_at, unfailed_more}
 use Rattle.command_index_queries.specs.Prefixes.{prefix_bytes}
 use Rattle.command_index_queries.specs.InnerParts.{HaveJoinedGroups}
-use Rattle.command_index_queries.proofs.Groups.{groups_more, groups_none, one_refused}
+use Rattle.command_index_queries.proofs.Groups.{bytes_more, groups_more, groups_none, one_refused}
 use Rattle.command_index_queries.proofs.together.join_archives.Goals as goal
 
 pub archives-init : goal.archives-init
@@ -13,6 +13,7 @@ archives-init g c = record {
   joined = groups_none _ _;
   unfailed = none_failed g.P.Placed.whole g.P.Placed.failures c.args.archives.now;
   rest = refl;
+  bytes = refl;
 }
 
 pub archives-preserved : goal.archives-preserved
@@ -30,8 +31,9 @@ archives-preserved g c =
     let lt : number < length before = omega arith in
     let few : number < length all = omega arith in
     let is = same_at seen before number archive inv.rest c.index-archives-number.is in
-    let got = rw (← c.index-archives-number.is) at c.in_ok-join_archive.ensures.is in
-    let well = rw (← c.index-archives-number.is) at c.in_ok-join_archive.ensures.unfailed in
+    let got = rw (← c.index-archives-number.is) at c.in_ok-join_archive.ensures.read.is in
+    let well = rw (← c.index-archives-number.is) at c.in_ok-join_archive.ensures.read.unfailed in
+    let same = rw (← c.index-archives-number.is) at c.in_ok-join_archive.ensures.kept in
     record {
       joined = groups_more (map prefix_bytes c.args.prefixes.now) (take number (readers whole failures before seen)) _
           (take number all) _ (reader whole failures archive later) entries (g.A.Join.content c.args.kept.now)
@@ -41,10 +43,11 @@ archives-preserved g c =
           inv.joined got;
       unfailed = unfailed_more whole failures before seen number archive later lt c.archives.auto.archives is inv.unfailed well;
       rest = rest_kept seen before number later inv.rest;
+      bytes = bytes_more whole failures seen number archive later c.index-archives-number.is same ∙ inv.bytes;
     }
 
-pub returns-in_err-join_archive : goal.returns-in_err-join_archive
-returns-in_err-join_archive g c =
+pub returns-in_err-join_archive-clause-read : goal.returns-in_err-join_archive-clause-read
+returns-in_err-join_archive-clause-read g c =
     let all = c.args.read.now in
     let before = c.args.archives.now in
     let seen = c.archives.archives in
@@ -57,10 +60,10 @@ returns-in_err-join_archive g c =
     rw (p.1, p.2)
     (one_refused g.P.Placed.whole g.P.Placed.failures (map prefix_bytes c.args.prefixes.now) all before seen number archive _ c.index-read-number.result
     lt c.archives.auto.archives (same_at seen before number archive inv.rest c.index-archives-number.is) inv.rest inv.unfailed few c.index-read-number.is
-    _ _ c.in_err-join_archive.field-0.0 inv.joined (rw (← c.index-archives-number.is) at c.in_err-join_archive.ensures))
+    _ _ c.in_err-join_archive.field-0.0 inv.joined (rw (← c.index-archives-number.is) at c.in_err-join_archive.ensures.read))
 
-pub returns : goal.returns
-returns g c =
+pub returns-clause-read : goal.returns-clause-read
+returns-clause-read g c =
     let whole = g.P.Placed.whole in
     let failures = g.P.Placed.failures in
     let all = c.args.read.now in
@@ -76,3 +79,12 @@ returns g c =
           (ap (λ n. take n (readers whole failures before seen)) end ∙ all_read whole failures before seen c.archives.auto.archives) inv.joined);
       unfailed = inv.unfailed;
     }
+
+pub returns-in_err-join_archive-clause-kept : goal.returns-in_err-join_archive-clause-kept
+returns-in_err-join_archive-clause-kept g c =
+    let same = rw (← c.index-archives-number.is) at c.in_err-join_archive.ensures.kept in
+    bytes_more g.P.Placed.whole g.P.Placed.failures c.archives.archives c.archives.number c.index-archives-number.result _
+    c.index-archives-number.is same ∙ c.archives.invariant.bytes
+
+pub returns-clause-kept : goal.returns-clause-kept
+returns-clause-kept g c = c.archives.invariant.bytes

@@ -2,6 +2,7 @@ use Rattle.std.proofs.Common.{◌≡◌, map, take, drop}
 use Rattle.command_common.specs.Inputs.{EachUnfailed, readers}
 use Rattle.command_index_queries.specs.Prefixes.{prefix_bytes}
 use Rattle.command_index_queries.specs.InnerParts.{HaveJoinedGroups}
+use Rattle.command_index_queries.specs.Together.{HaveSameBytes}
 use Rattle.command_index_queries.proofs.together.join_archives.Given as goal
 
 abbrev pub invariant-archives : goal.invariant-archives
@@ -11,4 +12,5 @@ invariant-archives g l = record {
       (g.A.Join.content l.initial.kept) (g.A.Join.content l.kept);
   unfailed : EachUnfailed (readers g.P.Placed.whole g.P.Placed.failures l.fn.archives l.archives);
   rest : drop l.number l.archives ≡ drop l.number l.fn.archives;
+  bytes : HaveSameBytes g.P.Placed.whole l.fn.archives l.archives;
 }

@@ -38,4 +38,4 @@ returns g c =
     (c.read_prefixes.auto.archives ∙ c.read_indexes.auto.archives) read.read.is read.read.unfailed read.kept.1
     g.A.Join.content c.read_prefixes.result
     (subst (λ all. ReadsInputs c.read_prefixes.result (λ kept. HoldNamed prefixes later all (g.A.Join.content kept))
-    (IsFirstRefusedAtPlaces prefixes later all) (EachUnfailed later)) c.deref.ensures.value c.read_prefixes.ensures)
+    (IsFirstRefusedAtPlaces prefixes later all) (EachUnfailed later)) c.deref.ensures.value c.read_prefixes.ensures.read)

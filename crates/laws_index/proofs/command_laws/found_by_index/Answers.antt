@@ -7,12 +7,12 @@ use Rattle.laws_index.proofs.command_laws.found_by_index.Goals as goal
 
 pub returns : goal.returns
 returns g c = λ input archive o uuid status text long (index, given, file) makes.
-    let told = makes.tells in
-    let is = entries_are input o makes.entries (index, given, file) makes.index_of.index_is in
+    let told = makes.have in
+    let is = entries_are input o told.entries (index, given, file) told.index_of.index_is in
     record {
-      rows = told.rows;
-      finds = found_of_index o uuid told.rows long file.content (have_keys o index file) file.archive_fits
-          (subst (λ (s : Entries). AreIndexRows uuid s told.rows) is told.are_rows);
-      status_is = told.status_is;
-      text_is = told.text_is;
+      rows = makes.rows;
+      have = found_of_index o uuid makes.rows long file.content (have_keys o index file) file.archive_fits
+          (subst (λ (s : Entries). AreIndexRows uuid s makes.rows) is told.is_true);
+      status_is = makes.status_is;
+      text_is = makes.text_is;
     }

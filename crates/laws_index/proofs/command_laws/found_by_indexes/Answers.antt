@@ -6,11 +6,11 @@ use Rattle.laws_index.proofs.command_laws.found_by_indexes.Goals as goal
 
 pub returns : goal.returns
 returns g c = λ inputs archives os uuid status text long are makes.
-    let told = makes.tells in
+    let (content, held, finds) = makes.have in
     record {
-      rows = told.rows;
-      finds = finds_alike makes.content (all_joined os) uuid told.rows
-          (held_alike (uuid ∷ []) inputs archives os makes.content (omega arith, tt) are makes.held uuid (0, omega arith, refl)) told.finds;
-      status_is = told.status_is;
-      text_is = told.text_is;
+      rows = makes.rows;
+      have = finds_alike content (all_joined os) uuid makes.rows
+          (held_alike (uuid ∷ []) inputs archives os content (omega arith, tt) are held uuid (0, omega arith, refl)) finds;
+      status_is = makes.status_is;
+      text_is = makes.text_is;
     }

@@ -7,11 +7,12 @@ use Rattle.laws_index.proofs.command_laws.listed_by_index.Goals as goal
 
 pub returns : goal.returns
 returns g c = λ input archive o status text (index, given, file) makes.
-    let told = makes.tells in
-    let is = entries_are input o makes.entries (index, given, file) makes.index_of.index_is in (
-      told.rows,
-      list_of_index o told.rows file.content (have_keys o index file) file.archive_fits
-          (subst (λ (s : Entries). AreIndexRows [] s told.rows) is told.are_rows),
-      told.status_is,
-      told.text_is,
-    )
+    let told = makes.have in
+    let is = entries_are input o told.entries (index, given, file) told.index_of.index_is in
+    record {
+      rows = makes.rows;
+      have = list_of_index o makes.rows file.content (have_keys o index file) file.archive_fits
+          (subst (λ (s : Entries). AreIndexRows [] s makes.rows) is told.is_true);
+      status_is = makes.status_is;
+      text_is = makes.text_is;
+    }

@@ -1,4 +1,4 @@
-use Rattle.laws_index.proofs.ByTables.{asked_by_device, untold_by_device}
+use Rattle.laws_index.proofs.ByTables.{asked_by_device, own_key, untold_by_device}
 use Rattle.laws_index.proofs.command_laws.undamaged_by_indexes.Goals as goal
 
 pub returns-clause-tables : goal.returns-clause-tables
@@ -6,3 +6,6 @@ returns-clause-tables g c = λ lines slices keys inputs archives os at why are u
 
 pub returns-clause-asked : goal.returns-clause-asked
 returns-clause-asked g c = λ lines slices keys inputs archives os at why are refused. asked_by_device keys inputs archives at why lines slices os are refused
+
+pub returns-clause-key : goal.returns-clause-key
+returns-clause-key g c = λ lines inputs archives os all refusal are read is. own_key inputs archives os lines all read are refusal is
