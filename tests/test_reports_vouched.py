@@ -219,15 +219,18 @@ class ReadSlices(VouchedCase):
         self.says(advice(SPOOL, "other.sym"), f"{NONE_NAMED}; {CHANGED}", words=words)
 
     def test_other_keys_are_named(self) -> None:
-        """The program refuses the whole, and is asked for fewer keys, down to the one whose slice changed."""
+        """The program refuses the key alone whose slice changed, and is called once."""
         dsym = (CRASHES / "spool-1.dSYM").read_bytes()
         other = self.file("other.dSYM", dsym[:-1] + bytes([dsym[-1] ^ 1]))
         for name, paths in (("one.sym", [CRASHES / "spool-1.dSYM", CRASHES / "spool-2.dSYM"]), ("other.sym", [other])):
             self.assertEqual(self.call("admit", self.archives / "empty", name, *paths).status, 0)
             self.assertEqual(self.call("index", name, f"{name}.idx").status, 0)
         self.change(self.folder / "other.sym")
-        came = self.report(FIXTURES / "spool.spindump.txt", "one.sym", "other.sym")
+        program = self.script("counting", f'echo >>"{self.folder}/calls"; exec "$symarch" "$@"')
+        words = [FIXTURES / "spool.spindump.txt", "one.sym", "other.sym"]
+        came = self.report(*words, environment={"SYMARCH": program})
         self.assertEqual((came.status, self.shortened(came)[0]), (2, advice(SPOOL, "other.sym")))
+        self.assertEqual((self.folder / "calls").read_text().count("\n"), 1)
         _, *origins = came.error_lines[1].split("; ")
         wanted = [f"by dSYM: spool {SPOOL_2}", f"changed since it came in: spool {SPOOL}"]
         self.assertEqual(origins[:2], wanted)

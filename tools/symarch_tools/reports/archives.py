@@ -174,8 +174,6 @@ class Attempt:
                 raise cut_short(file.path)
             if fault.kind == "archive":
                 break
-            if fault.entry is not None:
-                return self.ask_apart(answers, has_lines, fault)
             if fault.reason not in OF_ANOTHER:
                 file.refuse(f"{shown(file.index)} is not read: {fault.text}")
             file.take_other_index()
@@ -189,13 +187,6 @@ class Attempt:
             for file in self.files:
                 if not file.index:
                     file.make_index(self.program, self.folder)
-
-    def ask_apart(self, answers: Sequence[Answers], has_lines: bool, fault: InputFault) -> bool:
-        """Asks for each half alone after a fault of one slice that was read, which is that of the key that is left."""
-        if len(answers) == 1:
-            return self.take_refused(answers, has_lines, {answers[0].key: fault})
-        half = len(answers) // 2
-        return self.ask(answers[:half], has_lines) and self.ask(answers[half:], has_lines)
 
     def take_refused(
         self, answers: Sequence[Answers], has_lines: bool, refused: Mapping[Key, InputFault]
