@@ -1,5 +1,7 @@
-"""What can be taken of an archive: slices, as debuginfod and Symbolicator ask for them, and dSYM bundles for lldb. They
-are sent out of open files, whatever their size."""
+"""What can be taken of an archive: slices, as debuginfod and Symbolicator ask for them, and dSYM bundles for lldb.
+They are sent out of open files, whatever their size. So a slice is not copied, and a fold does not change it. The
+worker that opens the file first compares the bytes with their SHA-256; the result counts for a minute if nobody
+wrote to the file."""
 from __future__ import annotations
 
 import os

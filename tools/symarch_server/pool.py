@@ -1,5 +1,6 @@
-"""The processes that work. Each is begun once and answers one job after another, within limits of memory and time; one
-that passes them, or ends, gets a successor."""
+"""The processes that work. Each is begun once and answers one job after another, within limits of memory and time;
+one that passes them, or ends, gets a successor. Each has a group of its own, and one answer at a time: so a limit
+ends an answer with all its children, and nothing else."""
 from __future__ import annotations
 
 import contextlib

@@ -1,5 +1,7 @@
-"""How connections are held, by waitress: how long a body may be before anybody looks at it, how long a client may take,
-and how the server ends. Requests are read and answers are sent by one loop, so that a slow client keeps nobody out."""
+"""How connections are held, by waitress: how long a body may be before anybody looks at it, how long a client may
+take, and how the server ends. Requests are read and answers are sent by one loop, so that a slow client keeps nobody
+out. waitress stores a body before the application sees it, so the head of a request decides how long it may be, and
+only a token allows a large one."""
 from __future__ import annotations
 
 import collections

@@ -1,4 +1,5 @@
-"""`repair`: mends what changed, out of another archive."""
+"""`repair`: mends what changed, out of another archive. It writes the archive itself, since commands remove a slice
+only by a retirement, and hashes only the slices that it puts in."""
 import argparse
 import contextlib
 import functools

@@ -1,5 +1,6 @@
-"""One exchange of a site: it joins what others answered, asks what it lacks, answers what others ask, and removes what
-is done with."""
+"""One exchange of a site: it joins what others answered, asks what it lacks, answers what others ask, and removes
+what is done with. An answer is sent only if its digests agree with the indexes: otherwise a slice that changed at
+one site would be a conflict everywhere."""
 import contextlib
 import os
 import time

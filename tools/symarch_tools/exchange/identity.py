@@ -1,4 +1,5 @@
-"""The name of a site in the shared folder: its mark, and ARCHIVE.site, by which another of its name differs."""
+"""The name of a site in the shared folder: its mark, and ARCHIVE.site, by which another of its name differs. Two
+sites under one name would remove each other's questions."""
 import uuid
 from dataclasses import dataclass
 from typing import List, Optional, Sequence, Tuple

@@ -9,7 +9,9 @@
     builds DIGEST                ARCHIVE.builds after the call before
     joined DIGEST N              names of builds of N bytes that are all in it
 
-So a question, or names of builds, that were read once need not be read again, whichever site sent them."""
+So a question, or names of builds, that were read once need not be read again, whichever site sent them. A site keeps
+only its last question, which has everything that the earlier ones had. Entries of it, or of a question of the site's
+own in the folder, that the archive lacks are lost."""
 import time
 from dataclasses import dataclass
 from typing import Dict, Iterable, List, NamedTuple, Optional, Tuple

@@ -11,7 +11,9 @@ ARCHIVE.signers has what a site remembers:
     own NAME KEY      the file that this site put into the folder last under this name, and with which key
     good DIGEST       a signature that was verified on this day, by the same signers, and need not be again
     bad DIGEST        one that no key of its site made
-    named DIGEST      what was said of a file"""
+    named DIGEST      what was said of a file
+
+A file is copied before it is verified, and the copy is read."""
 import hashlib
 import os
 import re

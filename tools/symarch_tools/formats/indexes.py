@@ -1,6 +1,7 @@
-"""Indexes of archives: of each record its entry in the summary, whether it is a companion's, where it stands, and where
-the table of its slice is stored in the index. An index is read from its end: its tables are not read for that, and are
-copied from one index into another. docs/FILES.md has the bytes."""
+"""Indexes of archives: of each record its entry in the summary, whether it is a companion's, where it stands, and
+where the table of its slice is stored in the index. An index is read from its end: its tables are not read for that,
+and are copied from one index into another. docs/FILES.md has the bytes. One of another kind does not count: without
+tables, or whose last table is not as long as its head states."""
 import hashlib
 import io
 import os

@@ -1,5 +1,7 @@
-"""The tables of slices, as indexes store them: each is the SHA-256 of its pages, and then its bytes. A new index gets
-those that other indexes have, which are copied piece by piece; of no slice is a table made here."""
+"""The tables of slices, as indexes store them: each is the SHA-256 of its pages, and then its bytes. A new index
+gets those that other indexes have, which are copied piece by piece; of no slice is a table made here. A slice that
+changed before its table was made has none: its index keeps the digest that reveals the change, and a new table would
+have names that nobody shipped."""
 import contextlib
 import hashlib
 import os

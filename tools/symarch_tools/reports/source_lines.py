@@ -1,5 +1,6 @@
-"""Where frames are in the source, as the program prints it by `--lines`: of each its file and line, and the functions
-that were inlined there."""
+"""Where frames are in the source, as the program prints it by `--lines`: of each its file and line, and the
+functions that were inlined there. An inlined function has no offset, since the program does not print where its code
+begins."""
 from __future__ import annotations
 
 from dataclasses import dataclass, field

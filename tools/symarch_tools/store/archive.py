@@ -1,5 +1,6 @@
-"""An archive: ARCHIVE, its levels and ARCHIVE.today, which are asked as their join; what they have, and what is lost;
-and what a kill left of it. How more comes in is in `draft`."""
+"""An archive: ARCHIVE, its levels and ARCHIVE.today, which are asked as their join; what they have, and what is
+lost; and what a kill left of it. How more comes in is in `draft`. Each index is made from the old ones and that of
+the new records, and the heads of all records are compared with it, so a changed byte never becomes a known one."""
 import os
 from typing import List, Optional, Sequence, Tuple
 

@@ -1,6 +1,7 @@
 """An archive file, and what is known of it: FILE.idx next to it is the index that the last command left, and
-FILE.idx.next that of a new file which takes its place, by the steps of `Archive.replace`. Each has the time of the file
-of which it was made, so that another file differs from that one."""
+FILE.idx.next that of a new file which takes its place, by the steps of `Archive.replace`. Each has the time of the
+file of which it was made, so that another file differs from that one. An archive belongs to an index that has its
+length, and its time or else the heads of all its records; an index that a kill left needs all three."""
 import contextlib
 import operator
 import os

@@ -1,5 +1,7 @@
 """The draft of a new archive file, which the program writes into a room, and which takes the place of files of the
-archive: a join of some of them and of what comes in."""
+archive: a join of some of them and of what comes in. A command folds by itself only if ARCHIVE.today had grown
+before it, so its own records do not make it slower. The programs of a fold read one another through pipes, since
+`merge` of several FILEs has them in memory."""
 import os
 from dataclasses import dataclass, field
 from typing import List, Optional, Sequence

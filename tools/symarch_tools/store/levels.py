@@ -3,10 +3,11 @@ fold joins, as its help says. Each is at least twice as large as the one after i
 only when its file has grown by half or more.
 
 The join takes the place of the largest file of which it is made, by the steps of `folder`. Then the other levels are
-removed, each before its index, and ARCHIVE.today is emptied. So a kill leaves each record in the
-files that had it, or in the join, or in both. The next command sees by the indexes that the files before a level, or
-before ARCHIVE.today, have all that it has, and goes on. Who opens the files from the last one to ARCHIVE finds each
-record, since a fold moves them only to files that stand before."""
+removed, each before its index, and ARCHIVE.today is emptied. So a kill leaves each record in the files that had it,
+or in the join, or in both. The next command sees by the indexes that the files before a level, or before
+ARCHIVE.today, have all that it has, and goes on. Who opens the files from the last one to ARCHIVE finds each record,
+since a fold moves them only to files that stand before. Levels are numbered from the largest on, so a fold renames
+none."""
 import os
 from dataclasses import dataclass, field
 from typing import Dict, Iterator, List, Sequence, Set

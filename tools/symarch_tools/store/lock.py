@@ -1,5 +1,6 @@
 """The lock on the file ARCHIVE.lock. Who writes has it alone, and who reads shares it: by the file that is there, or
-not at all, so that nothing is made. Who asks takes none, and looks at files again that change meanwhile."""
+not at all, so that nothing is made. Who asks takes none, and looks at files again that change meanwhile. It does so
+for half a minute, since each step of a replacement leaves files that fit."""
 import contextlib
 import fcntl
 import os

@@ -1,5 +1,6 @@
 """ARCHIVE.log, the lines of the commands with their dates; and ARCHIVE.log.next, the lines of a new archive that is
-being put in place, which are added to it once that is there."""
+being put in place, which are added to it once that is there. The log has the day of a retirement; without its line,
+the date of the file that still has the slice counts."""
 import contextlib
 import functools
 import os

@@ -1,5 +1,7 @@
-"""What changed or is lost: the lines of it, with their objects of JSON; and ARCHIVE.lost, which has what an archive had
-and lacks, as after a restore, until it is back or is taken as lost."""
+"""What changed or is lost: the lines of it, with their objects of JSON; and ARCHIVE.lost, which has what an archive
+had and lacks, as after a restore, until it is back or is taken as lost. ARCHIVE.lost is written before the index
+with the lost entries is removed. Accepted losses stay there, since a copied folder may bring back a question that
+names them."""
 import uuid
 from dataclasses import dataclass, field
 from typing import Iterable, List, Optional

@@ -1,4 +1,5 @@
-"""Reports as JSON: the frames of .ips, and of the payloads of MetricKit."""
+"""Reports as JSON: the frames of .ips, and of the payloads of MetricKit. The root of a MetricKit tree is innermost
+in one thread, and outermost in a tree of samples: its JSON does not state it."""
 from __future__ import annotations
 
 from array import array
