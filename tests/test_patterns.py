@@ -41,7 +41,6 @@ def text_run(before: str, again: str, after: str = "\0") -> Callable[[int], str]
 SPACES, DIGITS = run("", " "), run("", "1")
 SAMPLES: Dict[str, Samples] = {
     "console.escapes.ESCAPED": ("sub", [run("", "\\x"), run("", "\\x1b")]),
-    "console.escapes.OF_TERMINAL": ("sub", [text_run("", "a"), text_run("", "\x9b")]),
     "console.version.RELEASE": ("search", [text_run("### ", "1.1.1"), text_run("", "### 1.1.1, 2000-01-01\n\0\n")]),
     "console.version.NEXT": ("search", [text_run("### ", "1.1.1"), text_run("", "### 1.1.1, not release\n")]),
     "console.answer_lines.ANSWER": ("match", [run("", " + 1 "), run("", " + 1"), SPACES]),
@@ -53,7 +52,7 @@ SAMPLES: Dict[str, Samples] = {
     "console.program_faults.FAULT": ("fullmatch", [
         text_run("archive 0: ", " at 1"), text_run("index ", "1"), text_run("file 0: Stale at entry ", "1"),
     ]),
-    "formats.builds.LINE": ("fullmatch", [run("0" * 16 + " 2000-01-01 " + UUID + " arm64 " + DIGEST + " ", "\\x20")]),
+    "formats.build_lines.LINE": ("fullmatch", [run("0" * 16 + " 2000-01-01 " + UUID + " arm64 " + DIGEST + " ", "\\x20")]),
     "store.bundles.folder.UNPRINTABLE": ("sub", [text_run("", "\1"), text_run("", "a")]),
     "formats.contents.NUMBERED": ("fullmatch", [text_run("cpu:", "0")]),
     "commands.arguments.DIGEST": ("fullmatch", [text_run("", "a")]),

@@ -1,11 +1,14 @@
 """symarch-keep: its commands, and how each is carried out."""
+from __future__ import annotations
+
 import argparse
+import functools
+import gc
 import importlib
 import os
 import sys
 from typing import Any, Dict, List, NoReturn, Optional, Sequence, Set
 
-from .commands.arguments import seconds_in
 from .commands.order import refuse_order
 from .console.escapes import shown
 from .console.faults import CutShort, Failed, system_text
@@ -13,7 +16,6 @@ from .console.progress import progress
 from .console.screen import Screen
 from .console.signals import Stopped, signals
 from .console.unforeseen_faults import DEBUG, HELP, debugging, guarded, unforeseen
-from .console.version import PrintVersion
 from .store.file_names import is_archive
 
 DESCRIPTION = """\
@@ -62,6 +64,12 @@ WITHOUT_JSON = ("fold", "repair")
 QUIET = "print nothing if nothing is wrong, since cron mails the output"
 WAIT = "wait at most this long for another command that writes, by default without end"
 JSON = "print an object of JSON for each line, as docs/FILES.md describes them"
+# It would look for translations of its words, and import modules for that.
+vars(argparse)["_"] = str
+# How help is printed. That of a command that is carried out needs not the width of the terminal, for which it would
+# import modules.
+SHAPE = argparse.RawDescriptionHelpFormatter
+UNMEASURED = functools.partial(SHAPE, width=80)
 
 
 class CommandParser(argparse.ArgumentParser):
@@ -71,7 +79,16 @@ class CommandParser(argparse.ArgumentParser):
         self.options: Set[str] = set()
         self.names: List[str] = []
         self.valued: Set[str] = set()
+        more.update(formatter_class=UNMEASURED, allow_abbrev=False)
         super().__init__(*arguments, **more)
+
+    def format_help(self) -> str:
+        self.formatter_class = SHAPE
+        return super().format_help()
+
+    def format_usage(self) -> str:
+        self.formatter_class = SHAPE
+        return super().format_usage()
 
     def add_argument(self, *arguments: Any, **more: Any) -> argparse.Action:
         action = super().add_argument(*arguments, **more)
@@ -116,24 +133,20 @@ class CommandParser(argparse.ArgumentParser):
 
 
 def parse(arguments: Sequence[str]) -> argparse.Namespace:
-    shape = argparse.RawDescriptionHelpFormatter
-    parser = CommandParser("symarch-keep", description=DESCRIPTION, formatter_class=shape, allow_abbrev=False)
-    parser.add_argument(VERSION, action=PrintVersion, nargs=0, help="print the version and exit")
-    # It is taken out before, since it may be anywhere.
-    parser.add_argument(DEBUG, action="store_true", help=HELP)
-    commands = parser.add_subparsers(metavar="COMMAND", required=True)
-    parsers: Dict[str, CommandParser] = {}
+    parser = CommandParser("symarch-keep", description=DESCRIPTION)
     first = arguments[0] if arguments else ""
+    if first not in COMMANDS:
+        from .console.version import PrintVersion
+
+        parser.add_argument(VERSION, action=PrintVersion, nargs=0, help="print the version and exit")
+        # It is taken out before, since it may be anywhere.
+        parser.add_argument(DEBUG, action="store_true", help=HELP)
+    commands = parser.add_subparsers(prog=parser.prog, metavar="COMMAND", required=True)
+    parsers: Dict[str, CommandParser] = {}
     for name in [first] if first in COMMANDS else () if first == VERSION else COMMANDS:
         module = importlib.import_module(f".commands.{name}", __package__)
-        parsers[name] = its = commands.add_parser(
-            name,
-            help=module.ABOUT,
-            usage=module.USAGE,
-            description=module.DESCRIPTION,
-            formatter_class=shape,
-            allow_abbrev=False,
-        )
+        about = {"help": module.ABOUT, "usage": module.USAGE, "description": module.DESCRIPTION}
+        parsers[name] = its = commands.add_parser(name, **about)
         if name not in ASKING:
             its.add_argument("--quiet", action="store_true", help=QUIET)
             its.add_argument("--wait", metavar="SECONDS", help=WAIT)
@@ -172,7 +185,10 @@ def carry_out(arguments: argparse.Namespace) -> int:
     failed = Failed("out of memory")
     try:
         wait = vars(arguments).get("wait")
-        arguments.wait = None if wait is None else seconds_in(wait)
+        if wait is not None:
+            from .commands.arguments import seconds_in
+
+            arguments.wait = seconds_in(wait)
         arguments.refuse_order()
         status: int = arguments.carry_out(arguments)
         return status
@@ -208,6 +224,9 @@ def main(given: Optional[Sequence[str]] = None) -> int:
 def ended(arguments: argparse.Namespace) -> int:
     """The status of a command, which a signal may end."""
     status = 4
+    # Nothing is to be collected of the modules, for whose import this was off.
+    gc.freeze()
+    gc.enable()
     try:
         signals.answer()
         status = carry_out(arguments)

@@ -1,12 +1,12 @@
 """symbolicate-report: how reports are read, looked up and printed with the names that an archive has."""
 from __future__ import annotations
 
+import gc
 import itertools
 import os
 import signal
 import sys
 import tempfile
-from dataclasses import dataclass, field
 from typing import TYPE_CHECKING, Dict, Iterable, Iterator, List, Optional, Sequence, Tuple
 
 from .console.demangler import demangled, lacks_swift, without_underscores
@@ -16,6 +16,7 @@ from .console.json_lines import Members, path_members
 from .console.signals import Stopped, signals
 from .console.streams import drop, encoded, note, printing, say
 from .console.unforeseen_faults import debugging, guarded
+from .data import dataclass, field
 from .formats.files import identity_of
 from .reports.account import Account, print_end, print_objects
 from .reports.archives import Archives, with_levels
@@ -32,6 +33,8 @@ if TYPE_CHECKING:
 
 # A report in a zip file may have so many bytes.
 MOST_OF_MEMBER = 64_000_000
+# After so many new objects what they hold in rings is collected.
+OBJECTS = 20_000
 # Where Macs keep the attributes of files, under their names.
 OF_MACS = b"__MACOSX/"
 
@@ -389,6 +392,10 @@ def carry_out_arguments(arguments: Sequence[str]) -> int:
 def main(arguments: Optional[Sequence[str]] = None) -> int:
     """Carries out a command line. A signal ends the tool, unless it is ignored, once its files are removed."""
     given = debugging.taken_from(sys.argv[1:] if arguments is None else arguments)
+    # Nothing is to be collected of the modules, for whose import this was off, and little of reports.
+    gc.freeze()
+    gc.set_threshold(OBJECTS)
+    gc.enable()
     try:
         signals.answer()
         status = guarded(NAME, lambda: carry_out_arguments(given))

@@ -1,13 +1,17 @@
 """Arguments of a command line that are no paths: what each means. One of another form ends the call, and is named."""
+from __future__ import annotations
+
 import argparse
 import os
 import re
-import uuid
+from typing import TYPE_CHECKING
 
 from ..console.escapes import shown
 from ..console.faults import Failed
-from ..formats.builds import MOST_OF_FIELD, field, is_day
-from ..formats.contents import numbers_of
+from ..formats.contents import MOST_OF_FIELD, numbers_of
+
+if TYPE_CHECKING:
+    import uuid
 
 ARCHITECTURES = "x86_64, x86_64h, arm64, arm64e or cpu:CCCCCCCC/00SSSSSS"
 # The help of arguments, of which those after a colon are completed.
@@ -31,6 +35,8 @@ def other_form(name: str, argument: str, form: str) -> Failed:
 
 
 def uuid_of(argument: str) -> uuid.UUID:
+    import uuid
+
     try:
         return uuid.UUID(argument)
     except ValueError:
@@ -103,6 +109,8 @@ def part_of(argument: str) -> str:
 
 def app_of(argument: str) -> str:
     """An identifier of a bundle, as it stands in a line of ARCHIVE.builds."""
+    from ..formats.builds import field
+
     text = os.fsencode(argument)
     if not 0 < len(text) <= MOST_OF_FIELD:
         raise other_form("ID", argument, f"1 to {MOST_OF_FIELD} bytes")
@@ -111,6 +119,8 @@ def app_of(argument: str) -> str:
 
 def day_of(argument: str) -> str:
     """A day of UTC, as it is kept."""
+    from ..formats.build_lines import is_day
+
     if not is_day(os.fsencode(argument)):
         raise other_form("DATE", argument, "a day as YYYY-MM-DD")
     return argument

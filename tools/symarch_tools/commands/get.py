@@ -4,13 +4,13 @@ import collections
 import contextlib
 import functools
 import os
-from dataclasses import dataclass, field
 from typing import Dict, Iterator, List, Optional
 
 from ..console.escapes import shown
 from ..console.faults import Failed
 from ..console.json_lines import NO_PATH, line_of, path_members
 from ..console.screen import Screen, screen_of
+from ..data import dataclass, field
 from ..formats.files import size_of
 from ..formats.indexes import IndexRow
 from ..store.asking import Asked, AskedCommand, held_by, opened_archive

@@ -1,15 +1,15 @@
 """What to type if ARCHIVE does not stand first among the arguments of a call."""
+from __future__ import annotations
+
 import os
-import shlex
 from typing import List, NoReturn, Optional, Sequence
 
 from ..console.escapes import shown
 from ..console.faults import Failed
+from ..console.packed_kinds import ZIP
 from ..formats.files import beginning
-from ..formats.packed_files import ZIP
-from ..formats.universal_files import UNIVERSAL
+from ..formats.universal_files import THIN, UNIVERSAL, is_dsym
 from ..store.file_names import is_archive
-from ..store.slices import THIN, is_dsym
 
 # In a call standard input; and in place of ARCHIVE, if no argument may be that.
 STANDARD_INPUT, ARCHIVE = "-", "ARCHIVE"
@@ -51,6 +51,8 @@ def refuse_order(command: str, options: Sequence[str], names: Sequence[str]) -> 
 
 
 def refuse(why: str, command: str, options: Sequence[str], names: Sequence[str], archive: str) -> NoReturn:
+    import shlex
+
     typed = " ".join(shown(shlex.quote(one)) for one in ordered(command, options, names, archive))
     raise Failed(f"{why}: symarch-keep {command} {typed}", 3)
 

@@ -3,13 +3,13 @@ import argparse
 import contextlib
 import functools
 import os
-from dataclasses import dataclass
 from typing import Dict, Iterable, List, NamedTuple, Optional, Sequence
 
 from ..console.escapes import shown
 from ..console.faults import Failed, SliceRefused, about, system_text
 from ..console.screen import Screen, screen_of
 from ..console.streams import write
+from ..data import dataclass
 from ..formats.contents import CHUNK, END, KEY, LENGTH, MAGICS, Malformed, Moved, digest_in, head_of, heads_in
 from ..formats.contents import record_size, records_in
 from ..formats.files import size_of

@@ -1,13 +1,13 @@
 """`retire`: withdraws a slice, or builds of an app, for good."""
 import argparse
 import os
-from dataclasses import dataclass
 from typing import Dict, Iterable, List, NamedTuple, Optional, Sequence, Tuple
 
 from ..console.escapes import shown
 from ..console.faults import Failed
 from ..console.json_lines import line_of
 from ..console.screen import Screen, screen_of
+from ..data import dataclass
 from ..exchange.memory import Exchanged
 from ..formats.builds import UNKNOWN, BuildLines, Builds, Named, field, field_shown
 from ..formats.contents import KEY, Content, archive_of_retirements, words_of

@@ -1,14 +1,16 @@
 """`status`: prints what an archive has, in numbers."""
+from __future__ import annotations
+
 import argparse
 import collections
 import contextlib
 import os
-from dataclasses import dataclass, field
 from typing import Counter, Dict, List, NamedTuple, Sequence, Tuple
 
 from ..console.escapes import shown
 from ..console.json_lines import Line, Members, path_members
 from ..console.screen import Screen, screen_of
+from ..data import dataclass, field
 from ..exchange.memory import Exchanged
 from ..formats.builds import NEXT_BUILDS
 from ..formats.contents import DIGEST, KEY, RETIREMENT, Content, digest_in, head_of, record_size, records_in, words_of
@@ -19,7 +21,6 @@ from ..store.file_names import NEXT_INDEX
 from ..store.lock import looks
 from ..store.log import NEXT_LOG
 from ..store.losses import counted, lost_lines
-from ..store.program import Program
 
 DESCRIPTION = """\
 Prints the content of ARCHIVE in numbers, and the sites with which it exchanges. It reads the indexes; `check` reads
@@ -56,6 +57,8 @@ def carry_out(arguments: argparse.Namespace) -> int:
     screen = screen_of(arguments)
     archive = Archive(os.fsencode(arguments.archive), writes=arguments.accept)
     if arguments.accept:
+        from ..store.program import Program
+
         archive.take_lock(screen, arguments.wait)
         accept(archive, archive.content(Program(), screen), screen)
     else:

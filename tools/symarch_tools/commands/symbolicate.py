@@ -2,7 +2,6 @@
 import argparse
 import os
 import sys
-from dataclasses import dataclass, field
 from typing import Dict, Iterable, Iterator, List, Optional
 
 from ..console import demangler
@@ -12,6 +11,7 @@ from ..console.escapes import line_shown
 from ..console.faults import Failed
 from ..console.json_lines import Members, line_of
 from ..console.screen import Screen, screen_of
+from ..data import dataclass, field
 from ..formats.contents import arch_in
 from ..store.asking import Asked, AskedCommand, NoLines, opened_archive
 from .arguments import arch_of, define_archive, number_of, uuid_of

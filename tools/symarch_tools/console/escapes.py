@@ -1,12 +1,14 @@
 """Texts in a line of a terminal, in which nothing is printed that moves it or ends the line."""
-import json
+from __future__ import annotations
+
 import os
 import re
 from typing import Optional, Union
 
 ESCAPED = re.compile(rb"\\x([0-9a-f]{2})")
-# What JSON has no escape for need not be, but a terminal obeys some of it.
-OF_TERMINAL = re.compile("[\x7f-\x9f\u061c\u200e\u200f\u2028-\u202e\u2066-\u2069]")
+# What JSON need not escape, but a terminal obeys; and its escapes.
+RANGES = ((0x7F, 0x9F), (0x61C, 0x61C), (0x200E, 0x200F), (0x2028, 0x202E), (0x2066, 0x2069))
+OF_TERMINAL = {code: f"\\u{code:04x}" for first, last in RANGES for code in range(first, last + 1)}
 
 
 def shown(path: Union[bytes, str]) -> str:
@@ -40,11 +42,11 @@ def line_shown(text: str) -> str:
 def is_kept(character: str) -> bool:
     """Whether a character moves no terminal that is not printable, or may not be: spaces of other widths, and what is
     no character."""
-    is_space = character.isspace() and character > "\x9f" and not OF_TERMINAL.match(character)
+    is_space = character.isspace() and character > "\x9f" and ord(character) not in OF_TERMINAL
     is_byte = "\udc80" <= character <= "\udcff"
     return character.isprintable() or is_space or ("\ud800" <= character <= "\udfff" and not is_byte)
 
 
 def json_shown(text: str) -> str:
     """JSON of which a terminal obeys nothing. Its value is the same."""
-    return OF_TERMINAL.sub(lambda found: json.dumps(found[0])[1:-1], text)
+    return text.translate(OF_TERMINAL)

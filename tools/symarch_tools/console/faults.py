@@ -1,9 +1,11 @@
 """The faults that end a command or keep a slice out, and their words."""
+from __future__ import annotations
+
 import contextlib
 import os
-from dataclasses import dataclass
 from typing import Any, Iterator, Optional
 
+from ..data import dataclass
 from .escapes import shown
 
 

@@ -1,6 +1,7 @@
 """What --json prints: an object a line. A path is text, in which U+FFFD stands in place of each byte that is no
 UTF-8; then `path_hex` has its bytes."""
-import json
+from __future__ import annotations
+
 import os
 import re
 from typing import Any, Dict, Union
@@ -37,4 +38,6 @@ NO_PATH: Members = {"path": None, "path_hex": None}
 
 
 def encoded(members: Members) -> str:
+    import json
+
     return json_shown(SURROGATE.sub("\ufffd", json.dumps(members, ensure_ascii=False)))

@@ -2,9 +2,10 @@
 from typing import Tuple
 
 # What is packed, by its first bytes.
+ZIP, GZIP = b"PK\3\4", b"\x1f\x8b"
 PACKED: Tuple[Tuple[bytes, str], ...] = (
-    (b"PK\3\4", "a zip file"),
-    (b"\x1f\x8b", "a gzip file"),
+    (ZIP, "a zip file"),
+    (GZIP, "a gzip file"),
     (b"BZh", "a bzip2 file"),
     (b"\xfd7zXZ\0", "an xz file"),
     (b"\x28\xb5\x2f\xfd", "a zstd file"),

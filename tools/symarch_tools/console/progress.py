@@ -1,11 +1,14 @@
 """How far a long work is, as one line on the terminal of standard error, which is wiped before anything else is
 printed there."""
+from __future__ import annotations
+
 import contextlib
 import os
 import sys
 import time
-from dataclasses import dataclass
 from typing import Callable, Union
+
+from ..data import dataclass
 
 # The line comes after so many seconds, and is written anew as often. A stage that goes on for so long has a speed.
 LEAST, PAUSE, LEAST_OF_STAGE = 2.0, 0.2, 1.0

@@ -1,11 +1,13 @@
 """What symarch-keep prints: lines on the standard streams."""
+from __future__ import annotations
+
 import argparse
 import collections
 import contextlib
 import sys
-from dataclasses import dataclass, field
 from typing import Callable, Counter, Iterable, List, Optional, Sequence, Tuple, Union
 
+from ..data import dataclass, field
 from .escapes import shown
 from .json_lines import Line, Members, encoded, line_of, path_members
 from .progress import progress

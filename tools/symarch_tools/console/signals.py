@@ -4,8 +4,9 @@ from __future__ import annotations
 
 import contextlib
 import signal
-from dataclasses import dataclass, field
 from typing import Callable, Iterator, List, Optional
+
+from ..data import dataclass, field
 
 ENDING = (signal.SIGHUP, signal.SIGINT, signal.SIGTERM)
 

@@ -2,9 +2,9 @@
 from __future__ import annotations
 
 import os
-from dataclasses import dataclass
 from typing import Callable, List, Sequence
 
+from ..data import dataclass
 from .escapes import shown
 from .faults import Failed
 from .screen import Screen

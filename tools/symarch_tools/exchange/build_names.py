@@ -1,14 +1,16 @@
 """How sites exchange the names of builds: each puts its ARCHIVE.builds into the shared folder, and joins those
 of the others. A file is read only if it has other bytes than ARCHIVE.builds, and than those that were joined before."""
-from dataclasses import dataclass, field
 from typing import List
 
 from ..console.json_lines import line_of
 from ..console.screen import Screen
-from ..formats.builds import MOST_OF_LINE, Days, add_line, earliest, is_framed, line_in, lines_of
+from ..data import dataclass, field
+from ..formats.build_lines import line_in
+from ..formats.builds import MOST_OF_LINE, Days, add_line, earliest, is_framed, lines_of
+from ..formats.contents import digest_of
 from ..store.archive import Archive
 from .memory import Exchanged
-from .shared_folder import SharedFolder, TimedFile, digest_of, latest_first, timed_name
+from .shared_folder import SharedFolder, TimedFile, latest_first, timed_name
 from .signatures import Unfit
 
 # Longer files are refused. One of a million slices is as long.

@@ -3,15 +3,15 @@ is done with."""
 import contextlib
 import os
 import time
-from dataclasses import dataclass, field
 from typing import BinaryIO, Dict, Iterator, List, Optional, Sequence, Set, Tuple, Union
 
 from ..console.escapes import shown
 from ..console.faults import Failed, about, system_text
 from ..console.json_lines import line_of
 from ..console.screen import Screen
+from ..data import dataclass, field
 from ..formats.contents import ADMISSION, Content, Malformed, chunks_in, content_in, content_of, digest_in, entries_in
-from ..formats.contents import summary_of
+from ..formats.contents import digest_of, summary_of
 from ..store.archive import Archive
 from ..store.folder import watched
 from ..store.losses import counted, lost_lines
@@ -20,7 +20,7 @@ from .build_names import Telling
 from .identity import Identity, last_mark, own_marks, when_marked
 from .join import Joining
 from .memory import NOTHING, Exchanged, Lacks
-from .shared_folder import SHORT, Answer, Sent, SharedFolder, TimedFile, answer_name, digest_of, latest_first
+from .shared_folder import SHORT, Answer, Sent, SharedFolder, TimedFile, answer_name, latest_first
 from .shared_folder import timed_name
 from .signatures import Older, Unfit
 from .times import TIME, fault_of_time, time_after, time_now

@@ -1,13 +1,14 @@
 """The name of a site in the shared folder: its mark, and ARCHIVE.site, by which another of its name differs."""
 import uuid
-from dataclasses import dataclass
 from typing import List, Optional, Sequence, Tuple
 
 from ..console.escapes import shown
 from ..console.faults import Failed
 from ..console.screen import Screen
+from ..data import dataclass
+from ..formats.contents import digest_of
 from ..store.archive import Archive
-from .shared_folder import MARK, SharedFolder, TimedFile, digest_of
+from .shared_folder import MARK, SharedFolder, TimedFile
 from .signatures import Unfit
 from .times import fault_of_time
 

@@ -3,13 +3,13 @@ for what it has, and tested by the program if some of that is new. A copy of whi
 site that was answered by many holds each slice once."""
 import functools
 import os
-from dataclasses import dataclass, field
 from typing import Callable, Dict, Iterator, List, NamedTuple, Sequence
 
 from ..console.escapes import shown
 from ..console.faults import Failed, SliceRefused
 from ..console.json_lines import line_of
 from ..console.screen import Screen
+from ..data import dataclass, field
 from ..formats.contents import KEY, RETIREMENT, Content, Malformed, content_in, head_of, words_of
 from ..store.archive import Archive
 from ..store.archive_file import NO_UUID

@@ -11,14 +11,13 @@
 
 So a question, or names of builds, that were read once need not be read again, whichever site sent them."""
 import time
-from dataclasses import dataclass
 from typing import Dict, Iterable, List, NamedTuple, Optional, Tuple
 
-from ..formats.contents import Content, kept_text
+from ..data import dataclass
+from ..formats.contents import Content, digest_of, kept_text
 from ..store.archive import ASKED, Archive
 from ..store.archive_file import kept_at
 from ..store.log import DATE
-from .shared_folder import digest_of
 from .times import fault_of_time, time_after
 
 # So many questions of this site may be answered late.

@@ -22,13 +22,13 @@ import os
 import re
 import stat
 import time
-from dataclasses import dataclass
 from typing import BinaryIO, Dict, Iterable, Iterator, List, NamedTuple, Optional, Pattern, Set, Tuple, Union
 
 from ..console.escapes import shown
 from ..console.faults import about, system_text
 from ..console.screen import Screen
-from ..formats.contents import CHUNK, Moved, unmoved
+from ..data import dataclass
+from ..formats.contents import CHUNK, Moved, digest_of, unmoved
 from ..formats.files import remove, sync_folder, write_to_disk
 from .signatures import MOST_OF_SIGNATURE, Senders, Statement, Unfit, folder_in
 from .times import DAY, fault_of_time
@@ -77,10 +77,6 @@ Sent = Union[TimedFile, Answer]
 
 class Gone(Unfit):
     """A file that is not there any more, since its site or another one removed it."""
-
-
-def digest_of(data: bytes) -> str:
-    return hashlib.sha256(data).hexdigest()
 
 
 def timed_name(site: str, kind: str, at: str, digest: str) -> str:

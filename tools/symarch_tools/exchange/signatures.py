@@ -18,12 +18,12 @@ import re
 import shutil
 import subprocess
 import time
-from dataclasses import dataclass, field
 from typing import Dict, Iterable, List, NamedTuple, Sequence, Set, Tuple
 
 from ..console.escapes import shown
 from ..console.faults import Failed
 from ..console.signals import signals
+from ..data import dataclass, field
 from ..formats.contents import Content, KeptFile, Malformed, kept_text
 from ..store.folder import ArchiveFolder
 from ..store.program import Argument

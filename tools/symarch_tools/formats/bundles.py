@@ -1,11 +1,11 @@
 """What the Info.plist of a bundle, and the path, say of an image or a dSYM. An Info.plist that is damaged or hostile
 says nothing, and keeps nothing out."""
-import dataclasses
 import datetime
 import itertools
 import os
 from typing import Dict, Iterator, List, NamedTuple, Optional, Tuple
 
+from .. import data
 from .builds import UNKNOWN, Build, Sight, field
 from .files import beginning
 
@@ -88,13 +88,13 @@ def places_above(path: bytes) -> Iterator[bytes]:
     return (os.path.join(folder, place) for folder in folders_above(path) for place in PLACES)
 
 
-@dataclasses.dataclass(eq=False)
+@data.dataclass(eq=False)
 class Bundles:
     """What Info.plist files say, of which each is read once."""
 
-    of_files: Dict[bytes, Optional[Stated]] = dataclasses.field(default_factory=dict)
+    of_files: Dict[bytes, Optional[Stated]] = data.field(default_factory=dict)
     # Those of zip and tar files, each by the name of its file and of the member.
-    of_members: Dict[Tuple[bytes, bytes], Optional[Stated]] = dataclasses.field(default_factory=dict)
+    of_members: Dict[Tuple[bytes, bytes], Optional[Stated]] = data.field(default_factory=dict)
 
     @staticmethod
     def is_list(name: bytes) -> bool:
@@ -106,7 +106,7 @@ class Bundles:
         self.of_members[packed, name] = stated_in(text)
 
     # Where folders are, of which each is looked at once.
-    reals: Dict[bytes, bytes] = dataclasses.field(default_factory=dict)
+    reals: Dict[bytes, bytes] = data.field(default_factory=dict)
 
     def real(self, path: bytes) -> bytes:
         """Where a file is, if links lead to it. Its path has no part that leads up."""

@@ -1,13 +1,15 @@
 """Contents of archives: the retirements and the slices of one, by key and digest. docs/FILES.md has the bytes of
 archives and summaries."""
+from __future__ import annotations
+
 import functools
 import hashlib
 import os
 import re
 import struct
-import uuid
-from dataclasses import dataclass, field
 from typing import BinaryIO, Callable, Collection, Dict, Iterable, Iterator, List, Optional, Sequence, Set, Tuple
+
+from ..data import dataclass, field
 
 MAGICS = (b"MSYMARC2", b"MSYMARC1")
 SUMMARY = b"MSYMSUM1"
@@ -23,6 +25,8 @@ NUMBERS = {name: numbers for numbers, name in NAMES.items()}
 NUMBERED = re.compile("cpu:([0-9a-fA-F]{8})/([0-9a-fA-F]{8})")
 # The first line of a file that is kept next to an archive, and how the last one begins.
 FIRST, LAST = "symarch-keep 1\n", "sha256 "
+# How many digits of its SHA-256 stand before a line of builds, and how long what a field of one says may be.
+SUM, MOST_OF_FIELD = 16, 255
 
 
 # What is called for each piece of a file that is read, with its length.
@@ -193,6 +197,11 @@ def digest_in(file: BinaryIO, at: int, length: int, moved: Moved = unmoved) -> b
     return digest.digest()
 
 
+def digest_of(data: bytes) -> str:
+    """The SHA-256 of bytes, as names of files have it."""
+    return hashlib.sha256(data).hexdigest()
+
+
 def content_in(file: BinaryIO, moved: Moved = unmoved, places: Optional[Dict[bytes, int]] = None) -> Content:
     """The content of an archive, which is read to its end. Where each slice begins is noted, if that is wanted."""
     content = Content()
@@ -215,9 +224,15 @@ def arch_of(numbers: Tuple[int, int]) -> str:
     return NAMES.get(numbers) or "cpu:{:08x}/{:08x}".format(*numbers)
 
 
+def uuid_in(data: bytes) -> str:
+    """The UUID of the first bytes of an entry or a key."""
+    digits = data[:16].hex()
+    return f"{digits[:8]}-{digits[8:12]}-{digits[12:16]}-{digits[16:20]}-{digits[20:]}"
+
+
 def words_of(entry: bytes) -> str:
     """UUID, ARCH and DIGEST of a slice."""
-    return f"{uuid.UUID(bytes=entry[:16])} {arch_in(entry[16:KEY])} {entry[KEY:].hex()}"
+    return f"{uuid_in(entry)} {arch_in(entry[16:KEY])} {entry[KEY:].hex()}"
 
 
 @functools.lru_cache(maxsize=None)
@@ -245,13 +260,17 @@ def entry_in(name: str, arch: str, digest: str) -> bytes:
 # ---- files that are kept next to an archive
 
 
+def sum_of(line: bytes) -> bytes:
+    return digest_of(line)[:SUM].encode()
+
+
 def kept_text(content: Content, notes: Iterable[str] = ()) -> bytes:
     """The text of a file that has a content, and lines of other words before it."""
     lines = [f"{note}\n" for note in notes]
     lines += [f"retired {words_of(entry)}\n" for entry in sorted(content.retired)]
     lines += [f"slice {words_of(entry)} {length}\n" for entry, length in sorted(content.held.items())]
     text = FIRST + "".join(lines)
-    return f"{text}{LAST}{hashlib.sha256(text.encode()).hexdigest()}\n".encode()
+    return f"{text}{LAST}{digest_of(text.encode())}\n".encode()
 
 
 class KeptFile:
@@ -259,7 +278,7 @@ class KeptFile:
 
     def __init__(self, data: bytes) -> None:
         text, last, digest = data.decode(errors="replace").rpartition(LAST)
-        if not last or not text.startswith(FIRST) or digest != f"{hashlib.sha256(text.encode()).hexdigest()}\n":
+        if not last or not text.startswith(FIRST) or digest != f"{digest_of(text.encode())}\n":
             raise Malformed("is damaged")
         self.lines = text[len(FIRST) :].splitlines()
         self.notes = [line for line in self.lines if not line.startswith(("retired ", "slice "))]

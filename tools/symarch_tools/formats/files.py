@@ -1,4 +1,6 @@
 """Files: their sizes and times, and how bytes are written so that they are on the disk."""
+from __future__ import annotations
+
 import contextlib
 import os
 import stat
@@ -6,6 +8,9 @@ from typing import Iterable, Optional, Tuple, Union
 
 from ..console.faults import about
 from ..console.streams import write
+
+# By what the program gets the files that a tool has open, also those whose paths are no UTF-8.
+DESCRIPTORS = "/dev/fd"
 
 
 def stamp(path: bytes, of: bytes) -> None:

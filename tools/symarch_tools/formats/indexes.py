@@ -5,9 +5,9 @@ import hashlib
 import io
 import os
 import struct
-from dataclasses import dataclass
 from typing import BinaryIO, Dict, Iterable, Iterator, List, NamedTuple, Optional, Tuple
 
+from ..data import dataclass
 from .contents import ADMISSION, DIGEST, END, ENTRY, KEY, LENGTH, MAGIC, RETIREMENT, Content, Malformed, digest_in
 from .contents import head_of, record_size, words_of
 

@@ -5,8 +5,9 @@ from __future__ import annotations
 import bisect
 import struct
 from array import array
-from dataclasses import dataclass, field
 from typing import BinaryIO, Iterator, List, NamedTuple, Optional, Tuple
+
+from ..data import dataclass, field
 
 # The header; a command; the commands of segments and symbols, and what is read of them.
 HEADER, COMMAND = struct.Struct("<4x5I8x"), struct.Struct("<II")

@@ -5,15 +5,14 @@ import copy
 import functools
 import io
 import os
-from dataclasses import dataclass, field
 from typing import IO, Any, BinaryIO, Callable, Container, Dict, Iterator, NamedTuple, Optional, Set, Tuple, Type, cast
 
+from ..console.packed_kinds import GZIP, ZIP
 from ..console.signals import signals
+from ..data import dataclass, field
 from .contents import CHUNK, TOO_LARGE
+from .files import DESCRIPTORS
 
-# By what the program gets the files that this tool has open, also those whose paths are no UTF-8.
-DESCRIPTORS = "/dev/fd"
-ZIP, GZIP = b"PK\3\4", b"\x1f\x8b"
 MAGIC_AT, TAR = 257, b"ustar"
 # What such files are called that are taken of folders.
 NAMES_OF_PACKED = (b".zip", b".ipa", b".tar.gz", b".tgz")
@@ -47,7 +46,7 @@ class Allowance:
     many are left of these."""
 
     most: int
-    left: int = field(init=False)
+    left: int = 0
 
     def __post_init__(self) -> None:
         self.left = self.most

@@ -1,14 +1,16 @@
 """The tables of slices, as indexes store them: each is the SHA-256 of its pages, and then its bytes. A new index gets
 those that other indexes have, which are copied piece by piece; of no slice is a table made here."""
+from __future__ import annotations
+
 import contextlib
 import hashlib
 import os
-from dataclasses import dataclass, field
 from typing import BinaryIO, Dict, Iterable, Iterator, List, Optional, Tuple
 
 from ..console.escapes import shown
 from ..console.faults import Failed, about
 from ..console.streams import write
+from ..data import dataclass, field
 from .contents import CHUNK, DIGEST, MAGIC, Moved, unmoved
 from .indexes import INDEX, NO_ROOT, NO_TABLE, PAGE, Index, IndexRow, index_of, pages_in
 

@@ -6,7 +6,7 @@ import struct
 from typing import BinaryIO, Iterator, List, NamedTuple, Optional, Sequence, Tuple
 
 from .contents import DIGEST, TOO_LARGE, chunks_in, digest_in
-from .indexes import HEAD, IndexRow
+from .indexes import FILETYPE, HEAD, MH_DSYM, IndexRow
 
 # The magic of each kind, its entries, and the last byte of a file that the narrow one can name.
 NARROW, WIDE = bytes.fromhex("cafebabe"), bytes.fromhex("cafebabf")
@@ -14,6 +14,8 @@ NARROW_ENTRY, WIDE_ENTRY = struct.Struct(">8s3I"), struct.Struct(">8sQQII")
 UNIVERSAL = {NARROW: NARROW_ENTRY, WIDE: WIDE_ENTRY}
 MOST_NARROW, MOST_PARTS = 0xFFFFFFFF, 32
 FAT_HEADER = struct.Struct(">4sI")
+# The magic of a 64-bit image, and how much of one says its file type, as in mach-o/loader.h.
+THIN, FRONT = bytes.fromhex("cffaedfe"), FILETYPE + len(MH_DSYM)
 # Slices stand at multiples of the pages of their machines, by powers of two, as `lipo` places them.
 ALIGNMENT, ALIGNMENT_OF_ARM = 12, 14
 # mach/machine.h: the cputype of each ARM, except for the bits of its pointers.
@@ -156,3 +158,19 @@ def parts_in(front: bytes, size: int) -> Optional[List[Tuple[int, int]]]:
         return None
     parts = [part_at(front, number) for number in range(count_in(front))]
     return parts if all(offset + length <= size and length < TOO_LARGE for offset, length in parts) else None
+
+
+def is_dsym(path: bytes) -> bool:
+    """Whether a path is a dSYM bundle, or a file whose first slice is a companion's."""
+    if os.path.isdir(path):
+        return path.rstrip(b"/").endswith(b".dSYM")
+    if not os.path.isfile(path):
+        return False
+    with open(path, "rb") as file:
+        front = file.read(FAT_HEADER.size + WIDE_ENTRY.size)
+        layout = UNIVERSAL.get(front[:4])
+        if layout and FAT_HEADER.size + layout.size <= len(front):
+            _, offset, *_ = layout.unpack_from(front, FAT_HEADER.size)
+            file.seek(min(offset, os.fstat(file.fileno()).st_size))
+            front = file.read(FRONT)
+    return front[:4] == THIN and front[FILETYPE:FRONT] == MH_DSYM

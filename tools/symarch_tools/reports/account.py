@@ -2,12 +2,12 @@
 JSON."""
 from __future__ import annotations
 
-from dataclasses import dataclass, field
 from typing import Any, Dict, Iterable, Sequence
 
 from ..console.demangler import LEFT
 from ..console.json_lines import Members, encoded as encoded_members, path_members
 from ..console.streams import encoded, note, noted, printing, say
+from ..data import dataclass, field
 from .answers import Origin
 from .frame_objects import frame_objects
 from .images import Image

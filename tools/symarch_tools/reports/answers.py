@@ -5,11 +5,11 @@ import bisect
 import enum
 import uuid
 from array import array
-from dataclasses import dataclass, field
 from typing import Dict, Iterator, List, Optional, Set, Tuple
 
 from ..console.answer_lines import OF_FRAME, count_in, slice_in, symbol_in, two_words
 from ..console.program_faults import InputFault, input_fault
+from ..data import dataclass, field
 from .names import Names
 from .source_lines import NOTHING, Chains, Lines
 

@@ -10,12 +10,12 @@ import stat
 import tempfile
 import time
 from array import array
-from dataclasses import dataclass, field
 from typing import Dict, Iterable, List, Mapping, Optional, Sequence, Set, Tuple
 
 from ..console.escapes import shown
 from ..console.program_faults import InputFault
 from ..console.streams import note
+from ..data import dataclass, field
 from ..store import file_names
 from ..store.archive_file import ArchiveFile
 from ..store.file_names import INDEX, NEXT_INDEX

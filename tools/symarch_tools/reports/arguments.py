@@ -6,13 +6,13 @@ import argparse
 import os
 import re
 import shlex
-from dataclasses import dataclass
 from typing import Any, Dict, List, NoReturn, Optional, Sequence, Tuple
 
 from ..console.escapes import line_shown, shown
 from ..console.streams import printing, say
 from ..console.unforeseen_faults import DEBUG, HELP
 from ..console.version import PrintVersion
+from ..data import dataclass
 from ..store.file_names import beginning, is_archive, is_zip_file
 from .encodings import decoded
 from .faults import Failure, Status
@@ -74,6 +74,9 @@ POINT = ".xccrashpoint"
 DSYM, INSIDE_DSYM = ".dSYM", ("Contents", "Resources", "DWARF")
 # The commands of the program that a report might be given to.
 ANSWERING = ("frames", "symbolicate")
+
+# It would look for translations of its words, and import modules for that.
+vars(argparse)["_"] = str
 
 
 class ReportParser(argparse.ArgumentParser):

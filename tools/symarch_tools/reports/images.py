@@ -7,12 +7,12 @@ import heapq
 import itertools
 import re
 from array import array
-from dataclasses import dataclass, field
 from typing import Callable, Dict, Hashable, Iterator, List, Mapping, NamedTuple, Optional, Sequence, Set, Tuple
 from typing import TypeVar
 from uuid import UUID
 
 from ..console.escapes import line_shown
+from ..data import dataclass, field
 from .answers import Answers, Origin, Symbol
 from .source_lines import NOTHING, Lines
 

@@ -2,11 +2,11 @@
 from __future__ import annotations
 
 import uuid
-from dataclasses import dataclass
 from typing import Dict, Iterable, Iterator, List, Optional
 
 from ..console.escapes import line_shown, one_line
 from ..console.json_lines import Members
+from ..data import dataclass
 from .answers import Origin
 from .images import Image
 from .report import Report

@@ -1,8 +1,9 @@
 """The names of all answers."""
 from __future__ import annotations
 
-from dataclasses import dataclass, field
 from typing import Dict, List
+
+from ..data import dataclass, field
 
 
 @dataclass

@@ -7,7 +7,6 @@ import heapq
 import os
 import subprocess
 import tempfile
-from dataclasses import dataclass, field
 from typing import IO, List, NamedTuple, Optional, Sequence, Tuple
 
 from ..console.escapes import shown
@@ -16,6 +15,7 @@ from ..console.processes import begun
 from ..console.program_faults import OWN_WORDS, InputFault, fault_on_standard_error
 from ..console.program_path import found_program, named
 from ..console.streams import noted, say
+from ..data import dataclass, field
 from ..store.lock import State, state_of
 from .answers import Answers, KeyLines, Said
 from .faults import Failure, Status

@@ -2,10 +2,10 @@
 that were inlined there."""
 from __future__ import annotations
 
-from dataclasses import dataclass, field
 from typing import Dict, List, NamedTuple, Optional, Tuple
 
 from ..console.answer_lines import UNKNOWN, frame_in, unescaped
+from ..data import dataclass, field
 from .names import Names
 
 # So many lines of frames are kept.

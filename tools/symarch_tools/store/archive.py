@@ -1,7 +1,9 @@
 """An archive: ARCHIVE, its levels and ARCHIVE.today, which are asked as their join; what they have, and what is lost;
 and what a kill left of it. How more comes in is in `draft`."""
+from __future__ import annotations
+
 import os
-from typing import List, Optional, Sequence, Tuple
+from typing import TYPE_CHECKING, List, Optional, Sequence, Tuple
 
 from ..console.escapes import shown
 from ..console.faults import CutShort, Failed
@@ -9,7 +11,6 @@ from ..console.screen import Screen
 from ..console.signals import signals
 from ..formats.builds import Builds
 from ..formats.contents import EMPTY, MAGICS, Content
-from ..formats.file_kinds import MOST_LOOKED_AT, look_of
 from ..formats.files import remove, size_of, write_synced
 from ..formats.indexes import Index, held_against, index_at, index_by, index_of
 from ..formats.tables import Tables, write_index
@@ -19,7 +20,9 @@ from .folder import ArchiveFolder, watched
 from .levels import ArchiveFiles
 from .lock import Lock
 from .losses import LOST, Lost, changed_line, counted, lost_lines
-from .program import Program
+
+if TYPE_CHECKING:
+    from .program import Program
 
 ASKED = b".asked"
 
@@ -40,12 +43,7 @@ class Archive:
             named = path + file.path[len(self.path) :]
             refuse_other(named, file.path, is_made=True)
             if not may_be_damaged and not file.begins_as_archive():
-                with open(file.path, "rb") as opened:
-                    front = opened.read(MOST_LOOKED_AT)
-                if front and any(magic.startswith(front) for magic in MAGICS):
-                    raise CutShort.at(shown(named))
-                look = look_of(front)
-                raise Failed(f"{shown(named)} is no archive{f', but {look}' if look else ''}")
+                raise no_archive(file, shown(named))
         other = next(no_files_beside(self.path, [level.path for level in self.files.levels]), None)
         if other:
             raise Failed(f"{shown(path + other[len(self.path) :])} is {NO_FILE}: remove it")
@@ -242,6 +240,18 @@ class Archive:
             self.files.forget(level)
         for file in self.files:
             file.drop_sums()
+
+
+def no_archive(file: ArchiveFile, named: str) -> Failed:
+    """Why a file that is named so is no archive."""
+    from ..formats.file_kinds import MOST_LOOKED_AT, look_of
+
+    with open(file.path, "rb") as opened:
+        front = opened.read(MOST_LOOKED_AT)
+    if front and any(magic.startswith(front) for magic in MAGICS):
+        return CutShort.at(named)
+    look = look_of(front)
+    return Failed(f"{named} is no archive{f', but {look}' if look else ''}")
 
 
 def is_to_be_indexed(file: ArchiveFile) -> bool:

@@ -1,22 +1,26 @@
 """An archive file, and what is known of it: FILE.idx next to it is the index that the last command left, and
 FILE.idx.next that of a new file which takes its place, by the steps of `Archive.replace`. Each has the time of the file
 of which it was made, so that another file differs from that one."""
+from __future__ import annotations
+
 import contextlib
 import operator
 import os
-from dataclasses import dataclass, field
-from typing import BinaryIO, Iterator, List, Optional, Tuple
+from typing import TYPE_CHECKING, BinaryIO, Iterator, List, Optional, Tuple
 
 from ..console.escapes import shown
 from ..console.faults import Failed
 from ..console.screen import Screen
+from ..data import dataclass, field
 from ..formats.contents import EMPTY, MAGIC, MAGICS, RETIREMENT, Content, EndsEarly, KeptFile, Malformed, content_in
 from ..formats.contents import heads_in, records_in
 from ..formats.files import remove, size_of, time_of
 from ..formats.indexes import Index, OtherKind, changes, index_at
 from .file_names import INDEX, NEXT_INDEX, NEXT_SUM, SUM
 from .lock import State, state_of
-from .program import Program
+
+if TYPE_CHECKING:
+    from .program import Program
 
 NO_UUID = "00000000-0000-0000-0000-000000000000"
 # So many bytes of a retirement may differ where it changed: half of its digest.
@@ -216,7 +220,7 @@ class ArchiveFile:
             with open(self.path, "rb") as file:
                 yield file
         except Malformed as fault:
-            self.look_through(program or Program())
+            self.look_through(program)
             raise Failed(f"{shown(self.path)}: {fault}") from None
 
     def read(self, program: Program, screen: Screen) -> None:
@@ -229,9 +233,11 @@ class ArchiveFile:
             came.held[before] = came.held.pop(entry)
         self.content = came
 
-    def look_through(self, program: Program) -> None:
+    def look_through(self, program: Optional[Program] = None) -> None:
         """Has the program read it, which says whether it is an archive."""
-        program.run_over(self.path, "find", NO_UUID)
+        from .program import Program
+
+        (program or Program()).run_over(self.path, "find", NO_UUID)
 
 
 def is_same_but_for_retirements(heads: List[bytes], others: List[bytes]) -> bool:

@@ -9,11 +9,11 @@ for each record and each table there that changed:
 It counts for a file that is still that one."""
 import contextlib
 import os
-from dataclasses import dataclass, field
 from typing import BinaryIO, Dict, Iterable, List, NamedTuple, Optional, Sequence, Set, Tuple
 
 from ..console.faults import CutShort, Failed
 from ..console.screen import Screen
+from ..data import dataclass, field
 from ..formats.contents import ADMISSION, DIGEST, END, KEY, LENGTH, MAGIC, MAGICS, Content, KeptFile, Malformed, Moved
 from ..formats.contents import digest_in, kept_text, record_size, records_in
 from ..formats.files import remove

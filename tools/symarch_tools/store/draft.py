@@ -1,12 +1,12 @@
 """The draft of a new archive file, which the program writes into a room, and which takes the place of files of the
 archive: a join of some of them and of what comes in."""
 import os
-from dataclasses import dataclass, field
 from typing import List, Optional, Sequence
 
 from ..console.escapes import shown
 from ..console.faults import Failed
 from ..console.screen import Screen
+from ..data import dataclass, field
 from ..formats.contents import Content, archive_of_retirements, heads_in, join_of
 from ..formats.files import linked, size_of, write_synced
 from ..formats.indexes import Index, index_at, index_by

@@ -1,16 +1,17 @@
 """The names of the files of an archive. A level is a file ARCHIVE.N next to which an index is stored. Another file of
 such a name, as a copy that somebody made, is left alone, and so is one with a lock: an archive of its own."""
+from __future__ import annotations
+
 import os
-import shlex
 import stat
 from typing import Iterator, List, Optional, Set
 
 from ..console.escapes import shown
 from ..console.faults import Failed
+from ..console.packed_kinds import ZIP
 from ..formats.contents import MAGIC, MAGICS
 from ..formats.files import beginning as beginning  # Also for reports, which import no format.
-from ..formats.packed_files import ZIP
-from .slices import is_dsym
+from ..formats.universal_files import is_dsym
 
 TODAY, LOCK = b".today", b".lock"
 INDEX, NEXT_INDEX = b".idx", b".idx.next"
@@ -141,6 +142,8 @@ def refuse_other(path: bytes, place: bytes, is_made: bool) -> None:
         how = "restore it from a backup or another site" if was_there else "symarch-keep add makes an archive"
         raise Failed(f"{shown(path)}: No such file; {how}") from None
     if is_dsym(path) or is_dsym(place):
+        import shlex
+
         name = path.rstrip(b"/")
         typed = shown(shlex.quote(os.fsdecode(name)))
         raise Failed(f"{shown(name)} is a dSYM: run symarch-keep add builds.sym {typed}, then name builds.sym")

@@ -5,17 +5,18 @@ That goes by five steps: ARCHIVE.log.next, FILE.idx.next and, if names came in, 
 archive is renamed, ARCHIVE.builds.next becomes ARCHIVE.builds, the lines are added to ARCHIVE.log, and FILE.idx.next
 becomes FILE.idx. FILE.idx.next has the time of the new archive. So whoever comes after a kill sees by the file which of
 these were done, and does the others."""
+from __future__ import annotations
+
 import contextlib
 import os
-import shutil
 import stat
-from dataclasses import dataclass
 from typing import Callable, Iterator, List, Sequence
 
 from ..console.escapes import shown
 from ..console.faults import system_text
 from ..console.screen import Screen
 from ..console.signals import signals
+from ..data import dataclass
 from ..formats.builds import Builds
 from ..formats.files import size_of, stamp, sync_folder, tell_apart, write_synced
 from ..formats.indexes import Index
@@ -45,6 +46,8 @@ class ArchiveFolder:
         return sorted(name for name in os.listdir(self.parent) if name.startswith(self.name + ROOM))
 
     def remove_rooms(self) -> None:
+        import shutil
+
         for name in self.rooms():
             shutil.rmtree(os.path.join(self.parent, name), ignore_errors=True)
 

@@ -7,10 +7,12 @@ removed, each before its index, and ARCHIVE.today is emptied. So a kill leaves e
 files that had it, or in the join, or in both. The next command sees by the indexes that the files before a level, or
 before ARCHIVE.today, have all that it has, and goes on. Who opens the files from the last one to ARCHIVE finds each
 record, since a fold moves them only to files that stand before."""
+from __future__ import annotations
+
 import os
-from dataclasses import dataclass, field
 from typing import Dict, Iterator, List, Sequence, Set
 
+from ..data import dataclass, field
 from ..formats.contents import Content, is_within, join_of
 from ..formats.files import remove
 from .archive_file import ArchiveFile

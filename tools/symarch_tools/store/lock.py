@@ -1,16 +1,17 @@
 """The lock on the file ARCHIVE.lock. Who writes has it alone, and who reads shares it: by the file that is there, or
 not at all, so that nothing is made. Who asks takes none, and looks at files again that change meanwhile."""
+from __future__ import annotations
+
 import contextlib
 import fcntl
 import os
-import pwd
 import time
-from dataclasses import dataclass
 from typing import Callable, Iterator, List, Optional, Tuple
 
 from ..console.escapes import shown
 from ..console.faults import Failed
 from ..console.screen import Screen
+from ..data import dataclass
 from .file_names import LOCK
 
 # Who waits says so after so many seconds, and looks at the lock as often until then.
@@ -137,6 +138,8 @@ def holders_of(descriptor: int) -> List[int]:
 
 def process_text(number: int) -> str:
     """A process, its user and what was called, if that may be read."""
+    import pwd
+
     user, call = "", b""
     with contextlib.suppress(OSError, KeyError):
         user = pwd.getpwuid(os.stat(f"/proc/{number}").st_uid).pw_name

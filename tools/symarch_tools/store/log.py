@@ -1,15 +1,16 @@
 """ARCHIVE.log, the lines of the commands with their dates; and ARCHIVE.log.next, the lines of a new archive that is
 being put in place, which are added to it once that is there."""
+from __future__ import annotations
+
 import contextlib
 import functools
 import os
-import shutil
 import time
-from dataclasses import dataclass
 from typing import Callable, Collection, ContextManager, Dict, Iterable, List, Sequence
 
 from ..console.faults import system_text
 from ..console.screen import Screen
+from ..data import dataclass
 from ..formats.contents import words_of
 from ..formats.files import append_synced, remove, size_of
 
@@ -68,6 +69,8 @@ class Log:
             # Another user made it: it is replaced, as the archive is.
             with self.room() as room:
                 copy = os.path.join(room, b"log")
+                import shutil
+
                 shutil.copyfile(self.path, copy)
                 append_synced(copy, text)
                 os.replace(copy, self.path)

@@ -6,11 +6,11 @@ import collections
 import os
 import stat
 import uuid
-from dataclasses import dataclass, field
 from typing import DefaultDict, Dict, Iterable, Iterator, List, NamedTuple, Optional, Sequence, Set, Tuple
 
 from ..console.escapes import shown
 from ..console.faults import Failed, about
+from ..data import dataclass, field
 from ..formats.contents import ADMISSION, DIGEST, END, KEY, RETIREMENT, Malformed, arch_in, digest_in, numbers_of
 from ..formats.contents import record_size, records_in, words_of
 from ..formats.indexes import HEAD, INDEX_TAIL, ROW, TAIL, IndexRow, is_companion

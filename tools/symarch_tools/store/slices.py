@@ -7,28 +7,28 @@ import io
 import os
 import stat
 import struct
-from dataclasses import dataclass, field
 from typing import BinaryIO, Callable, Dict, Iterable, Iterator, List, Optional, Set, Tuple
 
 from ..console.escapes import shown
 from ..console.faults import SliceRefused
 from ..console.json_lines import line_of, path_members
+from ..console.packed_kinds import GZIP, ZIP
 from ..console.screen import Screen
+from ..data import dataclass, field
 from ..formats.builds import Build, Sight
 from ..formats.bundles import MOST_OF_LIST, Bundles
 from ..formats.contents import CHUNK, KEY, head_of, words_of
 from ..formats.file_kinds import MOST_LOOKED_AT, ONE, look_of
 from ..formats.mach_images import COMMAND, HEADER
-from ..formats.packed_files import GZIP, MOST_LEVELS, ZIP, Allowance, Damaged, DamagedInner, Inner, Member, Packed
+from ..formats.packed_files import MOST_LEVELS, Allowance, Damaged, DamagedInner, Inner, Member, Packed
 from ..formats.packed_files import TooMuch, Unpacker, is_named_as_packed, is_of_dsym, packed_at
-from ..formats.universal_files import FAT_HEADER, NARROW, UNIVERSAL, WIDE_ENTRY, count_in, front_in, parts_in
+from ..formats.universal_files import FAT_HEADER, NARROW, THIN, UNIVERSAL, count_in, front_in, parts_in
 from .losses import record_members
 
 # A Java class file begins as a universal file, and has its version in place of the number of parts.
 LEAST_OF_JAVA = 45
-# mach-o/loader.h: the magic of a 64-bit image, file types, and the command with its UUID.
-THIN = bytes.fromhex("cffaedfe")
-MH_OBJECT, MH_DSYM, LC_UUID = 1, 10, 0x1B
+# mach-o/loader.h: the type of object files, and the command with the UUID.
+MH_OBJECT, LC_UUID = 1, 0x1B
 # Commands after these bytes are not looked at here.
 MOST_OF_COMMANDS = 16 << 20
 KINDS = {
@@ -339,22 +339,6 @@ class Finder:
             self.pass_over(f"{'object files' if front[12] == MH_OBJECT else 'images'} without a UUID", part)
         else:
             self.pass_over(KINDS.get(front[:4], "other files" if part is None else "other parts"), part)
-
-
-def is_dsym(path: bytes) -> bool:
-    """Whether a path is a dSYM bundle, or a file whose first slice is a companion's."""
-    if os.path.isdir(path):
-        return path.rstrip(b"/").endswith(b".dSYM")
-    if not os.path.isfile(path):
-        return False
-    with open(path, "rb") as file:
-        front = file.read(FAT_HEADER.size + WIDE_ENTRY.size)
-        layout = UNIVERSAL.get(front[:4])
-        if layout and FAT_HEADER.size + layout.size <= len(front):
-            _, offset, *_ = layout.unpack_from(front, FAT_HEADER.size)
-            file.seek(min(offset, os.fstat(file.fileno()).st_size))
-            front = file.read(HEADER.size)
-    return front[:4] == THIN and front[12:16] == MH_DSYM.to_bytes(4, "little")
 
 
 def is_java(first: bytes) -> bool:

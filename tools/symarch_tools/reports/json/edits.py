@@ -4,9 +4,9 @@ from __future__ import annotations
 import json
 import re
 from array import array
-from dataclasses import dataclass, field
 from typing import Any, Dict, List, Mapping, Match, NamedTuple, Optional, Sequence, Set, Tuple
 
+from ...data import dataclass, field
 from ..answers import Symbol
 from ..source_lines import Inlined, Lines, Source
 from .walk import FLAT, SPACE, STRING, JsonMember, key_at, loaded, name_loaded

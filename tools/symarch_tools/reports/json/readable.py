@@ -2,11 +2,11 @@
 from __future__ import annotations
 
 import uuid
-from dataclasses import dataclass, field
 from typing import Any, Dict, Iterable, Iterator, List, NamedTuple, Optional, Sequence, Tuple, Union
 
 from ...console.escapes import line_shown
 from ...console.streams import encoded
+from ...data import dataclass, field
 from ..images import IS_INLINED
 from ..source_lines import Inlined, Source
 from ..text.named_lines import INLINED, NO_NAME, LineAnswers, inlined_lines, named_line, numbered, source_after

@@ -2,9 +2,9 @@
 from __future__ import annotations
 
 from array import array
-from dataclasses import dataclass, field
 from typing import Any, Dict, Iterator, List, NamedTuple, Optional, Tuple
 
+from ...data import dataclass, field
 from ..images import HAD_NAME, HAS_BELOW, HAS_INLINED, IS_BELOW, IS_INLINED, IS_RETURN, MOST_IMAGES, NO_IMAGE
 from ..images import PROCESSORS, SIGNAL_FRAMES, Frames, Images
 from .edits import Change, Members, changes
@@ -51,6 +51,9 @@ class Calls(NamedTuple):
 class JsonReport:
     """A JSON document of a report, which may have no frames. With `is_kept` it keeps what people read of it."""
 
+    is_json = True
+    # Those of one that people read alone.
+    backtraces = None
     data: bytes
     begin: int
     images: Images

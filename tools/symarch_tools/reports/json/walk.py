@@ -4,8 +4,9 @@ from __future__ import annotations
 import functools
 import json
 import re
-from dataclasses import dataclass
 from typing import Any, Callable, Dict, Optional, Protocol, Tuple
+
+from ...data import dataclass
 
 # A string; and an object or an array without others in it. The form of a string needs much memory for one with many
 # escapes, so it is for short ones: `string_end` finds the end of any.
@@ -39,15 +40,13 @@ class Broken(Exception):
     limit: str = ""
 
 
-@dataclass(eq=False)
 class JsonMember:
-    """A member of an object: its value, and where its name and its value stand."""
+    """A member of an object: its value, and where its name and its value stand. There is one for each of a document."""
 
     __slots__ = ("value", "key_begin", "begin", "end")
-    value: object
-    key_begin: int
-    begin: int
-    end: int
+
+    def __init__(self, value: object, key_begin: int, begin: int, end: int) -> None:
+        self.value, self.key_begin, self.begin, self.end = value, key_begin, begin, end
 
 
 class Node:

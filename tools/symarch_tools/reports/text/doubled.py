@@ -1,9 +1,9 @@
 """Text of which each line has an empty one after it, as pages and mails put it there when they are pasted."""
 from __future__ import annotations
-from dataclasses import dataclass
 
 from typing import Iterable, Iterator, Tuple
 
+from ...data import dataclass
 from .pasted import EMPTY, OUTSIDE, is_made_of, joined, lines_in
 
 # What an empty line may be: with what `pasted` puts before one.

@@ -2,8 +2,9 @@
 from __future__ import annotations
 
 import re
-from dataclasses import dataclass
 from typing import Iterable, Iterator, Match, Optional, Tuple
+
+from ...data import dataclass
 
 # What stands in the first lines of a text, and so many bytes of them.
 FIRST_WORDS = rb"(?:Process|Identifier|Incident Identifier|Date/Time|Code Type|Analysis of sampling)\b"

@@ -3,10 +3,10 @@ from __future__ import annotations
 
 import bisect
 import re
-from dataclasses import dataclass, field
 from array import array
 from typing import Dict, Iterator, List, Mapping, Match, NamedTuple, Optional, Pattern, Sequence, Set, Tuple
 
+from ...data import dataclass, field
 from ..images import ARCHITECTURES, CANNOT_BE_ASKED, HAD_NAME, HAS_INLINED, IS_LISTED, IS_RETURN, MOST_IMAGES
 from ..images import MOST_KNOWN, NO_IMAGE, PROCESSORS, Frames, Images, different
 from ..source_lines import NOTHING
@@ -418,6 +418,9 @@ class TextReport:
     """A report, or a part of one, as lines. `is_whole` says whether images are listed after its last frames, by UUIDs
     or without."""
 
+    is_json = False
+    # No document of JSON is broken off, and no backtraces are others.
+    broken = backtraces = None
     data: bytes
     begin: int
     end: int

@@ -3,9 +3,9 @@ below it, the innermost last, and below them what it called, which is set in fur
 from __future__ import annotations
 
 import re
-from dataclasses import dataclass, field
 from typing import Dict, Iterator, List, NamedTuple, Optional, Sequence, Tuple, Union
 
+from ...data import dataclass, field
 from ..source_lines import Inlined, Lines
 from .named_lines import INLINED, NO_NAME, bytes_of
 

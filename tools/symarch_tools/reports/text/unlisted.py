@@ -3,9 +3,9 @@ from __future__ import annotations
 
 import bisect
 import re
-from dataclasses import dataclass, field
 from typing import Dict, List, NamedTuple, Optional, Tuple
 
+from ...data import dataclass, field
 from ..images import CANNOT_BE_ASKED, NO_IMAGE, Frames, GivenImage
 
 # What stands after an address where the line says where its image was loaded, or the offset in that.

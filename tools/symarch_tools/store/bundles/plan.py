@@ -4,7 +4,7 @@ import uuid
 from typing import Dict, Iterable, List, Mapping, NamedTuple, Optional, Sequence, Set, Tuple
 
 from ...formats.builds import UNKNOWN, UUID_SIZE, Build, BuildLines, Builds, Named, bytes_of, with_app
-from ...formats.contents import DIGEST, KEY
+from ...formats.contents import DIGEST, KEY, uuid_in
 from ...formats.indexes import IndexRow
 from ..file_names import is_archive
 
@@ -44,7 +44,7 @@ def near(
 
 
 def text_of(one: bytes) -> str:
-    return str(uuid.UUID(bytes=one))
+    return uuid_in(one)
 
 
 class Wishes:
