@@ -1,17 +1,23 @@
 """Companions with DWARF, for the benchmarks that ask for lines. Clang compiles units of C++ with containers of
 libstdc++, whose objects are copied, each time under other names of symbols. A companion has the sections that dsymutil
 would write, packed from an ELF file, and its symbols: the large one of seven copies of six units, small ones of one
-copy each."""
+copy each. Slices of a given size are of such a unit, or of some functions of few bytes."""
+import functools
+import random
 import struct
 import subprocess
 from concurrent.futures import ThreadPoolExecutor
 
 from measure import folder
 from tests.support.llvm import output, tool
-from tests.support.made_dsyms import Elf
+from tests.support.made_dsyms import Elf, of_ranges
+from tests.support.made_images import uuid_of
 
 UNITS, COPIES, KINDS = 6, 7, 12
 LOWEST = 0x1_0000_0000
+# Slices of so many bytes are of a unit of so many kinds; shorter ones of functions of so many addresses, whose numbers
+# have so many digits more than the first ones.
+LEAST_OF_UNIT, KINDS_OF_SLICE, FUNCTION, MOST_OF_NUMBER = 5_000_000, 7, 16, 4
 INCLUDES = ("algorithm", "deque", "functional", "map", "memory", "set", "string", "unordered_map", "vector")
 # What a unit has of each of its kinds, whose number is K.
 KIND = """
@@ -58,16 +64,16 @@ long workK(const std::vector<std::string> &words, long seed)
 """
 
 
-def source(unit):
-    """The text of a unit."""
-    kinds = (KIND.replace("K", f"{unit}_{number}") for number in range(KINDS))
+def source(unit, count=KINDS):
+    """The text of a unit of so many kinds."""
+    kinds = (KIND.replace("K", f"{unit}_{number}") for number in range(count))
     return "".join(f"#include <{it}>\n" for it in INCLUDES) + "".join(kinds)
 
 
-def objects(unit, count=COPIES):
+def objects(unit, count=COPIES, kinds=KINDS):
     """The object of a unit, so many times, each time under other names of its symbols."""
     place, made = folder / f"unit{unit}.cc", folder / f"unit{unit}.o"
-    place.write_text(source(unit))
+    place.write_text(source(unit, kinds))
     words = ["-target", "x86_64-linux-gnu", "-std=c++17", "-g", "-gdwarf-4", "-gdwarf-aranges", "-O2", "-fPIC"]
     output(tool("clang++"), *words, f"-fdebug-prefix-map={folder}=/src", "-c", place, "-o", made)
     copies = [folder / f"unit{unit}-{number}.o" for number in range(count)]
@@ -109,10 +115,57 @@ def small_companions(count):
     return paths
 
 
+@functools.lru_cache(maxsize=None)
+def unit_companion():
+    """The bytes of the companion of a unit of fewer kinds."""
+    return linked(objects(0, 1, KINDS_OF_SLICE), 1)
+
+
+@functools.lru_cache(maxsize=None)
+def companion_of(size):
+    """A companion of so many bytes: that of a unit if it is as long, else one of functions of 16 addresses. It ends
+    with bytes of no section."""
+    made = unit_companion() if size >= LEAST_OF_UNIT else functions_companion(size)
+    if len(made) > size:
+        raise ValueError(f"no companion has {size} bytes")
+    random.seed(size)
+    return made + random.randbytes(size - len(made))
+
+
+def functions_companion(size):
+    """The companion of as many functions as fit."""
+    first, further = len(some_functions(1)), len(some_functions(2)) - len(some_functions(1)) + MOST_OF_NUMBER
+    return some_functions(1 + max(size - first, 0) // further)
+
+
+def some_functions(count):
+    """A companion of so many functions that follow one another, with a symbol each."""
+    places = [(FUNCTION * number, FUNCTION * (number + 1)) for number in range(count)]
+    symbols = [(b"_f%d" % number, LOWEST + first) for number, (first, _) in enumerate(places)]
+    return of_ranges([(1, [place]) for place in places], FUNCTION * count, 1, symbols)
+
+
+def slice_of(number, size):
+    """The companion of so many bytes under the UUID of a number."""
+    content = companion_of(size)
+    return content.replace(uuid_of(content), number.to_bytes(16, "big"), 1)
+
+
+def offset_in(size):
+    """How far an address of a function is behind the base of each slice of so many bytes."""
+    sections = sections_in(companion_of(size))
+    first, length = max(sections, key=lambda it: it[1])
+    return first - min(sections)[0] + length // 2
+
+
 def sections_of(companion):
     """The address and the size of each section of code of a companion."""
     with companion.open("rb") as file:
-        front = file.read(1 << 16)
+        return sections_in(file.read(1 << 16))
+
+
+def sections_in(front):
+    """The same by the first bytes of one."""
     count = struct.unpack_from("<I", front, 32 + 64)[0]
     return [struct.unpack_from("<QQ", front, 32 + 72 + 80 * number + 32) for number in range(count)]
 

@@ -84,7 +84,9 @@ def with_length(body: bytes) -> bytes:
     return struct.pack("<I", len(body)) + body
 
 
-def of_ranges(functions: Sequence[Tuple[int, Sequence[Code]]], size: int) -> bytes:
+def of_ranges(
+    functions: Sequence[Tuple[int, Sequence[Code]]], size: int, number: int = 0, symbols: Sequence[Symbol] = ()
+) -> bytes:
     """A companion of functions, each with its depth, from 1 on, and with where its ranges begin and end in code of this
     size. Each address has a line of its own."""
     low = struct.pack("<Q", LOWEST)
@@ -101,7 +103,7 @@ def of_ranges(functions: Sequence[Tuple[int, Sequence[Code]]], size: int) -> byt
         "ranges": lists,
         "line": with_length(PROGRAM + rows),
     }
-    return companion(debug, [(LOWEST, size)])
+    return companion(debug, [(LOWEST, size)], "x86_64", number, symbols)
 
 
 class Elf:

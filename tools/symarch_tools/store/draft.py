@@ -4,10 +4,10 @@ import os
 from typing import List, Optional, Sequence
 
 from ..console.escapes import shown
-from ..console.faults import Failed
+from ..console.faults import Failed, SliceRefused
 from ..console.screen import Screen
 from ..data import dataclass, field
-from ..formats.contents import Content, archive_of_retirements, heads_in, join_of
+from ..formats.contents import ADMISSION, Content, archive_of_retirements, heads_in, join_of, record_size, records_in
 from ..formats.files import linked, size_of, write_synced
 from ..formats.indexes import Index, index_at, index_by
 from ..formats.tables import Tables, write_index
@@ -16,7 +16,7 @@ from .archive_file import ArchiveFile
 from .folder import watched
 from .levels import joined_by_fold
 from .program import Merge, Program, Run
-from .slices import Slice
+from .slices import CHANGED, Slice
 
 
 # ARCHIVE.today has grown if it has more than one of so many parts of ARCHIVE.
@@ -36,16 +36,31 @@ class News:
     def paths(self) -> List[bytes]:
         return [self.path] if self.path else []
 
-    def index(self, room: bytes, program: Program, screen: Screen) -> None:
-        """Has the program make the tables of its slices, unless an index has them."""
+    def index(self, written: bytes, program: Program, screen: Screen) -> None:
+        """Has the program make the tables of its slices, unless an index has them: of a file of a room that was written
+        of them. Fails if one has other bytes there than those that were read first."""
+        room = os.path.dirname(written)
         if self.indexes or not self.content.held:
             return
         if self.path:
             self.indexes.append(index_made(self.path, room, b"came.idx", program, screen))
             return
         screen.begin("indexing: {} slices", sum(one.length for one in self.slices))
-        program.run(Run(["index", "/dev/stdin", "came.idx"], self.slices, room, moved=screen.progress))
-        self.indexes.append(index_at(os.path.join(room, b"came.idx")))
+        arguments, slices = ["index", "/dev/stdin", "came.idx"], self.written_in(written)
+        program.run(Run(arguments, slices, room, moved=screen.progress, is_read_back=True))
+        index = index_at(os.path.join(room, b"came.idx"))
+        entries = {row.entry for row in index.rows()}
+        for one in self.slices:
+            if one.head[:1] == ADMISSION and ADMISSION + one.entry() not in entries:
+                raise SliceRefused(CHANGED, one)
+        self.indexes.append(index)
+
+    def written_in(self, path: bytes) -> List[Slice]:
+        """The slices in their places in a file, with others that have their heads."""
+        heads = {one.head for one in self.slices if one.head[:1] == ADMISSION}
+        with open(path, "rb") as file:
+            size, found = os.fstat(file.fileno()).st_size, [it for it in records_in(file) if it[0] in heads]
+        return [Slice(path, None, at, record_size(head) - len(head), size, head, path) for head, at in found]
 
 
 @dataclass
@@ -63,14 +78,14 @@ class Draft:
         today = self.archive.files.today
         if not self.is_to_be_folded():
             self.merge([today], b"new", news.slices, news.paths())
-            news.index(self.room, self.program, self.screen)
+            news.index(os.path.join(self.room, b"new"), self.program, self.screen)
             index = self.new_index(today, today.content.joined(news.content), [today.index, *news.indexes])
             self.archive.folder.replace(self.room, today, index, self.lines, self.screen)
             return
         if news.path is None or len(today.content):
             self.merge([today], b"grown", news.slices, news.paths())
-            news.index(self.room, self.program, self.screen)
             grown = os.path.join(self.room, b"grown")
+            news.index(grown, self.program, self.screen)
             news = News(today.content.joined(news.content), (), grown, [today.index, *news.indexes])
         self.join_by_fold(news)
 
@@ -113,7 +128,7 @@ class Draft:
         is_alone = len(paths) == 1 and not any(it.exists() for it in files)
         if not is_alone or not linked(paths[0], os.path.join(self.room, b"new")):
             self.merge([file, *reversed(others)], b"new", more=paths)
-        news.index(self.room, self.program, self.screen)
+        news.index(os.path.join(self.room, b"new"), self.program, self.screen)
         indexes = [*(it.index for it in files), *news.indexes]
         index = self.new_index(file, content.joined(Content(retired)), indexes)
         self.archive.folder.replace(self.room, file, index, self.lines, self.screen)
@@ -146,6 +161,7 @@ class Draft:
         # The program holds the lock too, since it may outlive this one for a moment.
         lock = self.archive.lock.descriptor
         held = [lock] if lock is not None else []
-        self.program.merge(Merge(paths, new, watched(self.screen, self.room), slices, held))
+        merge = Merge(paths, new, watched(self.screen, self.room), slices, held, is_read_back=True)
+        self.program.merge(merge)
         if not os.path.exists(new):
             raise Failed(f"{self.program.path} wrote no archive")

@@ -32,7 +32,8 @@ PASSED_OVER, IN_PART = re.compile(r"file ([0-9]+) refused (.*)"), 2
 class Run:
     """A call of the program: its arguments, the slices whose archive is on its standard input, the folder in which it
     runs, the open files that it gets, and what is called as it moves on. A fault names a path of `names` by what that
-    has for it. `goes_on` is said of a command that may report what it refuses, and carry out the rest."""
+    has for it. `goes_on` is said of a command that may report what it refuses, and carry out the rest. What it makes of
+    slices `is_read_back` if their bytes are tested there, and so not here."""
 
     arguments: Sequence[Argument]
     slices: Sequence[Slice] = ()
@@ -41,6 +42,7 @@ class Run:
     moved: Moved = unmoved
     names: Mapping[str, str] = field(default_factory=dict)
     goes_on: bool = False
+    is_read_back: bool = False
 
     def all_names(self) -> Dict[str, str]:
         """How paths are shown, also the arguments of a command if they name files of the folder."""
@@ -59,6 +61,7 @@ class Merge:
     moved: Moved
     slices: Sequence[Slice] = ()
     held: Sequence[int] = ()
+    is_read_back: bool = False
 
 
 @dataclass(eq=False)
@@ -84,7 +87,7 @@ class Program:
             process = begun(ends, command, bufsize=0, cwd=run.folder, pass_fds=files, **pipes)
             assert process.stdin
             with contextlib.suppress(BrokenPipeError):
-                give(process.stdin.fileno(), run.slices, run.moved)
+                give(process.stdin.fileno(), run)
             printed, said = None, b""
             while printed is None:
                 # What is raised within would leave its lock.
@@ -120,7 +123,9 @@ class Program:
             arguments = ["merge", first, os.fsdecode(name), *(others or ["/dev/stdin"])]
             names[arguments[2]] = shown(asked.new)
             try:
-                self.run(Run(arguments, asked.slices, folder, [*read, *asked.held], asked.moved, names))
+                given = [*read, *asked.held]
+                how = {"is_read_back": asked.is_read_back}
+                self.run(Run(arguments, asked.slices, folder, given, asked.moved, names, **how))
             except Failed as failed:
                 raise pipes.fault(names) or failed from None
             finally:
@@ -193,15 +198,15 @@ def answering_program() -> str:
     raise Failed(f"{which} program symarch; `./symarch --version` in its sources builds one", 126)
 
 
-def give(descriptor: int, slices: Sequence[Slice], moved: Moved) -> None:
+def give(descriptor: int, run: Run) -> None:
     """Writes the archive of slices, which are in the order of their records."""
     write(descriptor, MAGICS[0])
-    for done, one in enumerate(slices):
+    for done, one in enumerate(run.slices):
         write(descriptor, one.head)
-        for chunk in one.chunks():
+        for chunk in one.pieces() if run.is_read_back else one.chunks():
             write(descriptor, chunk)
-            moved(done)
-    write(descriptor, END + len(slices).to_bytes(LENGTH, "big"))
+            run.moved(done)
+    write(descriptor, END + len(run.slices).to_bytes(LENGTH, "big"))
 
 
 def inner(reason: str, begins: str) -> str:
@@ -217,7 +222,7 @@ def fault(run: Run, said: bytes, status: int) -> Exception:
         at, reason = MAGIC, found.reason
         for one in run.slices:
             if at == found.byte:
-                return SliceRefused(inner(reason, BAD_SLICE), one, True)
+                return one.refused(inner(reason, BAD_SLICE))
             at += len(one.head) + one.length
     where, _, path = more.partition(" is ")
     names = run.all_names()
