@@ -2,7 +2,7 @@
 from functools import lru_cache
 from typing import Dict, Iterator, List, NamedTuple, Optional, Tuple
 
-from .dwarf_numbers import FLAG_PRESENT, IMPLICIT_CONST, Reader, Unread, Value, value_at
+from .dwarf_numbers import FLAG_PRESENT, IMPLICIT_CONST, WIDE, Reader, Unread, Value, value_at
 
 # The attributes that are asked for, by their numbers.
 ASKED: Dict[int, str] = {
@@ -129,10 +129,12 @@ class Unit(NamedTuple):
 
 
 def unit_at(info: bytes, abbreviations: bytes, offset: int, end: int) -> Optional[Unit]:
-    """The unit between two places, if its header can be read: version 2 to 5, addresses of eight bytes, and in version
-    5 DW_UT_compile or DW_UT_partial."""
-    r = Reader(info, offset + 4, end)
+    """The unit between two places, if its header can be read: the 32-bit format, version 2 to 5, addresses of eight
+    bytes, and in version 5 DW_UT_compile or DW_UT_partial."""
+    r = Reader(info, offset, end)
     try:
+        if r.number(4) == WIDE:
+            return None
         version = r.number(2)
         if version == 5:
             unit_type, size, table = r.number(1), r.number(1), r.number(4)

@@ -2,7 +2,7 @@
 from functools import lru_cache
 from typing import Callable, Dict, List, NamedTuple, Optional, Tuple
 
-from .dwarf_numbers import MASK, Reader, Texts, Unread, Value, number_of, value_at
+from .dwarf_numbers import MASK, WIDE, Reader, Texts, Unread, Value, number_of, value_at
 
 LNCT_PATH, LNCT_DIRECTORY_INDEX = 1, 2
 # The forms of a name and of an index of a directory: string, line_strp, strp, udata, data1 to data16, block.
@@ -33,9 +33,11 @@ class Header(NamedTuple):
 
 
 def header_of(unit: bytes) -> Optional[Header]:
-    """The header of a unit of __debug_line, with its unit_length."""
-    r = Reader(unit, 4)
+    """The header of a unit of __debug_line, with its initial length, in the 32-bit format."""
+    r = Reader(unit)
     try:
+        if r.number(4) == WIDE:
+            return None
         version = r.number(2)
         if not 2 <= version <= 5:
             return None

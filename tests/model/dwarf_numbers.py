@@ -1,12 +1,13 @@
-"""Numbers, texts, units and the values of attributes, told a second time by DWARF 5, sections 7.2 to 7.6: in the 32-bit
-format, with addresses of eight bytes."""
+"""Numbers, texts, units and the values of attributes, told a second time by DWARF 5, sections 7.2 to 7.6: with addresses
+of eight bytes. Units in the 64-bit format are only passed over."""
 from __future__ import annotations
 
-import struct
 from functools import lru_cache
 from typing import Callable, Dict, List, NamedTuple, Optional, Tuple, TypeVar, Union
 
 MASK = (1 << 64) - 1
+# The first number of a unit in the 64-bit format.
+WIDE = 0xFFFFFFFF
 Item = TypeVar("Item")
 
 
@@ -78,18 +79,23 @@ class Reader:
             found.append(one)
 
 
+def pass_unit(r: Reader) -> Tuple[int, int]:
+    """Where the unit begins that is next, and where it ends. The numbers from 0xfffffff0 on are no lengths: after the
+    greatest eight bytes of length follow, the others are reserved."""
+    begin = r.at
+    length = r.number(4)
+    if length == WIDE:
+        length = r.number(8)
+    elif length >= 0xFFFFFFF0:
+        raise Unread
+    r.take(length)
+    return begin, r.at
+
+
 @lru_cache(maxsize=200)
 def units_of(section: bytes) -> Dict[int, int]:
-    """Where each unit of a section begins, and where it ends: they stand one after another by their unit_length."""
-    found: Dict[int, int] = {}
-    at = 0
-    while at + 4 <= len(section):
-        end = at + 4 + struct.unpack_from("<I", section, at)[0]
-        if end > len(section):
-            break
-        found[at] = end
-        at = end
-    return found
+    """Where each unit of a section begins, and where it ends: they stand one after another by their initial lengths."""
+    return dict(Reader(section).each(pass_unit))
 
 
 # ---- values

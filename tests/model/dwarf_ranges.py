@@ -4,7 +4,7 @@ from itertools import islice
 from typing import Iterator, List, NamedTuple, Optional, Tuple
 
 from .dwarf_entries import Attributes
-from .dwarf_numbers import MASK, Reader, Unread, Value, indexed, number_of
+from .dwarf_numbers import MASK, WIDE, Reader, Unread, Value, indexed, number_of, units_of
 
 Range = Tuple[int, int]
 
@@ -21,32 +21,34 @@ def tuple_at(r: Reader) -> Optional[Tuple[int, int]]:
     return None if address == length == 0 else (address, length)
 
 
+def set_at(r: Reader) -> Optional[Aranges]:
+    try:
+        first, version, unit = r.number(4), r.number(2), r.number(4)
+        size, segment, _ = r.number(1), r.number(1), r.number(4)
+    except Unread:
+        return None
+    if first == WIDE or (version, size, segment) != (2, 8, 0):
+        return None
+    tuples: List[Tuple[int, int]] = []
+    while True:
+        try:
+            one = tuple_at(r)
+        except Unread:
+            one = None
+        if one is None:
+            return Aranges(unit, tuples)
+        tuples.append(one)
+
+
 @lru_cache(maxsize=200)
 def aranges_of(section: bytes) -> List[Aranges]:
-    """The sets of __debug_aranges that are read: of version 2, with addresses of eight bytes and without segments."""
+    """The sets of __debug_aranges that are read: in the 32-bit format, of version 2, with addresses of eight bytes and
+    without segments."""
     found: List[Aranges] = []
-
-    def set_at(r: Reader) -> None:
-        inner = Reader(r.take(r.number(4)))
-        try:
-            version, unit, size, segment = inner.number(2), inner.number(4), inner.number(1), inner.number(1)
-            inner.take(4)
-        except Unread:
-            return
-        if (version, size, segment) != (2, 8, 0):
-            return
-        tuples: List[Tuple[int, int]] = []
-        found.append(Aranges(unit, tuples))
-        while True:
-            try:
-                one = tuple_at(inner)
-            except Unread:
-                return
-            if one is None:
-                return
-            tuples.append(one)
-
-    Reader(section).each(set_at)
+    for begin, end in units_of(section).items():
+        one = set_at(Reader(section, begin, end))
+        if one is not None:
+            found.append(one)
     return found
 
 

@@ -1,19 +1,28 @@
--- Units that follow one another in a section (DWARF 5, sections 7.2.2, 6.1.2, 6.2.4 and 7.5.1), in the 32-bit format.
-use Rattle.std.specs.Prelude.{ℕ, List, ◌≡◌, ◌<◌, ◌≤◌, ◌+◌, length, take, drop, nat_lt, if◌then◌else◌, Option, Some}
-use Rattle.std.specs.Prelude.{None, MatchOption}
-use Rattle.dwarf_encoding.specs.LittleEndian.{u32_le_at}
+-- Units that follow one another in a section (DWARF 5, sections 7.2.2, 6.1.2, 6.2.4 and 7.5.1).
+use Rattle.std.specs.Prelude.{ℕ, List, Bool, ◌≡◌, ◌<◌, ◌≤◌, ◌+◌, ◌==◌, ◌&&◌, length, nat_le, nat_lt, if◌then◌else◌}
+use Rattle.std.specs.Prelude.{Option, Some, None, MatchOption}
+use Rattle.std.specs.Option.{option_and_then}
+use Rattle.dwarf_encoding.specs.Forms.{split_at}
+use Rattle.dwarf_encoding.specs.LittleEndian.{u32_le_at, u64_le_at}
 use Rattle.dwarf_encoding.specs.Sequences.{placed, item_at}
 
--- unit_length: how many bytes of the unit follow this number
-abbrev pub unit_length : List ℕ → ℕ
-unit_length unit = u32_le_at unit 0
+-- whether a unit is in the 64-bit format (section 7.4)
+abbrev pub is_64_bit : List ℕ → Bool
+is_64_bit unit = u32_le_at unit 0 == 0xffffffff
 
--- the unit that begins the bytes, with its unit_length, and the bytes after it
-unfoldable pub unit_at : List ℕ → Option (List ℕ × List ℕ)
-unit_at bytes =
+-- the initial length that begins the bytes: how many bytes it has, and how many bytes of the unit follow it; in the
+-- 64-bit format eight bytes of length follow 0xffffffff, and the numbers from 0xfffffff0 to 0xfffffffe are reserved
+-- (section 7.4)
+unfoldable pub initial_length : List ℕ → Option (ℕ × ℕ)
+initial_length bytes =
     if nat_lt (length bytes) 4 then None
-    else if nat_lt (length bytes) (4 + unit_length bytes) then None
-    else Some (take (4 + unit_length bytes) bytes, drop (4 + unit_length bytes) bytes)
+    else if nat_lt (u32_le_at bytes 0) 0xfffffff0 then Some (4, u32_le_at bytes 0)
+    else if is_64_bit bytes && nat_le 12 (length bytes) then Some (12, u64_le_at bytes 4)
+    else None
+
+-- the unit that begins the bytes, with its initial length, and the bytes after it
+unfoldable pub unit_at : List ℕ → Option (List ℕ × List ℕ)
+unit_at bytes = option_and_then (λ l. split_at (l.0 + l.1) bytes) (initial_length bytes)
 
 -- the unit at an offset of a section, if one of the units that stand there one after another begins at it
 abbrev pub unit_of : List ℕ → ℕ → Option (List ℕ)

@@ -21,5 +21,5 @@ pub use leb128::{signed_leb128, unsigned_leb128};
 pub use little_endian::{u16_le_at, u32_le_at, u64_le_at};
 pub use text::read_text;
 pub use text_sections::TextSections;
-pub use units::{Units, split_unit};
+pub use units::{Units, is_64_bit, split_unit};
 pub use value::Value;

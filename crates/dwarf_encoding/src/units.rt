@@ -1,32 +1,57 @@
-//! Units that stand in a section one after another (DWARF 5, section 7.2.2), in the 32-bit format.
+//! Units that stand in a section one after another (DWARF 5, sections 7.2.2 and 7.4).
 
 ghost use Rattle.std.specs.Prelude.{◌≡◌, ◌<◌, ◌≤◌, ◌==◌, ℕ, length, IfOk, IfSome, IfNone, OnOk, Some, None};
 ghost use Rattle.std.specs.Prelude.{if◌then◌else◌};
 ghost use Rattle.std.specs.Option.{option_map, option_or};
 ghost use Rattle.std.specs.Ordering.{nat_cmp};
 ghost use Rattle.std.specs.BTreeMap as tree_map;
-ghost use Rattle.dwarf_encoding.specs.Units.{unit_at, unit_of, IsUnitWith};
+ghost use Rattle.dwarf_encoding.specs.Units.{initial_length, is_64_bit, unit_at, unit_of, IsUnitWith};
 
-use crate::little_endian::u32_le_at;
+use crate::little_endian::{u32_le_at, u64_le_at};
 use memory::{Heap, NoMemory};
 use std::collections::BTreeMap;
 use std::marker::Model;
 
-/// The unit that begins the bytes, with its `unit_length`, and the bytes after it; `None` if fewer than four bytes are
-/// left or the unit passes the end, as each unit in the 64-bit format does.
+/// Whether a unit is in the 64-bit format, of which no unit is read here.
+pub fn is_64_bit(unit: &[u8]) -> bool
+    requires { 4 ≤ length unit.now }
+    ensures { result ≡ is_64_bit unit.now }
+{
+    u32_le_at(unit, 0) == 0xffff_ffff
+}
+
+/// How many bytes the initial length has that begins the bytes, and how many bytes of the unit follow it; `None` if
+/// fewer bytes are left or its number is reserved.
+#[tactic(auto, unfolding(crate::specs::Units::initial_length))]
+fn initial_length(bytes: &[u8]) -> Option<(usize, u64)>
+    ensures value { result ≡ initial_length bytes.now }
+    ensures within { IfSome result (λ x. (4 ≤ x.0) × (x.0 ≤ length bytes.now)) }
+{
+    if bytes.len() < 4 {
+        return None;
+    }
+    let size = u32_le_at(bytes, 0);
+    if size < 0xffff_fff0 {
+        return Some((4, u64::from(size)));
+    }
+    if !is_64_bit(bytes) || bytes.len() < 12 {
+        return None;
+    }
+    Some((12, u64_le_at(bytes, 4)))
+}
+
+/// The unit that begins the bytes, with its initial length, in either format, and the bytes after it; `None` if no
+/// initial length can be read or the unit passes the end.
 #[tactic(auto, unfolding(crate::specs::Units::unit_at))]
 pub fn split_unit(bytes: &[u8]) -> Option<(&[u8], &[u8])>
     ensures value { option_map (λ x. (x.0.now, x.1.now)) result ≡ unit_at bytes.now }
     ensures shorter { IfSome result (λ x. length x.1.now < length bytes.now) }
 {
-    if bytes.len() < 4 {
+    let (before, size) = initial_length(bytes)?;
+    if ((bytes.len() - before) as u64) < size {
         return None;
     }
-    let size = 4 + u32_le_at(bytes, 0) as usize;
-    if bytes.len() < size {
-        return None;
-    }
-    Some(bytes.split_at(size))
+    Some(bytes.split_at(before + size as usize))
 }
 
 /// The units of a section, which borrow it, up to the first that passes the end. A contract sees the section.

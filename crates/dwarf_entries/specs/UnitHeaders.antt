@@ -2,6 +2,7 @@
 use Rattle.std.specs.Prelude.{ℕ, List, ◌==◌, ◌&&◌, ◌||◌, nat_le, nat_lt, length, slice_index, if◌then◌else◌, Option}
 use Rattle.std.specs.Prelude.{Some, None}
 use Rattle.dwarf_encoding.specs.LittleEndian.{u16_le_at, u32_le_at}
+use Rattle.dwarf_encoding.specs.Units.{is_64_bit}
 use Rattle.dwarf_entries.specs.declared.unit_header.UnitHeader.{UnitHeader}
 
 -- version 5: unit_type at 6, address_size at 7, debug_abbrev_offset at 8; DW_UT_compile is 1 and DW_UT_partial 3
@@ -18,9 +19,9 @@ header_to_version_4 version unit =
     then Some (record { version = version; debug_abbrev_offset = u32_le_at unit 6; entries_offset = 11 })
     else None
 
--- the header of a unit, with its unit_length; version at 4
+-- the header of a unit, with its initial length; version at 4; one in the 64-bit format is not read
 abbrev pub header_of : List ℕ → Option UnitHeader
 header_of unit =
-    if nat_lt (length unit) 6 then None
+    if nat_lt (length unit) 6 || is_64_bit unit then None
     else if u16_le_at unit 4 == 5 then header_of_version_5 unit
     else header_to_version_4 (u16_le_at unit 4) unit

@@ -4,7 +4,7 @@ ghost use Rattle.std.specs.Prelude.{◌≡◌, ◌≤◌, length, IfSome};
 ghost use Rattle.dwarf_entries.specs.UnitHeaders.{header_of, header_of_version_5, header_to_version_4};
 
 use crate::dw::{DW_UT_COMPILE, DW_UT_PARTIAL};
-use dwarf_encoding::{u16_le_at, u32_le_at};
+use dwarf_encoding::{is_64_bit, u16_le_at, u32_le_at};
 
 /// What the entries of a unit need of its header.
 #[derive(Clone, Copy)]
@@ -12,7 +12,7 @@ pub struct UnitHeader {
     pub version: u16,
     /// The offset of the unit's table in `__debug_abbrev`.
     pub debug_abbrev_offset: u32,
-    /// The size of the header with its `unit_length`: the offset of the first entry in the unit.
+    /// The size of the header with its initial length: the offset of the first entry in the unit.
     pub entries_offset: usize,
 }
 
@@ -45,14 +45,14 @@ fn header_to_version_4(version: u16, unit: &[u8]) -> Option<UnitHeader>
 }
 
 impl UnitHeader {
-    /// The header of a unit, with its `unit_length`; `None` if its version is not 2 to 5, its address size is not 8, it
-    /// passes the end, or it is not a compilation unit.
+    /// The header of a unit, with its initial length; `None` if it is in the 64-bit format, its version is not 2 to 5,
+    /// its address size is not 8, it passes the end, or it is not a compilation unit.
     pub fn of(unit: &[u8]) -> Option<UnitHeader>
         ensures value { result ≡ header_of unit.now }
         ensures within { IfSome result (λ h. h.entries_offset ≤ length unit.now) }
         ensures first { IfSome result (λ h. 11 ≤ h.entries_offset) }
     {
-        if unit.len() < 6 {
+        if unit.len() < 6 || is_64_bit(unit) {
             return None;
         }
         let version = u16_le_at(unit, 4);

@@ -1,7 +1,8 @@
 -- The header of a line number program (DWARF 5, section 6.2.4), of the versions 2 to 5 in the 32-bit format.
-use Rattle.std.specs.Prelude.{ℕ, List, take, drop, length, slice_index, ◌+◌, ◌-◌, ◌==◌, ◌&&◌, ◌||◌, Bool, nat_le}
+use Rattle.std.specs.Prelude.{ℕ, List, take, drop, length, slice_index, ◌+◌, ◌-◌, ◌==◌, ◌&&◌, ◌||◌, Bool, not, nat_le}
 use Rattle.std.specs.Prelude.{nat_lt, Option, Some, None, if◌then◌else◌}
 use Rattle.dwarf_encoding.specs.LittleEndian.{u16_le_at, u32_le_at}
+use Rattle.dwarf_encoding.specs.Units.{is_64_bit}
 
 -- what the machine takes from a header; line_base as its byte
 pub record HeaderRecord : Type 0 where
@@ -58,11 +59,11 @@ header_of unit =
       standard_opcode_lengths = take (opcode_base unit - 1) (drop (standard_opcode_lengths_offset unit) unit);
     }
 
--- whether a unit has a header that is read here: its version is 2 to 5, its fields lie before its program, line_range
--- is not 0, and from version 4 on maximum_operations_per_instruction is 1
+-- whether a unit has a header that is read here: it is in the 32-bit format, its version is 2 to 5, its fields lie
+-- before its program, line_range is not 0, and from version 4 on maximum_operations_per_instruction is 1
 abbrev pub has_header : List ℕ → Bool
 has_header unit =
-    nat_le 6 (length unit) && nat_le 2 (version unit) && nat_le (version unit) 5
+    nat_le 6 (length unit) && not (is_64_bit unit) && nat_le 2 (version unit) && nat_le (version unit) 5
     && nat_le (standard_opcode_lengths_offset unit) (length unit)
     && nat_le (names_offset unit) (program_offset unit) && nat_le (program_offset unit) (length unit)
     && nat_lt 0 (slice_index unit (default_is_stmt_offset unit + 2))

@@ -6,7 +6,7 @@ ghost use Rattle.dwarf_lines.specs.Header.{version, header_length_offset};
 ghost use Rattle.dwarf_lines.specs.Header.{default_is_stmt_offset, opcode_base, names_offset, program_offset};
 ghost use Rattle.dwarf_lines.specs.Header.{has_header, program_of, name_bytes};
 
-use dwarf_encoding::{u16_le_at, u32_le_at};
+use dwarf_encoding::{is_64_bit, u16_le_at, u32_le_at};
 
 /// What the machine takes from the header of a program. The fields have the standard's names.
 #[derive(Clone, Copy)]
@@ -77,7 +77,7 @@ fn program_offset(unit: &[u8]) -> usize
 pub(crate) fn has_header(unit: &[u8]) -> bool
     ensures { result ≡ has_header unit.now }
 {
-    if unit.len() < 6 {
+    if unit.len() < 6 || is_64_bit(unit) {
         return false;
     }
     let version = version(unit);
@@ -104,8 +104,8 @@ pub(crate) fn name_bytes(unit: &[u8]) -> &[u8]
 impl<'a> Program<'a> {
     ghost use Rattle.dwarf_lines.specs.Views.{program_view};
 
-    /// The program of a unit of `__debug_line`, with its `unit_length`; `None` if its header is not read here: its
-    /// version is not 2 to 5, its fields pass its program, `line_range` is 0, or
+    /// The program of a unit of `__debug_line`, with its initial length; `None` if its header is not read here: it is in
+    /// the 64-bit format, its version is not 2 to 5, its fields pass its program, `line_range` is 0, or
     /// `maximum_operations_per_instruction` is not 1.
     #[tactic(auto, unfolding(crate::specs::Header::program_of))]
     pub fn of(unit: &'a [u8]) -> Option<Program<'a>>

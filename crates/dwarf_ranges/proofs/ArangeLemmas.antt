@@ -5,11 +5,12 @@ use Rattle.std.specs.List.{flat_map, list_any}
 use Rattle.std.specs.Option.{option_map_or}
 use Rattle.std.proofs.lemmas.Bool.{cases_Bool, ltb-false}
 use Rattle.std.proofs.lemmas.Option.{none-some}
-use Rattle.dwarf_encoding.specs.Forms.{split_at}
-use Rattle.dwarf_encoding.specs.LittleEndian.{u32_le_at, u64_le_at}
+use Rattle.dwarf_encoding.specs.LittleEndian.{u64_le_at}
 use Rattle.dwarf_encoding.specs.Sequences.{Shortens}
+use Rattle.dwarf_encoding.specs.Units.{unit_at}
 use Rattle.dwarf_encoding.proofs.SequenceLemmas.{sequence_missing, sequence_some}
-use Rattle.dwarf_ranges.specs.Aranges.{aranges_of, header_of, is_named, names_unit, set_at, tuple_at, tuples_from, tuples_of}
+use Rattle.dwarf_encoding.proofs.UnitLemmas.{unit_shortens}
+use Rattle.dwarf_ranges.specs.Aranges.{aranges_of, header_of, is_named, names_unit, tuple_at, tuples_from, tuples_of}
 use Rattle.dwarf_ranges.specs.declared.arange.Arange.{Arange}
 
 tuple_shorter : (bytes : List ℕ) (x : (ℕ × ℕ) × List ℕ) → tuple_at bytes ≡ Some x → length x.1 < length bytes
@@ -27,24 +28,6 @@ tuple_shorter bytes x e = elim (cases_Bool (nat_lt (length bytes) 16)) [
 tuples_shorten : Shortens tuple_at
 tuples_shorten = record { less = tuple_shorter }
 
-set_shorter : (bytes : List ℕ) (x : List ℕ × List ℕ) → set_at bytes ≡ Some x → length x.1 < length bytes
-unfolding set_at
-set_shorter bytes x e = elim (cases_Bool (nat_lt (length bytes) 4)) [
-  | inl t ↦ let gone : None ≡ Some x = rw t at e in absurd (none-some x gone)
-  | inr f ↦
-      let size : ℕ = u32_le_at bytes 0 in
-      let found : split_at size (drop 4 bytes) ≡ Some x = rw f at e in
-      elim (cases_Bool (nat_lt (length (drop 4 bytes)) size)) [
-        | inl t ↦ absurd (none-some x (cc (found, t)))
-        | inr g ↦
-            let same : (take size (drop 4 bytes), drop size (drop 4 bytes)) ≡ x = cc (found, g) in
-            omega (arith, ap (λ (y : List ℕ × List ℕ). length y.1) same, length-drop size (drop 4 bytes), length-drop 4 bytes, ltb-false (length bytes) 4 f)
-      ]
-]
-
-sets_shorten : Shortens set_at
-sets_shorten = record { less = set_shorter }
-
 -- no tuple is left
 pub tuples_end : (unit : ℕ) (bytes : List ℕ) → tuple_at bytes ≡ None → tuples_from unit bytes ≡ []
 unfolding tuples_from
@@ -57,17 +40,17 @@ unfolding tuples_from
 tuples_more unit bytes address size rest e = ap (map _) (sequence_some tuple_at tuples_shorten bytes ((address, size), rest) e)
 
 -- no set is left
-pub sets_end : (bytes : List ℕ) → set_at bytes ≡ None → aranges_of bytes ≡ []
+pub sets_end : (bytes : List ℕ) → unit_at bytes ≡ None → aranges_of bytes ≡ []
 unfolding aranges_of
-sets_end bytes e = ap (flat_map tuples_of) (sequence_missing set_at bytes e)
+sets_end bytes e = ap (flat_map tuples_of) (sequence_missing unit_at bytes e)
 
 -- one set more
-pub sets_more : (bytes set rest : List ℕ) → set_at bytes ≡ Some (set, rest) → aranges_of bytes ≡ tuples_of set ++ aranges_of rest
+pub sets_more : (bytes set rest : List ℕ) → unit_at bytes ≡ Some (set, rest) → aranges_of bytes ≡ tuples_of set ++ aranges_of rest
 unfolding aranges_of
-sets_more bytes set rest e = ap (flat_map tuples_of) (sequence_some set_at sets_shorten bytes (set, rest) e)
+sets_more bytes set rest e = ap (flat_map tuples_of) (sequence_some unit_at unit_shortens bytes (set, rest) e)
 
-pub set_less : (bytes set rest : List ℕ) → set_at bytes ≡ Some (set, rest) → length rest < length bytes
-set_less bytes set rest e = set_shorter bytes (set, rest) e
+pub set_less : (bytes set rest : List ℕ) → unit_at bytes ≡ Some (set, rest) → length rest < length bytes
+set_less bytes set rest e = unit_shortens.less bytes (set, rest) e
 
 -- no tuple begins no bytes
 nothing_begins : tuple_at [] ≡ None
@@ -99,7 +82,7 @@ one_tuple unit bytes sets address size rest all read before = sym before ∙ ap 
 
 -- a set is begun
 pub one_set : (unit : ℕ) (bytes sets set rest : List ℕ) (tuples all : List Arange) → tuple_at bytes ≡ None
-    → ◌≡◌ {A = Option (List ℕ × List ℕ)} (Some (set, rest)) (set_at sets)
+    → ◌≡◌ {A = Option (List ℕ × List ℕ)} (Some (set, rest)) (unit_at sets)
     → tuples ≡ tuples_of set → tuples_from unit bytes ++ aranges_of sets ≡ all → tuples ++ aranges_of rest ≡ all
 one_set unit bytes sets set rest tuples all none read are before =
     ap (λ t. t ++ aranges_of rest) are ∙ sym (sets_more sets set rest (sym read)) ∙ sym (no_first_tuples unit bytes sets none) ∙ before
@@ -108,13 +91,13 @@ pub all_sets : (sets : List ℕ) → tuples_from 0 [] ++ aranges_of sets ≡ ara
 all_sets sets = ap (λ t. t ++ aranges_of sets) (no_tuples 0)
 
 -- no set is left to name a unit
-pub named_end : (bytes : List ℕ) (offset : ℕ) → ◌≡◌ {A = Option (List ℕ × List ℕ)} None (set_at bytes) → is_named bytes offset ≡ false
+pub named_end : (bytes : List ℕ) (offset : ℕ) → ◌≡◌ {A = Option (List ℕ × List ℕ)} None (unit_at bytes) → is_named bytes offset ≡ false
 unfolding is_named
-named_end bytes offset e = ap (list_any (names_unit offset)) (sequence_missing set_at bytes (sym e))
+named_end bytes offset e = ap (list_any (names_unit offset)) (sequence_missing unit_at bytes (sym e))
 
-named_more : (bytes set rest : List ℕ) (offset : ℕ) → set_at bytes ≡ Some (set, rest) → is_named bytes offset ≡ (names_unit offset set || is_named rest offset)
+named_more : (bytes set rest : List ℕ) (offset : ℕ) → unit_at bytes ≡ Some (set, rest) → is_named bytes offset ≡ (names_unit offset set || is_named rest offset)
 unfolding is_named
-named_more bytes set rest offset e = ap (list_any (names_unit offset)) (sequence_some set_at sets_shorten bytes (set, rest) e)
+named_more bytes set rest offset e = ap (list_any (names_unit offset)) (sequence_some unit_at unit_shortens bytes (set, rest) e)
 
 in_order : (set rest named whole : Bool) → ((set || rest) || named) ≡ whole → (rest || (set || named)) ≡ whole
 in_order true true named whole e = e
@@ -123,7 +106,7 @@ in_order false true named whole e = e
 in_order false false named whole e = e
 
 -- the unit of a set is added to those that are named
-pub named_step : (bytes set rest : List ℕ) (offset : ℕ) (named more whole : Bool) → ◌≡◌ {A = Option (List ℕ × List ℕ)} (Some (set, rest)) (set_at bytes)
+pub named_step : (bytes set rest : List ℕ) (offset : ℕ) (named more whole : Bool) → ◌≡◌ {A = Option (List ℕ × List ℕ)} (Some (set, rest)) (unit_at bytes)
     → more ≡ (names_unit offset set || named) → (is_named bytes offset || named) ≡ whole → (is_named rest offset || more) ≡ whole
 named_step bytes set rest offset named more whole read added before =
     ap (λ m. is_named rest offset || m) added

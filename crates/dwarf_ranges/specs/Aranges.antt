@@ -1,27 +1,24 @@
 -- Which unit an address is of, by __debug_aranges (DWARF 5, section 6.1.2).
 use Rattle.std.specs.Prelude.{ℕ, List, [], length, drop, map, slice_index, ◌==◌, ◌&&◌, ◌+◌, ◌≡◌, ◌<◌, ◌≤◌, nat_lt}
-use Rattle.std.specs.Prelude.{nat_le, if◌then◌else◌, Bool, false, Option, Some, None, MatchOption, slice_get}
+use Rattle.std.specs.Prelude.{nat_le, if◌then◌else◌, Bool, false, not, Option, Some, None, MatchOption, slice_get}
 use Rattle.std.specs.BTreeMap as tree_map
 use Rattle.std.specs.List.{flat_map, list_any}
 use Rattle.std.specs.Option.{option_map_or}
 use Rattle.std.specs.Ordering.{nat_cmp}
-use Rattle.dwarf_encoding.specs.Forms.{split_at}
 use Rattle.dwarf_encoding.specs.LittleEndian.{u16_le_at, u32_le_at, u64_le_at}
 use Rattle.dwarf_encoding.specs.Sequences.{sequence}
+use Rattle.dwarf_encoding.specs.Units.{is_64_bit, unit_at}
 use Rattle.dwarf_ranges.specs.declared.arange.Arange.{Arange}
 
--- the set that begins the bytes, without its unit_length, and the bytes after it
-unfoldable pub set_at : List ℕ → Option (List ℕ × List ℕ)
-set_at bytes = if nat_lt (length bytes) 4 then None else split_at (u32_le_at bytes 0) (drop 4 bytes)
-
--- whether a set can be read: version 2, addresses of eight bytes, and no segments
+-- whether a set can be read: the 32-bit format, version 2, addresses of eight bytes, and no segments
 unfoldable pub is_read : List ℕ → Bool
 is_read set =
-    nat_le 12 (length set) && (u16_le_at set 0 == 2) && (slice_index set 6 == 8) && (slice_index set 7 == 0)
+    nat_le 16 (length set) && not (is_64_bit set) && (u16_le_at set 4 == 2) && (slice_index set 10 == 8)
+    && (slice_index set 11 == 0)
 
 -- debug_info_offset, and the tuples after four bytes of padding
 unfoldable pub header_of : List ℕ → Option (ℕ × List ℕ)
-header_of set = if is_read set then Some (u32_le_at set 2, drop 12 set) else None
+header_of set = if is_read set then Some (u32_le_at set 6, drop 16 set) else None
 
 -- an address and a length, and the bytes after them; two zeros end the tuples
 unfoldable pub tuple_at : List ℕ → Option ((ℕ × ℕ) × List ℕ)
@@ -41,7 +38,7 @@ tuples_of set = option_map_or (λ h. tuples_from h.0 h.1) (header_of set) []
 
 -- the tuples of all sets, in their order
 unfoldable pub aranges_of : List ℕ → List Arange
-aranges_of section = flat_map tuples_of (sequence set_at section)
+aranges_of section = flat_map tuples_of (sequence unit_at section)
 
 -- whether a set is of the unit at an offset
 abbrev pub names_unit : ℕ → List ℕ → Bool
@@ -49,7 +46,7 @@ names_unit offset set = option_map_or (λ h. h.0 == offset) (header_of set) fals
 
 -- whether one of the sets is
 unfoldable pub is_named : List ℕ → ℕ → Bool
-is_named section offset = list_any (names_unit offset) (sequence set_at section)
+is_named section offset = list_any (names_unit offset) (sequence unit_at section)
 
 -- a tuple has an address, in whole numbers
 abbrev pub HasAddress : ℕ → Arange → Type 0

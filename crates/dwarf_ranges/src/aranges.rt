@@ -2,10 +2,10 @@
 
 ghost use Rattle.std.specs.Prelude.{◌≡◌, ◌++◌, ◌≤◌, IsTrue, length};
 ghost use Rattle.std.specs.Option.{option_map};
-ghost use Rattle.dwarf_ranges.specs.Aranges.{aranges_of, header_of, is_read, set_at, tuple_at, tuples_from, tuples_of};
+ghost use Rattle.dwarf_ranges.specs.Aranges.{aranges_of, header_of, is_read, tuple_at, tuples_from, tuples_of};
 
 use crate::arange::Arange;
-use dwarf_encoding::{u16_le_at, u32_le_at, u64_le_at};
+use dwarf_encoding::{is_64_bit, split_unit, u16_le_at, u32_le_at, u64_le_at};
 use std::marker::Model;
 
 /// The tuples of all sets of `__debug_aranges`, in their order. It takes no memory. A contract sees the list of those
@@ -27,29 +27,13 @@ impl<'a> Model for Aranges<'a> {
     ghost view = { λ a. tuples_from a.debug_info_offset a.tuples.now ++ aranges_of a.sets.now };
 }
 
-/// The set that begins the bytes, without its unit_length, and the bytes after it.
-#[tactic(auto, unfolding(crate::specs::Aranges::set_at))]
-pub(crate) fn set_at(bytes: &[u8]) -> Option<(&[u8], &[u8])>
-    ensures { option_map (λ x. (x.0.now, x.1.now)) result ≡ set_at bytes.now }
-{
-    if bytes.len() < 4 {
-        return None;
-    }
-    let size = u32_le_at(bytes, 0) as usize;
-    let rest = bytes.split_at(4).1;
-    if rest.len() < size {
-        return None;
-    }
-    Some(rest.split_at(size))
-}
-
 /// Whether a set can be read.
 #[tactic(auto, unfolding(crate::specs::Aranges::is_read))]
 fn is_read(set: &[u8]) -> bool
     ensures is { result ≡ is_read set.now }
-    ensures long { IsTrue result → 12 ≤ length set.now }
+    ensures long { IsTrue result → 16 ≤ length set.now }
 {
-    set.len() >= 12 && u16_le_at(set, 0) == 2 && set[6] == 8 && set[7] == 0
+    set.len() >= 16 && !is_64_bit(set) && u16_le_at(set, 4) == 2 && set[10] == 8 && set[11] == 0
 }
 
 /// The offset of the unit of a set, and its tuples; `None` if the set cannot be read.
@@ -60,7 +44,7 @@ pub(crate) fn header_of(set: &[u8]) -> Option<(u64, &[u8])>
     if !is_read(set) {
         return None;
     }
-    Some((u64::from(u32_le_at(set, 2)), set.split_at(12).1))
+    Some((u64::from(u32_le_at(set, 6)), set.split_at(16).1))
 }
 
 /// The offset of the unit of a set, and its tuples; none if the set cannot be read.
@@ -120,7 +104,7 @@ impl<'a> Iterator for Aranges<'a> {
                     length,
                 });
             }
-            let (set, rest) = set_at(self.sets)?;
+            let (set, rest) = split_unit(self.sets)?;
             (self.debug_info_offset, self.tuples) = tuples_of(set);
             self.sets = rest;
         }

@@ -5,7 +5,8 @@ ghost use Rattle.std.specs.Ordering.{nat_cmp};
 ghost use Rattle.std.specs.BTreeSet as tree_set;
 ghost use Rattle.dwarf_ranges.specs.Aranges.{is_named, names_unit};
 
-use crate::aranges::{header_of, set_at};
+use crate::aranges::header_of;
+use dwarf_encoding::split_unit;
 use memory::{Heap, NoMemory};
 use std::collections::BTreeSet;
 
@@ -28,7 +29,7 @@ pub fn named_units(heap: Heap, debug_aranges: &[u8]) -> Result<BTreeSet<u64, Hea
 {
     let mut named = BTreeSet::new(heap);
     let mut rest = debug_aranges;
-    'sets: while let Some((set, after)) = set_at(rest) {
+    'sets: while let Some((set, after)) = split_unit(rest) {
         add_unit(&mut named, set)?;
         rest = after;
     }

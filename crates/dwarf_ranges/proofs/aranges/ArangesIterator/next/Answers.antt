@@ -3,16 +3,16 @@ use Rattle.dwarf_ranges.proofs.ArangeLemmas.{no_first_tuples, one_set, one_tuple
 use Rattle.dwarf_ranges.proofs.aranges.ArangesIterator.next.Goals as goal
 
 pub sets-smaller : goal.sets-smaller
-sets-smaller c = set_less _ _ _ (sym c.in_ok-set.ensures)
+sets-smaller c = set_less _ _ _ (sym c.in_ok-set.ensures.value)
 
 pub sets-preserved : goal.sets-preserved
-sets-preserved c = one_set _ _ _ _ _ _ _ (sym c.in_default.ensures) c.in_ok-set.ensures c.tuples_of.ensures c.sets.invariant
+sets-preserved c = one_set _ _ _ _ _ _ _ (sym c.in_default.ensures) c.in_ok-set.ensures.value c.tuples_of.ensures c.sets.invariant
 
 pub returns-in_err-set-clause-steps : goal.returns-in_err-set-clause-steps
 returns-in_err-set-clause-steps c =
     let none = no_first_tuples c.sets.self-inside.debug_info_offset c.sets.self-inside.tuples.now
     c.sets.self-inside.sets.now (sym c.in_default.ensures)
-    ∙ sets_end c.sets.self-inside.sets.now (sym c.in_err-set.ensures) in
+    ∙ sets_end c.sets.self-inside.sets.now (sym c.in_err-set.ensures.value) in
     rw c.from_residual.ensures (sym c.sets.invariant ∙ none, none)
 
 pub returns-in-Some-clause-steps : goal.returns-in-Some-clause-steps
