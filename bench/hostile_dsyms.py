@@ -5,11 +5,11 @@ from tests.support.made_dsyms import companion
 
 TEXT, CODE = 0x1000, 1 << 20
 LOW, HIGH = struct.pack("<Q", TEXT), struct.pack("<I", CODE)
-# 1, a unit with low_pc and stmt_list; 2, a function with low_pc and high_pc; 3, one with ranges; 4, one with low_pc,
-# high_pc and abstract_origin; 5, one with abstract_origin and a text that nothing asks for; 7, a unit with ranges; 6,
-# an entry of one byte, whose attributes are left open.
+# 1, a unit with low_pc and stmt_list; 2, an inlined call with low_pc and high_pc; 3, a function with ranges; 4, an
+# inlined call with low_pc, high_pc and abstract_origin; 5, a function with abstract_origin and a text that nothing asks
+# for; 7, a unit with ranges; 6, an entry of one byte, whose attributes are left open.
 DECLARATIONS = bytes.fromhex(
-    "01 1101 1101 1017 0000  02 2e01 1101 1206 0000  03 2e00 5517 0000  04 2e01 1101 1206 3110 0000"
+    "01 1101 1101 1017 0000  02 1d01 1101 1206 0000  03 2e00 5517 0000  04 1d01 1101 1206 3110 0000"
     "05 2e00 3110 1c08 0000  07 1101 1101 1017 5517 0000  06 3400"
 )
 END = bytes(16)

@@ -53,3 +53,42 @@ class Formats(MadeCase):
             front = WIDE + struct.pack("<Q", length) + bytes(length)
             content = of_units([self.FIRST], True, front)
             self.compare(f"length {length}", content, self.IN_FIRST)
+
+
+class Nested(MadeCase):
+    """Subprograms in others (DWARF 5, sections 3.3.1 and 3.3.8.2)."""
+
+    CALLED = Function(b"called", LOWEST + 3, 1, line=9)
+
+    def of(self, outer: Function) -> bytes:
+        return of_units([Unit(LOWEST, 8, outer.entry())], False)
+
+    def test_no_calls(self) -> None:
+        inner = Function(b"inner", LOWEST + 2, 3, self.CALLED.entry())
+        self.compare(
+            "inner",
+            self.of(Function(b"outer", LOWEST, 8, inner.entry())),
+            {
+                1: ["    outer at a:2:0"],
+                2: ["    inner at a:3:0"],
+                3: ["    called at a:4:0", "    inner at a:9:0"],
+                4: ["    inner at a:5:0"],
+                5: ["    outer at a:6:0"],
+            },
+        )
+
+    def test_in_a_call(self) -> None:
+        """A subprogram in an inlined call, and a call in that."""
+        inner = Function(b"inner", LOWEST + 2, 3, self.CALLED.entry())
+        call = Function(b"call", LOWEST + 1, 5, inner.entry(), line=7)
+        self.compare(
+            "in a call",
+            self.of(Function(b"outer", LOWEST, 8, call.entry())),
+            {
+                0: ["    outer at a:1:0"],
+                1: ["    call at a:2:0", "    outer at a:7:0"],
+                2: ["    inner at a:3:0"],
+                3: ["    called at a:4:0", "    inner at a:9:0"],
+                5: ["    call at a:6:0", "    outer at a:7:0"],
+            },
+        )

@@ -91,7 +91,8 @@ class DebugUnit:
         return found
 
     def chain(self, address: int) -> List[Entry]:
-        """The first function entry that contains an address, the first that stands in it and does, and so on."""
+        """The first function entry that contains an address, the first that stands in it and does, and so on; of these
+        the ones from the last subprogram on, which is no call in a function that it stands in."""
         found: List[Entry] = []
         end: Optional[int] = None
         for scope in self.scopes():
@@ -100,7 +101,8 @@ class DebugUnit:
             if scope.contains(address):
                 found.append(scope.entry)
                 end = scope.end
-        return found
+        subprograms = [place for place, entry in enumerate(found) if entry.tag == SUBPROGRAM]
+        return found[subprograms[-1] :] if subprograms else found
 
     def line_unit(self) -> Optional[bytes]:
         """The unit of __debug_line that DW_AT_stmt_list names; before version 4 a constant is an offset."""

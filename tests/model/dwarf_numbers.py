@@ -1,5 +1,5 @@
-"""Numbers, texts, units and the values of attributes, told a second time by DWARF 5, sections 7.2 to 7.6: with addresses
-of eight bytes. Units in the 64-bit format are only passed over."""
+"""Numbers, texts, units and the values of attributes, told a second time by DWARF 5, sections 7.2 to 7.6: with
+addresses of eight bytes. Units in the 64-bit format are only passed over."""
 from __future__ import annotations
 
 from functools import lru_cache

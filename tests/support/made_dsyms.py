@@ -75,8 +75,9 @@ def companion(
     return b"".join([head, commands, *debug.values(), *([entries, names] if symbols else [])])
 
 
-# 1, a unit with low_pc and stmt_list; 2, a function with ranges and name. A program of lines up to its operations.
-DECLARED = bytes.fromhex("01 1101 1101 1017 0000  02 2e01 5517 0308 0000  00")
+# 1, a unit with low_pc and stmt_list; 2, a subprogram with ranges and name; 3, an inlined call with them. A program of
+# lines up to its operations.
+DECLARED = bytes.fromhex("01 1101 1101 1017 0000  02 2e01 5517 0308 0000  03 1d01 5517 0308 0000  00")
 PROGRAM = bytes.fromhex("0400 19000000 010101fb0e0d 000101010100000001000001 00 6100 000000 00")
 
 
@@ -88,11 +89,13 @@ def of_ranges(
     functions: Sequence[Tuple[int, Sequence[Code]]], size: int, number: int = 0, symbols: Sequence[Symbol] = ()
 ) -> bytes:
     """A companion of functions, each with its depth, from 1 on, and with where its ranges begin and end in code of this
-    size. Each address has a line of its own."""
+    size. Those of depth 1 and some in others are subprograms, the others inlined calls. Each address has a line of its
+    own."""
     low = struct.pack("<Q", LOWEST)
     entries, lists, before = b"", b"", 0
     for number, (depth, ranges) in enumerate(functions):
-        entries += bytes(before - depth + 1) + b"\x02" + struct.pack("<I", len(lists)) + b"f%d\0" % number
+        kind = b"\x02" if depth == 1 or number % 7 == 0 else b"\x03"
+        entries += bytes(before - depth + 1) + kind + struct.pack("<I", len(lists)) + b"f%d\0" % number
         lists += b"".join(struct.pack("<QQ", *it) for it in ranges) + bytes(16)
         before = depth
     rows = b"\0\x09\x02" + low + (b"\x01\x03\x01\x02\x01") * size + b"\0\x01\x01"

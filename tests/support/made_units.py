@@ -4,11 +4,9 @@ from typing import NamedTuple, Sequence
 
 from .made_dsyms import companion
 
-# 1, a unit; 2, a subprogram; 3, an inlined call of one with a name of its own: each with low_pc, high_pc and children. 4,
-# an inlined call with an abstract_origin; 5, what that names, with a name in place and DW_AT_inline after it.
+# 1, a unit; 2, a subprogram; 3, an inlined call of one, with its name: each with low_pc, high_pc and children.
 DECLARED = bytes.fromhex(
-    "01 1101 1101 1206 1017 0000  02 2e01 1101 1206 0308 0000  03 1d01 1101 1206 0308 580b 590b 0000"
-    "04 1d01 1101 1206 3113 580b 590b 0000  05 2e01 0308 200b 0000  00"
+    "01 1101 1101 1206 1017 0000  02 2e01 1101 1206 0308 0000  03 1d01 1101 1206 0308 580b 590b 0000  00"
 )
 FIELDS = bytes.fromhex("01 01 01 fb 0e 0d 000101010100000001000001 00 6100 000000 00")
 WIDE = struct.pack("<I", 0xFFFFFFFF)

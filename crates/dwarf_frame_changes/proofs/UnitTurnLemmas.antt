@@ -14,7 +14,7 @@ use Rattle.dwarf_source_frames.specs.AddressFrames.{AreFramesBy, AreFramesIn, Ar
 use Rattle.dwarf_source_frames.specs.DebugSections.{DebugSectionsRecord}
 use Rattle.dwarf_source_frames.specs.DebugUnits.{UnitRecord}
 use Rattle.dwarf_source_frames.specs.Frames.{FrameRecord}
-use Rattle.dwarf_source_frames.specs.Scopes.{scopes_of}
+use Rattle.dwarf_source_frames.specs.Scopes.{calls_of, scopes_of}
 use Rattle.dwarf_source_frames.specs.UnitAddresses.{IsUnitOf, read_unit}
 use Rattle.dwarf_source_frames.specs.UnitLines.{LinesRecord, lines_of}
 use Rattle.dwarf_frame_changes.specs.Between.{AreFramesAt, AreSteps, AreTurnsFrom, IsCountTo, IsFrom, IsStart, IsTurnOfParts, PartsRecord}
@@ -70,7 +70,7 @@ module _ (s : DebugSectionsRecord) (unit : UnitRecord) (parts : PartsRecord) (li
       step_some 0 (get_or parts.numbers i 0) parts.link_starts parts.numbers start (i + 1) i link_steps.count refl h
       (get_or_default parts.numbers i 0 (get_or parts.numbers i 0) h) to in
       let link : IsLinkOf s unit parts.links start (at_step 0 parts.link_starts parts.numbers start) = link_steps.each start in
-      let w = number_within s unit parts.links (at_step 0 parts.link_starts parts.numbers start) (reverse link.chain) link.are_entries in omega (arith, here, w)
+      let w = number_within s unit parts.links (at_step 0 parts.link_starts parts.numbers start) (calls_of (reverse link.chain)) link.are_entries in omega (arith, here, w)
 
   pub are_steps : AreSteps parts
   are_steps = record {

@@ -9,7 +9,7 @@ use Rattle.dwarf_source_frames.specs.DebugSections.{DebugSectionsRecord}
 use Rattle.dwarf_source_frames.specs.DebugUnits.{UnitRecord}
 use Rattle.dwarf_source_frames.specs.Frames.{location_of_call}
 use Rattle.dwarf_source_frames.specs.Names.{IsName}
-use Rattle.dwarf_source_frames.specs.Scopes.{ScopeRecord, is_function, scope_of, scope_ranges}
+use Rattle.dwarf_source_frames.specs.Scopes.{ScopeRecord, is_function, is_subprogram, scope_of, scope_ranges}
 use Rattle.dwarf_functions.specs.Asked.{asked_ranges, asked_scope}
 use Rattle.dwarf_functions.specs.OpenFunctions.{Adds, Closes, Takes}
 use Rattle.dwarf_functions.specs.declared.functions.Function.{Function}
@@ -21,16 +21,16 @@ pub adds_one : (s : DebugSectionsRecord) (unit : UnitRecord) (scope : ScopeRecor
     (opened now_open : List Open) (functions after : List Function) (f : Function) (index : ℕ) → next ≡ ranges
     ++ scope.ranges → length next ≢ length ranges → index ≡ length functions
     → IsName s (record { unit = unit; entry = scope.entry }) (option_map (λ n. n.now) f.name) → f.call
-    ≡ location_of_call scope.entry → f.end ≡ index + 1 → f.ranges_end ≡ length next
+    ≡ location_of_call scope.entry → f.is_subprogram ≡ is_subprogram scope.entry → f.end ≡ index + 1 → f.ranges_end ≡ length next
     → after ≡ functions ++ f ∷ [] → now_open ≡ opened ++ record { depth = scope.depth; index = index } ∷ []
     → Adds s unit scope (length next) opened now_open functions after
-adds_one s unit scope ranges next opened now_open functions after f index more other last name call end ranges_end pushed opens = record {
+adds_one s unit scope ranges next opened now_open functions after f index more other last name call kind end ranges_end pushed opens = record {
   without = λ none. absurd (other (ap (λ (rs : List CodeRange). length rs) (more ∙ ap (λ (rs : List CodeRange). ranges ++ rs) none ∙ append-nil ranges)));
   with_ranges = λ some. (
     f,
     pushed,
     ranges_end,
-    record { name = name; call = call; end = end ∙ ap (λ n. n + 1) last },
+    record { name = name; call = call; is_subprogram = kind; end = end ∙ ap (λ n. n + 1) last },
     opens ∙ ap (λ (n : ℕ). opened ++ record { depth = scope.depth; index = n } ∷ []) last,
   );
 }

@@ -170,12 +170,13 @@ pub record KeepsAllButEnd (f g : Function) : Type 0 where
   pub name : g.name ≡ f.name
   pub name_number : g.name_number ≡ f.name_number
   pub call : g.call ≡ f.call
+  pub is_subprogram : g.is_subprogram ≡ f.is_subprogram
   pub ranges_end : g.ranges_end ≡ f.ranges_end
 
 pub closed_keeps : (end : ℕ) (closed : List Open) (i : ℕ) (f : Function) → KeepsAllButEnd f (closed_at end closed i f)
 closed_keeps end closed i f = elim (cases_Bool (list_any (λ (o : Open). o.index == i) closed)) [
-  | inl t ↦ rw t (record { name = refl; name_number = refl; call = refl; ranges_end = refl })
-  | inr n ↦ rw n (record { name = refl; name_number = refl; call = refl; ranges_end = refl })
+  | inl t ↦ rw t (record { name = refl; name_number = refl; call = refl; is_subprogram = refl; ranges_end = refl })
+  | inr n ↦ rw n (record { name = refl; name_number = refl; call = refl; is_subprogram = refl; ranges_end = refl })
 ]
 
 pub was_kept : (end : ℕ) (closed : List Open) (i : ℕ) (f g : Function) → g ≡ closed_at end closed i f → KeepsAllButEnd f g

@@ -10,6 +10,7 @@ use Rattle.dwarf_source_frames.specs.DebugUnits.{UnitRecord}
 use Rattle.dwarf_source_frames.specs.Frames.{AreFramesFrom, AreFramesOfChain, FrameRecord, location_of_call, location_of_row}
 use Rattle.dwarf_functions.specs.Links.{AreEntriesOfLink, AreFramesOfLink, AreFramesOfRowAndLink, IsLinkOf, LinkRecord, frame_at_place, link_at}
 use Rattle.dwarf_source_frames.specs.Names.{IsName}
+use Rattle.dwarf_source_frames.specs.Scopes.{calls_of}
 use Rattle.dwarf_source_frames.specs.UnitLines.{LinesRecord, lines_of}
 use Rattle.dwarf_source_frames.specs.declared.frame.SourceLocation.{SourceLocation}
 
@@ -61,8 +62,8 @@ frames_in_unit s unit lines links a number row frames same link covers are = rec
   row = row;
   contain = link.contain;
   covers = subst (λ (l : LinesRecord). IsCovering (rows_of l) a row) same covers;
-  are_frames = subst (λ (l : LinesRecord). AreFramesOfChain s l unit (reverse link.chain) row frames) same
-      (frames_of_chain s lines unit links row number (reverse link.chain) frames link.are_entries are);
+  are_frames = subst (λ (l : LinesRecord). AreFramesOfChain s l unit (calls_of (reverse link.chain)) row frames) same
+      (frames_of_chain s lines unit links row number (calls_of (reverse link.chain)) frames link.are_entries are);
 }
 
 -- the number of a link is among those of the links

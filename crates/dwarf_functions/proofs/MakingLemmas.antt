@@ -5,7 +5,7 @@ use Rattle.std.specs.Option.{option_map_or}
 use Rattle.std.proofs.lemmas.Bool.{cases_eq}
 use Rattle.std.proofs.lemmas.List.{length-set, length_push}
 use Rattle.std.proofs.lemmas.Option.{none-some, same_Some, slice_get-get_or, slice_get_within}
-use Rattle.dwarf_functions.specs.Making.{AreKept, AreMade, IsChild, IsLinkIn, IsMade, child_at, count_at, made_at}
+use Rattle.dwarf_functions.specs.Making.{AreKept, AreMade, IsChild, IsLinkIn, IsMade, caller_of, child_at, count_at, made_at}
 use Rattle.dwarf_functions.specs.declared.links.Link.{Link}
 use Rattle.dwarf_functions.specs.declared.functions.Function.{Function}
 use Rattle.dwarf_functions.proofs.OpenLemmas.{at_push as get_last}
@@ -100,20 +100,21 @@ child_kept old new outer (suc i) kept is = let now = kept.each i is.0 is.1 in (r
 pub link_kept : (old new : List Link) (outer index number : ℕ) → AreKept old new → IsLinkIn old outer index number → IsLinkIn new outer index number
 link_kept old new outer index number kept is =
     let now = made_kept old new number is.link kept is.there
-    in record { link = record is.link { child = now.0 }; there = now.1; caller = is.caller; function = is.function }
+    in record { link = record is.link { child = now.0 }; there = now.1; is_in = is.is_in; function = is.function }
 
 -- a link that is made stays so, with any last one that stands in it
 is_made_kept : (functions : List Function) (old new : List Link) (i child : ℕ) (link : Link) → AreKept old new
     → i ≤ length old → IsMade functions old i link → IsChild new (suc i) child
     → IsMade functions new i (record link { child = child })
 is_made_kept functions old new i child link kept within made last = record {
-  caller = made.caller;
+  before = made.before;
   of = made.of;
   there = made.there;
   name = made.name;
   name_number = made.name_number;
   call = made.call;
-  count = made.count ∙ ap suc (sym (count_kept old new link.caller kept (let c = made.caller in omega (arith, c, within))));
+  caller = made.caller;
+  count = made.count ∙ ap suc (sym (count_kept old new link.outer kept (let c = made.before in omega (arith, c, within))));
   child = last;
 }
 
@@ -126,11 +127,12 @@ pub record IsPushed (functions : List Function) (old new : List Link) (last oute
   pub there : slice_get functions index ≡ Some of
   pub link : Link
   pub is : new ≡ old ++ link ∷ []
-  pub caller : link.caller ≡ outer
+  pub is_in : link.outer ≡ outer
   pub function : link.function ≡ index
   pub name : link.name ≡ of.name
   pub name_number : link.name_number ≡ of.name_number
   pub call : link.call ≡ of.call
+  pub caller : link.caller ≡ caller_of of link.outer
   pub count : link.count ≡ suc (count_at old outer)
   pub child : link.child ≡ 0
   pub is_number : number ≡ length new
@@ -146,10 +148,10 @@ module _ (functions : List Function) (old new : List Link) (last outer index num
   number_is = let n = ap (λ (links : List Link). length links) p.is in let m = length_push old p.link in let q = p.is_number in omega (arith, n, m, q)
 
   pub pushed_link : IsLinkIn new outer index number
-  pushed_link = record { link = p.link; there = subst (λ n. made_at new n ≡ Some p.link) (sym number_is) last_there; caller = p.caller; function = p.function }
+  pushed_link = record { link = p.link; there = subst (λ n. made_at new n ≡ Some p.link) (sym number_is) last_there; is_in = p.is_in; function = p.function }
 
   pub pushed_child : IsChild new outer number
-  pushed_child = subst (λ n. IsChild new outer n) (sym number_is) (p.link, last_there, p.caller)
+  pushed_child = subst (λ n. IsChild new outer n) (sym number_is) (p.link, last_there, p.is_in)
 
   old_made : (i : ℕ) (l : Link) → slice_get old i ≡ Some l → IsMade functions new i l
   old_made i l is =
@@ -159,13 +161,14 @@ module _ (functions : List Function) (old new : List Link) (last outer index num
 
   new_made : IsMade functions new (length old) p.link
   new_made = record {
-    caller = let c = p.caller in let w = p.within in omega (arith, c, w);
+    before = let c = p.is_in in let w = p.within in omega (arith, c, w);
     of = p.of;
     there = ap (λ n. slice_get functions n) p.function ∙ p.there;
     name = p.name;
     name_number = p.name_number;
     call = p.call;
-    count = p.count ∙ ap suc (sym (count_kept old new outer pushed_kept p.within) ∙ ap (λ n. count_at new n) (sym p.caller));
+    caller = p.caller;
+    count = p.count ∙ ap suc (sym (count_kept old new outer pushed_kept p.within) ∙ ap (λ n. count_at new n) (sym p.is_in));
     child = subst (λ n. IsChild new (suc (length old)) n) (sym p.child) tt;
   }
 
@@ -219,7 +222,7 @@ pub child_link : (links : List Link) (outer index number : ℕ) (link : Link) �
 child_link links outer index zero link child is function = absurd (none-some link is)
 child_link links outer index (suc i) link child is function =
     let same : child.0 ≡ link = same_Some child.0 link (sym child.1 ∙ is) in
-    record { link = link; there = is; caller = subst (λ (l : Link). l.caller ≡ outer) same child.2; function = function }
+    record { link = link; there = is; is_in = subst (λ (l : Link). l.outer ≡ outer) same child.2; function = function }
 
 pub child_within : (links : List Link) (outer number : ℕ) → IsChild links outer number → number ≤ length links
 child_within links outer zero child = omega arith
@@ -229,32 +232,34 @@ pub made_before : (links : List Link) (number : ℕ) (link : Link) → number �
 made_before links zero link not is = absurd (not refl)
 made_before links (suc i) link not is = let same : suc i - 1 ≡ i = omega arith in subst (λ n. slice_get links n ≡ Some link) same is
 
-pub is_pushed : (functions : List Function) (old new : List Link) (last outer index number count : ℕ) (of : Function)
+pub is_pushed : (functions : List Function) (old new : List Link) (last outer index number count : ℕ) (of : Function) (caller : ℕ)
     → AreMade functions old last → outer ≤ length old → index < length functions
-    → of ≡ get_or functions index of → count ≡ count_at old outer
+    → of ≡ get_or functions index of → count ≡ count_at old outer → caller ≡ caller_of of outer
     → new ≡ old ++ record {
       name = of.name;
       name_number = of.name_number;
       call = of.call;
-      caller = outer;
+      caller = caller;
+      outer = outer;
       function =
           index;
       child = 0;
       count = count + 1;
     } ∷ [] → number ≡ length new
     → IsPushed functions old new last outer index number
-is_pushed functions old new last outer index number count of made within inside is_of is_count is is_number = record {
+is_pushed functions old new last outer index number count of caller made within inside is_of is_count is_caller is is_number = record {
   made = made;
   within = within;
   of = of;
   there = slice_get-get_or functions index of inside ∙ ap Some (sym is_of);
-  link = record { name = of.name; name_number = of.name_number; call = of.call; caller = outer; function = index; child = 0; count = count + 1 };
+  link = record { name = of.name; name_number = of.name_number; call = of.call; caller = caller; outer = outer; function = index; child = 0; count = count + 1 };
   is = is;
-  caller = refl;
+  is_in = refl;
   function = refl;
   name = refl;
   name_number = refl;
   call = refl;
+  caller = is_caller;
   count = omega (arith, is_count);
   child = refl;
   is_number = is_number;

@@ -13,7 +13,7 @@ use Rattle.dwarf_source_frames.specs.DebugSections.{DebugSectionsRecord}
 use Rattle.dwarf_source_frames.specs.DebugUnits.{UnitRecord}
 use Rattle.dwarf_source_frames.specs.Frames.{location_of_call}
 use Rattle.dwarf_source_frames.specs.Names.{IsName}
-use Rattle.dwarf_source_frames.specs.Scopes.{ScopeRecord, left_after_scope, scope_of, scope_ranges, scopes_from}
+use Rattle.dwarf_source_frames.specs.Scopes.{ScopeRecord, is_subprogram, left_after_scope, scope_of, scope_ranges, scopes_from}
 use Rattle.dwarf_source_frames.proofs.ScopeLemmas.{scopes_more, scopes_none}
 use Rattle.dwarf_functions.specs.Asked.{asked_ranges, asked_scope, asked_scopes}
 use Rattle.dwarf_functions.specs.OpenFunctions.{Adds, Closes, Takes}
@@ -33,6 +33,7 @@ ranges_of fs = flat_map (λ f. f.ranges) fs
 pub record IsNamed (s : DebugSectionsRecord) (unit : UnitRecord) (of : FunctionRecord) (f : Function) : Type 0 where
   pub name : IsName s (record { unit = unit; entry = of.entry }) (option_map (λ n. n.now) f.name)
   pub call : f.call ≡ location_of_call of.entry
+  pub is_subprogram : f.is_subprogram ≡ is_subprogram of.entry
 
 -- the functions so far, but for their ends
 pub record AreSoFar (s : DebugSectionsRecord) (unit : UnitRecord) (done : List FunctionRecord)
@@ -64,6 +65,7 @@ closed_so_far s unit done ranges depth opened left before after c so = record {
       record {
         name = rw kept.name named.name;
         call = kept.call ∙ named.call;
+        is_subprogram = kept.is_subprogram ∙ named.is_subprogram;
       };
   range_ends = λ i g is.
       let was = was_open (length before) c.closed before after i g c.each is in
@@ -169,7 +171,7 @@ module _ (s : DebugSectionsRecord) (unit : UnitRecord) (all : List FunctionRecor
             so.others
             ∙ ap (λ (fs : List FunctionRecord). so.done ++ fs) (from_with (length functions) scope rest some ∙ ap (λ (fs : List FunctionRecord). x ∷ fs) next)
             ∙ sym (append_assoc so.done (x ∷ []) (functions_from (length (functions ++ f ∷ [])) rest));
-        so_far = so_far_with s unit so.done functions ranges next_ranges x f more end (record { name = is.name; call = is.call }) so.so_far;
+        so_far = so_far_with s unit so.done functions ranges next_ranges x f more end (record { name = is.name; call = is.call; is_subprogram = is.is_subprogram }) so.so_far;
         open_to = open_with so.done functions opened scope rest f some so.so_far.count shallow so.open_to;
       }
 
@@ -243,6 +245,7 @@ are_functions s unit scopes functions ranges opened shallow so =
           record {
             name = named.name;
             call = named.call;
+            is_subprogram = named.is_subprogram;
             end = elim (so.open_to.have i of f at_done is) [
               | inl e ↦ e
               | inr h ↦ absurd (none_shallow opened i shallow h)

@@ -1,5 +1,5 @@
 -- Links of starts are those of all addresses.
-use Rattle.std.proofs.Common.{◌≡◌, ℕ, zero, suc, ◌+◌, ◌-◌, ◌<◌, ◌≤◌, ◌⊎◌, false, nat_le, nat_lt, List, [], ◌∷◌, ◌++◌}
+use Rattle.std.proofs.Common.{◌≡◌, ℕ, zero, suc, ◌+◌, ◌-◌, ◌<◌, ◌≤◌, ◌⊎◌, cond, true, false, nat_le, nat_lt, List, [], ◌∷◌, ◌++◌}
 use Rattle.std.proofs.Common.{length, get_or, reverse, slice_get, slice_index, Option, Some, None, refl, sym, ap, subst}
 use Rattle.std.proofs.Common.{◌∙◌, inl, inr, arith}
 use Rattle.std.specs.Prelude.{◌↔◌}
@@ -19,14 +19,14 @@ use Rattle.dwarf_functions.specs.AddressSteps.{at_step}
 use Rattle.dwarf_source_frames.specs.DebugSections.{DebugSectionsRecord}
 use Rattle.dwarf_source_frames.specs.DebugUnits.{UnitRecord}
 use Rattle.dwarf_source_frames.specs.Names.{IsName}
-use Rattle.dwarf_source_frames.specs.Scopes.{IsChain, ScopeRecord, contains_at, scopes_of}
+use Rattle.dwarf_source_frames.specs.Scopes.{IsChain, ScopeRecord, calls_of, contains_at, is_subprogram, scopes_of}
 use Rattle.dwarf_functions.specs.UnitFunctions.{AreFunctions, FunctionRecord, functions_after, functions_from}
 use Rattle.dwarf_functions.specs.declared.functions.Function.{Function}
 use Rattle.dwarf_asked_addresses.specs.Rising.{AreRising}
 use Rattle.dwarf_asked_addresses.specs.Waiting.{Waits}
 use Rattle.dwarf_functions.specs.Links.{AreCallersBefore, AreEntriesOfLink, AreLinkSteps, AreLinksAmong, IsLinkOf, LinkRecord, ends_of_ranges, link_at}
 use Rattle.dwarf_functions.specs.LinkViews.{link_view, links_view}
-use Rattle.dwarf_functions.specs.Making.{AreMade, made_at}
+use Rattle.dwarf_functions.specs.Making.{AreMade, caller_of, made_at}
 use Rattle.dwarf_functions.specs.Taking.{AreFunctionsOfLink, AreOf, IsUpTo, chain_in, end_of}
 use Rattle.dwarf_functions.specs.declared.links.Link.{Link}
 use Rattle.dwarf_functions.proofs.AfterLemmas.{after_none, from_bare, from_with}
@@ -189,14 +189,39 @@ view_at links (suc i) link is = slice_get-map link_view links i ∙ ap (λ (l : 
 made_function : (functions : List Function) (links : List Link) (last number : ℕ) (link : Link)
     → AreMade functions links last → made_at links number ≡ Some link
     → (f : Function) × (slice_get functions link.function ≡ Some f) × (link.name ≡ f.name) × (link.call ≡ f.call)
+    × (link.caller ≡ caller_of f link.outer)
 made_function functions links last zero link made is = absurd (none-some link is)
-made_function functions links last (suc i) link made is = let m = made.each i link is in (m.of, m.there, m.name, m.call)
+made_function functions links last (suc i) link made is = let m = made.each i link is in (m.of, m.there, m.name, m.call, m.caller)
+
+-- a link is called by the one that it stands in, or by none
+called_before : (f : Function) (outer number caller : ℕ) → caller ≡ caller_of f outer → outer < number → caller < number
+called_before f outer number caller is less = elim (cases_Bool f.is_subprogram) [
+  | inl t ↦ let none : caller ≡ 0 = rw t at is in omega (arith, none, less)
+  | inr n ↦ let same : caller ≡ outer = rw n at is in omega (arith, same, less)
+]
+
+called_by : (sections : DebugSectionsRecord) (unit : UnitRecord) (links : List LinkRecord) (f : Function)
+    (entry : EntryRecord) (entries : List EntryRecord) (outer caller : ℕ)
+    → f.is_subprogram ≡ is_subprogram entry → caller ≡ caller_of f outer
+    → AreEntriesOfLink sections unit links outer (calls_of entries)
+    → AreEntriesOfLink sections unit links caller (cond (is_subprogram entry) [] (calls_of entries))
+called_by sections unit links f entry entries outer caller kind is are = elim (cases_Bool (is_subprogram entry)) [
+  | inl t ↦
+      let named : f.is_subprogram ≡ true = kind ∙ t in
+      let none : caller ≡ 0 = rw named at is in
+      rw t none
+  | inr n ↦
+      let named : f.is_subprogram ≡ false = kind ∙ n in
+      let same : caller ≡ outer = rw named at is in
+      rw n (subst (λ c. AreEntriesOfLink sections unit links c (calls_of entries)) (sym same) are)
+]
 
 entries_of_link : (sections : DebugSectionsRecord) (unit : UnitRecord) (scopes : List ScopeRecord)
     (functions : List Function) (ranges : List CodeRange) (links : List Link) (last number : ℕ)
     (chain : List FunctionRecord)
     → AreFunctions sections unit scopes functions ranges → AreMade functions links last → AreFunctionsOfLink (functions_from 0 scopes) links number chain
-    → AreEntriesOfLink sections unit (links_view links) number (entries_of chain)
+    → AreEntriesOfLink sections unit (links_view links) number (calls_of (entries_of chain))
+unfolding calls_of
 entries_of_link sections unit scopes functions ranges links last number [] are made of = of
 entries_of_link sections unit scopes functions ranges links last number (f ∷ fs) are made of =
     let link = of.0 in
@@ -204,11 +229,12 @@ entries_of_link sections unit scopes functions ranges links last number (f ∷ f
     let is = are.each link.function f g.0 of.3 g.1 in (
       link_view link,
       view_at links number link of.1,
-      of.2,
+      called_before g.0 link.outer number link.caller g.4 of.2,
       subst (λ (n : Option (List ℕ)). IsName sections (record { unit = unit; entry = f.entry }) n)
           (ap (λ (l : Option (Bor (List ℕ))). option_map (λ n. n.now) l) (sym g.2)) is.name,
       g.3 ∙ is.call,
-      entries_of_link sections unit scopes functions ranges links last link.caller fs are made of.4,
+      called_by sections unit (links_view links) g.0 f.entry (entries_of fs) link.outer link.caller is.is_subprogram g.4
+          (entries_of_link sections unit scopes functions ranges links last link.outer fs are made of.4),
     )
 
 -- ---- all together
@@ -252,7 +278,9 @@ callers_before functions links last made i link is =
     let l = get_there links i (omega (arith, n, w)) in
     let e : link_view l.0 ≡ link = same_Some (link_view l.0) link
     (sym (slice_get-map link_view links i ∙ ap (λ (o : Option Link). option_map link_view o) l.1) ∙ is) in
-    let c = (made.each i l.0 l.1).caller in subst (λ (r : LinkRecord). r.caller ≤ i) e c
+    let m = made.each i l.0 l.1 in
+    let c = called_before m.of l.0.outer (suc i) l.0.caller m.caller (let b = m.before in omega (arith, b)) in
+    subst (λ (r : LinkRecord). r.caller ≤ i) e (omega (arith, c))
 
 -- the links of starts
 module _ (sections : DebugSectionsRecord) (unit : UnitRecord) (scopes : List ScopeRecord) (functions : List Function)
@@ -273,7 +301,7 @@ module _ (sections : DebugSectionsRecord) (unit : UnitRecord) (scopes : List Sco
               is))
               (is_chain (slice_index starts i) scopes);
           are_entries = subst (λ (es : List EntryRecord). AreEntriesOfLink sections unit (links_view links)
-              (slice_index numbers i) es) (sym (reverse_entries is.chain))
+              (slice_index numbers i) (calls_of es)) (sym (reverse_entries is.chain))
               (entries_of_link sections unit scopes functions ranges links last (slice_index numbers i) is.chain are made is.are);
         };
     callers = callers_before functions links last made;
@@ -301,6 +329,7 @@ module _ (sections : DebugSectionsRecord) (unit : UnitRecord) (functions : List 
       }
 
   none_of : (a : ℕ) → ((i : ℕ) → i < length starts → a < get_or starts i 0) → IsLinkOf sections unit links a 0
+  unfolding calls_of
   none_of a above = record {
     chain = [];
     contain = λ i within contains. both_ways (contains_at a (scopes_of sections unit) i)

@@ -49,18 +49,18 @@ functions_kept : (of : List FunctionRecord) (old new : List Link) (number : ℕ)
 functions_kept of old new number [] kept are = are
 functions_kept of old new number (f ∷ fs) kept are =
     let now = made_kept old new number are.0 kept are.1 in
-    (record are.0 { child = now.0 }, now.1, are.2, are.3, functions_kept of old new are.0.caller fs kept are.4)
+    (record are.0 { child = now.0 }, now.1, are.2, are.3, functions_kept of old new are.0.outer fs kept are.4)
 
 made_is : (functions : List Function) (links : List Link) (last number : ℕ) (link : Link) → AreMade functions links last
-    → made_at links number ≡ Some link → (link.caller < number) × (link.count ≡ suc (count_at links link.caller))
+    → made_at links number ≡ Some link → (link.outer < number) × (link.count ≡ suc (count_at links link.outer))
 made_is functions links last zero link made is = absurd (none-some link is)
-made_is functions links last (suc i) link made is = let m = made.each i link is in (let c = m.caller in omega (arith, c), m.count)
+made_is functions links last (suc i) link made is = let m = made.each i link is in (let c = m.before in omega (arith, c), m.count)
 
 pub count_in : (functions : List Function) (links : List Link) (last outer index number : ℕ)
     → AreMade functions links last → IsLinkIn links outer index number → count_at links number
     ≡ suc (count_at links outer)
 count_in functions links last outer index number made is =
-    count_of_made links number is.link is.there ∙ ((made_is functions links last number is.link made is.there).1 ∙ ap (λ n. suc (count_at links n)) is.caller)
+    count_of_made links number is.link is.there ∙ ((made_is functions links last number is.link made is.there).1 ∙ ap (λ n. suc (count_at links n)) is.is_in)
 
 count_of_chain : (of : List FunctionRecord) (functions : List Function) (links : List Link) (last number : ℕ)
     (chain : List FunctionRecord) → AreMade functions links last → AreFunctionsOfLink of links number chain
@@ -68,7 +68,7 @@ count_of_chain : (of : List FunctionRecord) (functions : List Function) (links :
 count_of_chain of functions links last number [] made are = ap (λ n. count_at links n) are
 count_of_chain of functions links last number (f ∷ fs) made are =
     count_of_made links number are.0 are.1 ∙ ((made_is functions links last number are.0 made are.1).1
-    ∙ ap suc (count_of_chain of functions links last are.0.caller fs made are.4))
+    ∙ ap suc (count_of_chain of functions links last are.0.outer fs made are.4))
 
 -- the innermost function is that of the link
 innermost : (of : List FunctionRecord) (links : List Link) (number : ℕ) (chain : List FunctionRecord) (link : Link)
@@ -197,7 +197,7 @@ module _ (of : List FunctionRecord) (functions now : List Function) (old new : L
     link.there,
     (made_is now new last number link.link made link.there).0,
     ap (λ n. slice_get of n) link.function ∙ there,
-    subst (λ n. AreFunctionsOfLink of new n is.chain) (sym link.caller) (functions_kept of old new outer is.chain kept is.are),
+    subst (λ n. AreFunctionsOfLink of new n is.chain) (sym link.is_in) (functions_kept of old new outer is.chain kept is.are),
   )
 
   count_more : count_at new number ≡ suc (length is.chain)

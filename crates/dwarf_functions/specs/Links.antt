@@ -10,13 +10,13 @@ use Rattle.dwarf_source_frames.specs.DebugUnits.{UnitRecord}
 use Rattle.dwarf_source_frames.specs.Frames.{FrameRecord, path_in, location_of_call, location_of_row}
 use Rattle.dwarf_source_frames.specs.Names.{IsName}
 use Rattle.dwarf_asked_addresses.specs.Rising.{AreRising}
-use Rattle.dwarf_source_frames.specs.Scopes.{IsChain, ScopeRecord, scopes_of}
+use Rattle.dwarf_source_frames.specs.Scopes.{IsChain, ScopeRecord, calls_of, scopes_of}
 use Rattle.dwarf_source_frames.specs.UnitLines.{LinesRecord}
 use Rattle.dwarf_source_frames.specs.declared.frame.SourceLocation.{SourceLocation}
 use Rattle.dwarf_lines.specs.declared.registers.Row.{Row}
 
--- a link: the name of a function, the place of the call that it is, and the number of the link that it stands in, from
--- 1 on, or 0
+-- a link: the name of a function, the place of the call that it is, and the number of the link that calls it, from 1 on,
+-- or 0
 pub record LinkRecord : Type 0 where
   pub name : Option (List ℕ)
   pub call : SourceLocation
@@ -27,7 +27,7 @@ abbrev pub link_at : List LinkRecord → ℕ → Option LinkRecord
 link_at links zero = None
 link_at links (suc index) = slice_get links index
 
--- the number is that of entries, the innermost first, each in the next one; 0 has none
+-- the number is that of entries, the innermost first, each called by the next one; 0 has none
 abbrev pub AreEntriesOfLink :
     DebugSectionsRecord → UnitRecord → List LinkRecord → ℕ → List EntryRecord → Type 0
 AreEntriesOfLink sections unit links number [] = number ≡ 0
@@ -36,12 +36,12 @@ AreEntriesOfLink sections unit links number (e ∷ es) =
     × IsName sections (record { unit = unit; entry = e }) link.name × (link.call ≡ location_of_call e)
     × AreEntriesOfLink sections unit links link.caller es
 
--- the link of a number has the chain of an address, among some entries of a unit
+-- the link of a number has the calls of the chain of an address, among some entries of a unit
 pub record IsLinkAmong (sections : DebugSectionsRecord) (unit : UnitRecord) (scopes : List ScopeRecord)
     (links : List LinkRecord) (address number : ℕ) : Type 0 where
   pub chain : List EntryRecord
   pub contain : IsChain address scopes chain
-  pub are_entries : AreEntriesOfLink sections unit links number (reverse chain)
+  pub are_entries : AreEntriesOfLink sections unit links number (calls_of (reverse chain))
 
 -- among all entries
 abbrev pub IsLinkOf : DebugSectionsRecord → UnitRecord → List LinkRecord → ℕ → ℕ → Type 0
@@ -51,7 +51,7 @@ IsLinkOf sections unit links address number = IsLinkAmong sections unit (scopes_
 abbrev pub ends_of_ranges : List CodeRange → List ℕ
 ends_of_ranges ranges = flat_map (λ range. range.low ∷ range.high ∷ []) ranges
 
--- each link stands in one before it, or in none
+-- each link is called by one before it, or by none
 abbrev pub AreCallersBefore : List LinkRecord → Type 0
 AreCallersBefore links = (i : ℕ) (link : LinkRecord) → slice_get links i ≡ Some link → link.caller ≤ i
 

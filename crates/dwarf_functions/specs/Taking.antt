@@ -60,8 +60,8 @@ pub record Extends (index at : ℕ) (old new : Taking) : Type 0 where
 abbrev pub AreFunctionsOfLink : List FunctionRecord → List Link → ℕ → List FunctionRecord → Type 0
 AreFunctionsOfLink of links number [] = number ≡ 0
 AreFunctionsOfLink of links number (f ∷ fs) =
-    (link : Link) × (made_at links number ≡ Some link) × (link.caller < number)
-    × (slice_get of link.function ≡ Some f) × AreFunctionsOfLink of links link.caller fs
+    (link : Link) × (made_at links number ≡ Some link) × (link.outer < number)
+    × (slice_get of link.function ≡ Some f) × AreFunctionsOfLink of links link.outer fs
 
 -- the end of the innermost of some functions
 abbrev pub end_of : List FunctionRecord → Option ℕ

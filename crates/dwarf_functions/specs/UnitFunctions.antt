@@ -9,7 +9,7 @@ use Rattle.dwarf_source_frames.specs.DebugSections.{DebugSectionsRecord}
 use Rattle.dwarf_source_frames.specs.DebugUnits.{UnitRecord}
 use Rattle.dwarf_source_frames.specs.Frames.{location_of_call}
 use Rattle.dwarf_source_frames.specs.Names.{IsName}
-use Rattle.dwarf_source_frames.specs.Scopes.{ScopeRecord}
+use Rattle.dwarf_source_frames.specs.Scopes.{ScopeRecord, is_subprogram}
 use Rattle.dwarf_functions.specs.declared.functions.Function.{Function}
 
 -- a function: its entry, its ranges, and how many functions there are up to the last that stands in it
@@ -53,11 +53,12 @@ functions_after (suc room) a end index (f ∷ fs) =
     else if in_ranges a f.ranges then f ∷ functions_after room a (Some f.end) (index + 1) fs
     else functions_after (suc room) a end (index + 1) fs
 
--- a function as it is kept: its name and call, up to which index others stand in it, and where its ranges end
+-- a function as it is kept: its name and call, whether it is a subprogram, up to which index others stand in it, and where its ranges end
 pub record IsFunction (sections : DebugSectionsRecord) (unit : UnitRecord) (of : FunctionRecord) (function : Function)
     : Type 0 where
   pub name : IsName sections (record { unit = unit; entry = of.entry }) (option_map (λ n. n.now) function.name)
   pub call : function.call ≡ location_of_call of.entry
+  pub is_subprogram : function.is_subprogram ≡ is_subprogram of.entry
   pub end : function.end ≡ of.end
 
 -- the functions of entries of a unit with their ranges, one after another

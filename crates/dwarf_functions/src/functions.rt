@@ -20,7 +20,7 @@ use dwarf_asked_addresses::count_below;
 use dwarf_entries::{Entries, Entry, UnreadEntry};
 use dwarf_ranges::{CodeRange, Ranges, UnitRanges};
 use dwarf_source_frames::{
-    DebugInfo, DebugUnit, SourceLocation, UnitEntry, is_function, scope_ranges,
+    DebugInfo, DebugUnit, SourceLocation, UnitEntry, is_function, is_subprogram, scope_ranges,
 };
 use memory::{Heap, NoMemory};
 
@@ -33,6 +33,8 @@ pub struct Function<'a> {
     pub name_number: usize,
     /// The place of the call that it is.
     pub call: SourceLocation,
+    /// Whether it is a subprogram, which no function that it stands in calls.
+    pub is_subprogram: bool,
     /// How many functions there are up to the last that stands in it.
     pub end: usize,
     /// How many ranges there are up to its last.
@@ -179,6 +181,7 @@ impl<'a> Functions<'a> {
             name: named.name,
             name_number: named.number,
             call,
+            is_subprogram: is_subprogram(entry),
             end: index + 1,
             ranges_end: self.ranges.len(),
         })?;

@@ -2,7 +2,7 @@
 //! row of the line program that covers it, [`RowSteps`]. Both are made of one walk, for all addresses of the unit at
 //! once (`read`, `of`) or for those that are asked (`at`).
 //!
-//! A [`Link`] is a function in the link of the one that it stands in.
+//! A [`Link`] is a function in the link of the one that calls it.
 //!
 //! - `row_steps`: the rows of a line program that cover addresses (DWARF 5, section 6.2), step by step;
 //! - `functions`: [`Functions`], those of a unit that have ranges of code, or such that have asked addresses, in the

@@ -23,7 +23,7 @@ use dwarf_ranges::CodeRange;
 use dwarf_source_frames::{DebugInfo, DebugUnit, SourceLocation};
 use memory::{Heap, NoMemory};
 
-/// A function in the link of the one that it stands in.
+/// A function in the link of the one that calls it.
 #[derive(Clone, Copy)]
 pub struct Link<'a> {
     /// The name of the function.
@@ -32,8 +32,10 @@ pub struct Link<'a> {
     pub name_number: usize,
     /// The place of the call that it is.
     pub call: SourceLocation,
-    /// The number of the link that it stands in, from 1 on, or 0.
+    /// The number of the link that calls it, from 1 on, or 0: the one that it stands in, unless it is a subprogram.
     pub caller: usize,
+    /// The number of the link that it stands in, from 1 on, or 0.
+    pub(crate) outer: usize,
     /// The index of the function.
     pub(crate) function: usize,
     /// The number of the last link that stands in it, or 0.

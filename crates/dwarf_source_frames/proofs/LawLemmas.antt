@@ -15,7 +15,7 @@ use Rattle.dwarf_source_frames.specs.DebugSections.{DebugSectionsRecord}
 use Rattle.dwarf_source_frames.specs.DebugUnits.{UnitRecord, UnitEntryRecord, unit_of_bytes, entry_with, IsEntryAt}
 use Rattle.dwarf_source_frames.specs.Frames.{FrameRecord, IsFrame, AreFramesFrom, AreFramesOfChain, location_of_row, location_of_call}
 use Rattle.dwarf_source_frames.specs.Names.{linkage_name, origin_place, text_in, IsOrigin, IsNameWithin}
-use Rattle.dwarf_source_frames.specs.Scopes.{ScopeRecord, IsFirst, IsChainWithin, scopes_of}
+use Rattle.dwarf_source_frames.specs.Scopes.{ScopeRecord, IsFirst, IsChainWithin, calls_of, scopes_of}
 use Rattle.dwarf_source_frames.specs.UnitAddresses.{read_unit}
 use Rattle.dwarf_source_frames.specs.UnitLines.{LinesRecord, lines_of}
 use Rattle.dwarf_source_frames.specs.declared.frame.SourceLocation.{SourceLocation}
@@ -155,9 +155,9 @@ one_in_unit : (s : DebugSectionsRecord) (unit : UnitRecord) (a : ℕ) (one other
 one_in_unit s unit a one other p q =
     let chain : q.chain ≡ p.chain = one_chain 256 a (scopes_of s unit) None q.chain p.chain q.contain p.contain in
     let row : q.row ≡ p.row = one_covering (rows_of (lines_of s unit)) a q.row p.row q.covers p.covers in
-    let by_chain = subst (λ (c : List EntryRecord). AreFramesOfChain s (lines_of s unit) unit (reverse c) q.row other) chain q.are_frames in
-    let by_row = subst (λ (r : Option Row). AreFramesOfChain s (lines_of s unit) unit (reverse p.chain) r other) row by_chain in
-    one_frames_of_chain s (lines_of s unit) unit (reverse p.chain) p.row one other p.are_frames by_row
+    let by_chain = subst (λ (c : List EntryRecord). AreFramesOfChain s (lines_of s unit) unit (calls_of (reverse c)) q.row other) chain q.are_frames in
+    let by_row = subst (λ (r : Option Row). AreFramesOfChain s (lines_of s unit) unit (calls_of (reverse p.chain)) r other) row by_chain in
+    one_frames_of_chain s (lines_of s unit) unit (calls_of (reverse p.chain)) p.row one other p.are_frames by_row
 
 one_in : (s : DebugSectionsRecord) (unit : Option UnitRecord) (a : ℕ) (one other : List FrameRecord)
     → AreFramesIn s unit a one → AreFramesIn s unit a other → one ≡ other

@@ -1,8 +1,9 @@
 -- The entries of a unit with their ranges, one after another.
-use Rattle.std.proofs.Common.{◌≡◌, ℕ, ◌+◌, false, List, [], ◌∷◌, refl}
+use Rattle.std.proofs.Common.{◌≡◌, ◌≤◌, ℕ, ◌+◌, false, List, [], ◌∷◌, length, inl, inr, arith, refl}
+use Rattle.std.proofs.lemmas.Bool.{cases_Bool}
 use Rattle.dwarf_entries.specs.Entries.{EntryRecord, PlacedRecord}
 use Rattle.dwarf_ranges.specs.EntryRanges.{UnitRangesRecord}
-use Rattle.dwarf_source_frames.specs.Scopes.{is_function, left_after_scope, scope_of, scope_ranges, scopes_from}
+use Rattle.dwarf_source_frames.specs.Scopes.{calls_of, is_function, is_subprogram, left_after_scope, scope_of, scope_ranges, scopes_from}
 
 pub scopes_none : (unit : UnitRangesRecord) (left : ℕ) → scopes_from unit left [] ≡ []
 unfolding scopes_from
@@ -21,3 +22,12 @@ none_taken unit left entry e = rw e refl
 pub no_ranges : (unit : UnitRangesRecord) (left : ℕ) (entry : EntryRecord) → is_function entry ≡ false → scope_ranges unit left entry ≡ []
 unfolding scope_ranges
 no_ranges unit left entry e = rw e refl
+
+-- the calls of entries are as many as these at most
+pub few_calls : (entries : List EntryRecord) → length (calls_of entries) ≤ length entries
+unfolding calls_of
+few_calls [] = omega arith
+few_calls (entry ∷ entries) = elim (cases_Bool (is_subprogram entry)) [
+  | inl t ↦ rw t (omega arith)
+  | inr n ↦ rw n (omega (arith, few_calls entries))
+]

@@ -8,7 +8,7 @@ use Rattle.dwarf_lines.specs.declared.registers.Row.{Row}
 use Rattle.dwarf_source_frames.specs.DebugSections.{DebugSectionsRecord, debug_sections}
 use Rattle.dwarf_source_frames.specs.DebugUnits.{UnitRecord}
 use Rattle.dwarf_source_frames.specs.Frames.{FrameRecord, AreFramesOfChain}
-use Rattle.dwarf_source_frames.specs.Scopes.{IsChain, scopes_of}
+use Rattle.dwarf_source_frames.specs.Scopes.{IsChain, calls_of, scopes_of}
 use Rattle.dwarf_source_frames.specs.UnitAddresses.{IsUnitOf, read_unit}
 use Rattle.dwarf_source_frames.specs.UnitLines.{LinesRecord, lines_of}
 
@@ -16,15 +16,15 @@ use Rattle.dwarf_source_frames.specs.UnitLines.{LinesRecord, lines_of}
 unfoldable pub rows_of : LinesRecord → List Row
 rows_of lines = option_map_or (λ p. rows_from p.header initial p.bytes) lines.program []
 
--- the frames of an address in a unit, the innermost first: those of the function entries that contain it and of the row
--- that covers it
+-- the frames of an address in a unit, the innermost first: those of the calls among the function entries that contain it
+-- and of the row that covers it
 pub record AreFramesInUnit (sections : DebugSectionsRecord) (unit : UnitRecord) (address : ℕ)
     (frames : List FrameRecord) : Type 0 where
   pub chain : List EntryRecord
   pub row : Option Row
   pub contain : IsChain address (scopes_of sections unit) chain
   pub covers : IsCovering (rows_of (lines_of sections unit)) address row
-  pub are_frames : AreFramesOfChain sections (lines_of sections unit) unit (reverse chain) row frames
+  pub are_frames : AreFramesOfChain sections (lines_of sections unit) unit (calls_of (reverse chain)) row frames
 
 -- an address without a unit has none
 abbrev pub AreFramesIn : DebugSectionsRecord → Option UnitRecord → ℕ → List FrameRecord → Type 0

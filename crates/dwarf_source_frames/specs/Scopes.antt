@@ -16,9 +16,13 @@ pub record ScopeRecord : Type 0 where
   pub entry : EntryRecord
   pub ranges : List CodeRange
 
+-- whether an entry is DW_TAG_subprogram: such a function is no call in one that it stands in (section 3.3.1)
+abbrev pub is_subprogram : EntryRecord → Bool
+is_subprogram entry = entry.tag == 0x2e
+
 -- whether an entry is of a function: DW_TAG_subprogram or DW_TAG_inlined_subroutine
 abbrev pub is_function : EntryRecord → Bool
-is_function entry = (entry.tag == 0x2e) || (entry.tag == 0x1d)
+is_function entry = is_subprogram entry || (entry.tag == 0x1d)
 
 -- the ranges of an entry of a unit, of whose list so many entries count at most
 unfoldable pub scope_ranges : UnitRangesRecord → ℕ → EntryRecord → List CodeRange
@@ -83,3 +87,9 @@ IsChainWithin (suc room) address scopes outer (entry ∷ chain) =
 -- the entries that contain the address, the outermost first, of which 256 count at most
 abbrev pub IsChain : ℕ → List ScopeRecord → List EntryRecord → Type 0
 IsChain address scopes chain = IsChainWithin 256 address scopes None chain
+
+-- of entries that stand in each other, the innermost first, those of one function and of the calls that are inlined in
+-- it: they end with the first subprogram, whatever that stands in (sections 3.3.1 and 3.3.8.2)
+unfoldable pub calls_of : List EntryRecord → List EntryRecord
+calls_of [] = []
+calls_of (entry ∷ entries) = entry ∷ (if is_subprogram entry then [] else calls_of entries)

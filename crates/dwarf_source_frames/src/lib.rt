@@ -24,7 +24,7 @@ pub use debug_info::DebugInfo;
 pub use debug_sections::DebugSections;
 pub use debug_unit::{DebugUnit, UnitEntry};
 pub use frame::{Frame, SourceLocation};
-pub use scopes::{is_function, scope_ranges};
+pub use scopes::{is_function, is_subprogram, scope_ranges};
 pub use unit_code::range_attributes;
 pub use unit_lines::UnitLines;
 pub use unit_lists::{AddressList, ByUnit, by_unit, take_unit};

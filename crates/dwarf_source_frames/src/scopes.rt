@@ -3,12 +3,19 @@
 ghost use Rattle.std.specs.Prelude.{◌≡◌, true};
 ghost use Rattle.dwarf_ranges.specs.UnitViews.{unit_view as ranges_view};
 ghost use Rattle.dwarf_entries.specs.EntryViews.{entry_view, unread_view};
-ghost use Rattle.dwarf_source_frames.specs.Scopes.{is_function, left_after_scope, scope_ranges};
+ghost use Rattle.dwarf_source_frames.specs.Scopes.{is_function, is_subprogram, left_after_scope, scope_ranges};
 
 use crate::unit_code::range_attributes;
 use dwarf_entries::dw::{DW_TAG_INLINED_SUBROUTINE, DW_TAG_SUBPROGRAM};
 use dwarf_entries::{Entry, UnreadEntry};
 use dwarf_ranges::{Ranges, UnitRanges};
+
+/// Whether an entry is of a subprogram: of a function that is no call in one that it stands in.
+pub fn is_subprogram(entry: &Entry<'_>) -> bool
+    ensures { result ≡ is_subprogram (entry_view entry.now) }
+{
+    entry.tag == DW_TAG_SUBPROGRAM
+}
 
 /// Whether an entry is of a function.
 pub fn is_function(entry: &UnreadEntry<'_, '_>) -> bool

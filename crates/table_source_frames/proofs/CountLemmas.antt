@@ -8,9 +8,10 @@ use Rattle.dwarf_source_frames.specs.AddressFrames.{AreFramesIn, AreFramesOf}
 use Rattle.dwarf_source_frames.specs.DebugSections.{DebugSectionsRecord, debug_sections}
 use Rattle.dwarf_source_frames.specs.DebugUnits.{UnitRecord}
 use Rattle.dwarf_source_frames.specs.Frames.{FrameRecord, AreFramesFrom, AreFramesOfChain, location_of_call, location_of_row}
-use Rattle.dwarf_source_frames.specs.Scopes.{IsChainWithin, ScopeRecord}
+use Rattle.dwarf_source_frames.specs.Scopes.{IsChainWithin, ScopeRecord, calls_of}
 use Rattle.dwarf_source_frames.specs.UnitAddresses.{read_unit}
 use Rattle.dwarf_source_frames.specs.UnitLines.{LinesRecord, lines_of}
+use Rattle.dwarf_source_frames.proofs.ScopeLemmas.{few_calls}
 use Rattle.dwarf_source_frames.specs.declared.frame.SourceLocation.{SourceLocation}
 
 few_entries : (room address : ℕ) (scopes : List ScopeRecord) (outer : Option ℕ) (chain : List EntryRecord)
@@ -36,8 +37,8 @@ few_in : (s : DebugSectionsRecord) (unit : Option UnitRecord) (address : ℕ) (f
     → AreFramesIn s unit address frames → length frames ≤ 256
 few_in s None address frames are = omega (arith, ap length are)
 few_in s (Some unit) address frames are =
-    few_of_chain s (lines_of s unit) unit (reverse are.chain) are.row frames are.are_frames
-    (omega (arith, length-reverse are.chain, few_entries 256 address _ None are.chain are.contain))
+    few_of_chain s (lines_of s unit) unit (calls_of (reverse are.chain)) are.row frames are.are_frames
+    (omega (arith, few_calls (reverse are.chain), length-reverse are.chain, few_entries 256 address _ None are.chain are.contain))
 
 pub few_frames : (image : List ℕ) (address : ℕ) (frames : List FrameRecord) → AreFramesOf image address frames → length frames ≤ 256
 few_frames image address frames are = few_in (debug_sections image) (option_and_then (read_unit (debug_sections image)) are.place) address frames are.are_frames

@@ -5,6 +5,7 @@ use Rattle.dwarf_functions.specs.LinkViews.{link_view, links_view}
 use Rattle.dwarf_functions.proofs.LinkFrameLemmas.{number_within}
 use Rattle.dwarf_lines.specs.Covering.{IsCovering}
 use Rattle.dwarf_lines.specs.declared.registers.Row.{Row}
+use Rattle.dwarf_source_frames.specs.Scopes.{calls_of}
 use Rattle.dwarf_source_frames.specs.AddressFrames.{AreFramesBy, rows_of}
 use Rattle.dwarf_source_frames.specs.FrameViews.{lines_view}
 use Rattle.dwarf_source_frames.specs.SectionsViews.{sections_view}
@@ -26,7 +27,7 @@ frames_at-requires c =
     let number = get_or_read c.in_ok-links.links.numbers.items _ _ inside c.index-in-loop-i.ensures 0 in
     let is = c.in_ok-links.ensures.each i less in
     let within = number_within s (unit_view c.args.unit.now) (links_view links)
-    (get_or c.in_ok-links.links.numbers.items i 0) (reverse is.chain) is.are_entries in
+    (get_or c.in_ok-links.links.numbers.items i 0) (calls_of (reverse is.chain)) is.are_entries in
     record {
       callers = c.in_ok-links.ensures.callers;
       within = omega (arith, number, within, length-map links link_view);

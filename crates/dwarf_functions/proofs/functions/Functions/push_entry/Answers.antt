@@ -24,6 +24,7 @@ returns c =
       name = name.name;
       name_number = name.number;
       call = c.of_call-call.result;
+      is_subprogram = c.is_subprogram.result;
       end =
           c.len-index.result + 1;
       ranges_end = c.len-2.result;
@@ -33,7 +34,7 @@ returns c =
       added = adds_one s unit scope was.ranges.items c.push_ranges.new.all.items
           c.args.opened.now.items c.push-2.new.self.items was.functions.items c.push.new.self.items f c.len-index.result
           c.in_ok-push_ranges.ensures (λ same. omega (arith, c.push_ranges.new.all.ok.0, was.ranges.ok.0)) (omega (arith, was.functions.ok.0))
-          c.named-named.ensures.name c.of_call-call.ensures refl (omega (arith, c.push_ranges.new.all.ok.0))
+          c.named-named.ensures.name c.of_call-call.ensures c.is_subprogram.ensures refl (omega (arith, c.push_ranges.new.all.ok.0))
           c.in_ok-push.ensures.items c.in_ok-push-2.ensures.items;
       named = named_more s was.functions.items c.push.new.self.items f was.origins c.keep.new.self origin
           c.in_ok-push.ensures.items c.named-named.ensures.number c.keep.ensures

@@ -5,7 +5,7 @@ use Rattle.dwarf_functions.proofs.making.Making.link.Goals as goal
 pub index-requires : goal.index-requires
 index-requires c =
     let w = found_within c.args.self.now.all.now.functions.items c.args.self.now.links.items c.args.self.now.last
-    c.args.caller c.child_of-child.result c.requires.made c.requires.caller c.child_of-child.ensures
+    c.args.outer c.child_of-child.result c.requires.made c.requires.outer c.child_of-child.ensures
     c.if-child-ne0.true in search rules
 
 pub returns-then-index-clause-kept : goal.returns-then-index-clause-kept
@@ -13,6 +13,6 @@ returns-then-index-clause-kept c = kept_refl c.args.self.now.links.items
 
 pub returns-then-index-clause-link : goal.returns-then-index-clause-link
 returns-then-index-clause-link c =
-    found_link c.args.self.now.all.now.functions.items c.args.self.now.links.items c.args.self.now.last c.args.caller
-    c.args.index c.child_of-child.result c.index.result.now c.requires.made c.requires.caller
+    found_link c.args.self.now.all.now.functions.items c.args.self.now.links.items c.args.self.now.last c.args.outer
+    c.args.index c.child_of-child.result c.index.result.now c.requires.made c.requires.outer
     c.child_of-child.ensures c.if-child-ne0.true c.index.ensures c.if-index.true
