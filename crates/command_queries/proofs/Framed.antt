@@ -1,6 +1,7 @@
 -- What is told of frames that are asked in the order of their keys.
 use Rattle.std.proofs.Common.{◌≡◌, ℕ, zero, suc, subst, false, ◌+◌, ◌-◌, ◌<◌, ◌≤◌, Bool, ◌&&◌, if◌then◌else◌, List, []}
-use Rattle.std.proofs.Common.{◌∷◌, ◌++◌, length, map, take, drop, set, get_or, Some, Result, Ok, Err, is_ok, true, refl}
+use Rattle.std.proofs.Common.{◌∷◌, ◌++◌, length, map, take, drop, set, get_or, Option, None, Some, Result, Ok, Err, is_ok}
+use Rattle.std.proofs.Common.{true, refl}
 use Rattle.std.proofs.Common.{sym, ap, ◌∙◌, arith, inl, inr, ◌⊎◌, length-append}
 use Rattle.std.specs.Prelude.{slice_get, slice_range}
 use Rattle.std.specs.List.{All, AllByRecursion, AllZip, Contains, HoldsAt, flat_map, list_all, list_any, prefix_len}
@@ -28,7 +29,7 @@ use Rattle.archive_core.specs.Find.{is_key}
 use Rattle.archive_core.specs.Key.{key_bytes}
 use Rattle.archive_core.specs.Lookup.{answer_view}
 use Rattle.archive_core.specs.declared.keys.SliceKey.{SliceKey}
-use Rattle.archive_core.specs.declared.lookup.Answer.{Answer}
+use Rattle.archive_core.specs.declared.lookup.Where.{Where}
 use Rattle.archive_core.specs.Part.{is_under}
 use Rattle.archive_core.proofs.Made.{bytes_same}
 use Rattle.archive_core.proofs.Members.{in_cons, in_front, in_map, in_rest}
@@ -45,14 +46,15 @@ use Rattle.command_common.specs.declared.faults.Status.{Status}
 use Rattle.command_common.specs.declared.faults.Status.TheVariants.{Done, Partial}
 use Rattle.command_common.specs.Ends.{EndsReport}
 use Rattle.command_queries.specs.Frames.{IsFrameAnswered, TellsFrames, RefusesFrames}
-use Rattle.command_queries.specs.InnerFrames.{AreLines, AreNumbered, AreTold, IsFrameTold, asked_cmp, is_asked}
+use Rattle.command_queries.specs.InnerFrames.{AreLines, AreNumbered, AreTold, IsFrameTold, asked_cmp, is_asked, is_done}
+use Rattle.command_queries.specs.Places.{IsPlaceAdded, address_in}
 use Rattle.command_common.proofs.Parts.{refusal_of, together_refused}
 use Rattle.command_common.specs.Archives.{AreRefused, AreUnfailed}
 use Rattle.command_common.specs.Inputs.{EachUnfailed, EachUntouched, IsFrames, Reader, IsRefusal, IsRefusedFrames, IsUntouched, Unfailed}
 use Rattle.command_common.specs.Outputs.{Writer, Takes}
 use Rattle.command_queries.specs.Sources.{IsSourced}
+use Rattle.command_queries.proofs.Sourced.{sourced_as}
 use Rattle.command_queries.specs.Symbolicate.{Answered, asked_of, is_symbol, answers_text}
-use Rattle.dwarf_source_frames.specs.Frames.{FrameRecord}
 
 -- ---- frames with their numbers
 
@@ -165,25 +167,43 @@ told_still wanted content text more frame told is = record {
   symbol_is = is.symbol_is;
 }
 
+-- the place of an address has it
+address_of : (load : Option ℕ) (address : ℕ) → address_in (asked_of load address) ≡ address
+address_of None address = refl
+address_of (Some load) address = refl
+
+-- an answer that is one symbol ends a command with `Done`
+done_if : (is : Bool) → is_done (if is then Done else Partial) ≡ is
+done_if true = refl
+done_if false = refl
+
 -- what is told of one frame more stands after it
-pub told_now : (wanted : Bool) (content : Operations) (text grown : List ℕ) (frame : Frame) (answer : Answer)
-    (frames : List (List FrameRecord)) (told : AnsweredFrame)
-    → IsSourced content frame.key wanted (asked_of frame.load frame.address) (answer_view answer) frames → grown ≡ text
-    ++ answer_lines frame.address answer frames
-    → told.from ≡ length text → told.to ≡ length grown → told.is_symbol ≡ is_symbol answer → IsFrameTold wanted content grown frame told
-told_now wanted content text grown frame answer frames told is more from to symbol =
-    let printed : List ℕ = answer_lines frame.address answer frames in
-    let long : length grown ≡ length text + length printed = ap length more ∙ length-append text printed in
+pub told_now : (wanted : Bool) (content o : Operations) (text grown : List ℕ) (frame : Frame) (place : Where)
+    (status : Status) (told : AnsweredFrame) → place ≡ asked_of frame.load frame.address
+    → AnswersAs frame.key content o → IsPlaceAdded (IsSourced content frame.key wanted) place text grown status
+    → told.from ≡ length text → told.to ≡ length grown → told.is_symbol ≡ is_done status
+    → IsFrameTold wanted o grown frame told
+told_now wanted content o text grown frame place status told placed same added from to symbol =
+    let row : Answered = added.row in
+    let printed : List ℕ = answer_lines row.address row.answer row.frames in
+    let long : length grown ≡ length text + length printed = ap length added.text_is ∙ length-append text printed in
+    let address : row.address ≡ frame.address =
+    added.address_is ∙ ap address_in placed ∙ address_of frame.load frame.address in
     record {
-      row = record { address = frame.address; answer = answer; frames = frames };
-      answered = (refl, is);
+      row = row;
+      answered = (
+        address,
+        subst (λ (p : Where). IsSourced o frame.key wanted p (answer_view row.answer) row.frames)
+            (placed ∙ ap (asked_of frame.load) (sym address))
+            (sourced_as content o frame.key wanted place (answer_view row.answer) row.frames same added.is_said),
+      );
       begins = omega (arith, long, from, to);
       ends = omega (arith, to);
-      lines_are = ap (λ (t : List ℕ). slice_range t told.from told.to) more
+      lines_are = ap (λ (t : List ℕ). slice_range t told.from told.to) added.text_is
           ∙ ap (take (told.to - told.from)) (ap (λ (n : ℕ). drop n (text ++ printed)) from
           ∙ drop_at text printed (length text) refl) ∙ take_all (told.to - told.from) printed
           (omega (arith, long, from, to));
-      symbol_is = symbol;
+      symbol_is = symbol ∙ ap is_done added.status_is ∙ done_if (is_symbol row.answer);
     }
 
 module _ (wanted : Bool) (content : Operations) (asked : List AskedFrame) (one : AskedFrame) (left : List AskedFrame)

@@ -1,6 +1,6 @@
 -- Frames that are asked in the order of their keys: definitions for private functions. No public contract uses them.
 use Rattle.std.specs.Prelude.{◌≡◌, ◌↔◌, ◌⊎◌, ℕ, ◌<◌, ◌≤◌, Bool, List, Some, Contains, drop, get_or, length, slice_get}
-use Rattle.std.specs.Prelude.{slice_range, take}
+use Rattle.std.specs.Prelude.{slice_range, take, true, false}
 use Rattle.std.specs.List.{list_any}
 use Rattle.std.specs.Str.{bytes_eq}
 use Rattle.std.specs.Ordering.{nat_cmp}
@@ -8,6 +8,8 @@ use Rattle.std.specs.Cmp.Lexicographic.{slice_cmp}
 use Rattle.std.specs.declared.cmp.Ordering.{Ordering}
 use Rattle.archive_core.specs.Content.{Operations}
 use Rattle.archive_core.specs.Key.{key_bytes}
+use Rattle.command_common.specs.declared.faults.Status.{Status}
+use Rattle.command_common.specs.declared.faults.Status.TheVariants.{Done, Partial, Refused}
 use Rattle.text_inputs.specs.declared.frame.Frame.{Frame}
 use Rattle.text_reports.specs.Answers.{answer_lines}
 use Rattle.command_queries.specs.declared.asked_frames.AskedFrame.{AskedFrame}
@@ -32,6 +34,12 @@ asked_cmp a b = slice_cmp nat_cmp (key_bytes a.frame.key) (key_bytes b.frame.key
 -- the bytes after the tag of a record begin with the key of one of the frames
 abbrev pub is_asked : List AskedFrame → List ℕ → Bool
 is_asked asked r = list_any (λ one. bytes_eq (key_bytes one.frame.key) (take 24 (drop 1 r))) asked
+
+-- the status is that of one symbol
+abbrev pub is_done : Status → Bool
+is_done Done = true
+is_done Partial = false
+is_done Refused = false
 
 -- What was told of a frame is what the content tells of it.
 pub record IsFrameTold (lines : Bool) (content : Operations) (text : List ℕ) (frame : Frame) (told : AnsweredFrame)

@@ -11,21 +11,21 @@ ghost use Rattle.archive_core.specs.Find.{is_key};
 ghost use Rattle.archive_core.specs.Key.{key_bytes};
 ghost use Rattle.archive_read.specs.Keys.{AnswersAs, AreInOrder, first_key};
 ghost use Rattle.command_common.specs.declared.faults.Status.TheVariants.{Done, Partial};
-ghost use Rattle.command_queries.specs.InnerFrames.{AreLines, AreNumbered, AreTold, asked_cmp};
+ghost use Rattle.command_queries.specs.InnerFrames.{AreLines, AreNumbered, AreTold, asked_cmp, is_done};
 ghost use Rattle.command_queries.specs.InnerSources.{AreSourcesOf};
-ghost use Rattle.command_queries.specs.Symbolicate.{asked_of, is_symbol};
+ghost use Rattle.command_queries.specs.Symbolicate.{asked_of};
 ghost use Rattle.command_queries.specs.declared.asked_frames.AskedFrame.{AskedFrame};
 
 use crate::addresses::asked_of;
+use crate::places::push_place;
 use crate::sources::Sources;
-use archive_core::{Answer, Archive, SliceKey, Where, compare_keys};
+use archive_core::{Archive, SliceKey, Where, compare_keys};
 use archive_read::{Questions, Selects};
 use archive_records::key_prefix;
 use command_common::Status;
 use memory::{Heap, NoMemory};
 use std::cmp::Ordering;
 use text_inputs::Frame;
-use text_reports::push_answer;
 
 /// A frame, and its number in FRAMES, counted from 0.
 #[derive(Clone, Copy)]
@@ -113,10 +113,11 @@ pub(crate) fn in_key_order(heap: Heap, frames: &[Frame]) -> Result<Vec<AskedFram
     Ok(asked)
 }
 
-fn is_symbol(answer: &Answer<'_>) -> bool
-    ensures { result ≡ is_symbol answer.now }
+/// Whether a command ends with `Done` that prints an answer alone: the answer is one symbol.
+fn is_done(status: Status) -> bool
+    ensures { result ≡ is_done status }
 {
-    matches!(answer, Answer::Symbol(_))
+    matches!(status, Status::Done)
 }
 
 fn run_len(asked: &[AskedFrame], key: &SliceKey) -> usize
@@ -135,26 +136,6 @@ fn places_of(heap: Heap, asked: &[AskedFrame]) -> Result<Vec<Where, Heap>, NoMem
         .iter()
         .map(|one| asked_of(one.frame.load, one.frame.address))
         .collect(heap)
-}
-
-/// The source frames of frames under a key, where lines are wanted.
-fn source_frames_of<'s, A: Archive>(
-    heap: &Heap,
-    archive: &'s A,
-    key: &SliceKey,
-    lines: bool,
-    asked: &[AskedFrame],
-) -> Result<Sources<'s>, NoMemory>
-    ensures { IfOk result (λ sources. (one : AskedFrame) → Contains asked.now one
-        → AreSourcesOf (A.content archive.now) key.now lines (asked_of one.frame.load one.frame.address)
-        sources.found.items) }
-{
-    if lines {
-        let places = places_of(heap.share(), asked)?;
-        Sources::of(heap, archive, key, &places)
-    } else {
-        Ok(Sources::none(heap.share()))
-    }
 }
 
 /// Stores the answer to frame `line`, if there is such a frame.
@@ -211,14 +192,19 @@ impl<'f> FrameQuestions<'f> {
     {
         let frame = asked.frame;
         let place = asked_of(frame.load, frame.address);
-        let answer = archive.lookup(&frame.key, place)?;
-        let frames = sources.at(self.heap.share(), place)?;
         let from = self.text.len();
-        push_answer(&self.heap, &mut self.text, frame.address, &answer, &frames)?;
+        let status = push_place(
+            &self.heap,
+            &mut self.text,
+            archive,
+            &frame.key,
+            sources,
+            place,
+        )?;
         let told = AnsweredFrame {
             from,
             to: self.text.len(),
-            is_symbol: is_symbol(&answer),
+            is_symbol: is_done(status),
         };
         put_at(&mut self.told, asked.line, told);
         Ok(())
@@ -245,7 +231,8 @@ impl<'f> FrameQuestions<'f> {
         };
         let key = first.frame.key;
         let (run, _) = self.left.split_at(run_len(self.left, &key));
-        let sources = source_frames_of(&self.heap, archive, &key, self.lines, run)?;
+        let places = places_of(self.heap.share(), run)?;
+        let sources = Sources::wanted(&self.heap, archive, &key, self.lines, &places)?;
         'run: for asked in run {
             self.push_answer_of(archive, &sources, asked)?;
         }

@@ -1,7 +1,9 @@
 use Rattle.std.proofs.Common.{◌≡◌, ◌∙◌, length, inr, arith}
 use Rattle.archive_core.specs.declared.keys.SliceKey.{SliceKey}
+use Rattle.command_queries.specs.Symbolicate.{asked_of}
 use Rattle.command_queries.specs.declared.asked_frames.AskedFrame.{AskedFrame}
 use Rattle.command_queries.proofs.Framed.{first_is, in_run, run_long, run_told}
+use Rattle.command_queries.proofs.Sourced.{sources_there}
 use Rattle.command_queries.proofs.asked_frames.FrameQuestions.answer_key.Goals as goal
 
 pub push_answer_of-requires : goal.push_answer_of-requires
@@ -10,7 +12,9 @@ push_answer_of-requires g c =
     let key : SliceKey = c.in-Some.first.now.frame.key in
     let there = in_run key c.args.self.now.left.now c.split_at.result.0.now c.run_len.result c.run.asked-index one
     c.run_len.ensures.len c.split_at.ensures.front (omega arith) c.asked-item.is in
-    rw (there.0, c.run.invariant.lines) (c.in_ok-sources.ensures one there.1)
+    rw (there.0, c.run.invariant.lines) (sources_there (g.A.Join.content c.args.archive.now) key c.args.self.now.lines
+    (λ (it : AskedFrame). asked_of it.frame.load it.frame.address) c.split_at.result.0.now c.deref.result.now _
+    (c.deref.ensures.value ∙ c.in_ok-places.ensures) c.in_ok-sources.ensures one there.1)
 
 pub run-preserved : goal.run-preserved
 run-preserved g c =
