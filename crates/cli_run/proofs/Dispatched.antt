@@ -7,13 +7,13 @@ use Rattle.command_common.specs.{Ends.EndsReport, Ends.Query, Outputs.Writer, Ou
 use Rattle.command_common.specs.declared.faults.{CommandFault.CommandFault, CommandFault.TheVariants.Input, Status.Status}
 use Rattle.command_common.specs.declared.faults.InputName.{InputName, TheVariants.Archive, TheVariants.Index}
 use Rattle.command_common.specs.declared.faults.Why.{Why, TheVariants.NoArchive, TheVariants.NoIndex}
-use Rattle.command_common.specs.{Asked.of_first, Asked.prints_rows, Records.rows_found}
-use Rattle.command_common.specs.Inputs.{Reader, readers}
-use Rattle.text_reports.specs.Finds.{find_lines}
+use Rattle.command_common.specs.Inputs.{Reader, reader, readers}
+use Rattle.command_queries.specs.Frames.{frames_by_records, prints_addresses}
+use Rattle.command_queries.proofs.Answered.{symbolicated}
 use Rattle.archive_core.specs.declared.keys.SliceKey.{SliceKey}
 use Rattle.command_common.proofs.{Parts.no_others, Readers.readers_long}
 use Rattle.command_index_queries.specs.Find.{find_by}
-use Rattle.command_index_frames.specs.{Frames.frames_at, Symbolicate.symbolicate_at}
+use Rattle.command_index_frames.specs.Frames.{frames_at, symbolicate_at}
 use Rattle.cli_run.specs.Queries.{IsAlone, find_of, frames_of, if_paired, index_for_each_archive, symbolicate_of}
 
 module _ {S : Type 0} (left : S → Option (List ℕ)) (failures : S → ℕ) where
@@ -57,11 +57,21 @@ find_by_indexes (a ∷ archives) places (i ∷ indexes) uuid some = refl
 
 -- ---- queries by records
 
-pub find_by_records : {S : Type 0} (archives places : List (Reader S)) (uuid : List ℕ) → 0 < length archives
-    → find_of archives places [] uuid
-    ≡ prints_rows find_lines (of_first (λ archive others. rows_found archive others uuid) archives)
-find_by_records [] places uuid some = absurd (omega arith)
-find_by_records (a ∷ archives) places uuid some = refl
+module _ {S : Type 0} (left whole : S → Option (List ℕ)) (failures place_failures : S → ℕ) where
+  pub symbolicate_by_records : (archives now indexes : List S) (key : SliceKey) (load : Option ℕ) (lines slices : Bool)
+      (addresses : List ℕ) (report : Writer) (result : Result Status CommandFault) → 0 < length archives
+      → length now ≡ length archives → indexes ≡ []
+      → EndsReport (prints_addresses (frames_by_records lines slices (readers left failures archives now)) key load addresses) report result
+      → EndsReport (symbolicate_of (readers left failures archives now) (readers whole place_failures archives now)
+      (readers whole place_failures indexes indexes) key load lines slices addresses) report result
+  symbolicate_by_records [] now indexes key load lines slices addresses report result some same none ends = absurd (omega arith)
+  symbolicate_by_records (a ∷ archives) [] indexes key load lines slices addresses report result some same none ends =
+      absurd (omega (arith, same))
+  symbolicate_by_records (a ∷ archives) (b ∷ now) [] key load lines slices addresses report result some same none ends =
+      symbolicated (reader left failures a b) (readers left failures archives now) key load lines slices addresses
+      report result ends
+  symbolicate_by_records (a ∷ archives) (b ∷ now) (i ∷ indexes) key load lines slices addresses report result some same none ends =
+      cc none
 
 -- ---- how they end
 

@@ -5,7 +5,8 @@ use Rattle.archive_core.specs.declared.keys.{Digest.Digest, SliceKey.SliceKey}
 use Rattle.archive_records.specs.declared.fault.MergeCause.{MergeCause}
 use Rattle.archive_records.specs.declared.fault.MergeCause.TheVariants.{Left, Right, Write}
 use Rattle.archive_records.specs.declared.kind.TextKind.{TextKind}
-use Rattle.command_queries.specs.Frames.{RefusesFrames}
+use Rattle.text_inputs.specs.declared.frame.Frame.{Frame}
+use Rattle.command_queries.specs.Frames.{AskedOfFrames, frames_held, prints_frames}
 use Rattle.archive_exchange.specs.Rehearse.{rehearse}
 use Rattle.command_queries.specs.Name.{name}
 use Rattle.command_write.specs.{Admit.admit_as_it_comes, Apply.apply_as_it_comes, Delta.delta_as_it_comes}
@@ -30,7 +31,7 @@ use Rattle.index_build.specs.declared.fault.MakingFault.TheVariants.{Archive as 
 use Rattle.command_index_queries.specs.{Indexes.IsOfOtherLength, Indexes.IsRefusedByIndex, Several.AreRefusedLater, Several.AreRefusedTogether}
 use Rattle.command_index_queries.specs.Together.{IsFirstRefusedByIndex, IsRefusedAtPlaces}
 use Rattle.command_index_frames.specs.Asking.{AreRefusedAsking, IsTableRefused}
-use Rattle.command_index_frames.specs.{Frames.RefusesFramesAt, Frames.frames_at, Symbolicate.symbolicate_at}
+use Rattle.command_index_frames.specs.Frames.{frames_at, frames_by_indexes, keys_of, symbolicate_at}
 use Rattle.command_index_queries.specs.Find.{find_by}
 use Rattle.command_extract.specs.{Entries.IsRefusedSlice, Extract.Extraction, Extract.Extracts, Indexed.AreRefusedBefore, Indexed.extract_at}
 use Rattle.byte_openings.specs.declared.openings.Opening.{Opening}
@@ -73,10 +74,10 @@ together : {R S : Type 0} (archive : Reader R) (others : List (Reader S)) → Sp
 together archive others at (inl r) = text _ archive r.0.1
 together archive others at (inr r) = text _ r.2.input r.2.refused
 
-framed : {Q R S : Type 0} (crash : Reader Q) (archive : Reader R) (others : List (Reader S))
-    → Spares (RefusesFrames crash archive others)
-framed crash archive others at (inl r) = r.0.1
-framed crash archive others at (inr r) = together archive others at r.2
+framed : {Q : Type 0} (crash : Reader Q) (asked : AskedOfFrames)
+    → ((listed : List Frame) → Spares (asked.Refuses listed)) → Spares (prints_frames crash asked).Refuses
+framed crash asked spares at (inl r) = r.0.1
+framed crash asked spares at (inr r) = spares r.0.0 at r.2
 
 side : (cause : MergeCause) (at : InputName) → IsSide cause at CannotOpen → ⊥
 side (Left fault) at r = cc r.1
@@ -135,11 +136,6 @@ asking lines slices keys indexes archives at (inr (inr r)) = go slices r.untold.
     go false (inr (inr unread)) = cc unread.why_is
     go true unread = cc unread.why_is
 
-framed_at : {Q I P : Type 0} (lines slices : Bool) (crash : Reader Q) (indexes : List (Reader I))
-    (archives : List (Reader P)) → Spares (RefusesFramesAt lines slices crash indexes archives)
-framed_at lines slices crash indexes archives at (inl r) = r.0.1
-framed_at lines slices crash indexes archives at (inr r) = asking lines slices _ indexes archives at r.3
-
 -- a command that writes a slice, where that of its writing is
 extracted : {D T : Type 0} (command : Extraction) (out : Outs D T) (report : Writer) (at : InputName)
     → (command.writes.Stops (Input at CannotOpen) → ⊥) → Extracts command out report (Err (Input at CannotOpen)) → ⊥
@@ -179,10 +175,12 @@ symbolicate archives places indexes key load lines slices addresses at r =
 
 frames : {S : Type 0} (lines slices : Bool) (crash : Reader S) (archives places indexes : List (Reader S))
     → Spares (frames_of lines slices crash archives places indexes).Refuses
-frames lines slices crash (archive ∷ others) places [] at r = framed crash archive others at r
+frames lines slices crash (archive ∷ others) places [] at r =
+    framed crash (frames_held lines slices archive others) (λ listed. together archive others) at r
 frames lines slices crash archives places indexes at r =
     when_paired (length archives) (length indexes) (frames_at lines slices crash indexes places)
-    (framed_at lines slices crash indexes places) at r
+    (framed crash (frames_by_indexes lines slices indexes places)
+    (λ listed. asking lines slices (keys_of listed) indexes places)) at r
 
 stops_at : {S : Type 0} (indexes places : List (Reader S)) (key : SliceKey) (digest : Option Digest) (draft : Writer)
     (at : InputName) → (extract_at indexes places key digest draft).writes.Stops (Input at CannotOpen) → ⊥

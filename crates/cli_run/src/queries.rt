@@ -21,9 +21,9 @@ use cli_arguments::{Inputs, Plan};
 use command_common::{
     CommandFault, InputName, Note, Records, Status, Why, first_and_rest, write_report,
 };
-use command_index_frames::{run_frames_at, run_symbolicate_at};
+use command_index_frames::{run_frames, run_symbolicate};
 use command_index_queries::Indexes;
-use command_queries::{answer_name, run_find, run_frames, run_list, run_symbolicate};
+use command_queries::{answer_name, run_find, run_list};
 use memory::{Heap, NoMemory};
 use uuid::Uuid;
 
@@ -161,15 +161,14 @@ fn symbolicate<A: Archive + Drop, S: Source + Placed, P: Sink>(
         (writer P.held P.failures report.old report.new) result }
 {
     if indexes.is_empty() {
-        let (archive, others) = first_and_rest(archives);
+        let records = &mut Records { archives };
         return run_symbolicate::<A, _, _>(
-            heap, archive, others, key, load, lines, slices, addresses, report,
+            heap, records, key, load, lines, slices, addresses, report,
         );
     }
     check_pairs(archives.len(), indexes.len())?;
-    run_symbolicate_at::<A, _, _, _>(
-        heap, indexes, archives, key, load, lines, slices, addresses, report,
-    )
+    let evidence = &mut Indexes { indexes, archives };
+    run_symbolicate::<A, _, _>(heap, evidence, key, load, lines, slices, addresses, report)
 }
 
 /// `frames` over archives, which are read by these indexes, if there are some.
@@ -191,11 +190,12 @@ fn frames<A: Archive + Drop, S: Source + Placed, P: Sink>(
         (writer P.held P.failures report.old report.new) result }
 {
     if indexes.is_empty() {
-        let (archive, others) = first_and_rest(archives);
-        return run_frames::<A, _, _>(heap, lines, slices, crash, archive, others, report);
+        let records = &mut Records { archives };
+        return run_frames::<A, _, _, _>(heap, lines, slices, crash, records, report);
     }
     check_pairs(archives.len(), indexes.len())?;
-    run_frames_at::<A, _, _, _, _>(heap, lines, slices, crash, indexes, archives, report)
+    let evidence = &mut Indexes { indexes, archives };
+    run_frames::<A, _, _, _>(heap, lines, slices, crash, evidence, report)
 }
 
 /// Carries out a plan that writes no OUT over its inputs. An archive of the type `L` is asked for addresses, and one of

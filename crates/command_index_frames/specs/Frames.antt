@@ -1,5 +1,5 @@
--- The report of `frames` over archives by their indexes.
-use Rattle.std.specs.Prelude.{◌≡◌, ◌≢◌, ◌⊎◌, ◌↔◌, ℕ, List, [], ◌++◌, Bool, true, false, Option, Some, None, Ok, All}
+-- The reports of `frames` and `symbolicate` over archives by their indexes.
+use Rattle.std.specs.Prelude.{◌≡◌, ◌≢◌, ◌↔◌, ℕ, List, [], ◌++◌, Bool, true, false, Option, Some, None, All}
 use Rattle.std.specs.Prelude.{Contains, map}
 use Rattle.std.specs.List.{AllZip}
 use Rattle.std.specs.List.Sorted.{IsStrictlySortedBy}
@@ -8,17 +8,14 @@ use Rattle.archive_core.specs.Lookup.{AnswerRecord, answer_view}
 use Rattle.archive_core.specs.declared.keys.SliceKey.{SliceKey}
 use Rattle.archive_core.specs.declared.lookup.Where.{Where}
 use Rattle.dwarf_source_frames.specs.Frames.{FrameRecord}
-use Rattle.command_queries.specs.Frames.{frame_keys}
+use Rattle.command_queries.specs.Frames.{AskedOfFrames, prints_addresses, prints_frames}
 use Rattle.command_queries.specs.Symbolicate.{Answered, answers_status, answers_text, asked_of}
-use Rattle.text_inputs.specs.Frames.{frames_of}
 use Rattle.text_inputs.specs.declared.frame.Frame.{Frame}
 use Rattle.text_reports.specs.Slices.{TellsSlices, slice_key_cmp}
 use Rattle.command_common.specs.Ends.{Query}
-use Rattle.command_common.specs.Inputs.{Reader, EachUntouched, Gives, IsRefusedFrames, Unfailed}
-use Rattle.command_common.specs.declared.faults.InputName.{InputName}
+use Rattle.command_common.specs.Inputs.{Reader, EachUntouched}
 use Rattle.command_common.specs.declared.faults.Status.{Status}
 use Rattle.command_common.specs.declared.faults.Status.TheVariants.{Refused}
-use Rattle.command_common.specs.declared.faults.Why.{Why}
 use Rattle.command_index_queries.specs.Several.{AreUnfailedTogether}
 use Rattle.command_index_queries.specs.Together.{AreReadWith}
 use Rattle.command_index_frames.specs.Asking.{AreGiven, AreRefusedAsking, IsAnsweredAt}
@@ -100,26 +97,21 @@ pub record AreToldAt {I P : Type 0} (lines slices : Bool) (indexes : List (Reade
   pub told : TellFramesWith slices (IsAnsweredAt (AreGiven indexes) archives all lines)
       (IsKeyRefused lines indexes archives all) all keys frames status text
 
--- FRAMES says these frames, and this is told of them.
-pub record MakesFramedAt {Q I P : Type 0} (lines slices : Bool) (frames : Reader Q) (indexes : List (Reader I))
-    (archives : List (Reader P)) (status : Status) (text : List ℕ) : Type 0 where
-  pub listed : List Frame
-  pub frames_are : Gives frames (λ bytes. frames_of bytes ≡ Ok listed)
-  pub told : AreToldAt lines slices indexes archives (frame_keys listed) listed status text
-
--- FRAMES is refused, and nothing else is touched; or FRAMES says frames, its reader does not fail, and another is
--- refused
-abbrev pub RefusesFramesAt : {Q I P : Type 0} → Bool → Bool → Reader Q → List (Reader I) → List (Reader P)
-    → InputName → Why → Type 0
-RefusesFramesAt lines slices frames indexes archives at why =
-    (IsRefusedFrames frames at why × EachUntouched indexes × EachUntouched archives)
-    ⊎ ((listed : List Frame) × Gives frames (λ bytes. frames_of bytes ≡ Ok listed) × Unfailed frames
-    × AreRefusedAsking lines slices (keys_of listed) indexes archives at why)
-
--- `frames`, over these frames and these archives
-abbrev pub frames_at : {Q I P : Type 0} → Bool → Bool → Reader Q → List (Reader I) → List (Reader P) → Query
-frames_at lines slices frames indexes archives = record {
-  Makes = MakesFramedAt lines slices frames indexes archives;
-  Refuses = RefusesFramesAt lines slices frames indexes archives;
-  Unfailed = Unfailed frames × AreUnfailedTogether indexes archives;
+-- what is asked of these archives for frames: what their indexes tell
+abbrev pub frames_by_indexes : {I P : Type 0} → Bool → Bool → List (Reader I) → List (Reader P) → AskedOfFrames
+frames_by_indexes lines slices indexes archives = record {
+  Tells = AreToldAt lines slices indexes archives;
+  Refuses = λ frames. AreRefusedAsking lines slices (keys_of frames) indexes archives;
+  Untouched = EachUntouched indexes × EachUntouched archives;
+  Unfailed = AreUnfailedTogether indexes archives;
 }
+
+-- `frames`, over FRAMES and these archives
+abbrev pub frames_at : {Q I P : Type 0} → Bool → Bool → Reader Q → List (Reader I) → List (Reader P) → Query
+frames_at lines slices input indexes archives = prints_frames input (frames_by_indexes lines slices indexes archives)
+
+-- `symbolicate`, over these archives
+abbrev pub symbolicate_at : {I P : Type 0} → List (Reader I) → List (Reader P) → SliceKey → Option ℕ → Bool → Bool
+    → List ℕ → Query
+symbolicate_at indexes archives key load lines slices addresses =
+    prints_addresses (frames_by_indexes lines slices indexes archives) key load addresses

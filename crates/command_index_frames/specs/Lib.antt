@@ -1,7 +1,6 @@
 pub mod Asking
 pub mod Slices
 pub mod Refusals
-pub mod Symbolicate
 pub mod Frames
 pub mod InnerPlaces
 pub mod InnerTold

@@ -1,10 +1,12 @@
-//! The commands that answer addresses by indexes, over any devices and sinks.
+//! The commands that answer addresses, over any evidence, of which indexes have their answers here.
 //!
 //! - `places`: the places that frames mean, each once;
 //! - `tables`, `tied`: what the tables of indexes tell under a key, or the slices that these name under it;
 //! - `told`: what is told of places, key by key; `replies`: the lines of it;
 //! - `slices`: the lines of the slices that answer under keys;
-//! - `symbolicate`, `frames`: a command each.
+//! - `frames`: the command that answers frames, and the answers of indexes to them; `symbolicate`: the command that
+//!   answers addresses under one key, which are its frames;
+//! - `evidence`: [`FrameEvidence`], by which both answer, so that they are written once: `Records` or `Indexes`.
 //!
 //! # Why it is so
 //!
@@ -13,10 +15,11 @@
 //!   slice changed refuses itself alone, as one whose table changed does.
 //! - Keys are answered one by one, and the lines of each are made at once: so the tables and the slices under one key
 //!   are open at a time, and a fault of a key comes before anything of a later one.
-//! - `symbolicate` is `frames` for the addresses of one key, so that there is one way from an index to an answer.
 //! - The lines of slices are made from entries alone, so no table and no slice is read for them.
+//! - An `impl` has to be in the crate of its trait or of its type, so this is the lowest crate for `FrameEvidence`.
 #![tactic(auto)]
 
+mod evidence;
 mod frames;
 mod places;
 mod replies;
@@ -26,5 +29,6 @@ mod tables;
 mod tied;
 mod told;
 
-pub use frames::run_frames_at;
-pub use symbolicate::run_symbolicate_at;
+pub use evidence::FrameEvidence;
+pub use frames::run_frames;
+pub use symbolicate::run_symbolicate;

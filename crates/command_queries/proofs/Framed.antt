@@ -41,17 +41,11 @@ use Rattle.text_reports.specs.Answers.{answer_lines}
 use Rattle.text_reports.proofs.Grouped.{key_is_same}
 use Rattle.command_queries.specs.declared.asked_frames.AskedFrame.{AskedFrame}
 use Rattle.command_queries.specs.declared.asked_frames.AnsweredFrame.{AnsweredFrame}
-use Rattle.command_common.specs.declared.faults.CommandFault.{CommandFault}
 use Rattle.command_common.specs.declared.faults.Status.{Status}
 use Rattle.command_common.specs.declared.faults.Status.TheVariants.{Done, Partial}
-use Rattle.command_common.specs.Ends.{EndsReport}
-use Rattle.command_queries.specs.Frames.{IsFrameAnswered, TellsFrames, RefusesFrames}
+use Rattle.command_queries.specs.Frames.{IsFrameAnswered, TellsFrames}
 use Rattle.command_queries.specs.InnerFrames.{AreLines, AreNumbered, AreTold, IsFrameTold, asked_cmp, is_asked, is_done}
 use Rattle.command_queries.specs.Places.{IsPlaceAdded, address_in}
-use Rattle.command_common.proofs.Parts.{refusal_of, together_refused}
-use Rattle.command_common.specs.Archives.{AreRefused, AreUnfailed}
-use Rattle.command_common.specs.Inputs.{EachUnfailed, EachUntouched, IsFrames, Reader, IsRefusal, IsRefusedFrames, IsUntouched, Unfailed}
-use Rattle.command_common.specs.Outputs.{Writer, Takes}
 use Rattle.command_queries.specs.Sources.{IsSourced}
 use Rattle.command_queries.proofs.Sourced.{sourced_as}
 use Rattle.command_queries.specs.Symbolicate.{Answered, asked_of, is_symbol, answers_text}
@@ -392,25 +386,3 @@ module _ (frames : List Frame) (asked left : List AskedFrame) (begin : List Answ
           status_is = status_is ∙ ap (λ (all : Bool). if all then Done else Partial) r.symbols_are;
           text_is = printed_is ∙ r.lines_are;
         }
-
--- one of the inputs is refused, or memory is wanting for it
-module _ {R S T : Type 0} (Makes : Status → List ℕ → Type 0) (frames : Reader R) (archive : Reader S) (others : List (Reader T)) (report : Writer) where
-  abbrev EndsInOrder : Result Status CommandFault → Type 0
-  EndsInOrder result = EndsReport (record {
-    Makes = Makes;
-    Refuses = RefusesFrames frames archive others;
-    Unfailed =
-        Unfailed frames × AreUnfailed archive others;
-  }) report result
-
-  pub frames_refused : (fault : CommandFault) → IsRefusal (IsRefusedFrames frames) (Unfailed frames) fault
-      → IsUntouched archive → EachUntouched others → EachUnfailed others → Takes report [] → EndsInOrder (Err fault)
-  frames_refused fault r untouched each unfailed =
-      together_refused Makes _ _ report fault (refusal_of _ _ _ _ fault
-      (λ at why refused. inl (refused, untouched, each)) (λ u. (u, (ap archive.failures untouched, unfailed))) r)
-
-  pub archives_refused : (fault : CommandFault) → IsFrames frames → Unfailed frames
-      → IsRefusal (AreRefused archive others) (AreUnfailed archive others) fault → Takes report []
-      → EndsInOrder (Err fault)
-  archives_refused fault listed unfailed r = together_refused Makes _ _ report fault
-      (refusal_of _ _ _ _ fault (λ at why refused. inr (listed, unfailed, refused)) (λ u. (unfailed, u)) r)

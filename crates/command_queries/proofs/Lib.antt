@@ -3,6 +3,7 @@ pub mod NamesTogether
 pub mod Placed
 pub mod Sourced
 pub mod Answered
+pub mod Unread
 pub mod Framed
 pub mod RowsAnswering
 pub mod SlicesTold

@@ -39,7 +39,7 @@ use Rattle.command_common.specs.Inputs.{Reader}
 use Rattle.command_common.specs.Together.{AreAlikeWhere}
 use Rattle.command_common.proofs.Alike.{answers_alike}
 use Rattle.command_queries.specs.Frames.{IsFrameAnswered, TellsFrames}
-use Rattle.command_queries.specs.Slices.{AreUuidsOf, IsAnsweringRow, TellsSlicesAfter, WithSlices}
+use Rattle.command_queries.specs.Slices.{AreUuidsOf, IsAnsweringRow, TellsSlicesAfter}
 use Rattle.command_queries.specs.InnerSlices.{AreRowsUnder, TellsRowsAfter, is_under_one}
 use Rattle.command_queries.specs.Symbolicate.{Answered, asked_of}
 use Rattle.command_queries.proofs.RowsAnswering.{answer_answers, answers_answer}
@@ -260,13 +260,3 @@ frames_after lines kept o frames keys uuids status text content under keyed are 
     tells_after kept o keys uuids content keyed are alike (TellsFrames lines kept frames) (TellsFrames lines o frames) status text
     (λ answers told. frames_alike lines kept o frames status answers
     (λ frame there. answers_of kept o keys uuids content keyed are alike frame.key (under frame there)) told) after
-
--- the same, of other names of the frames, of the keys and of the text
-pub told_as : (lines slices : Bool) (o : Operations) (frames listed : List Frame) (keys asked : List SliceKey) (status : Status)
-    (text printed : List ℕ) → frames ≡ listed → keys ≡ asked → printed ≡ text
-    → WithSlices slices (TellsFrames lines o frames) (IsAnsweringRow o keys) keys status text
-    → WithSlices slices (TellsFrames lines o listed) (IsAnsweringRow o asked) asked status printed
-told_as lines slices o frames listed keys asked status text printed same also is told =
-    subst (λ (t : List ℕ). WithSlices slices (TellsFrames lines o listed) (IsAnsweringRow o asked) asked status t) (sym is)
-    (subst (λ (ks : List SliceKey). WithSlices slices (TellsFrames lines o listed) (IsAnsweringRow o ks) ks status text) also
-    (subst (λ (fs : List Frame). WithSlices slices (TellsFrames lines o fs) (IsAnsweringRow o keys) keys status text) same told))

@@ -33,9 +33,73 @@ pub record TellsFrames (lines : Bool) (content : Operations) (frames : List Fram
 abbrev pub frame_keys : List Frame → List SliceKey
 frame_keys frames = map (λ frame. frame.key) frames
 
--- the frames that addresses in an image are
-abbrev pub frames_at : SliceKey → Option ℕ → List ℕ → List Frame
-frames_at key load addresses = map (λ address. record { key = key; load = load; address = address }) addresses
+-- the frames that addresses in an image are, under its key
+abbrev pub frames_under_key : SliceKey → Option ℕ → List ℕ → List Frame
+frames_under_key key load addresses =
+    map (λ address. record { key = key; load = load; address = address }) addresses
+
+-- ---- asked of any evidence
+
+-- What is asked of evidence for frames: how a command ends that prints what it tells of them under these keys, and the
+-- text; which input is refused, and why; that its inputs are as they were; and that no reader fails.
+pub record AskedOfFrames : Type 1 where
+  pub Tells : List SliceKey → List Frame → Status → List ℕ → Type 0
+  pub Refuses : List Frame → InputName → Why → Type 0
+  pub Untouched : Type 0
+  pub Unfailed : Type 0
+
+-- FRAMES says these frames, and this is told of them.
+pub record MakesFramed {Q : Type 0} (frames : Reader Q)
+    (Tells : List SliceKey → List Frame → Status → List ℕ → Type 0) (status : Status) (text : List ℕ) : Type 0 where
+  pub listed : List Frame
+  pub frames_are : Gives frames (λ bytes. frames_of bytes ≡ Ok listed)
+  pub tells : Tells (frame_keys listed) listed status text
+
+-- FRAMES is refused, and no other input is touched; or FRAMES says frames, its reader does not fail, and another input
+-- is refused for these
+abbrev pub RefusesFrames : {Q : Type 0} → Reader Q → AskedOfFrames → InputName → Why → Type 0
+RefusesFrames frames asked at why =
+    (IsRefusedFrames frames at why × asked.Untouched)
+    ⊎ ((says : IsFrames frames) × Unfailed frames × asked.Refuses says.0 at why)
+
+-- the command that prints what it asks for the frames of FRAMES
+abbrev pub prints_frames : {Q : Type 0} → Reader Q → AskedOfFrames → Query
+prints_frames frames asked = record {
+  Makes = MakesFramed frames asked.Tells;
+  Refuses = RefusesFrames frames asked;
+  Unfailed = Unfailed frames × asked.Unfailed;
+}
+
+-- the command that prints what it asks for addresses under a key
+abbrev pub prints_addresses : AskedOfFrames → SliceKey → Option ℕ → List ℕ → Query
+prints_addresses asked key load addresses = record {
+  Makes = asked.Tells (key ∷ []) (frames_under_key key load addresses);
+  Refuses = asked.Refuses (frames_under_key key load addresses);
+  Unfailed = asked.Unfailed;
+}
+
+-- ---- asked of archives, by their records
+
+-- what is asked of archives for frames: what their join tells, and if they are wanted the lines of the slices that
+-- answer in it
+abbrev pub frames_held : {R S : Type 0} → Bool → Bool → Reader R → List (Reader S) → AskedOfFrames
+frames_held lines slices archive others = record {
+  Tells = λ keys frames status text. HoldTogether archive others
+      (λ o. WithSlices slices (TellsFrames lines o frames) (IsAnsweringRow o keys) keys status text);
+  Refuses = λ frames. AreRefused archive others;
+  Untouched = IsUntouched archive × EachUntouched others;
+  Unfailed = AreUnfailed archive others;
+}
+
+-- the same of the first archive and the others; no archives tell nothing
+abbrev pub frames_by_records : {S : Type 0} → Bool → Bool → List (Reader S) → AskedOfFrames
+frames_by_records lines slices [] = record {
+  Tells = λ keys frames status text. ⊥;
+  Refuses = λ frames at why. ⊥;
+  Untouched = Unit {0};
+  Unfailed = Unit {0};
+}
+frames_by_records lines slices (archive ∷ others) = frames_held lines slices archive others
 
 -- what a content tells of frames, and if they are wanted the lines of the slices that answer
 abbrev pub TellsFramesWith : Bool → Bool → Operations → List Frame → Status → List ℕ → Type 0
@@ -44,28 +108,9 @@ TellsFramesWith lines slices content frames status text =
     (frame_keys frames)
     status text
 
--- FRAMES says these frames, ARCHIVE and the others are the texts of contents, and the join of these tells this of the
--- frames.
-pub record MakesFramed {R S T : Type 0} (lines slices : Bool) (frames : Reader R) (archive : Reader S)
-    (others : List (Reader T)) (status : Status) (text : List ℕ) : Type 0 where
-  pub listed : List Frame
-  pub frames_are : Gives frames (λ bytes. frames_of bytes ≡ Ok listed)
-  pub tells : HoldTogether archive others (λ o. TellsFramesWith lines slices o listed status text)
-
--- FRAMES is refused, and no archive is touched; or FRAMES says frames, its reader does not fail, and an archive is
--- refused
-abbrev pub RefusesFrames : {R S T : Type 0} → Reader R → Reader S → List (Reader T) → InputName → Why → Type 0
-RefusesFrames frames archive others at why =
-    (IsRefusedFrames frames at why × IsUntouched archive × EachUntouched others)
-    ⊎ (IsFrames frames × Unfailed frames × AreRefused archive others at why)
-
--- `frames`, over these inputs
+-- `frames`, over FRAMES and these archives
 abbrev pub frames : {R S T : Type 0} → Bool → Bool → Reader R → Reader S → List (Reader T) → Query
-frames lines slices input archive others = record {
-  Makes = MakesFramed lines slices input archive others;
-  Refuses = RefusesFrames input archive others;
-  Unfailed = Unfailed input × AreUnfailed archive others;
-}
+frames lines slices input archive others = prints_frames input (frames_held lines slices archive others)
 
 -- how `symbolicate` ends, and its lines
 pub record Told : Type 0 where

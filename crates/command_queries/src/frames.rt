@@ -1,22 +1,19 @@
-//! `frames FRAMES [--lines] [--slices] ARCHIVE...`.
-ghost use Rattle.std.specs.Prelude.{All, Contains, IfOk};
+//! The answers of archives to frames, by their records.
+ghost use Rattle.std.specs.Prelude.{◌<◌, All, Contains, IfOk, length};
 ghost use Rattle.archive_core.specs.Key.{IsKey};
 ghost use Rattle.command_common.specs.Archives.{ReadsTogether};
-ghost use Rattle.command_common.specs.Ends.{EndsReport};
-ghost use Rattle.command_queries.specs.Frames.{TellsFrames, frames};
+ghost use Rattle.command_queries.specs.Frames.{TellsFrames, frames_by_records};
 ghost use Rattle.command_queries.specs.InnerSlices.{TellsRowsAfter};
 ghost use Rattle.command_queries.specs.Slices.{IsAnsweringRow, TellsSlicesAfter, WithSlices};
-ghost use Rattle.command_common.specs.Inputs.{reader, readers};
-ghost use Rattle.command_common.specs.Outputs.{writer};
+ghost use Rattle.command_common.specs.Inputs.{ReadsInputs, reader, readers};
 ghost use Rattle.text_inputs.specs.declared.frame.Frame.{Frame};
 
 use crate::asked_frames::{AskedKeys, FrameQuestions, in_key_order};
-use crate::slices::{UnderUuids, frame_keys, slices_under, uuids_of};
+use crate::slices::{UnderUuids, slices_under, uuids_of};
 use archive_core::{Archive, SliceKey};
-use byte_device::{Sink, Source};
+use byte_device::Source;
 use command_common::{
-    CommandFault, Status, answer_all, answer_archives, read_frames_input, read_parts,
-    write_report_bytes,
+    CommandFault, Status, answer_all, answer_archives, first_and_rest, read_parts,
 };
 use memory::{Heap, NoMemory};
 use text_inputs::Frame;
@@ -111,7 +108,7 @@ fn read_and_answer_with_slices<A: Archive + Drop, R: Source>(
 
 /// The status, and the lines of the answers to frames, and if `slices` those of the slices that answer under the UUIDs
 /// of keys.
-pub(crate) fn frames_text<A: Archive + Drop, R: Source>(
+fn frames_text<A: Archive + Drop, R: Source>(
     heap: &Heap,
     lines: bool,
     slices: bool,
@@ -134,38 +131,32 @@ pub(crate) fn frames_text<A: Archive + Drop, R: Source>(
     }
 }
 
-/// Writes for each frame of FRAMES what `symbolicate` writes for its address to the report, in the order of the lines.
-/// FRAMES is read to its end first, and then the archives one after another, each in one pass. Of one archive the
-/// slices under one key are held at a time; of several all slices under the keys of the frames. Where FRAMES has no
-/// frame the archives are read and tested all the same. If `lines`, what each slice answers is followed by the source
-/// frames of the address in it.
-///
-/// If `slices`, the lines of the slices that answer under the UUIDs of the frames follow, and of the keys under which
-/// none does. Then all slices under these UUIDs are held, of one archive too.
+/// The status, and the lines of the answers of the join of archives to frames, in their order, and if `slices` those of
+/// the slices that answer under the UUIDs of keys. The archives are read one after another, each in one pass. Of one
+/// archive the slices under one key are held at a time, and with `slices` all slices under these UUIDs; of several all
+/// slices under the keys of the frames. If `lines`, what each slice answers is followed by the source frames of the
+/// address in it.
 ///
 /// The status is `Done` where each answer is one symbol, and else `Partial`.
 ///
 /// # Errors
 ///
-/// `Input` for the first input that is refused; `Report` where the report failed; `OutOfMemory`.
-pub fn run_frames<A: Archive + Drop, R: Source, P: Sink>(
-    heap: Heap,
+/// `Input` for the first archive that is refused; `OutOfMemory`.
+pub fn answer_by_records<A: Archive + Drop, R: Source>(
+    heap: &Heap,
     lines: bool,
     slices: bool,
-    crash: &mut R,
-    archive: &mut R,
-    others: &mut [R],
-    report: &mut P,
-) -> Result<Status, CommandFault>
-    ensures { EndsReport
-        (frames lines slices (reader R.left R.failures crash.old crash.new)
-        (reader R.left R.failures archive.old archive.new) (readers R.left R.failures others.old others.new))
-        (writer P.held P.failures report.old report.new) result }
+    keys: &[SliceKey],
+    frames: &[Frame],
+    archives: &mut [R],
+) -> Result<(Status, Vec<u8, Heap>), CommandFault>
+    requires some { 0 < length archives.old }
+    requires keyed { All IsKey keys.now }
+    requires under { (frame : Frame) → Contains frames.now frame → Contains keys.now frame.key }
+    ensures { let asked = frames_by_records lines slices (readers R.left R.failures archives.old archives.new) in
+        ReadsInputs result (λ told. asked.Tells keys.now frames.now told.0 told.1.items)
+        (asked.Refuses frames.now) asked.Unfailed }
 {
-    let frames = read_frames_input(heap.share(), crash)?;
-    let keys = frame_keys(heap.share(), &frames)?;
-    let (status, text) = frames_text::<A, R>(
-        &heap, lines, slices, &frames, &keys, archive, others,
-    )?;
-    write_report_bytes(status, &text, report)
+    let (archive, others) = first_and_rest(archives);
+    frames_text::<A, R>(heap, lines, slices, frames, keys, archive, others)
 }

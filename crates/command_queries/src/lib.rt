@@ -5,8 +5,7 @@
 //! - `places`: the answers of an archive to places under a key, each with its lines;
 //! - `slices`: the lines of the slices that answer under the UUIDs of keys;
 //! - `asked_frames`: frames, as questions in the order of their keys;
-//! - `frames`: the command that answers frames, each with its nearest symbol or with its source frames;
-//! - `symbolicate`: the same of addresses under one key, which are its frames;
+//! - `frames`: the answers to frames, each with its nearest symbol or with its source frames;
 //! - `addresses`: the address that an argument means, and the status after an answer.
 //!
 //! # Why it is so
@@ -24,13 +23,11 @@ mod name;
 mod places;
 mod slices;
 mod sources;
-mod symbolicate;
 
 pub use addresses::{asked_of, status_after};
 pub use find::run_find;
-pub use frames::run_frames;
+pub use frames::answer_by_records;
 pub use list::run_list;
 pub use name::{NameAnswer, answer_name};
 pub use places::{PlaceAnswer, address_in, answer_places};
 pub use slices::{frame_keys, uuids_of, whole_key};
-pub use symbolicate::run_symbolicate;

@@ -13,7 +13,7 @@ use Rattle.dwarf_source_frames.specs.AddressFrames.{AreFramesOf}
 use Rattle.dwarf_source_frames.specs.Frames.{FrameRecord}
 use Rattle.command_common.specs.declared.faults.Status.{Status}
 use Rattle.command_common.specs.declared.faults.Status.TheVariants.{Done, Partial}
-use Rattle.command_queries.specs.Frames.{IsFrameAnswered, TellsFrames, TellsFramesWith, MakesFramed, Told, IsToldAlone, SymbolicatesEach, is_done}
+use Rattle.command_queries.specs.Frames.{IsFrameAnswered, TellsFrames, TellsFramesWith, Told, IsToldAlone, SymbolicatesEach, frames, is_done}
 use Rattle.command_common.specs.Inputs.{Reader, IsGiven}
 use Rattle.command_queries.specs.Symbolicate.{Answered, IsAnswered, TellsAddresses, is_symbol, answers_status, answers_text}
 use Rattle.laws_archive.specs.Joins.{IsGivenJoin}
@@ -79,7 +79,7 @@ each_row lines input others o _ _ given all = absurd all
 pub frames_of_join : {R S T : Type 0} (lines slices : Bool) (input : Reader R) (first : Reader S)
     (others : List (Reader T)) (bytes : List ℕ) (listed : List Frame) (o : Operations) (status : Status) (text : List ℕ)
     → IsGiven input bytes → frames_of bytes ≡ Ok listed → IsGivenJoin first others o
-    → MakesFramed lines slices input first others status text → TellsFramesWith lines slices o listed status text
+    → (frames lines slices input first others).Makes status text → TellsFramesWith lines slices o listed status text
 frames_of_join lines slices input first others bytes listed o status text is says given_join makes =
     let also = is_given input bytes (λ b. frames_of b ≡ Ok makes.listed) is makes.frames_are in
     let frames = one_value (frames_of bytes) makes.listed listed also says in
@@ -90,11 +90,11 @@ frames_of_join lines slices input first others bytes listed o status text is say
 pub each_is : {R S T : Type 0} (lines : Bool) (input : Reader R) (first : Reader S) (others : List (Reader T))
     (bytes : List ℕ) (listed : List Frame) (o : Operations) (status : Status) (text : List ℕ)
     → IsGiven input bytes → frames_of bytes ≡ Ok listed → IsGivenJoin first others o
-    → MakesFramed lines false input first others status text
+    → (frames lines false input first others).Makes status text
     ↔ SymbolicatesEach lines first others listed status text
 each_is lines input first others bytes listed o status text is says given_join = (to, back)
   where
-    to : MakesFramed lines false input first others status text → SymbolicatesEach lines first others listed status text
+    to : (frames lines false input first others).Makes status text → SymbolicatesEach lines first others listed status text
     to makes =
         let tells : TellsFrames lines o listed status text =
         frames_of_join lines false input first others bytes listed o status text is says given_join makes in
@@ -105,7 +105,7 @@ each_is lines input first others bytes listed o status text is says given_join =
           text_is = tells.text_is ∙ one_text tells.rows;
         }
 
-    back : SymbolicatesEach lines first others listed status text → MakesFramed lines false input first others status text
+    back : SymbolicatesEach lines first others listed status text → (frames lines false input first others).Makes status text
     back each =
         let rows = each_row lines first others o listed each.told given_join each.alone in
         let symbols = ap (list_all (λ (one : Told). is_done one.status)) rows.2 ∙ sym (all_done rows.0) in
@@ -152,8 +152,8 @@ module _ (one : (o : Operations) (key : SliceKey) (place : Where) (answer other 
       (o : Operations)
       (status other_status : Status) (text other_text : List ℕ) → IsGiven input bytes → IsGiven also bytes
       → IsGivenJoin first others o → IsGivenJoin other more o
-      → MakesFramed lines slices input first others status text
-      → MakesFramed lines slices also other more other_status other_text → (status ≡ other_status)
+      → (frames lines slices input first others).Makes status text
+      → (frames lines slices also other more).Makes other_status other_text → (status ≡ other_status)
       × (text ≡ other_text)
   one_made lines slices input first others also other more bytes o status other_status text other_text is also_is first_given other_given makes other_makes =
       let says = is_given input bytes (λ b. frames_of b ≡ Ok makes.listed) is makes.frames_are in

@@ -18,7 +18,7 @@ ghost use Rattle.command_common.specs.Inputs.{Gives, HoldsContent, IsGiven, IsGi
 ghost use Rattle.command_common.specs.Inputs.{RefusesDevicesAlone, Unfailed};
 ghost use Rattle.command_common.specs.Records.{TellsFound};
 ghost use Rattle.command_queries.specs.Find.{find};
-ghost use Rattle.command_queries.specs.Frames.{MakesFramed, SymbolicatesEach, TellsFramesWith, frames};
+ghost use Rattle.command_queries.specs.Frames.{SymbolicatesEach, TellsFramesWith, frames};
 ghost use Rattle.command_queries.specs.List.{list};
 ghost use Rattle.command_queries.specs.Name.{MakesNamed, TellsNamed, name};
 ghost use Rattle.command_queries.specs.Symbolicate.{MakesAnswered, TellsAddresses, TellsAddressesWith, symbolicate};
@@ -106,7 +106,7 @@ pub fn one_report<Q: Source, R: Source, S: Source, T: Source, U: Source, V: Sour
         → IsGiven also bytes
         → IsGivenJoin archive others o
         → IsGivenJoin other more o
-        → TellOne (MakesFramed lines slices input archive others) (MakesFramed lines slices also other more) }
+        → TellOne (frames lines slices input archive others).Makes (frames lines slices also other more).Makes }
     ensures rehearse { (script : Reader Q) (other : Reader R) (bytes : List ℕ)
         → IsGiven script bytes
         → IsGiven other bytes
@@ -136,7 +136,8 @@ pub fn asked_together<Q: Source, R: Source, S: Source, T: Source>()
     ensures frames { (lines slices : Bool) (input : Reader Q) (archive : Reader R) (others : List (Reader S))
         (file : Reader T)
         → IsMergedFile archive others file
-        → TellAlike (MakesFramed lines slices input archive others) (MakesFramed {T = S} lines slices input file []) }
+        → TellAlike (frames lines slices input archive others).Makes
+        (frames {T = S} lines slices input file []).Makes }
 {}
 
 /// What is told of one archive is what its content tells.
@@ -152,7 +153,7 @@ pub fn one_archive<Q: Source, R: Source, S: Source>()
         → TellAlike (MakesAnswered {S = S} archive [] key load lines slices addresses)
         (λ status text. HoldsContent archive (λ o. TellsAddressesWith o key load lines slices addresses status text)) }
     ensures frames { (lines slices : Bool) (input : Reader Q) (archive : Reader R)
-        → TellAlike (MakesFramed {T = S} lines slices input archive [])
+        → TellAlike (frames {T = S} lines slices input archive []).Makes
         (λ status text. (listed : List Frame) × Gives input (λ bytes. frames_of bytes ≡ Ok listed)
         × HoldsContent archive (λ o. TellsFramesWith lines slices o listed status text)) }
 {}
@@ -199,7 +200,7 @@ pub fn each_is_symbolicated<R: Source, S: Source, T: Source>()
         → IsGiven input bytes
         → frames_of bytes ≡ Ok listed
         → IsGivenJoin archive others o
-        → TellAlike (MakesFramed lines false input archive others) (SymbolicatesEach lines archive others listed) }
+        → TellAlike (frames lines false input archive others).Makes (SymbolicatesEach lines archive others listed) }
 {}
 
 /// Sites that the same operations reached, in one rehearsal or in two, have lines that are the same after their

@@ -18,7 +18,7 @@ ghost use Rattle.command_common.specs.Ends.{EndsStreamed};
 ghost use Rattle.command_common.specs.Inputs.{IsGiven, IsGivenArchive, Reader};
 ghost use Rattle.command_common.specs.Outputs.{Out, Outs, Publishes, Writer, out_of, report_of};
 ghost use Rattle.command_queries.specs.Find.{find};
-ghost use Rattle.command_queries.specs.Frames.{MakesFramed};
+ghost use Rattle.command_queries.specs.Frames.{frames};
 ghost use Rattle.command_queries.specs.List.{list};
 ghost use Rattle.command_queries.specs.Name.{MakesNamed};
 ghost use Rattle.command_queries.specs.Symbolicate.{MakesAnswered};
@@ -153,7 +153,7 @@ pub fn any_sequence_answers_alike<R: Source>()
         → AreInputsOf R (archive ∷ others) o
         → AreInputsOf R (also ∷ more) p
         → content_of o ≡ content_of p
-        → TellOne (MakesFramed lines slices input archive others) (MakesFramed lines slices other also more) }
+        → TellOne (frames lines slices input archive others).Makes (frames lines slices other also more).Makes }
 {
     any_sequence_of_commands::<R>();
     one_report::<R, R, R, R, R, R>();

@@ -1,8 +1,8 @@
 -- What the indexes of contents tell is what the join of these contents tells.
 use Rattle.std.proofs.Common.{◌≡◌, ◌⊎◌, ℕ, zero, suc, ◌+◌, ◌≤◌, Bool, true, false, List, [], ◌∷◌, ◌++◌, length, get_or}
-use Rattle.std.proofs.Common.{Contains, Option, Some, None, refl, sym, ap, ◌∙◌, subst, inl, inr, arith, map}
+use Rattle.std.proofs.Common.{Contains, Option, Some, None, refl, sym, ap, ◌∙◌, subst, inl, inr, arith}
 use Rattle.std.specs.Prelude.{slice_get}
-use Rattle.std.specs.List.{AllByRecursion, AllZip}
+use Rattle.std.specs.List.{AllZip}
 use Rattle.std.proofs.lemmas.List.{append-nil}
 use Rattle.std.proofs.lemmas.Option.{slice_get_within}
 use Rattle.archive_core.specs.Content.{Operations}
@@ -13,10 +13,11 @@ use Rattle.archive_core.specs.declared.lookup.Where.{Where}
 use Rattle.archive_core.proofs.Compare.{length_key_bytes}
 use Rattle.archive_core.proofs.Members.{in_cons, in_front, in_map, in_rest}
 use Rattle.dwarf_source_frames.specs.Frames.{FrameRecord}
-use Rattle.command_queries.specs.Frames.{IsFrameAnswered, TellsFrames, TellsFramesWith, frame_keys}
+use Rattle.command_queries.specs.Frames.{IsFrameAnswered, TellsFrames, TellsFramesWith, frame_keys, frames_under_key}
 use Rattle.command_queries.specs.Slices.{IsAnsweringRow, WithSlices}
 use Rattle.command_queries.specs.Sources.{IsSourced}
-use Rattle.command_queries.specs.Symbolicate.{Answered, IsAnswered, TellsAddresses, TellsAddressesWith, asked_of}
+use Rattle.command_queries.specs.Symbolicate.{Answered, TellsAddressesWith, asked_of}
+use Rattle.command_queries.proofs.Answered.{addresses_told_with, under_key}
 use Rattle.command_queries.proofs.Sourced.{sourced_as}
 use Rattle.command_common.proofs.Alike.{answers_alike}
 use Rattle.command_common.specs.Inputs.{EachUnfailed, IsDeviceFault, IsGiven, Reader, Unfailed}
@@ -37,10 +38,9 @@ use Rattle.command_index_queries.specs.Together.{AreLater, AreReadWith, IsReadWi
 use Rattle.command_index_frames.specs.Asking.{AreGiven, AreRefusedAsking, AreUntold, IsAnsweredAt, IsAnsweredBySlices, IsAnsweredByTables}
 use Rattle.command_index_frames.specs.Asking.{IsTableRefused, IsUnreadTable, is_stale_entry}
 use Rattle.command_index_frames.specs.Frames.{AreToldAt, IsAnsweredOrRefused, IsFrameReplied, IsFrameSaid}
-use Rattle.command_index_frames.specs.Frames.{TellFrames, TellFramesBesides, TellFramesWith, keys_of}
+use Rattle.command_index_frames.specs.Frames.{TellFrames, TellFramesBesides, TellFramesWith, keys_of, symbolicate_at}
 use Rattle.command_index_frames.specs.Refusals.{IsKeyRefused, IsRefusedBySlice, IsRefusedByTable, KeyRefusal, Reply, refusal_lines}
 use Rattle.command_index_frames.specs.Slices.{IsAnsweringEntryRow}
-use Rattle.command_index_frames.specs.Symbolicate.{frames_under, symbolicate_at}
 use Rattle.command_index_frames.proofs.Refused.{answers_alone}
 use Rattle.laws_index.specs.Contents.{AreIndexed, AreIndexesGiven, AreOwnIndexes, IsForLines, IsIndexGiven, IsIndexed, IsOwnIndex}
 use Rattle.laws_index.specs.Refusing.{AreOwnTexts, IsRefusedFor, IsRefusedForLines}
@@ -324,41 +324,6 @@ module _ {I P : Type 0} (inputs : List (Reader I)) (archives : List (Reader P)) 
         },
       )
 
--- ---- the frames of addresses under one key
-
-under_key : (key : SliceKey) (load : Option ℕ) (addresses : List ℕ) (frame : Frame)
-    → Contains (frames_under key load addresses) frame → frame.key ≡ key
-under_key key load addresses frame there =
-    let found = in_map (λ (a : ℕ). record { key = key; load = load; address = a }) addresses frame there in
-    ap (λ (f : Frame). f.key) found.2
-
-addresses_told : (o : Operations) (key : SliceKey) (load : Option ℕ) (lines : Bool) (addresses : List ℕ) (status : Status) (text : List ℕ)
-    → TellsFrames lines o (frames_under key load addresses) status text → TellsAddresses o key load lines addresses status text
-addresses_told o key load lines addresses status text by =
-    let rows = rows_of addresses by.rows by.answered in
-    record { rows = by.rows; addresses_are = rows.0; answered = rows.1; status_is = by.status_is; text_is = by.text_is }
-  where
-    rows_of : (few : List ℕ) (rows : List Answered) → AllZip (IsFrameAnswered lines o) (frames_under key load few) rows
-        → (map (λ (row : Answered). row.address) rows ≡ few) × AllByRecursion (IsAnswered o key load lines) rows
-    rows_of [] [] zip = (refl, tt)
-    rows_of [] (row ∷ rows) zip = absurd zip
-    rows_of (address ∷ few) [] zip = absurd zip
-    rows_of (address ∷ few) (row ∷ rows) (one, more) =
-        let rest = rows_of few rows more in
-        ((λ i. one.0 i ∷ rest.0 i), (one.1, rest.1))
-
-with_addresses : (slices : Bool) (o : Operations) (key : SliceKey) (load : Option ℕ) (lines : Bool) (addresses : List ℕ) (status : Status) (text : List ℕ)
-    → WithSlices slices (TellsFrames lines o (frames_under key load addresses)) (IsAnsweringRow o (key ∷ [])) (key ∷ []) status text
-    → TellsAddressesWith o key load lines slices addresses status text
-with_addresses false o key load lines addresses status text by = addresses_told o key load lines addresses status text by
-with_addresses true o key load lines addresses status text by = record {
-  answers = by.answers;
-  told = addresses_told o key load lines addresses status by.answers by.told;
-  slices = by.slices;
-  tells_slices = by.tells_slices;
-  text_is = by.text_is;
-}
-
 -- ---- one index: no two are tied
 
 none_tied : (key : List ℕ) (all : List (List (List ℕ))) → length all ≤ 1 → AreTied key all → ⊥
@@ -440,25 +405,25 @@ module _ {I P : Type 0} (inputs : List (Reader I)) (archives : List (Reader P)) 
 
   -- of addresses under one key
   module _ (key : SliceKey) (load : Option ℕ) (lines slices : Bool) (addresses : List ℕ) (status : Status) (text : List ℕ) (is_key : IsKey key) where
-    of_key : (frame : Frame) → Contains (frames_under key load addresses) frame → IsKey frame.key
+    of_key : (frame : Frame) → Contains (frames_under_key key load addresses) frame → IsKey frame.key
     of_key frame there = subst (λ (k : SliceKey). IsKey k) (sym (under_key key load addresses frame there)) is_key
 
-    as_addresses : Besides lines slices (key ∷ []) (frames_under key load addresses) status text
+    as_addresses : Besides lines slices (key ∷ []) (frames_under_key key load addresses) status text
         → TellsAddressesOrBesides archives os key load lines slices addresses status text
-    as_addresses (inl told) = inl (with_addresses slices (all_joined os) key load lines addresses status text told)
+    as_addresses (inl told) = inl (addresses_told_with slices (all_joined os) key load lines addresses status text told)
     as_addresses (inr besides) = inr besides
 
     pub told_untied : AreIndexesGiven inputs os → DigestsTell os → (AreTiedSlices os key → ⊥)
         → (symbolicate_at inputs archives key load lines slices addresses).Makes status text
         → TellsAddressesOrBesides archives os key load lines slices addresses status text
-    told_untied given tell none by = as_addresses (framed_untied lines slices (key ∷ []) (frames_under key load addresses) status text given tell
+    told_untied given tell none by = as_addresses (framed_untied lines slices (key ∷ []) (frames_under_key key load addresses) status text given tell
         (λ other there. one_long key other is_key there)
         (λ frame there. (of_key frame there, λ tied. none (subst (λ (k : SliceKey). AreTiedSlices os k) (under_key key load addresses frame there) tied))) by)
 
     pub told_either : AreIndexed inputs archives os → DigestsTell os
         → (symbolicate_at inputs archives key load lines slices addresses).Makes status text
         → TellsAddressesOrBesides archives os key load lines slices addresses status text
-    told_either are tell by = as_addresses (framed_either lines slices (key ∷ []) (frames_under key load addresses) status text are tell
+    told_either are tell by = as_addresses (framed_either lines slices (key ∷ []) (frames_under_key key load addresses) status text are tell
         (λ other there. one_long key other is_key there) of_key by)
 
 -- ---- one index
@@ -496,12 +461,12 @@ module _ {I P : Type 0} (input : Reader I) (archive : Reader P) (o : Operations)
   pub told_alone : (key : SliceKey) (load : Option ℕ) (lines slices : Bool) (addresses : List ℕ) (status : Status)
       (text : List ℕ) → IsKey key → (symbolicate_at (input ∷ []) (archive ∷ []) key load lines slices addresses).Makes status text
       → TellsAddressesWith o key load lines slices addresses status text
-      ⊎ ((slices ≡ true) × TellsFramesBesides lines (archive ∷ []) (o ∷ []) (key ∷ []) (frames_under key load addresses) status text)
+      ⊎ ((slices ≡ true) × TellsFramesBesides lines (archive ∷ []) (o ∷ []) (key ∷ []) (frames_under_key key load addresses) status text)
   told_alone key load lines slices addresses status text is_key by =
-      elim (alone lines slices (key ∷ []) (frames_under key load addresses) status text (λ other there. one_long key other is_key there)
+      elim (alone lines slices (key ∷ []) (frames_under_key key load addresses) status text (λ other there. one_long key other is_key there)
       (λ frame there. subst (λ (k : SliceKey). IsKey k) (sym (under_key key load addresses frame there)) is_key) by) [
         | inl told ↦ inl (subst (λ (made : Operations). TellsAddressesWith made key load lines slices addresses status text) joined_one
-            (with_addresses slices (all_joined (o ∷ [])) key load lines addresses status text told))
+            (addresses_told_with slices (all_joined (o ∷ [])) key load lines addresses status text told))
         | inr besides ↦ inr besides
       ]
 

@@ -9,14 +9,13 @@ use Rattle.text_inputs.specs.declared.frame.Frame.{Frame}
 use Rattle.text_reports.specs.Slices.{TellsSlices}
 use Rattle.command_common.specs.Inputs.{IsGiven, Reader}
 use Rattle.command_common.specs.declared.faults.Status.{Status}
-use Rattle.command_queries.specs.Frames.{TellsFramesWith, frame_keys}
+use Rattle.command_queries.specs.Frames.{TellsFramesWith, frame_keys, frames_under_key}
 use Rattle.command_queries.specs.Slices.{IsAnsweringRow}
 use Rattle.command_queries.specs.Sources.{IsSourced}
 use Rattle.command_queries.specs.Symbolicate.{TellsAddressesWith}
 use Rattle.command_index_frames.specs.Asking.{is_stale_entry}
 use Rattle.command_index_frames.specs.Frames.{TellFramesBesides}
 use Rattle.command_index_frames.specs.Refusals.{KeyRefusal, refusal_lines}
-use Rattle.command_index_frames.specs.Symbolicate.{frames_under}
 use Rattle.laws_index.specs.Contents.{IsForLines}
 use Rattle.laws_index.specs.Indexes.{AreTiedSlices, all_joined}
 
@@ -68,4 +67,4 @@ abbrev pub TellsAddressesOrBesides : {P : Type 0} → List (Reader P) → List O
 TellsAddressesOrBesides archives os key load lines slices addresses status text =
     TellsAddressesWith (all_joined os) key load lines slices addresses status text
     ⊎ ((slices ≡ true)
-    × TellsFramesBesides lines archives os (key ∷ []) (frames_under key load addresses) status text)
+    × TellsFramesBesides lines archives os (key ∷ []) (frames_under_key key load addresses) status text)

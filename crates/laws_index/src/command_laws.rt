@@ -18,7 +18,7 @@ ghost use Rattle.archive_core.specs.declared.keys.SliceKey.{SliceKey};
 ghost use Rattle.archive_records.specs.Text.{summary_text, written};
 ghost use Rattle.index_format.specs.Index.{index};
 ghost use Rattle.command_common.specs.Records.{TellsFound, TellsListed};
-ghost use Rattle.command_queries.specs.Frames.{TellsFramesWith, frame_keys};
+ghost use Rattle.command_queries.specs.Frames.{TellsFramesWith, frame_keys, frames_under_key};
 ghost use Rattle.command_queries.specs.Sources.{IsSourced};
 ghost use Rattle.command_queries.specs.Symbolicate.{TellsAddressesWith};
 ghost use Rattle.text_inputs.specs.Frames.{frames_of};
@@ -37,9 +37,8 @@ ghost use Rattle.command_index_queries.specs.Several.{AreRefusedTogether, HoldTo
 ghost use Rattle.command_index_queries.specs.Summary.{summary_at};
 ghost use Rattle.command_index_queries.specs.Together.{AreReadWith};
 ghost use Rattle.command_index_frames.specs.Asking.{AreRefusedAsking, AreUntold, IsAnsweredBySlices};
-ghost use Rattle.command_index_frames.specs.Frames.{AreToldAt};
+ghost use Rattle.command_index_frames.specs.Frames.{AreToldAt, symbolicate_at};
 ghost use Rattle.command_index_frames.specs.Refusals.{IsKeyRefused, KeyRefusal};
-ghost use Rattle.command_index_frames.specs.Symbolicate.{frames_under, symbolicate_at};
 ghost use Rattle.command_extract.specs.Indexed.{LacksEntry, MakesEntry, extract_at};
 ghost use Rattle.command_extract.specs.Wanted.{AreUndecided, IsWanted, slice_line, slices_text};
 ghost use Rattle.laws_index.specs.Contents.{AreIndexed, AreIndexesGiven, AreOwnIndexes, HaveKeys, IsIndexGiven};
@@ -123,7 +122,7 @@ pub fn answered_by_indexes<I: Placed, P: Placed>()
         → (symbolicate_at (input ∷ []) (archive ∷ []) key load lines slices addresses).Makes status text
         → TellsAddressesWith o key load lines slices addresses status text
         ⊎ ((slices ≡ true) × TellsFramesBesides lines (archive ∷ []) (o ∷ []) (key ∷ [])
-        (frames_under key load addresses) status text) }
+        (frames_under_key key load addresses) status text) }
     ensures slices { (inputs : List (Reader I)) (archives : List (Reader P)) (os : List Operations)
         (all : List (List (List ℕ))) (lines : Bool) (key : SliceKey) (asked : Where) (answer : AnswerRecord)
         (frames : List (List FrameRecord)) → length (key_bytes key) ≤ 24 → AreIndexed inputs archives os

@@ -1,4 +1,4 @@
-use Rattle.std.proofs.{Common.refl, lemmas.Result.err_from_is_err_and}
+use Rattle.std.proofs.{Common.refl, Common.rules, lemmas.Result.err_from_is_err_and}
 use Rattle.cli_run.proofs.Dispatched.{alone_refused, frames_by, not_none, paired_kept, some_read}
 use Rattle.cli_run.proofs.queries.frames.Goals as goal
 
@@ -16,9 +16,10 @@ pub returns : goal.returns
 returns g c =
     let whole = g.S.Placed.whole in
     let failures = g.S.Placed.failures in
-    let some = some_read whole failures c.args.indexes.now c.run_frames_at.new.indexes c.run_frames_at.auto.indexes
-    (not_none c.args.indexes.now c.if-is_empty.ensures) in
-    paired_kept g.S.Source.left whole g.S.Source.failures failures c.args.archives.now
-    c.run_frames_at.new.archives c.args.indexes.now c.run_frames_at.new.indexes _ _ _ _
-    c.in_ok-check_pairs.ensures.same c.run_frames_at.auto.archives c.run_frames_at.auto.indexes
-    (frames_by _ _ _ _ _ _ some) c.run_frames_at.ensures
+    let kept = c.run_frames-2.ensures.keeps in
+    let after = c.run_frames-2.new.evidence in
+    let ends = paired_kept g.S.Source.left whole g.S.Source.failures failures c.args.archives.now after.archives.now
+    c.args.indexes.now after.indexes.now _ _ _ _ c.in_ok-check_pairs.ensures.same kept.3 kept.2
+    (frames_by _ _ _ _ _ _ (some_read whole failures c.args.indexes.now after.indexes.now kept.2
+    (not_none c.args.indexes.now c.if-is_empty.ensures))) c.run_frames-2.ensures.ends in
+    search rules

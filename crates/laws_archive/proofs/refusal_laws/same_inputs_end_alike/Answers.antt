@@ -13,7 +13,7 @@ use Rattle.command_common.specs.Ends.{Query}
 use Rattle.command_common.specs.Inputs.{Reader, EachUntouched, HoldsArchive, IsArchive, IsArchiveRefused, IsDeviceFault}
 use Rattle.command_common.specs.Inputs.{IsFirstRefused, IsGivenArchive, IsRefusedInOrder, IsRefusedInTurn}
 use Rattle.command_common.specs.Outputs.{Takes}
-use Rattle.command_queries.specs.Frames.{MakesFramed, RefusesFrames, TellsFramesWith, frames}
+use Rattle.command_queries.specs.Frames.{TellsFramesWith, frames}
 use Rattle.laws_archive.specs.Joins.{IsGivenJoin, TellOne}
 use Rattle.laws_archive.specs.Refusals.{ArchivesHoldAlike, EachHoldAlike, EndAlike, HoldAlike, RefuseOne}
 use Rattle.laws_archive.proofs.Given.{is_given, one_value}
@@ -143,15 +143,16 @@ asked_alike archive others also more Tells one alike =
 
 module _ {O P Q R S T : Type 0} (input : Reader O) (archive : Reader Q) (others : List (Reader R)) (also : Reader P) (other : Reader S) (more : List (Reader T))
     (alike : HoldAlike input also) (archives : ArchivesHoldAlike archive others other more) where
-  one_of_frames : RefuseOne (RefusesFrames input archive others) (RefusesFrames also other more)
-  one_of_frames at name why another (inl a) (inl b) alone alone_too = (a.0.0 ∙ sym b.0.0, one_frames input also why another alike a.0.1 b.0.1 alone alone_too)
-  one_of_frames at name why another (inl a) (inr b) alone alone_too = absurd (alone (frames_accepted also input why (swapped input also alike) b.0 a.0.1))
-  one_of_frames at name why another (inr a) (inl b) alone alone_too = absurd (alone_too (frames_accepted input also another alike a.0 b.0.1))
-  one_of_frames at name why another (inr a) (inr b) alone alone_too =
+  one_of_frames : (lines slices : Bool)
+      → RefuseOne (frames lines slices input archive others).Refuses (frames lines slices also other more).Refuses
+  one_of_frames lines slices at name why another (inl a) (inl b) alone alone_too = (a.0.0 ∙ sym b.0.0, one_frames input also why another alike a.0.1 b.0.1 alone alone_too)
+  one_of_frames lines slices at name why another (inl a) (inr b) alone alone_too = absurd (alone (frames_accepted also input why (swapped input also alike) b.0 a.0.1))
+  one_of_frames lines slices at name why another (inr a) (inl b) alone alone_too = absurd (alone_too (frames_accepted input also another alike a.0 b.0.1))
+  one_of_frames lines slices at name why another (inr a) (inr b) alone alone_too =
       one_of_archives archive others other more archives at name why another a.2 b.2 alone alone_too
 
   framed_fails : (lines slices : Bool) (status : Status) (text : List ℕ) (at : InputName) (why : Why)
-      → MakesFramed lines slices input archive others status text → RefusesFrames also other more at why
+      → (frames lines slices input archive others).Makes status text → (frames lines slices also other more).Refuses at why
       → IsDeviceFault why
   framed_fails lines slices status text at why makes (inl b) = frames_accepted input also why alike (makes.listed, makes.frames_are) b.0.1
   framed_fails lines slices status text at why makes (inr b) =
@@ -190,7 +191,7 @@ returns g c = record {
       (λ o. TellsFramesWith lines slices o b.listed other_status other_text) a.tells b.tells in
       frames_once (one_frame_told c.one_answer.ensures.one c.one_list_of_frames.ensures) lines slices both.0 a.listed status other_status text other_text both.1
       (subst (λ (s : List Frame). TellsFramesWith lines slices both.0 s other_status other_text) same both.2))
-      (one_of_frames input archive others also other more alike archives)
+      (one_of_frames input archive others also other more alike archives lines slices)
       (framed_fails input archive others also other more alike archives lines slices)
       (framed_fails also other more input archive others (swapped input also alike) (alike_too archive others other more archives) lines slices);
   rehearse = λ script other alike. ends_alike (rehearse script) (rehearse other)
