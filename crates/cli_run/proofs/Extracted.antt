@@ -1,6 +1,6 @@
 -- How `extract` ends over archives and indexes that are handed on.
-use Rattle.std.proofs.Common.{◌≡◌, ◌∙◌, ℕ, ◌<◌, List, [], ◌∷◌, length, Option, Result, true, ◌==◌, true≢false, Err, refl, ap, sym, subst, arith, inl}
-use Rattle.std.proofs.{KnownBytes.Appends-nil, lemmas.Bool.ne_eqb}
+use Rattle.std.proofs.Common.{◌≡◌, ℕ, ◌<◌, List, [], ◌∷◌, length, Option, Result, Err, refl, ap, sym, subst, arith, inl}
+use Rattle.std.proofs.KnownBytes.{Appends-nil}
 use Rattle.std.specs.Io.KnownBytes.{Appends}
 use Rattle.archive_core.specs.declared.keys.{Digest.Digest, SliceKey.SliceKey}
 use Rattle.byte_device.specs.declared.targets.Output.{Output as Out}
@@ -8,9 +8,9 @@ use Rattle.command_common.specs.Inputs.{Reader, reader, readers}
 use Rattle.command_common.specs.Outputs.{Outs, Takes, Writer, out_of}
 use Rattle.command_common.specs.declared.faults.CommandFault.{CommandFault, TheVariants.Input}
 use Rattle.command_common.specs.declared.faults.{Status.Status, Why.Why, InputName.InputName}
-use Rattle.command_extract.specs.{Extract.Extraction, Extract.Extracts, Extract.extract, Indexed.extract_at}
+use Rattle.command_extract.specs.{Extract.Extraction, Extract.Extracts, Extract.extract_first, Indexed.extract_at}
 use Rattle.cli_run.specs.Queries.{IsAlone, extract_of, extraction_if_paired, index_for_each_archive}
-use Rattle.cli_run.proofs.Dispatched.{readers_alone, readers_paired}
+use Rattle.cli_run.proofs.Dispatched.{readers_alone, readers_paired, some_read}
 
 -- with an index
 extract_by : {S : Type 0} (archives places indexes : List (Reader S)) (key : SliceKey) (digest : Option Digest)
@@ -21,6 +21,13 @@ extract_by : {S : Type 0} (archives places indexes : List (Reader S)) (key : Sli
 extract_by archives places [] key digest draft some = absurd (omega arith)
 extract_by [] places (i ∷ indexes) key digest draft some = refl
 extract_by (a ∷ archives) places (i ∷ indexes) key digest draft some = refl
+
+-- without one
+extract_by_records : {S : Type 0} (archives places : List (Reader S)) (key : SliceKey) (digest : Option Digest)
+    (draft : Writer) → 0 < length archives
+    → extract_of archives places [] key digest draft ≡ extract_first archives key digest draft
+extract_by_records [] places key digest draft some = absurd (omega arith)
+extract_by_records (a ∷ archives) places key digest draft some = refl
 
 module _ {D T : Type 0} (out : Outs D T) (report : Writer) where
   -- the command is refused before OUT is begun
@@ -47,18 +54,14 @@ module _ {D T : Type 0} (out : Outs D T) (report : Writer) where
 module _ {S : Type 0} (left whole : S → Option (List ℕ)) (failures place_failures : S → ℕ) (key : SliceKey)
     (digest : Option Digest) where
   -- without an index
-  pub whole_extracted : {D T : Type 0} (archives ix : List S) (a c : S)
-      (b d : List S) (out : Outs D T) (report : Writer) (result : Result Status CommandFault)
-      → archives ≡ a ∷ b → true ≡ (length ix == 0)
-      → Extracts (extract (reader left failures a c) (readers left failures b d) key digest (out_of out).draft) out report result
-      → Extracts (extract_of (readers left failures archives (c ∷ d)) (readers whole place_failures archives (c ∷ d))
+  pub whole_extracted : {D T : Type 0} (archives now ix : List S) (out : Outs D T) (report : Writer)
+      (result : Result Status CommandFault) → 0 < length archives → length now ≡ length archives → ix ≡ []
+      → Extracts (extract_first (readers left failures archives now) key digest (out_of out).draft) out report result
+      → Extracts (extract_of (readers left failures archives now) (readers whole place_failures archives now)
       (readers whole place_failures ix ix) key digest (out_of out).draft) out report result
-  whole_extracted archives [] a c b d out report result is none ends =
-      subst (λ (all : List S). Extracts (extract_of (readers left failures all (c ∷ d))
-      (readers whole place_failures all (c ∷ d)) (readers whole place_failures [] []) key digest (out_of out).draft) out report result)
-      (sym is) ends
-  whole_extracted archives (i ∷ ix) a c b d out report result is none ends =
-      absurd (true≢false (none ∙ ne_eqb (length (i ∷ ix)) 0 (omega arith)))
+  whole_extracted archives now ix out report result some same none ends =
+      rw (none, extract_by_records (readers left failures archives now) (readers whole place_failures archives now) key digest
+      (out_of out).draft (some_read left failures archives now same some)) ends
 
   pub alone_stopped : {D T : Type 0} (archives ix : List S) (out : Outs D T) (report : Writer)
       (fault : CommandFault) → IsAlone (length archives) (length ix) fault → 0 < length (readers whole place_failures ix ix)

@@ -17,7 +17,7 @@ use byte_device::{Output, Placed, Sink, Source, Target};
 use byte_openings::Opens;
 use cli_arguments::{Inputs, Plan};
 use command_common::{CommandFault, Note, Records, Status, first_and_rest};
-use command_extract::{run_extract, run_extract_at};
+use command_extract::run_extract;
 use command_index_queries::Indexes;
 use command_write::{
     run_admit, run_apply, run_delta, run_merge, run_migrate, run_retire, run_summary,
@@ -44,11 +44,14 @@ pub fn extract<A: Archive + Drop, S: Source + Placed, T: Target, P: Sink>(
         (out_of known).draft) known (writer P.held P.failures report.old report.new) result }
 {
     if indexes.is_empty() {
-        let (archive, others) = first_and_rest(archives);
-        return run_extract::<A, _, _, _>(heap, archive, others, key, digest, out, report);
+        return run_extract::<A, _, _, _>(
+            heap, &mut Records { archives }, key, digest, out, report,
+        );
     }
     check_pairs(archives.len(), indexes.len())?;
-    run_extract_at::<A, _, _, _, _>(heap, indexes, archives, key, digest, out, report)
+    run_extract::<A, _, _, _>(
+        heap, &mut Indexes { indexes, archives }, key, digest, out, report,
+    )
 }
 
 /// `merge` of archives.

@@ -1,5 +1,5 @@
 -- Slices that are held under a key.
-use Rattle.std.proofs.Common.{◌≡◌, ℕ, ◌+◌, ◌<◌, true, List, [], ◌++◌, length, take, drop, get_or, sym, ap, subst, ◌∙◌}
+use Rattle.std.proofs.Common.{◌≡◌, ℕ, ◌+◌, ◌<◌, true, List, [], ◌∷◌, ◌++◌, length, take, drop, get_or, refl, sym, ap, subst, ◌∙◌}
 use Rattle.std.proofs.Common.{arith, append_assoc, length-append, inl, inr}
 use Rattle.std.specs.List.{Contains}
 use Rattle.std.specs.Int.{w64, to_be_bytes}
@@ -10,6 +10,7 @@ use Rattle.std.proofs.lemmas.List.Elements.{Contains-get_or, Contains-push_cases
 use Rattle.sha2.specs.Sha256.{sha256}
 use Rattle.join_core.specs.Listing.{listing}
 use Rattle.archive_core.specs.Content.{Operations, IsContent, IsLive}
+use Rattle.archive_core.specs.Find.{AreAnswering}
 use Rattle.archive_core.specs.Key.{key_bytes}
 use Rattle.archive_core.specs.Part.{AreAlikeUnder}
 use Rattle.archive_core.specs.Record.{admission, admission_record, retirement_record}
@@ -70,3 +71,8 @@ live_alike o p key same slice live =
       under = live.under;
       kept = sym (same (retirement_record key (sha256 slice)) (retirement_under (key_bytes key) [] key (sha256 slice) whole)) ∙ live.kept;
     }
+
+-- the only slice that answers is there
+pub one_there : (o : Operations) (key : SliceKey) (slices : List (List ℕ)) (slice : List ℕ) → AreAnswering o key slices → slices ≡ slice ∷ []
+    → contains o (admission_record slice) ≡ true
+one_there o key slices slice are is = (((subst (AreAnswering o key) is are).exactly slice).0 (0, omega arith, refl)).live.admitted

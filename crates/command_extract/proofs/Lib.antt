@@ -2,5 +2,5 @@ pub mod Held
 pub mod Extracted
 pub mod Sent
 pub mod ByEntry
-pub mod Chosen
+pub mod ChosenEntries
 mod Passes

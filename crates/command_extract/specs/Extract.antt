@@ -1,5 +1,5 @@
 -- How `extract` ends, and the file that it makes from archives.
-use Rattle.std.specs.Prelude.{◌≡◌, ℕ, List, [], Option, Result, ◌⊎◌}
+use Rattle.std.specs.Prelude.{◌≡◌, ℕ, List, [], ◌∷◌, Option, Result, ◌⊎◌}
 use Rattle.archive_core.specs.Content.{Operations}
 use Rattle.archive_core.specs.declared.keys.Digest.{Digest}
 use Rattle.archive_core.specs.declared.keys.SliceKey.{SliceKey}
@@ -63,3 +63,11 @@ extraction Holds Refuses Unfailed key digest draft = record {
 abbrev pub extract : {R S : Type 0} → Reader R → List (Reader S) → SliceKey → Option Digest → Writer → Extraction
 extract archive others key digest draft =
     extraction (HoldTogether archive others) (AreRefused archive others) (AreUnfailed archive others) key digest draft
+
+-- the same over the first of archives and the rest; nothing over none
+abbrev pub extract_first : {S : Type 0} → List (Reader S) → SliceKey → Option Digest → Writer → Extraction
+extract_first [] key digest draft = record {
+  writes = record { Makes = λ slice told. ⊥; Stops = λ fault. ⊥; Unfailed = ⊥ };
+  Lacks = λ told. ⊥;
+}
+extract_first (archive ∷ others) key digest draft = extract archive others key digest draft

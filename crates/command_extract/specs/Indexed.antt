@@ -7,18 +7,22 @@ use Rattle.archive_core.specs.declared.find.FindRow.{FindRow}
 use Rattle.archive_core.specs.declared.keys.Digest.{Digest}
 use Rattle.archive_core.specs.declared.keys.SliceKey.{SliceKey}
 use Rattle.text_reports.specs.Finds.{find_lines}
-use Rattle.command_common.specs.Inputs.{EachUnfailed, IsRefusal, Reader}
+use Rattle.command_common.specs.Inputs.{EachUnfailed, IsRefusal, Reader, readers}
 use Rattle.command_common.specs.Outputs.{Takes, Writer}
 use Rattle.command_common.specs.declared.faults.CommandFault.{CommandFault}
 use Rattle.command_common.specs.declared.faults.InputName.{InputName}
 use Rattle.command_common.specs.declared.faults.Why.{Why}
 use Rattle.index_lookup.specs.Among.{AreTied, EntryAt}
-use Rattle.index_lookup.specs.Named.{IsRowAt}
+use Rattle.index_lookup.specs.Named.{IsRowAt, Names}
+use Rattle.index_lookup.specs.declared.named.NamedSlice.{NamedSlice}
 use Rattle.command_index_queries.specs.Several.{AreRefusedLater, AreUnfailedTogether, HoldTogether}
-use Rattle.command_index_queries.specs.Together.{AreLater, AreReadWith, IsFirstRefusedByIndex, IsOneOf}
+use Rattle.command_index_queries.specs.Together.{AreAllKept, AreLater, AreReadWith, IsFirstRefusedByIndex, IsOneOf}
 use Rattle.command_extract.specs.Entries.{AreUnchosen, HoldsSlice, IsChosen, StopsSlice}
 use Rattle.command_extract.specs.Extract.{Extraction, Held, MakesNone, MakesSlice}
+use Rattle.command_extract.specs.Kept.{KeepsWanted}
 use Rattle.command_extract.specs.Wanted.{written_line}
+use Rattle.command_extract.specs.declared.place.Place.{Place}
+use Rattle.command_extract.specs.declared.place.Place.TheVariants.{Named, Kept}
 
 -- ---- by the entries
 
@@ -94,3 +98,25 @@ extract_at indexes archives key digest draft = record {
   Lacks = λ told. LacksEntry indexes archives key digest told
       ⊎ ((digest ≡ None) × MakesNone (HoldTied indexes archives key) key None told);
 }
+
+-- ---- what is chosen
+
+-- The indexes were read, and this entry is the one that is wanted. The archives stood so after that.
+pub record IsNamedBy {I P : Type 0} (indexes : List (Reader I)) (whole : P → Option (List ℕ)) (failures : P → ℕ)
+    (before seen : List P) (key : SliceKey) (digest : Option Digest) (named : NamedSlice) : Type 0 where
+  pub all : List (List (List ℕ))
+  pub read : AreReadWith indexes (readers whole failures before seen) all
+  pub unfailed : AreUnfailedTogether indexes (readers whole failures before seen)
+  pub kept : AreAllKept whole failures before seen
+  pub x : EntryAt
+  pub chosen : IsChosen key digest all x
+  pub names : Names x named
+
+-- a slice is found, with this SHA-256 and so many bytes: in its archive by its entry, or among what was read
+abbrev pub IsFoundAt : {A I P : Type 0} → (A → Operations) → List (Reader I) → (P → Option (List ℕ)) → (P → ℕ) → List P
+    → List P → SliceKey → Option Digest → Place A → Digest → ℕ → Type 0
+IsFoundAt content indexes whole failures before seen key digest (Named named) given size =
+    IsNamedBy indexes whole failures before seen key digest named × (given ≡ named.row.digest) × (size ≡ named.size)
+IsFoundAt content indexes whole failures before seen key digest (Kept kept) given size =
+    KeepsWanted (extract_at indexes (readers whole failures before seen) key digest) key (content kept.archive)
+    kept.number given size

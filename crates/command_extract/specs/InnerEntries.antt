@@ -1,29 +1,23 @@
 -- What the entries of indexes choose, and what is sent of it: definitions for private functions. No public contract
 -- uses them.
-use Rattle.std.specs.Prelude.{◌≡◌, ◌⊎◌, ℕ, List, [], ◌∷◌, Option, None, Some, Result, Ok, Err, slice_index_or}
-use Rattle.std.specs.Prelude.{slice_set}
+use Rattle.std.specs.Prelude.{◌≡◌, ℕ, List, Option, None, Some, Result, Ok, Err, slice_index_or, slice_set}
 use Rattle.std.specs.List.{AllZip}
-use Rattle.archive_core.specs.Content.{Operations}
 use Rattle.archive_core.specs.Key.{key_bytes}
 use Rattle.archive_core.specs.declared.keys.Digest.{Digest}
 use Rattle.archive_core.specs.declared.keys.SliceKey.{SliceKey}
 use Rattle.archive_records.specs.declared.fault.RecordFaultKind.TheVariants.{Device as DeviceFailed}
-use Rattle.command_common.specs.Inputs.{EachUnfailed, IsRefusal, Reader, Unfailed, reader}
-use Rattle.command_common.specs.Outputs.{Outs, PublishesNothing, Publishes, Takes, Writer, out_of}
+use Rattle.command_common.specs.Inputs.{Reader, Unfailed, reader}
+use Rattle.command_common.specs.Outputs.{Takes, Writer}
 use Rattle.command_common.specs.declared.faults.CommandFault.{CommandFault}
 use Rattle.command_common.specs.declared.faults.CommandFault.TheVariants.{Input, Output}
 use Rattle.command_common.specs.declared.faults.InputName.TheVariants as inputs
-use Rattle.command_common.specs.declared.faults.Status.{Status}
 use Rattle.command_common.specs.declared.faults.Why.{Why}
 use Rattle.command_common.specs.declared.faults.Why.TheVariants as why
 use Rattle.command_extract.specs.declared.tested_copy.SendFault.{SendFault}
 use Rattle.command_extract.specs.declared.tested_copy.SendFault.TheVariants.{Other, Device, Sink}
 use Rattle.index_lookup.specs.Among.{AreTied, EntryAt}
 use Rattle.index_lookup.specs.Named.{IsRowAt, Names}
-use Rattle.command_index_queries.specs.Together.{HoldNamed, IsFirstRefusedAtPlaces}
 use Rattle.command_extract.specs.Entries.{AreUnchosen, HoldsSlice, IsChosen, StopsSlice}
-use Rattle.command_extract.specs.InnerChoice.{PublishesWanted}
-use Rattle.command_extract.specs.Wanted.{written_line}
 use Rattle.command_extract.specs.declared.entries.EntryChoice.{EntryChoice}
 use Rattle.command_extract.specs.declared.entries.EntryChoice.TheVariants.{One, Undecided, Tied}
 
@@ -51,29 +45,9 @@ SendsSlice archive x draft (Ok _) =
     (slice : List ℕ) × HoldsSlice archive x slice × Takes draft slice × Unfailed archive
 SendsSlice archive x draft (Err fault) = StopsSlice archive x draft fault
 
--- The slice was sent, and is published; or it was not, nothing is published, and nothing was reported.
-abbrev pub PublishesSlice : {P D T : Type 0} → Reader P → SliceKey → EntryAt → Outs D T → Writer
-    → Result Status CommandFault → Type 0
-PublishesSlice archive key x out report result =
-    ((slice : List ℕ) × HoldsSlice archive x slice × Unfailed archive
-    × Publishes (out_of out) report slice (written_line key slice) result)
-    ⊎ ((fault : CommandFault) × (result ≡ Err fault) × StopsSlice archive x (out_of out).draft fault
-    × PublishesNothing (out_of out) × Takes report [])
-
 -- The same from its archive among several, of which no other is touched.
-abbrev pub PublishesFrom : {P D T : Type 0} → (P → Option (List ℕ)) → (P → ℕ) → List P
-    → List P → SliceKey → EntryAt → Outs D T → Writer → Result Status CommandFault → Type 0
-PublishesFrom {P} whole failures old new key x out report result =
+abbrev pub SendsFrom : {P : Type 0} → (P → Option (List ℕ)) → (P → ℕ) → List P → List P → EntryAt → Writer
+    → Result (Unit {0}) CommandFault → Type 0
+SendsFrom {P} whole failures old new x draft result =
     (before : P) × (after : P) × (before ≡ slice_index_or old x.input before)
-    × (new ≡ slice_set old x.input after) × PublishesSlice (reader whole failures before after) key x out report result
-
--- What the slices under the key make, which these entries name in archives, is published; or an archive is refused or
--- memory runs out, OUT is as it was, and nothing was reported.
-abbrev pub PublishesTied : {P D T : Type 0} → SliceKey → List (List (List ℕ)) → List (Reader P) → Outs D T → Writer
-    → Result Status CommandFault → Type 0
-PublishesTied key all archives out report result =
-    ((kept : Operations) × HoldNamed (key_bytes key ∷ []) archives all kept × EachUnfailed archives
-    × PublishesWanted kept key None out report result)
-    ⊎ ((fault : CommandFault) × (result ≡ Err fault)
-    × IsRefusal (IsFirstRefusedAtPlaces (key_bytes key ∷ []) archives all) (EachUnfailed archives) fault
-    × (out.new ≡ out.old) × Takes report [])
+    × (new ≡ slice_set old x.input after) × SendsSlice (reader whole failures before after) x draft result

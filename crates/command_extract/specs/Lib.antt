@@ -1,8 +1,10 @@
 pub mod Wanted
 pub mod Extract
+pub mod Evidence
+pub mod Kept
 pub mod Entries
 pub mod Indexed
-pub mod InnerChoice
+pub mod InnerSteps
 pub mod InnerEntries
 pub mod Copies
 pub mod Sending

@@ -1,25 +1,21 @@
 //! The slice that is wanted under a key, among those that an archive holds.
 
-ghost use Rattle.std.specs.Prelude.{◌≡◌, ◌≢◌, ◌∷◌, [], ℕ, List, None, Some, IfNone, IfOk, IfSome, length, map};
+ghost use Rattle.std.specs.Prelude.{◌≡◌, ◌≢◌, ◌∷◌, ◌↔◌, [], ℕ, List, None, Some, IfNone, IfOk, IfSome, length, map};
+ghost use Rattle.std.specs.Prelude.{◌<◌, slice_index_or, true};
+ghost use Rattle.std.specs.FinSet as set;
 ghost use Rattle.sha2.specs.Sha256.{sha256};
+ghost use Rattle.join_core.specs.Listing.{listing};
 ghost use Rattle.archive_core.specs.Content.{IsLive};
 ghost use Rattle.archive_core.specs.Key.{key_bytes};
 ghost use Rattle.archive_core.specs.Record.{admission_record, borrowed_bytes};
 ghost use Rattle.archive_core.specs.Valid.{IsValid, key_of};
-ghost use Rattle.command_extract.specs.InnerChoice.{IsChoice};
+ghost use Rattle.command_extract.specs.InnerSteps.{IsChoice};
+ghost use Rattle.command_extract.specs.Kept.{IsChosenIn};
 ghost use Rattle.command_extract.specs.Wanted.{slice_row};
 
+use crate::choice::{Choice, Chosen};
 use archive_core::{Archive, CheckedSlice, Digest, FindRow, Record, Slice, SliceKey, is_key};
 use memory::{Heap, NoMemory};
-
-/// What an archive has for who wants a slice.
-#[derive(Drop)]
-pub(crate) enum Choice<'a> {
-    /// The slice.
-    One(CheckedSlice<'a>),
-    /// None, or several of which none is preferred: the rows of those that answer.
-    Undecided(Vec<FindRow, Heap>),
-}
 
 /// The row of a slice.
 fn row(slice: &Slice) -> FindRow
@@ -51,17 +47,46 @@ fn only<'s>(slices: &[&'s Slice]) -> Option<&'s Slice>
     }
 }
 
+/// Whether a record admits this slice.
+fn admits(held: Record<'_>, slice: &Slice) -> bool
+    ensures { result ≡ true ↔ borrowed_bytes held.entry ≡ admission_record slice.now }
+{
+    held.compare(&Record::Admit(slice.lend())).is_eq()
+}
+
+/// The number of the record that admits a slice, which the archive has.
+fn number_of<A: Archive>(archive: &A, slice: &Slice) -> u64
+    requires { set.contains (A.content archive.now) (admission_record slice.now) ≡ true }
+    ensures within { result < set.len (A.content archive.now) }
+    ensures is { slice_index_or (listing (A.content archive.now)) result [] ≡ admission_record slice.now }
+{
+    'numbers: for number in 0..archive.len() {
+        if admits(archive.record_at(number), slice) {
+            return number;
+        }
+    }
+    unreachable!()
+}
+
+/// A slice that answers, which the archive has.
+fn choose_answering<A: Archive>(archive: &A, slice: &Slice) -> Chosen<u64>
+    requires { set.contains (A.content archive.now) (admission_record slice.now) ≡ true }
+    ensures { IsChosenIn (A.content archive.now) result.place result.digest result.size slice.now }
+{
+    Chosen {
+        place: number_of(archive, slice),
+        digest: slice.digest(),
+        size: slice.bytes().len() as u64,
+    }
+}
+
 /// The one slice that answers under a key, or the rows of all that do.
-fn answering<'a, A: Archive>(
-    heap: Heap,
-    archive: &'a A,
-    key: &SliceKey,
-) -> Result<Choice<'a>, NoMemory>
+fn answering<A: Archive>(heap: Heap, archive: &A, key: &SliceKey) -> Result<Choice<u64>, NoMemory>
     ensures { IfOk result (λ choice. IsChoice (A.content archive.now) key.now None choice) }
 {
     let slices = archive.answering_slices(key)?;
     match only(&slices) {
-        Some(slice) => Ok(Choice::One(slice.lend())),
+        Some(slice) => Ok(Choice::One(choose_answering(archive, slice))),
         None => Ok(Choice::Undecided(rows_of(heap, &slices)?)),
     }
 }
@@ -86,33 +111,34 @@ fn slice_in<'a>(held: Record<'a>, key: &SliceKey, digest: &Digest) -> Option<Che
 }
 
 /// A slice that is held under a key and has a digest.
-fn held_with<'a, A: Archive>(
-    archive: &'a A,
-    key: &SliceKey,
-    digest: &Digest,
-) -> Option<CheckedSlice<'a>>
+fn held_with<A: Archive>(archive: &A, key: &SliceKey, digest: &Digest) -> Option<Chosen<u64>>
     requires { length (key_bytes key.now) ≡ 24 }
-    ensures found { IfSome result (λ slice. IsLive (A.content archive.now) key.now slice
-        × (sha256 slice ≡ digest.now.0)) }
+    ensures found { IfSome result (λ chosen. (slice : List ℕ) × IsLive (A.content archive.now) key.now slice
+        × (sha256 slice ≡ digest.now.0)
+        × IsChosenIn (A.content archive.now) chosen.place chosen.digest chosen.size slice) }
     ensures none { IfNone result ((slice : List ℕ) → IsLive (A.content archive.now) key.now slice
         → sha256 slice ≡ digest.now.0 → ⊥) }
 {
-    'records: for index in 0..archive.len() {
-        if let Some(slice) = slice_in(archive.record_at(index), key, digest) {
-            return Some(slice);
+    'records: for number in 0..archive.len() {
+        if let Some(slice) = slice_in(archive.record_at(number), key, digest) {
+            return Some(Chosen {
+                place: number,
+                digest: *digest,
+                size: slice.bytes().len() as u64,
+            });
         }
     }
     None
 }
 
-/// The slice that is wanted under a key: the one that answers, or one with the digest. The archive holds what is under
-/// the key.
-pub(crate) fn choose<'a, A: Archive>(
+/// The slice that is wanted under a key, by the number of its record: the one that answers, or one with the digest. The
+/// archive holds what is under the key.
+pub(crate) fn choose_in<A: Archive>(
     heap: Heap,
-    archive: &'a A,
+    archive: &A,
     key: &SliceKey,
     digest: &Option<Digest>,
-) -> Result<Choice<'a>, NoMemory>
+) -> Result<Choice<u64>, NoMemory>
     requires { length (key_bytes key.now) ≡ 24 }
     ensures { IfOk result (λ choice. IsChoice (A.content archive.now) key.now digest.now choice) }
 {
@@ -120,7 +146,7 @@ pub(crate) fn choose<'a, A: Archive>(
         return answering(heap, archive, key);
     };
     match held_with(archive, key, digest) {
-        Some(slice) => Ok(Choice::One(slice)),
+        Some(chosen) => Ok(Choice::One(chosen)),
         None => Ok(Choice::Undecided(Vec::new(heap))),
     }
 }

@@ -1,40 +1,20 @@
-//! A slice that an entry names, sent from its archive to OUT.
+//! A slice that an entry names, sent from its archive to a draft.
 
-ghost use Rattle.std.specs.Prelude.{◌≡◌, ◌+◌, ◌<◌, IfOk, length, string_bytes};
+ghost use Rattle.std.specs.Prelude.{◌≡◌, ◌+◌, ◌<◌, IfOk, length};
 ghost use Rattle.byte_device.specs.Devices.{stream};
 ghost use Rattle.command_extract.specs.Sending.{SendsAt};
 ghost use Rattle.command_common.specs.Inputs.{reader};
-ghost use Rattle.command_common.specs.Outputs.{outs, writer};
+ghost use Rattle.command_common.specs.Outputs.{writer};
 ghost use Rattle.index_lookup.specs.Among.{EntryAt};
 ghost use Rattle.index_lookup.specs.Named.{Names};
-ghost use Rattle.command_extract.specs.InnerEntries.{PublishesSlice, SendsSlice, told_fault, unread_record};
-ghost use Rattle.command_extract.specs.Wanted.{line_of};
+ghost use Rattle.command_extract.specs.InnerEntries.{SendsFrom, SendsSlice, told_fault, unread_record};
 
 use crate::tested_copy::{SendFault, send_at};
-use archive_core::{Digest, SliceKey};
 use archive_records::{ADMISSION_HEAD_LEN, RecordFault, RecordFaultKind};
-use byte_device::{Output, PIECE_LEN, Placed, Sink, Target};
-use command_common::{CommandFault, InputName, Status, Why, publish_output, write_report};
+use byte_device::{PIECE_LEN, Placed, Sink};
+use command_common::{CommandFault, InputName, Why};
 use index_lookup::NamedSlice;
 use memory::{Heap, NoMemory};
-use text_reports::Text;
-use text_values::Spelled;
-
-/// The line of a slice under a key that was written: its digest, and how many bytes it has.
-pub(crate) fn line_of(
-    heap: Heap,
-    key: SliceKey,
-    digest: Digest,
-    size: u64,
-) -> Result<String<Heap>, NoMemory>
-    ensures { IfOk result (λ text. string_bytes text ≡ line_of key digest size) }
-{
-    let mut text = String::new(heap);
-    let key = Text(key);
-    let digest = Spelled(digest);
-    writeln!(text, "slice {key} {digest}, {size} bytes")?;
-    Ok(text)
-}
 
 /// Room for a piece.
 fn room_for_piece(heap: Heap) -> Result<Vec<u8, Heap>, NoMemory>
@@ -121,23 +101,16 @@ fn send_named<P: Placed, W: Sink>(
     }
 }
 
-/// Sends the slice that an entry names under a key from its archive to OUT, publishes it, and then writes its line to
-/// the report.
-pub(crate) fn publish_named<P: Placed, T: Target, W: Sink>(
-    heap: &Heap,
-    key: &SliceKey,
+/// Sends the slice that an entry names from its archive among these to a draft.
+pub(crate) fn send_from<P: Placed, W: Sink>(
+    heap: Heap,
     named: &NamedSlice,
-    archive: &mut P,
-    out: &mut Output<T::Draft, T>,
-    report: &mut W,
-) -> Result<Status, CommandFault>
-    ensures { (x : EntryAt) → Names x named.now
-        → PublishesSlice (reader P.whole P.failures archive.old archive.new) key.now x
-        (outs T.Draft.held T.Draft.failures T.published T.failures out.old out.new)
-        (writer W.held W.failures report.old report.new) result }
+    archives: &mut [P],
+    draft: &mut W,
+) -> Result<(), CommandFault>
+    requires { named.now.input < length archives.old }
+    ensures { (x : EntryAt) → Names x named.now → SendsFrom P.whole P.failures archives.old archives.new x
+        (writer W.held W.failures draft.old draft.new) result }
 {
-    let text = line_of(heap.share(), *key, named.row.digest, named.size)?;
-    send_named(heap.share(), named, archive, &mut out.draft)?;
-    publish_output(out, named.size as u128)?;
-    write_report(Status::Done, &text, report)
+    send_named(heap, named, &mut archives[named.input as usize], draft)
 }

@@ -9,7 +9,8 @@ ghost use Rattle.command_index_frames.specs.InnerSlices.{AreFollowed};
 ghost use Rattle.command_index_frames.specs.Slices.{IsAnsweringEntryRow};
 
 use archive_core::{FindRow, SliceKey};
-use command_index_queries::{rows_with_uuid, uuid_bytes};
+use command_common::uuid_bytes;
+use command_index_queries::rows_with_uuid;
 use command_queries::uuids_of;
 use index_format::Index;
 use memory::{Heap, NoMemory};

@@ -5,14 +5,14 @@ ghost use Rattle.command_common.specs.Inputs.{ReadsInputs, reader, readers};
 ghost use Rattle.command_index_queries.specs.Answered.{of_first_pair, rows_at, rows_by, rows_joined, summary_told};
 
 use crate::inputs::read_index_of;
-use crate::prefixes::{KeyPrefix, uuid_bytes};
+use crate::prefixes::KeyPrefix;
 use crate::rows::rows_under;
 use crate::summaries::summary_of;
 use crate::together::read_archives_by_indexes;
 use archive_core::{Archive, FindRow};
 use archive_records::Summary;
 use byte_device::Placed;
-use command_common::{CommandFault, Evidence};
+use command_common::{CommandFault, Evidence, uuid_bytes};
 use memory::Heap;
 use uuid::Uuid;
 

@@ -26,6 +26,6 @@ mod summaries;
 mod together;
 
 pub use indexes::Indexes;
-pub use prefixes::{KeyPrefix, uuid_bytes};
+pub use prefixes::KeyPrefix;
 pub use rows::rows_with_uuid;
 pub use together::{read_indexes, read_prefixes};

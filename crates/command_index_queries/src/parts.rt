@@ -16,10 +16,10 @@ ghost use Rattle.command_index_queries.specs.InnerParts.{told_fault};
 ghost use Rattle.command_index_queries.specs.Together.{IsRefusedAtPlaces};
 
 use crate::inputs::unread;
-use crate::prefixes::{KeyPrefix, key_of, uuid_bytes};
+use crate::prefixes::{KeyPrefix, key_of};
 use archive_core::{Archive, Operation, take_all};
 use byte_device::Placed;
-use command_common::{CommandFault, InputName, Why};
+use command_common::{CommandFault, InputName, Why, uuid_bytes};
 use index_format::{Index, PlaceFault, archive_of, gather_at, indexed_size};
 use memory::{Heap, NoMemory};
 

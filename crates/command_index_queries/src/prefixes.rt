@@ -5,7 +5,6 @@ ghost use Rattle.archive_core.specs.Key.{key_bytes};
 
 use archive_core::SliceKey;
 use archive_records::key_prefix;
-pub use command_common::uuid_bytes;
 use uuid::Uuid;
 
 /// What a key begins with.

@@ -11,9 +11,9 @@ ghost use Rattle.index_format.specs.Text.{placed_of};
 ghost use Rattle.command_index_queries.specs.Rows.{AreIndexRows, AreRowsAmong, IsEntryRow, has_lower_key};
 ghost use Rattle.command_index_queries.specs.Rows.{stands_before};
 
-use crate::prefixes::uuid_bytes;
 use archive_core::{Digest, FindRow, FindState, SliceKey, compare_keys};
 use archive_records::{ADMISSION, RETIREMENT};
+use command_common::uuid_bytes;
 use index_format::{Index, IndexEntry, is_under, run_under};
 use memory::{Heap, NoMemory};
 use uuid::Uuid;

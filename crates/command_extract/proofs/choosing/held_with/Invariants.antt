@@ -8,4 +8,4 @@ use Rattle.command_extract.proofs.choosing.held_with.Given as goal
 -- none of the records so far is of such a slice
 abbrev pub invariant-records : goal.invariant-records
 invariant-records g l = (slice : List ℕ) → key_of slice ≡ l.key → sha256 slice ≡ l.digest.0
-    → Contains (take l.index (listing (g.A.Join.content l.archive))) (admission_record slice) → ⊥
+    → Contains (take l.number (listing (g.A.Join.content l.archive))) (admission_record slice) → ⊥

@@ -1,5 +1,5 @@
 use Rattle.std.proofs.Common.{◌∙◌, ap, length, sym}
-use Rattle.command_extract.proofs.Chosen.{one_named, others_named}
+use Rattle.command_extract.proofs.ChosenEntries.{one_named, others_named}
 use Rattle.command_extract.proofs.entries.answering.Goals as goal
 
 pub returns-in-Some-only : goal.returns-in-Some-only

@@ -1,7 +1,7 @@
 use Rattle.std.proofs.Common.{IfOk, Option, subst, sym}
 use Rattle.archive_core.specs.declared.keys.Digest.{Digest}
 use Rattle.command_extract.specs.InnerEntries.{IsEntryChoice}
-use Rattle.command_extract.proofs.Chosen.{none_given}
+use Rattle.command_extract.proofs.ChosenEntries.{none_given}
 use Rattle.command_extract.proofs.entries.choose_entry.Goals as goal
 
 pub returns-in_default : goal.returns-in_default
