@@ -13,7 +13,7 @@ use Rattle.command_queries.proofs.Answered.{symbolicated}
 use Rattle.archive_core.specs.declared.keys.SliceKey.{SliceKey}
 use Rattle.command_common.proofs.{Parts.no_others, Readers.readers_long}
 use Rattle.command_index_queries.specs.Find.{find_by}
-use Rattle.command_index_frames.specs.Frames.{frames_at, symbolicate_at}
+use Rattle.command_frames.specs.Frames.{frames_at, symbolicate_at}
 use Rattle.cli_run.specs.Queries.{IsAlone, find_of, frames_of, if_paired, index_for_each_archive, symbolicate_of}
 
 module _ {S : Type 0} (left : S → Option (List ℕ)) (failures : S → ℕ) where

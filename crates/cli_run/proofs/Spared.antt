@@ -30,8 +30,8 @@ use Rattle.index_build.specs.declared.fault.MakingFault.{MakingFault}
 use Rattle.index_build.specs.declared.fault.MakingFault.TheVariants.{Archive as Refused, Write as Wrote}
 use Rattle.command_index_queries.specs.{Indexes.IsOfOtherLength, Indexes.IsRefusedByIndex, Several.AreRefusedLater, Several.AreRefusedTogether}
 use Rattle.command_index_queries.specs.Together.{IsFirstRefusedByIndex, IsRefusedAtPlaces}
-use Rattle.command_index_frames.specs.Asking.{AreRefusedAsking, IsTableRefused}
-use Rattle.command_index_frames.specs.Frames.{frames_at, frames_by_indexes, keys_of, symbolicate_at}
+use Rattle.command_frames.specs.Asking.{AreRefusedAsking, IsTableRefused}
+use Rattle.command_frames.specs.Frames.{frames_at, frames_by_indexes, keys_of, symbolicate_at}
 use Rattle.command_index_queries.specs.Find.{find_by}
 use Rattle.command_extract.specs.{Entries.IsRefusedSlice, Extract.Extraction, Extract.Extracts, Indexed.AreRefusedBefore, Indexed.extract_at}
 use Rattle.byte_openings.specs.declared.openings.Opening.{Opening}

@@ -21,7 +21,7 @@ use cli_arguments::{Inputs, Plan};
 use command_common::{
     CommandFault, InputName, Note, Records, Status, Why, first_and_rest, write_report,
 };
-use command_index_frames::{run_frames, run_symbolicate};
+use command_frames::{run_frames, run_symbolicate};
 use command_index_queries::Indexes;
 use command_queries::{answer_name, run_find, run_list};
 use memory::{Heap, NoMemory};

@@ -23,7 +23,7 @@ use Rattle.index_lookup.specs.Told.{is_companion}
 use Rattle.command_common.specs.declared.faults.Status.{Status}
 use Rattle.command_queries.specs.Slices.{IsAnsweringRow, WithSlices}
 use Rattle.command_index_queries.specs.Rows.{IsEntryRow}
-use Rattle.command_index_frames.specs.Slices.{IsAnsweringEntryRow}
+use Rattle.command_frames.specs.Slices.{IsAnsweringEntryRow}
 use Rattle.laws_index.specs.Indexes.{AreIndexes, all_joined}
 use Rattle.laws_index.proofs.Among.{IsOfSlice, admission_if, answers_if, answers_then, content, entry_for, entry_of}
 use Rattle.laws_index.proofs.Among.{from_all, of_record, slice_of_entry, to_all}

@@ -35,13 +35,13 @@ use Rattle.index_lookup.specs.AmongAsked.{IsLinelessAt}
 use Rattle.text_reports.specs.Slices.{TellsSlices}
 use Rattle.command_index_queries.specs.Several.{HoldTogether}
 use Rattle.command_index_queries.specs.Together.{AreLater, AreReadWith, IsReadWith}
-use Rattle.command_index_frames.specs.Asking.{AreGiven, AreRefusedAsking, AreUntold, IsAnsweredAt, IsAnsweredBySlices, IsAnsweredByTables}
-use Rattle.command_index_frames.specs.Asking.{IsTableRefused, IsUnreadTable, is_stale_entry}
-use Rattle.command_index_frames.specs.Frames.{AreToldAt, IsAnsweredOrRefused, IsFrameReplied, IsFrameSaid}
-use Rattle.command_index_frames.specs.Frames.{TellFrames, TellFramesBesides, TellFramesWith, keys_of, symbolicate_at}
-use Rattle.command_index_frames.specs.Refusals.{IsKeyRefused, IsRefusedBySlice, IsRefusedByTable, KeyRefusal, Reply, refusal_lines}
-use Rattle.command_index_frames.specs.Slices.{IsAnsweringEntryRow}
-use Rattle.command_index_frames.proofs.Refused.{answers_alone}
+use Rattle.command_frames.specs.Asking.{AreGiven, AreRefusedAsking, AreUntold, IsAnsweredAt, IsAnsweredBySlices, IsAnsweredByTables}
+use Rattle.command_frames.specs.Asking.{IsTableRefused, IsUnreadTable, is_stale_entry}
+use Rattle.command_frames.specs.Frames.{AreToldAt, IsAnsweredOrRefused, IsFrameReplied, IsFrameSaid}
+use Rattle.command_frames.specs.Frames.{TellFrames, TellFramesBesides, TellFramesWith, keys_of, symbolicate_at}
+use Rattle.command_frames.specs.Refusals.{IsKeyRefused, IsRefusedBySlice, IsRefusedByTable, KeyRefusal, Reply, refusal_lines}
+use Rattle.command_frames.specs.Slices.{IsAnsweringEntryRow}
+use Rattle.command_frames.proofs.Refused.{answers_alone}
 use Rattle.laws_index.specs.Contents.{AreIndexed, AreIndexesGiven, AreOwnIndexes, IsForLines, IsIndexGiven, IsIndexed, IsOwnIndex}
 use Rattle.laws_index.specs.Refusing.{AreOwnTexts, IsRefusedFor, IsRefusedForLines}
 use Rattle.laws_index.specs.Refusing.{IsRefusedForSlice, TellsAddressesOrBesides, TellsFramesBesides, TellsFramesOrBesides}

@@ -13,9 +13,9 @@ use Rattle.command_queries.specs.Frames.{TellsFramesWith, frame_keys, frames_und
 use Rattle.command_queries.specs.Slices.{IsAnsweringRow}
 use Rattle.command_queries.specs.Sources.{IsSourced}
 use Rattle.command_queries.specs.Symbolicate.{TellsAddressesWith}
-use Rattle.command_index_frames.specs.Asking.{is_stale_entry}
-use Rattle.command_index_frames.specs.Frames.{TellFramesBesides}
-use Rattle.command_index_frames.specs.Refusals.{KeyRefusal, refusal_lines}
+use Rattle.command_frames.specs.Asking.{is_stale_entry}
+use Rattle.command_frames.specs.Frames.{TellFramesBesides}
+use Rattle.command_frames.specs.Refusals.{KeyRefusal, refusal_lines}
 use Rattle.laws_index.specs.Contents.{IsForLines}
 use Rattle.laws_index.specs.Indexes.{AreTiedSlices, all_joined}
 

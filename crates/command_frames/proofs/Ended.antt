@@ -1,0 +1,256 @@
+-- How commands end that ask key by key.
+use Rattle.std.proofs.Common.{◌≡◌, ℕ, ◌⊎◌, Bool, true, false, List, [], ◌∷◌, length, Option, refl, sym, ap, ◌∙◌, subst, inl, inr}
+use Rattle.std.specs.Prelude.{slice_get, slice_set}
+use Rattle.std.specs.List.{AllZip, Contains}
+use Rattle.std.proofs.lemmas.List.Elements.{All-weaker}
+use Rattle.std.proofs.lemmas.Slice.Zip.{AllZip-long}
+use Rattle.archive_core.specs.Key.{key_bytes}
+use Rattle.archive_core.specs.Lookup.{AnswerRecord}
+use Rattle.archive_core.specs.declared.keys.SliceKey.{SliceKey}
+use Rattle.archive_core.specs.declared.lookup.Where.{Where}
+use Rattle.dwarf_source_frames.specs.Frames.{FrameRecord}
+use Rattle.text_inputs.specs.declared.frame.Frame.{Frame}
+use Rattle.command_common.specs.Inputs.{AreRead, Reader, readers, EachUnfailed, IsRefusal}
+use Rattle.command_common.specs.declared.faults.CommandFault.{CommandFault}
+use Rattle.command_common.specs.declared.faults.CommandFault.TheVariants.{Input, OutOfMemory}
+use Rattle.command_common.specs.declared.faults.InputName.{InputName}
+use Rattle.command_common.specs.declared.faults.Status.{Status}
+use Rattle.command_common.specs.declared.faults.Why.{Why}
+use Rattle.index_lookup.specs.Among.{EntryAt}
+use Rattle.index_lookup.specs.AmongAsked.{BlamesAmong, HasText, HaveTexts, IsUntoldAmong, each_known}
+use Rattle.index_lookup.specs.declared.fault.AnswerFault.{AnswerFault}
+use Rattle.index_lookup.specs.declared.fault.AnswerFault.TheVariants as answer
+use Rattle.command_index_queries.specs.Several.{AreRefusedLater, AreUnfailedTogether}
+use Rattle.command_index_queries.specs.Together.{AreAllKept, AreReadWith, IsKept}
+use Rattle.command_index_queries.proofs.Groups.{later_readers, read_earlier, unfailed_through}
+use Rattle.command_frames.specs.Asking.{AreGiven, AreRefusedAsking, AreUnread, AreUntold, IsAnsweredAt, IsAnsweredByTables}
+use Rattle.command_frames.specs.Asking.{IsChanged, IsLineless, IsTableRefused, IsUntoldUnder, IsUnreadTable}
+use Rattle.command_frames.specs.Frames.{AreToldAt}
+use Rattle.command_frames.specs.InnerAsking.{IsKeyFault, IsOfKey, IsUnreadBy, IsUntoldBy, NoneFailed, RefusesAll, command_fault}
+use Rattle.command_frames.specs.InnerPlaces.{AreAskedOf}
+use Rattle.command_frames.specs.InnerReplies.{PrintsFrames}
+use Rattle.command_frames.specs.InnerTold.{AreTold, IsRefusedAt}
+use Rattle.command_frames.specs.Refusals.{IsKeyRefused, IsRefusedBySlice, IsRefusedByTable, KeyRefusal}
+use Rattle.command_frames.specs.declared.places.AskedPlace.{AskedPlace}
+use Rattle.command_frames.specs.declared.told.KeyAnswers.{KeyAnswers}
+use Rattle.command_frames.proofs.Archives.{HaveBytesOf, bytes_kept, kept_then, same_bytes, slices_same, stale_same}
+use Rattle.command_frames.proofs.Followed.{followed}
+use Rattle.command_frames.proofs.Refused.{part_told}
+use Rattle.command_frames.proofs.Shown.{under_as}
+use Rattle.command_frames.proofs.States.{all_kept, fails_alone, none_failed_of, read_before, texts_of}
+
+-- after the indexes were read
+module _ {I P : Type 0} (left : I → Option (List ℕ)) (failures : I → ℕ) (whole : P → Option (List ℕ)) (failures_at : P → ℕ)
+    (old mid new : List I) (before seen after : List P) (all : List (List (List ℕ)))
+    (more : length new ≡ length mid) (more_at : length after ≡ length seen)
+    (read : AreRead (AreReadWith (readers left failures old mid) (readers whole failures_at before seen) all)
+    (EachUnfailed (readers left failures old mid) × EachUnfailed (readers whole failures_at before seen)))
+    (kept : AreAllKept left failures old mid × AreAllKept whole failures_at before seen) (lines slices : Bool) where
+  abbrev named : List (Reader I)
+  named = readers left failures old new
+
+  abbrev known : List (Reader P)
+  known = readers whole failures_at before after
+
+  abbrev later : List (Reader P)
+  later = readers whole failures_at seen after
+
+  long : length mid ≡ length old
+  long = AllZip-long (IsKept left failures) old mid kept.0
+
+  long_at : length seen ≡ length before
+  long_at = AllZip-long (IsKept whole failures_at) before seen kept.1
+
+  read_all : AreReadWith named known all
+  read_all =
+      read_earlier whole failures_at named before seen after all long_at (more_at ∙ long_at)
+      (read_before left failures (readers whole failures_at before seen) all old mid new long (more ∙ long) read.is)
+
+  counts_kept : each_known failures mid ≡ each_known failures old
+  counts_kept = (all_kept left failures old mid kept.0).1
+
+  -- the bytes that the indexes are given with are those that their tables were told of
+  given_texts : (texts : List (List ℕ)) → AreGiven named texts → HaveTexts left mid texts
+  given_texts texts given =
+      subst (λ (ds : List (Option (List ℕ))). AllZip HasText ds texts) (sym (all_kept left failures old mid kept.0).0)
+      (texts_of left failures old new texts (more ∙ long) given)
+
+  none_failed_named : NoneFailed failures mid new → EachUnfailed named
+  none_failed_named none = none_failed_of left failures old new (none ∙ counts_kept)
+
+  unfailed_known : EachUnfailed later → EachUnfailed known
+  unfailed_known each = unfailed_through whole failures_at before seen after long_at (more_at ∙ long_at) read.unfailed.1 each
+
+  pub unfailed_all : NoneFailed failures mid new × EachUnfailed later → AreUnfailedTogether named known
+  unfailed_all u = (none_failed_named u.0, unfailed_known u.1)
+
+  -- ---- a table is not told
+
+  changed_of : (answering : List EntryAt) (input number : ℕ) (at : InputName) (why : Why) → command_fault (answer.Damaged input number) ≡ Input at why
+      → ((texts : List (List ℕ)) → HaveTexts left mid texts
+      → IsUntoldAmong texts answering (answer.Damaged input number)) → EachUnfailed named
+      → IsChanged named answering at why
+  changed_of answering input number at why told says unfailed = record {
+    input = input;
+    number = number;
+    at_is = cc;
+    why_is = cc;
+    changed = λ texts given. says texts (given_texts texts given);
+    unfailed = unfailed;
+  }
+
+  lineless_of : (answering : List EntryAt) (input number : ℕ) (at : InputName) (why : Why)
+      → command_fault (answer.NoLines input number) ≡ Input at why → lines ≡ true
+      → ((texts : List (List ℕ)) → HaveTexts left mid texts
+      → IsUntoldAmong texts answering (answer.NoLines input number)) → EachUnfailed named
+      → IsLineless lines named answering at why
+  lineless_of answering input number at why told wanted says unfailed = record {
+    input = input;
+    number = number;
+    at_is = cc;
+    why_is = cc;
+    wanted = wanted;
+    lacks = λ texts given. says texts (given_texts texts given);
+    unfailed = unfailed;
+  }
+
+  unread_of : (answering : List EntryAt) (input offset : ℕ) (at : InputName) (why : Why) → command_fault (answer.Device input offset) ≡ Input at why
+      → BlamesAmong lines answering (each_known failures mid) (each_known failures new) (answer.Device input offset) → IsUnreadTable named answering at why
+  unread_of answering input offset at why told counts =
+      let failed = counts.1 in
+      record {
+        input = input;
+        offset = offset;
+        at_is = cc;
+        why_is = cc;
+        asked = counts.0;
+        failed = fails_alone left failures old new input failed.old failed.new
+            (ap (λ (ds : List ℕ). slice_get ds input) (sym counts_kept) ∙ failed.old_is) failed.failed
+            (failed.others ∙ ap (λ (ds : List ℕ). slice_set ds input failed.new) counts_kept);
+      }
+
+  fault_of : (wanted : Bool) (answering : List EntryAt) (fault : AnswerFault) (at : InputName) (why : Why)
+      → command_fault fault ≡ Input at why → RefusesAll wanted fault
+      → ((texts : List (List ℕ)) → HaveTexts left mid texts → IsUntoldAmong texts answering fault)
+      → BlamesAmong lines answering (each_known failures mid) (each_known failures new) fault → IsTableRefused lines wanted named answering at why
+  fault_of false answering (answer.Damaged input number) at why told refuses says counts =
+      inl (changed_of answering input number at why told says (none_failed_named counts))
+  fault_of false answering (answer.NoLines input number) at why told refuses says counts =
+      inr (inl (lineless_of answering input number at why told counts.0 says (none_failed_named counts.1)))
+  fault_of false answering (answer.Device input offset) at why told refuses says counts = inr (inr (unread_of answering input offset at why told counts))
+  fault_of false answering answer.OutOfMemory at why told refuses says counts = absurd (cc told)
+  fault_of true answering (answer.Damaged input number) at why told refuses says counts = absurd refuses
+  fault_of true answering (answer.NoLines input number) at why told refuses says counts = absurd refuses
+  fault_of true answering (answer.Device input offset) at why told refuses says counts = unread_of answering input offset at why told counts
+  fault_of true answering answer.OutOfMemory at why told refuses says counts = absurd (cc told)
+
+  -- a key that is refused alone, for a table
+  table_given : EachUnfailed named → (refusal : KeyRefusal)
+      → IsKeyFault (HaveTexts left mid) all lines (key_bytes refusal.key) refusal.at refusal.why → IsRefusedByTable lines named all refusal
+  table_given unfailed refusal r = record { answering = r.answering; are = r.are; untold = by r.fault r.told_as r.of_key r.says }
+    where
+      by : (fault : AnswerFault) → command_fault fault ≡ Input refusal.at refusal.why → IsOfKey lines fault
+          → ((texts : List (List ℕ)) → HaveTexts left mid texts → IsUntoldAmong texts r.answering fault)
+          → IsChanged named r.answering refusal.at refusal.why ⊎ IsLineless lines named r.answering refusal.at refusal.why
+      by (answer.Damaged input number) told of_key says = inl (changed_of r.answering input number refusal.at refusal.why told says unfailed)
+      by (answer.NoLines input number) told of_key says = inr (lineless_of r.answering input number refusal.at refusal.why told of_key says unfailed)
+      by (answer.Device input offset) told of_key says = absurd of_key
+      by answer.OutOfMemory told of_key says = absurd of_key
+
+  untold_named : (keys : List (List ℕ)) (at : InputName) (why : Why) → IsUntoldBy left failures lines slices keys all mid new at why
+      → IsUntoldUnder lines slices keys named all at why
+  untold_named keys at why r = record {
+    key = r.key;
+    key_is = r.key_is;
+    answering = r.answering;
+    are = r.are;
+    untold = fault_of slices r.answering r.fault at why r.told_as r.refuses r.says r.counts;
+  }
+
+  -- ---- what is told
+
+  same_known : HaveBytesOf (readers whole failures_at seen seen) known
+  same_known = same_bytes whole failures_at seen seen before after refl (more_at ∙ long_at) (sym (bytes_kept whole failures_at before seen kept.1))
+
+  said_given : (key : SliceKey) (place : Where) (told : AnswerRecord) (frames : List (List FrameRecord))
+      → IsAnsweredAt (HaveTexts left mid) (readers whole failures_at seen seen) all lines key place told frames
+      → IsAnsweredAt (AreGiven named) known all lines key place told frames
+  said_given key place told frames (inl is) =
+      let by : IsAnsweredByTables (AreGiven named) all lines key place told frames =
+      record { answer_is = λ texts given. is.answer_is texts (given_texts texts given); none_shown = is.none_shown } in
+      inl by
+  said_given key place told frames (inr is) =
+      inr (slices_same (readers whole failures_at seen seen) known all lines key place told frames same_known is)
+
+  abbrev IsOneRefused : SliceKey → InputName → Why → Type 0
+  IsOneRefused key at why = IsKeyRefused lines named known all (record { key = key; at = at; why = why })
+
+  refused_given : EachUnfailed named → EachUnfailed known → (key : SliceKey) (at : InputName) (why : Why)
+      → IsRefusedAt (HaveTexts left mid) (readers whole failures_at seen seen) all lines key at why → IsOneRefused key at why
+  refused_given unfailed unfailed_at key at why (inl is) = inl (table_given unfailed (record { key = key; at = at; why = why }) is)
+  refused_given unfailed unfailed_at key at why (inr is) =
+      let by : IsRefusedBySlice known all (record { key = key; at = at; why = why }) = record {
+        tied = is.0;
+        stale = stale_same (readers whole failures_at seen seen) known all (key_bytes key) at why same_known is.1;
+        unfailed = unfailed_at;
+      } in
+      inr by
+
+  pub frames_told : (keys : List SliceKey) (frames : List Frame) (asked : List AskedPlace) (told : List KeyAnswers) → AreAskedOf frames asked
+      → AreRead (AreTold (IsAnsweredAt (HaveTexts left mid) (readers whole failures_at seen seen) all lines)
+      (IsRefusedAt (HaveTexts left mid) (readers whole failures_at seen seen) all lines) slices asked told
+      × (each_known left new ≡ each_known left mid) × AreAllKept whole failures_at seen after)
+      (NoneFailed failures mid new × EachUnfailed later)
+      → (status : Status) (text : List ℕ) → PrintsFrames told slices all keys frames status text
+      → AreRead (AreToldAt lines slices named known keys frames status text) (AreUnfailedTogether named known)
+  frames_told keys frames asked told of r status text prints =
+      let unfailed = unfailed_all r.unfailed in
+      let are = r.is.0 in
+      let true_now = All-weaker _ _ (under_as (IsAnsweredAt (HaveTexts left mid) (readers whole failures_at seen seen) all lines)
+      (IsAnsweredAt (AreGiven named) known all lines) (IsRefusedAt (HaveTexts left mid) (readers whole failures_at seen seen) all lines)
+      IsOneRefused said_given (refused_given unfailed.0 unfailed.1) slices) told are.are_true in
+      let now : AreTold (IsAnsweredAt (AreGiven named) known all lines) IsOneRefused slices asked told =
+      record { order = are.order; of_asked = are.of_asked; whole = are.whole; are_true = true_now } in
+      let part = part_told slices now frames of status prints.answers prints.refused prints.shown prints.refused_is in
+      record {
+        is = record {
+          all = all;
+          read = read_all;
+          told = followed slices (IsAnsweredAt (AreGiven named) known all lines) (IsKeyRefused lines named known all) all keys frames
+              status prints.answers prints.refused text part prints.followed;
+        };
+        unfailed = unfailed;
+      }
+
+  -- ---- what is refused
+
+  pub frames_refused : (asked keys : List (List ℕ)) → ((key : List ℕ) → Contains asked key → Contains keys key) → (fault : CommandFault)
+      → IsRefusal (λ at why. (EachUnfailed later × IsUntoldBy left failures lines slices asked all mid new at why)
+      ⊎ (NoneFailed failures mid new × IsUnreadBy whole failures_at slices asked all seen after at why))
+      (NoneFailed failures mid new × EachUnfailed later) fault
+      → IsRefusal (AreRefusedAsking lines slices keys named known) (AreUnfailedTogether named known) fault
+  frames_refused asked keys among (Input at why) (inl (each, untold)) =
+      let u = untold_named asked at why untold in
+      let told : AreUntold lines slices keys named known at why = record {
+        all = all;
+        read = read_all;
+        unfailed = unfailed_known each;
+        untold = record { key = u.key; key_is = among u.key u.key_is; answering = u.answering; are = u.are; untold = u.untold };
+      } in
+      inr (inr told)
+  frames_refused asked keys among (Input at why) (inr (none, r)) =
+      let long_mid : length r.mid ≡ length seen = AllZip-long (IsKept whole failures_at) seen r.mid r.kept in
+      let later_refused : AreRefusedLater (r.key ∷ []) named known at why = record {
+        all = all;
+        read = read_all;
+        unfailed = none_failed_named none;
+        later = readers whole failures_at r.mid after;
+        are_later = later_readers whole failures_at before r.mid after (more_at ∙ sym long_mid)
+            (kept_then whole failures_at before seen r.mid kept.1 r.kept);
+        refused = r.refused;
+      } in
+      let told : AreUnread slices keys named known at why =
+      record { key = r.key; key_is = among r.key r.key_is; refused = later_refused; tied = r.tied; of_all = r.of_all } in
+      inr (inl told)
+  frames_refused asked keys among OutOfMemory r = unfailed_all r
+  frames_refused asked keys among fault r = absurd r

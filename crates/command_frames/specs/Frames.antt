@@ -1,0 +1,117 @@
+-- The reports of `frames` and `symbolicate` over archives by their indexes.
+use Rattle.std.specs.Prelude.{◌≡◌, ◌≢◌, ◌↔◌, ℕ, List, [], ◌++◌, Bool, true, false, Option, Some, None, All}
+use Rattle.std.specs.Prelude.{Contains, map}
+use Rattle.std.specs.List.{AllZip}
+use Rattle.std.specs.List.Sorted.{IsStrictlySortedBy}
+use Rattle.archive_core.specs.Key.{key_bytes}
+use Rattle.archive_core.specs.Lookup.{AnswerRecord, answer_view}
+use Rattle.archive_core.specs.declared.keys.SliceKey.{SliceKey}
+use Rattle.archive_core.specs.declared.lookup.Where.{Where}
+use Rattle.dwarf_source_frames.specs.Frames.{FrameRecord}
+use Rattle.command_queries.specs.Frames.{AskedOfFrames, prints_addresses, prints_frames}
+use Rattle.command_queries.specs.Symbolicate.{Answered, answers_status, answers_text, asked_of}
+use Rattle.text_inputs.specs.declared.frame.Frame.{Frame}
+use Rattle.text_reports.specs.Slices.{TellsSlices, slice_key_cmp}
+use Rattle.command_common.specs.Ends.{Query}
+use Rattle.command_common.specs.Inputs.{Reader, EachUntouched}
+use Rattle.command_common.specs.declared.faults.Status.{Status}
+use Rattle.command_common.specs.declared.faults.Status.TheVariants.{Refused}
+use Rattle.command_index_queries.specs.Several.{AreUnfailedTogether}
+use Rattle.command_index_queries.specs.Together.{AreReadWith}
+use Rattle.command_frames.specs.Asking.{AreGiven, AreRefusedAsking, IsAnsweredAt}
+use Rattle.command_frames.specs.Refusals.{AreRefusing, IsKeyRefused, KeyRefusal, Reply, refusal_lines}
+use Rattle.command_frames.specs.Refusals.{replies_status, replies_text}
+use Rattle.command_frames.specs.Slices.{IsAnsweringEntryRow}
+
+-- the keys of frames
+abbrev pub keys_of : List Frame → List (List ℕ)
+keys_of frames = map (λ frame. key_bytes frame.key) frames
+
+-- the row is that of the frame's address, and this is true of its answer
+abbrev pub IsFrameSaid : (SliceKey → Where → AnswerRecord → List (List FrameRecord) → Type 0)
+    → Frame → Answered → Type 0
+IsFrameSaid IsSaid frame row =
+    (row.address ≡ frame.address)
+    × IsSaid frame.key (asked_of frame.load frame.address) (answer_view row.answer) row.frames
+
+-- Frames are answered, one answer a frame and in their order, and this is true of each.
+pub record TellFrames (IsSaid : SliceKey → Where → AnswerRecord → List (List FrameRecord) → Type 0)
+    (frames : List Frame) (status : Status) (text : List ℕ) : Type 0 where
+  pub rows : List Answered
+  pub answered : AllZip (IsFrameSaid IsSaid) frames rows
+  pub status_is : status ≡ answers_status rows
+  pub text_is : text ≡ answers_text rows
+
+-- a frame of a key that is not refused has an answer, of which this is true, and else none
+abbrev pub IsAnsweredOrRefused : (SliceKey → Where → AnswerRecord → List (List FrameRecord) → Type 0)
+    → List KeyRefusal → Frame → Option Answered → Type 0
+IsAnsweredOrRefused IsSaid refusals frame None = AreRefusing refusals (key_bytes frame.key)
+IsAnsweredOrRefused IsSaid refusals frame (Some row) =
+    IsFrameSaid IsSaid frame row × (AreRefusing refusals (key_bytes frame.key) → ⊥)
+
+-- the reply is to the address of the frame
+abbrev pub IsFrameReplied : (SliceKey → Where → AnswerRecord → List (List FrameRecord) → Type 0) → List KeyRefusal
+    → Frame → Reply → Type 0
+IsFrameReplied IsSaid refusals frame reply =
+    (reply.address ≡ frame.address) × IsAnsweredOrRefused IsSaid refusals frame reply.answered
+
+-- Frames have replies, one a frame and in their order, and these keys of theirs are refused, by the bytes of the keys
+-- and each once, of each of which this is true. The status is `Refused` exactly if a key is.
+pub record TellFramesBesides (IsSaid : SliceKey → Where → AnswerRecord → List (List FrameRecord) → Type 0)
+    (IsRefused : KeyRefusal → Type 0) (frames : List Frame) (refusals : List KeyRefusal) (status : Status)
+    (text : List ℕ) : Type 0 where
+  pub replies : List Reply
+  pub replied : AllZip (IsFrameReplied IsSaid refusals) frames replies
+  pub ascending : IsStrictlySortedBy (λ a b. slice_key_cmp a.key b.key) refusals
+  pub of_frames : All (λ refusal. Contains (keys_of frames) (key_bytes refusal.key)) refusals
+  pub refused : All IsRefused refusals
+  pub status_is : status ≡ replies_status replies
+  pub status_refused : (status ≡ Refused) ↔ (refusals ≢ [])
+  pub text_is : text ≡ replies_text replies
+
+-- The same, and after it the lines of the slices that answer under these keys, as entries have them, and of the keys
+-- that are refused.
+pub record TellFramesAndSlices (IsSaid : SliceKey → Where → AnswerRecord → List (List FrameRecord) → Type 0)
+    (IsRefused : KeyRefusal → Type 0) (all : List (List (List ℕ))) (keys : List SliceKey) (frames : List Frame)
+    (status : Status) (text : List ℕ) : Type 0 where
+  pub refusals : List KeyRefusal
+  pub answers : List ℕ
+  pub told : TellFramesBesides IsSaid IsRefused frames refusals status answers
+  pub slices : List ℕ
+  pub sliced : TellsSlices (IsAnsweringEntryRow all keys) keys slices
+  pub text_is : text ≡ answers ++ (slices ++ refusal_lines refusals)
+
+-- frames are answered, and if slices are wanted also these and the keys that are refused
+abbrev pub TellFramesWith : Bool → (SliceKey → Where → AnswerRecord → List (List FrameRecord) → Type 0)
+    → (KeyRefusal → Type 0) → List (List (List ℕ)) → List SliceKey → List Frame → Status → List ℕ → Type 0
+TellFramesWith false IsSaid IsRefused all keys frames status text = TellFrames IsSaid frames status text
+TellFramesWith true IsSaid IsRefused all keys frames status text =
+    TellFramesAndSlices IsSaid IsRefused all keys frames status text
+
+-- The indexes were read, and tell this of the frames, and if slices are wanted which answer under these keys. Under
+-- each key tables answer, or slices if two are tied; and a key is refused alone only if slices are wanted.
+pub record AreToldAt {I P : Type 0} (lines slices : Bool) (indexes : List (Reader I)) (archives : List (Reader P))
+    (keys : List SliceKey) (frames : List Frame) (status : Status) (text : List ℕ) : Type 0 where
+  pub all : List (List (List ℕ))
+  pub read : AreReadWith indexes archives all
+  pub told : TellFramesWith slices (IsAnsweredAt (AreGiven indexes) archives all lines)
+      (IsKeyRefused lines indexes archives all) all keys frames status text
+
+-- what is asked of these archives for frames: what their indexes tell
+abbrev pub frames_by_indexes : {I P : Type 0} → Bool → Bool → List (Reader I) → List (Reader P) → AskedOfFrames
+frames_by_indexes lines slices indexes archives = record {
+  Tells = AreToldAt lines slices indexes archives;
+  Refuses = λ frames. AreRefusedAsking lines slices (keys_of frames) indexes archives;
+  Untouched = EachUntouched indexes × EachUntouched archives;
+  Unfailed = AreUnfailedTogether indexes archives;
+}
+
+-- `frames`, over FRAMES and these archives
+abbrev pub frames_at : {Q I P : Type 0} → Bool → Bool → Reader Q → List (Reader I) → List (Reader P) → Query
+frames_at lines slices input indexes archives = prints_frames input (frames_by_indexes lines slices indexes archives)
+
+-- `symbolicate`, over these archives
+abbrev pub symbolicate_at : {I P : Type 0} → List (Reader I) → List (Reader P) → SliceKey → Option ℕ → Bool → Bool
+    → List ℕ → Query
+symbolicate_at indexes archives key load lines slices addresses =
+    prints_addresses (frames_by_indexes lines slices indexes archives) key load addresses

@@ -1,0 +1,110 @@
+-- What comes of asking by tables, and of asking by slices if two are tied: the words of inner functions. No contract of
+-- a public one has them.
+use Rattle.std.specs.Prelude.{◌≡◌, ◌⊎◌, ◌&&◌, ℕ, List, [], ◌∷◌, Bool, true, false, Option, Result, Contains}
+use Rattle.index_format.specs.declared.index_fault.IndexFaultKind.TheVariants.{Device as DeviceKind}
+use Rattle.index_lookup.specs.Among.{AreAnsweringAmong, AreTied, EntryAt}
+use Rattle.index_lookup.specs.AmongAsked.{BlamesAmong, HaveTexts, IsUntoldAmong, each_known}
+use Rattle.index_lookup.specs.declared.fault.AnswerFault.{AnswerFault}
+use Rattle.index_lookup.specs.declared.fault.AnswerFault.TheVariants.{Damaged, Device, NoLines, OutOfMemory}
+use Rattle.command_common.specs.Inputs.{EachUnfailed, ReadsInputs, readers}
+use Rattle.command_common.specs.declared.faults.CommandFault.{CommandFault}
+use Rattle.command_common.specs.declared.faults.CommandFault.TheVariants as command
+use Rattle.command_common.specs.declared.faults.InputName.{InputName}
+use Rattle.command_common.specs.declared.faults.InputName.TheVariants.{Index}
+use Rattle.command_common.specs.declared.faults.Why.{Why}
+use Rattle.command_common.specs.declared.faults.Why.TheVariants as why
+use Rattle.command_index_queries.specs.Together.{AreAllKept, IsFirstRefusedAtPlaces}
+use Rattle.command_frames.specs.Asking.{is_stale_entry}
+
+-- how a command tells a fault of answers
+abbrev pub command_fault : AnswerFault → CommandFault
+command_fault (Damaged input entry) = command.Input (Index input) (why.Damaged entry)
+command_fault (NoLines input entry) = command.Input (Index input) (why.NoLines entry)
+command_fault (Device input offset) = command.Input (Index input)
+    (why.Index (record { kind = DeviceKind; offset = offset }))
+command_fault OutOfMemory = command.OutOfMemory
+
+-- a fault of a key alone: a table was changed, or has no lines, which are wanted
+abbrev pub IsOfKey : Bool → AnswerFault → Type 0
+IsOfKey lines (Damaged input entry) = Unit {0}
+IsOfKey lines (NoLines input entry) = lines ≡ true
+IsOfKey lines (Device input offset) = ⊥
+IsOfKey lines OutOfMemory = ⊥
+
+-- a fault refuses all keys; if slices are wanted none of a key alone does
+abbrev pub RefusesAll : Bool → AnswerFault → Type 0
+RefusesAll false fault = Unit {0}
+RefusesAll true (Damaged input entry) = ⊥
+RefusesAll true (NoLines input entry) = ⊥
+RefusesAll true (Device input offset) = Unit {0}
+RefusesAll true OutOfMemory = Unit {0}
+
+-- Under these bytes a table is not told, for a fault of the key alone that a command tells so.
+pub record IsKeyFault (AreTexts : List (List ℕ) → Type 0) (all : List (List (List ℕ))) (lines : Bool) (key : List ℕ)
+    (at : InputName) (why : Why) : Type 0 where
+  pub answering : List EntryAt
+  pub are : AreAnsweringAmong key all answering
+  pub fault : AnswerFault
+  pub told_as : command_fault fault ≡ command.Input at why
+  pub of_key : IsOfKey lines fault
+  pub says : (texts : List (List ℕ)) → AreTexts texts → IsUntoldAmong texts answering fault
+
+-- Under one of these keys a table is not told, for a fault that a command tells so.
+pub record IsUntoldBy {D : Type 0} (whole : D → Option (List ℕ)) (failures : D → ℕ) (lines slices : Bool)
+    (keys : List (List ℕ)) (all : List (List (List ℕ))) (old new : List D) (at : InputName)
+    (why : Why) : Type 0 where
+  pub key : List ℕ
+  pub key_is : Contains keys key
+  pub answering : List EntryAt
+  pub are : AreAnsweringAmong key all answering
+  pub fault : AnswerFault
+  pub told_as : command_fault fault ≡ command.Input at why
+  pub refuses : RefusesAll slices fault
+  pub says : (texts : List (List ℕ)) → HaveTexts whole old texts → IsUntoldAmong texts answering fault
+  pub counts : BlamesAmong lines answering (each_known failures old) (each_known failures new) fault
+
+-- no device failed
+abbrev pub NoneFailed : {D : Type 0} → (D → ℕ) → List D → List D → Type 0
+NoneFailed failures old new = each_known failures new ≡ each_known failures old
+
+-- What came of asking the tables under these keys: something of which this is true, and each device has its bytes; or a
+-- table is not told.
+abbrev pub AsksTables : {D T : Type 0} → (D → Option (List ℕ)) → (D → ℕ) → Bool → Bool → List (List ℕ)
+    → List (List (List ℕ)) → List D → List D → Result T CommandFault
+    → (T → Type 0) → Type 0
+AsksTables whole failures lines slices keys all old new result IsTrue =
+    ReadsInputs result (λ value. IsTrue value × (each_known whole new ≡ each_known whole old))
+    (IsUntoldBy whole failures lines slices keys all old new) (NoneFailed failures old new)
+
+-- Under one of these keys two slices are tied, and of the archives, which were kept up to then, one is refused.
+pub record IsUnreadBy {P : Type 0} (whole : P → Option (List ℕ)) (failures : P → ℕ) (slices : Bool)
+    (keys : List (List ℕ)) (all : List (List (List ℕ))) (old new : List P) (at : InputName) (why : Why) : Type 0 where
+  pub key : List ℕ
+  pub key_is : Contains keys key
+  pub tied : AreTied key all
+  pub mid : List P
+  pub kept : AreAllKept whole failures old mid
+  pub refused : IsFirstRefusedAtPlaces (key ∷ []) (readers whole failures mid new) all at why
+  pub of_all : (slices && is_stale_entry why) ≡ false
+
+-- What came of asking the slices under these keys: something of which this is true, and each archive is kept; or an
+-- archive is refused.
+abbrev pub AsksSlices : {P T : Type 0} → (P → Option (List ℕ)) → (P → ℕ) → Bool → List (List ℕ)
+    → List (List (List ℕ)) → List P → List P → Result T CommandFault → (T → Type 0) → Type 0
+AsksSlices whole failures slices keys all old new result IsTrue =
+    ReadsInputs result (λ value. IsTrue value × AreAllKept whole failures old new)
+    (IsUnreadBy whole failures slices keys all old new) (EachUnfailed (readers whole failures old new))
+
+-- What came of asking under these keys: something of which this is true, each index has its bytes, and each archive is
+-- kept; or a table is not told, or an archive is refused.
+abbrev pub AsksKeys : {D P T : Type 0} → (D → Option (List ℕ)) → (D → ℕ) → (P → Option (List ℕ)) → (P → ℕ) → Bool
+    → Bool → List (List ℕ) → List (List (List ℕ)) → List D → List D → List P → List P → Result T CommandFault
+    → (T → Type 0) → Type 0
+AsksKeys whole failures whole_at failures_at lines slices keys all old new old_at new_at result IsTrue =
+    ReadsInputs result
+    (λ value. IsTrue value × (each_known whole new ≡ each_known whole old)
+    × AreAllKept whole_at failures_at old_at new_at)
+    (λ at why. (EachUnfailed (readers whole_at failures_at old_at new_at)
+    × IsUntoldBy whole failures lines slices keys all old new at why)
+    ⊎ (NoneFailed failures old new × IsUnreadBy whole_at failures_at slices keys all old_at new_at at why))
+    (NoneFailed failures old new × EachUnfailed (readers whole_at failures_at old_at new_at))

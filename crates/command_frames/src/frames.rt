@@ -1,0 +1,112 @@
+//! `frames FRAMES [--lines] [--slices] ARCHIVE...`, over any evidence; and the answers of indexes to frames.
+ghost use Rattle.std.specs.Prelude.{◌≡◌, IfOk, length};
+ghost use Rattle.command_common.specs.Ends.{EndsReport};
+ghost use Rattle.command_common.specs.Inputs.{ReadsInputs, reader, readers};
+ghost use Rattle.command_common.specs.Outputs.{writer};
+ghost use Rattle.command_queries.specs.Frames.{prints_frames};
+ghost use Rattle.command_index_queries.specs.Several.{AreUnfailedTogether};
+ghost use Rattle.command_frames.specs.Asking.{AreRefusedAsking};
+ghost use Rattle.command_frames.specs.Frames.{AreToldAt, keys_of};
+ghost use Rattle.command_frames.specs.InnerReplies.{PrintsFrames};
+ghost use Rattle.command_frames.specs.InnerTold.{AreInOrder, HaveToldEach};
+
+use crate::evidence::FrameEvidence;
+use crate::places::asked_places;
+use crate::replies::{answer_frames_by_keys, refused_lines};
+use crate::slices::with_slices;
+use crate::told::{KeyAnswers, tell_keys};
+use archive_core::{Archive, SliceKey};
+use byte_device::{Placed, Sink, Source};
+use command_common::{CommandFault, Status, read_frames_input, write_report_bytes};
+use command_index_queries::read_indexes;
+use command_queries::frame_keys;
+use index_format::Index;
+use memory::{Heap, NoMemory};
+use text_inputs::Frame;
+
+/// The lines of the replies to the frames, and after them, if they are wanted, those of the slices that answer under
+/// these keys, and of the keys that are refused; with how a command ends that prints them.
+fn print_frames(
+    heap: &Heap,
+    slices: bool,
+    keys: &[SliceKey],
+    read: &[Index],
+    told: &[KeyAnswers],
+    frames: &[Frame],
+) -> Result<(Status, Vec<u8, Heap>), NoMemory>
+    requires order { AreInOrder told.now }
+    requires there { HaveToldEach told.now frames.now }
+    ensures { IfOk result (λ shown.
+        PrintsFrames told.now slices read.now keys.now frames.now shown.0 shown.1.items) }
+{
+    let (status, answers) = answer_frames_by_keys(heap.share(), told, frames)?;
+    let refused = refused_lines(heap.share(), told)?;
+    let text = with_slices(heap, slices, keys, read, answers.into_bytes(), &refused)?;
+    Ok((status, text))
+}
+
+/// The lines that a command prints of the frames, with how it ends that prints them: what the indexes tell of them key
+/// by key, in the order of the bytes of the keys, and if slices are wanted which answer under these keys.
+///
+/// The indexes are read, and compared with the lengths of their archives. Then the keys are answered one by one: by
+/// tables, page by page, of which those under one key are open at a time; or, if two slices of one length answer under
+/// the key in two archives, by the slices that the indexes name under this key alone, which are read at their places,
+/// tested and hashed. The lines of the slices are after that, made from the entries of the indexes.
+///
+/// With `slices` a key whose table was changed, or has no lines, or of whose slices one that is read was changed, is
+/// refused alone: its frames have a mark in place of an answer, a line after all others names the key and the fault, and
+/// the status is `Refused`.
+pub(crate) fn tell_frames<A: Archive + Drop, I: Placed, P: Placed>(
+    heap: &Heap,
+    lines: bool,
+    slices: bool,
+    keys: &[SliceKey],
+    frames: &[Frame],
+    indexes: &mut [I],
+    archives: &mut [P],
+) -> Result<(Status, Vec<u8, Heap>), CommandFault>
+    requires { length indexes.old ≡ length archives.old }
+    ensures { let named = readers I.whole I.failures indexes.old indexes.new in
+        let known = readers P.whole P.failures archives.old archives.new in
+        ReadsInputs result
+        (λ told. AreToldAt lines slices named known keys.now frames.now told.0 told.1.items)
+        (AreRefusedAsking lines slices (keys_of frames.now) named known) (AreUnfailedTogether named known) }
+{
+    let read = read_indexes(heap, indexes, archives)?;
+    let asked = asked_places(heap.share(), frames)?;
+    let told = tell_keys::<A, I, P>(heap, &read, indexes, archives, lines, slices, &asked)?;
+    let shown = print_frames(heap, slices, keys, &read, &told, frames)?;
+    Ok(shown)
+}
+
+/// Writes for each frame of FRAMES what `symbolicate` writes for its address to the report, in the order of the lines.
+/// FRAMES is read to its end first, and then the evidence is asked. Where FRAMES has no frame the inputs are read and
+/// tested all the same. If `lines`, what each slice answers is followed by the source frames of the address in it. If
+/// `slices`, the lines of the slices that answer under the UUIDs of the frames follow, and of the keys under which none
+/// does.
+///
+/// The status is `Done` where each answer is one symbol, `Refused` where a key is refused alone, and else `Partial`.
+///
+/// # Errors
+///
+/// `Input` for FRAMES, or for the first other input that is refused; `Report` where the report failed; `OutOfMemory`.
+pub fn run_frames<A: Archive + Drop, C: Source, E: FrameEvidence, P: Sink>(
+    heap: Heap,
+    lines: bool,
+    slices: bool,
+    crash: &mut C,
+    evidence: &mut E,
+    report: &mut P,
+) -> Result<Status, CommandFault>
+    requires { E.can_find evidence.old }
+    ensures keeps { E.keeps evidence.old evidence.new }
+    ensures ends { EndsReport
+        (prints_frames (reader C.left C.failures crash.old crash.new)
+        (E.answered evidence.old evidence.new lines slices))
+        (writer P.held P.failures report.old report.new) result }
+{
+    let frames = read_frames_input(heap.share(), crash)?;
+    let keys = frame_keys(heap.share(), &frames)?;
+    let (status, text) = evidence.answer::<A>(&heap, lines, slices, &keys, &frames)?;
+    write_report_bytes(status, &text, report)
+}

@@ -1,0 +1,130 @@
+//! The lines of what is told of frames, and of the keys that are refused.
+
+ghost use Rattle.std.specs.Prelude.{◌≡◌, ◌++◌, IfOk, OnOk, string_bytes};
+ghost use Rattle.std.specs.Option.{option_to_list};
+ghost use Rattle.archive_core.specs.Key.{key_bytes};
+ghost use Rattle.command_queries.specs.Symbolicate.{asked_of};
+ghost use Rattle.command_frames.specs.InnerTold.{AreInOrder, HasNumber, HasTold, HaveToldEach, IsPrinted};
+ghost use Rattle.command_frames.specs.InnerTold.{ShowsFrames, StandsAt, refusal_in, refusals_in, status_with};
+ghost use Rattle.command_frames.specs.Refusals.{refusal_lines};
+
+use crate::places::{AskedPlace, compare_places};
+use crate::tables::KeyTold;
+use crate::told::KeyAnswers;
+use archive_core::{SliceKey, compare_keys};
+use command_common::{CommandFault, Status};
+use command_queries::whole_key;
+use memory::{Heap, NoMemory};
+use text_inputs::Frame;
+use text_reports::Text;
+use text_values::Address;
+
+/// Where what is told of a frame stands: under its key, and the number of its place there.
+fn told_at<'t>(told: &'t [KeyAnswers], frame: &Frame) -> (&'t KeyAnswers, usize)
+    requires order { AreInOrder told.now }
+    requires there { HasTold told.now (key_bytes frame.now.key) (asked_of frame.now.load frame.now.address) }
+    ensures { StandsAt told.now frame.now.key (asked_of frame.now.load frame.now.address) result.0.now result.1 }
+{
+    let asked = AskedPlace::of(frame);
+    let _own = whole_key(frame.key);
+    let Ok(key) = told.binary_search_by(|one| compare_keys(&one.key, &asked.key)) else {
+        unreachable!()
+    };
+    let Ok(number) = told[key]
+        .places
+        .binary_search_by(|place| compare_places(*place, asked.place))
+    else {
+        unreachable!()
+    };
+    let one = &told[key];
+    let _other = whole_key(one.key);
+    (one, number)
+}
+
+/// How a command ends that ends so for one frame and so for another.
+fn status_with(status: Status, other: Status) -> Status
+    ensures { result ≡ status_with status other }
+{
+    match status {
+        Status::Done => other,
+        Status::Partial => match other {
+            Status::Done => Status::Partial,
+            Status::Partial => Status::Partial,
+            Status::Refused => Status::Refused,
+        },
+        Status::Refused => Status::Refused,
+    }
+}
+
+/// Writes the reply of this number to an address: an answer, or a mark if the key is refused. Gives how a command ends
+/// that printed it.
+fn push_reply(
+    text: &mut String<Heap>,
+    status: Status,
+    address: u64,
+    told: &KeyTold,
+    number: usize,
+) -> Result<Status, NoMemory>
+    requires { HasNumber told.now number }
+    ensures { IfOk result (λ after. IsPrinted told.now address number status after (string_bytes text.old)
+        (string_bytes text.new)) }
+{
+    match told {
+        KeyTold::Told(answers) => {
+            let answer = &answers[number];
+            text.push_str(&answer.text)?;
+            Ok(status_with(status, answer.status))
+        }
+        KeyTold::Refused(_, _) => {
+            let address = Address(address);
+            writeln!(text, "{address} !")?;
+            Ok(status_with(status, Status::Refused))
+        }
+    }
+}
+
+/// The lines of the replies to frames, in their order, with how a command ends that prints them.
+pub(crate) fn answer_frames_by_keys(
+    heap: Heap,
+    told: &[KeyAnswers],
+    frames: &[Frame],
+) -> Result<(Status, String<Heap>), NoMemory>
+    requires order { AreInOrder told.now }
+    requires there { HaveToldEach told.now frames.now }
+    ensures { IfOk result (λ shown. ShowsFrames told.now frames.now shown.0 (string_bytes shown.1)) }
+{
+    let mut status = Status::Done;
+    let mut text = String::new(heap);
+    'frames: for frame in frames {
+        let (one, number) = told_at(told, frame);
+        status = push_reply(&mut text, status, frame.address, &one.told, number)?;
+    }
+    Ok((status, text))
+}
+
+/// Writes the line of a key that is refused.
+fn push_refusal(text: &mut String<Heap>, key: SliceKey, told: &KeyTold) -> Result<(), NoMemory>
+    ensures { OnOk result (string_bytes text.new ≡ string_bytes text.old
+        ++ refusal_lines (option_to_list (refusal_in key told.now))) }
+{
+    match told {
+        KeyTold::Told(_) => Ok(()),
+        KeyTold::Refused(at, why) => {
+            let key = Text(key);
+            let fault = CommandFault::Input(*at, *why);
+            writeln!(text, "{key} refused {fault}")?;
+            Ok(())
+        }
+    }
+}
+
+/// The lines of the keys that are refused, in their order.
+pub(crate) fn refused_lines(heap: Heap, told: &[KeyAnswers]) -> Result<String<Heap>, NoMemory>
+    ensures { IfOk result (λ text. string_bytes text ≡ refusal_lines (refusals_in told.now)) }
+{
+    let mut text = String::new(heap);
+    'keys: for one in told {
+        push_refusal(&mut text, one.key, &one.told)?;
+    }
+    Ok(text)
+}

@@ -1,0 +1,185 @@
+//! The answers of the tables of indexes under a key, each with its lines.
+
+ghost use Rattle.std.specs.Prelude.{◌≡◌, ◌∷◌, ◌++◌, [], IfOk, MatchOption, OnOk, length, map, string_bytes};
+ghost use Rattle.std.specs.List.{AllZip};
+ghost use Rattle.archive_core.specs.Key.{key_bytes};
+ghost use Rattle.text_reports.specs.Answers.{answer_lines};
+ghost use Rattle.text_reports.specs.FrameLists.{lists_view};
+ghost use Rattle.command_queries.specs.Places.{IsPlaceTold};
+ghost use Rattle.index_lookup.specs.Among.{AreTied};
+ghost use Rattle.index_lookup.specs.AmongAsked.{HaveTexts};
+ghost use Rattle.index_lookup.specs.Views.{borrowed_in};
+ghost use Rattle.command_frames.specs.Asking.{IsAnsweredByTables};
+ghost use Rattle.command_frames.specs.InnerAsking.{AsksTables, IsKeyFault, command_fault};
+ghost use Rattle.command_frames.specs.InnerTold.{IsAnswerAt, IsAnswerIn, IsKeyTold, shown_at, told_fault};
+
+use archive_core::{Answer, SliceKey, Where};
+use byte_device::Placed;
+use command_common::{CommandFault, InputName, Status, Why};
+use command_queries::{PlaceAnswer, address_in, status_after};
+use dwarf_source_frames::Frame;
+use index_format::{Index, IndexFault, IndexFaultKind};
+use index_lookup::laws::each_told;
+use index_lookup::{AnswerFault, Answers, answer_among, answering_among};
+use memory::{Heap, NoMemory};
+use text_reports::push_answer;
+
+/// A fault of asking tables, as a command tells it.
+fn refusal(fault: AnswerFault) -> CommandFault
+    ensures { result ≡ command_fault fault }
+{
+    match fault {
+        AnswerFault::Damaged { input, entry } => {
+            CommandFault::Input(InputName::Index(input), Why::Damaged(entry))
+        }
+        AnswerFault::NoLines { input, entry } => {
+            CommandFault::Input(InputName::Index(input), Why::NoLines(entry))
+        }
+        AnswerFault::Device { input, offset } => {
+            let kind = IndexFaultKind::Device;
+            CommandFault::Input(
+                InputName::Index(input),
+                Why::Index(IndexFault { kind, offset }),
+            )
+        }
+        AnswerFault::OutOfMemory => CommandFault::OutOfMemory,
+    }
+}
+
+/// What came of asking under a key.
+#[derive(Drop)]
+pub(crate) enum KeyTold {
+    /// The answers to the places that were asked for, in their order.
+    Told(Vec<PlaceAnswer, Heap>),
+    /// The key is refused: a table was changed, or has no lines; or a slice was changed.
+    Refused(InputName, Why),
+}
+
+/// What comes of a fault of asking tables. If slices are wanted, a fault of the key alone refuses the key.
+fn told_fault(slices: bool, fault: AnswerFault) -> Result<Option<KeyTold>, CommandFault>
+    ensures { result ≡ told_fault slices fault }
+{
+    if !slices {
+        return Err(refusal(fault));
+    }
+    match fault {
+        AnswerFault::Damaged { input, entry } => Ok(Some(KeyTold::Refused(
+            InputName::Index(input),
+            Why::Damaged(entry),
+        ))),
+        AnswerFault::NoLines { input, entry } => Ok(Some(KeyTold::Refused(
+            InputName::Index(input),
+            Why::NoLines(entry),
+        ))),
+        AnswerFault::Device { input, offset } => Err(refusal(AnswerFault::Device {
+            input,
+            offset,
+        })),
+        AnswerFault::OutOfMemory => Err(CommandFault::OutOfMemory),
+    }
+}
+
+/// Lists of frames, borrowed.
+fn borrowed_lists<'l, 'f>(
+    heap: Heap,
+    lists: &'l [Vec<Frame<'f>, Heap>],
+) -> Result<Vec<&'l [Frame<'f>], Heap>, NoMemory>
+    ensures { IfOk result (λ borrowed. lists_view borrowed.items ≡ map borrowed_in lists.now) }
+{
+    let mut borrowed = Vec::with_capacity(heap, lists.len())?;
+    'lists: for list in lists {
+        borrowed.push(list.as_slice())?;
+    }
+    Ok(borrowed)
+}
+
+/// Writes an answer to an address, which stands at this number of what is told, and if lines are wanted its frames.
+fn push_told(
+    heap: &Heap,
+    text: &mut String<Heap>,
+    address: u64,
+    answer: &Answer<'_>,
+    answers: &Answers,
+    lines: bool,
+    number: usize,
+) -> Result<(), NoMemory>
+    ensures { OnOk result (string_bytes text.new ≡ string_bytes text.old
+        ++ answer_lines address answer.now (shown_at lines answers.now number)) }
+{
+    let lists = answers.frames(heap, lines, number)?;
+    let borrowed = borrowed_lists(heap.share(), &lists)?;
+    push_answer(heap, text, address, answer, &borrowed)
+}
+
+/// The answer of this number to a place, with its lines.
+fn table_answer(
+    heap: &Heap,
+    answers: &Answers,
+    lines: bool,
+    place: Where,
+    number: usize,
+) -> Result<PlaceAnswer, NoMemory>
+    ensures { IfOk result (λ told. IsPlaceTold (IsAnswerAt answers.now lines number) place told) }
+{
+    let answer = answers.answer(heap.share(), number)?;
+    let mut text = String::new(heap.share());
+    push_told(
+        heap,
+        &mut text,
+        address_in(place),
+        &answer,
+        answers,
+        lines,
+        number,
+    )?;
+    let status = status_after(Status::Done, &answer);
+    Ok(PlaceAnswer { status, text })
+}
+
+/// The answers to the places that were asked for, with their lines.
+fn table_answers(
+    heap: &Heap,
+    answers: &Answers,
+    lines: bool,
+    places: &[Where],
+) -> Result<Vec<PlaceAnswer, Heap>, NoMemory>
+    ensures { IfOk result (λ told.
+        AllZip (IsPlaceTold (IsAnswerIn answers.now lines places.now)) places.now told.items) }
+{
+    let mut told = Vec::with_capacity(heap.share(), places.len())?;
+    'places: for (number, place) in places.iter().enumerate() {
+        told.push(table_answer(heap, answers, lines, *place, number)?)?;
+    }
+    Ok(told)
+}
+
+/// What the tables of indexes that were read tell of places under a key, and if lines are wanted their frames; or none,
+/// if of two slices in two archives no entry says which comes first. If slices are wanted, a table that was changed, or
+/// has no lines, refuses the key alone.
+pub(crate) fn tell_by_tables<I: Placed>(
+    heap: &Heap,
+    read: &[Index],
+    indexes: &mut [I],
+    key: &SliceKey,
+    lines: bool,
+    slices: bool,
+    places: &[Where],
+) -> Result<Option<KeyTold>, CommandFault>
+    requires { length read.now ≡ length indexes.old }
+    ensures { AsksTables I.whole I.failures lines slices (key_bytes key.now ∷ []) read.now indexes.old indexes.new
+        result (λ told. MatchOption told (AreTied (key_bytes key.now) read.now)
+        (IsKeyTold (IsAnsweredByTables (HaveTexts I.whole indexes.old) read.now lines key.now)
+        (IsKeyFault (HaveTexts I.whole indexes.old) read.now lines (key_bytes key.now)) slices places.now)) }
+{
+    each_told();
+    let Some(answering) = answering_among(heap, key, read)? else {
+        return Ok(None);
+    };
+    match answer_among(heap, indexes, &answering, lines, places) {
+        Ok(answers) => {
+            let told = table_answers(heap, &answers, lines, places)?;
+            Ok(Some(KeyTold::Told(told)))
+        }
+        Err(fault) => told_fault(slices, fault),
+    }
+}

@@ -1,0 +1,74 @@
+//! The answers of the slices that indexes name under a key, where two of these are tied.
+
+ghost use Rattle.std.specs.Prelude.{◌≡◌, ◌∷◌, [], length};
+ghost use Rattle.archive_core.specs.Key.{key_bytes};
+ghost use Rattle.command_common.specs.Inputs.{readers};
+ghost use Rattle.index_lookup.specs.Among.{AreTied};
+ghost use Rattle.command_frames.specs.Asking.{IsAnsweredBySlices, is_stale_entry};
+ghost use Rattle.command_frames.specs.InnerAsking.{AsksSlices};
+ghost use Rattle.command_frames.specs.InnerTold.{IsKeyStale, IsKeyTold, told_unread};
+
+use crate::tables::KeyTold;
+use archive_core::{Archive, SliceKey, Where};
+use byte_device::Placed;
+use command_common::{CommandFault, Why};
+use command_index_queries::{KeyPrefix, read_prefixes};
+use command_queries::answer_places;
+use index_format::Index;
+use memory::Heap;
+
+/// Whether an index is stale at an entry.
+fn is_stale_entry(why: Why) -> bool
+    ensures { result ≡ is_stale_entry why }
+{
+    match why {
+        Why::Stale(entry) => entry.is_some(),
+        _ => false,
+    }
+}
+
+/// What comes of a fault of reading slices. If slices are wanted, one that changed refuses the key alone.
+fn told_unread(slices: bool, fault: CommandFault) -> Result<KeyTold, CommandFault>
+    ensures { result ≡ told_unread slices fault }
+{
+    match fault {
+        CommandFault::Input(at, why) => {
+            if slices && is_stale_entry(why) {
+                Ok(KeyTold::Refused(at, why))
+            } else {
+                Err(CommandFault::Input(at, why))
+            }
+        }
+        CommandFault::Output(written) => Err(CommandFault::Output(written)),
+        CommandFault::Report(written) => Err(CommandFault::Report(written)),
+        CommandFault::OutOfMemory => Err(CommandFault::OutOfMemory),
+    }
+}
+
+/// What the slices that indexes name under a key tell of places, and if lines are wanted their frames. No slice of
+/// another key is read. If slices are wanted, one that changed refuses the key alone; an archive of another length, and
+/// a device, refuse all.
+pub(crate) fn tell_by_slices<A: Archive + Drop, P: Placed>(
+    heap: &Heap,
+    read: &[Index],
+    archives: &mut [P],
+    key: &SliceKey,
+    lines: bool,
+    slices: bool,
+    places: &[Where],
+) -> Result<KeyTold, CommandFault>
+    requires many { length read.now ≡ length archives.old }
+    requires tied { AreTied (key_bytes key.now) read.now }
+    ensures { let known = readers P.whole P.failures archives.old archives.old in
+        AsksSlices P.whole P.failures slices (key_bytes key.now ∷ []) read.now archives.old archives.new result
+        (IsKeyTold (IsAnsweredBySlices known read.now lines key.now) (IsKeyStale known read.now key.now) slices
+        places.now) }
+{
+    match read_prefixes::<A, P>(heap, &[KeyPrefix::Key(*key)], read, archives) {
+        Ok(kept) => {
+            let told = answer_places(heap, &kept, key, lines, places)?;
+            Ok(KeyTold::Told(told))
+        }
+        Err(fault) => told_unread(slices, fault),
+    }
+}
