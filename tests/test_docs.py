@@ -136,11 +136,22 @@ class Definitions(unittest.TestCase):
 
 
 class Crates(unittest.TestCase):
-    """ARCHITECTURE has the layers of crates.txt, and a line for each crate, by families, in its order."""
+    """ARCHITECTURE has a line for each crate of crates.txt, by families, in its order; and its layers can be drawn."""
 
     def test_layers(self) -> None:
-        came = call([TOP / "docs/draw-layers", "--check"])
-        self.assertEqual(came.status, 0, came.out + came.errors)
+        """Each crate is there once, and uses those to its right, which are above it."""
+        came = call([TOP / "docs/draw-layers"])
+        self.assertEqual((came.status, came.errors), (0, b""))
+        uses = dict(re.findall(r"^(\w+):(.*)", text_of("crates.txt"), re.M))
+        drawn: List[str] = []
+        for line in came.lines:
+            names = re.findall(r"[a-z]\w*", line)
+            if re.match(r"[ \d]*[─├└]", line):
+                drawn.append(names.pop(0))
+            for used in names:
+                self.assertIn(used, uses[drawn[-1]].split())
+                self.assertIn(used, drawn)
+        self.assertEqual(sorted(drawn), sorted(uses))
 
     def test_table(self) -> None:
         listed = re.findall(r"^ *(\w+) *:", text_of("crates.txt"), re.M)

@@ -1,5 +1,10 @@
 """The archives of a call, as the program reads them: as their join. What it answers by an index the index vouches for,
-by the SHA-256 that each slice came in with."""
+by the SHA-256 that each slice came in with.
+
+A key whose table is damaged, or whose slice changed, refuses no other, since `frames --slices` answers those; one with
+too many lines is looked up without. An archive of another length, or with a damaged index, is refused whole: it may
+have retired slices that another has. Of an image whose architecture no archive can have, one offset is looked up under
+another."""
 from __future__ import annotations
 
 import functools

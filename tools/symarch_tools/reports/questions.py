@@ -1,4 +1,8 @@
-"""The program, which is called by `frames`."""
+"""The program, which is called by `frames`, with 0 as the load address, so each offset of an image is looked up once.
+
+For many frames of several images there is a call for each processor at most, each for 100 offsets or more; if a file of
+the archive changed meanwhile, one call for all, so that all answers are of one moment. Whether a dSYM answered, and the
+other architectures of a UUID, are lines of `frames --slices`."""
 from __future__ import annotations
 
 import contextlib

@@ -1,4 +1,8 @@
-"""Why the program refuses slices, and files whose tables it finds faulty: it is asked of many at once."""
+"""Why the program refuses slices, and files whose tables it finds faulty: it is asked of many at once.
+
+The program names the faults of universal files: after all paths were searched it gets, in one call, the header and the
+table of each that cannot be followed, with a hole up to the file's length. One that is too large for its memory is
+refused for that."""
 import contextlib
 import os
 import re
