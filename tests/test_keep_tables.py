@@ -8,8 +8,8 @@ from typing import Callable, Dict, List
 from .model.indexes import entries_in, table_place
 from .support.cases import same
 from .support.kills import Left
-from .support.made_images import EMPTY, archive, image, index_before_lines, index_of, index_without_tables
-from .support.made_images import slice_words, slices_in
+from .support.made_images import EMPTY, archive, image, index_before_lines, index_of, index_of_2_3
+from .support.made_images import index_without_tables, slice_words, slices_in
 from .support.program import TOP
 from .support.rooms import RoomCase, change, kept_index, today_of
 from .support.sites import Site, until_same
@@ -194,8 +194,8 @@ class ChangedTables(TableCase):
 
 
 class OtherKinds(TableCase):
-    """A site with indexes that no release wrote: without tables, or with tables that have no lines. The next command
-    that writes makes them anew, and says so; until then nothing is said by them."""
+    """A site with indexes of an earlier release, or that no release wrote: without tables, or with tables that have no
+    lines. The next command that writes makes them anew, and says so; until then nothing is said by them."""
 
     def setUp(self) -> None:
         super().setUp()
@@ -257,4 +257,4 @@ class OtherKinds(TableCase):
                 self.is_indexed(*self.files)
 
 
-KINDS = index_without_tables, index_before_lines
+KINDS = index_without_tables, index_before_lines, index_of_2_3

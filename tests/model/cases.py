@@ -10,7 +10,7 @@ from .commands import Left, Limits, NoMemory, run_plan
 from .contents import ADMISSION, ARCHIVES, OPS, SUM, Source, archive_of, covering, good_front
 from .hints import second_line
 from .images import sha
-from .indexes import IDX
+from .indexes import EARLIER_IDX, IDX
 from .parts import Bad, Store, first_word, named, parts_bytes, text_line, words_of
 from .plans import Copy, Plan
 
@@ -128,8 +128,13 @@ class Folder:
 
 
 # The files of the program by their first bytes, and what a command replaces that writes no archive.
-KINDS = {**{it: "an archive" for it in ARCHIVES}, OPS: "an operations file", SUM: "a summary", IDX: "an index"}
-REPLACED = {"summary": [SUM], "index": [IDX]}
+KINDS = {
+    **{it: "an archive" for it in ARCHIVES},
+    OPS: "an operations file",
+    SUM: "a summary",
+    **{it: "an index" for it in (IDX, EARLIER_IDX)},
+}
+REPLACED = {"summary": [SUM], "index": [IDX, EARLIER_IDX]}
 
 
 def obstacle(command: str, there: bytes, new: Optional[bytes]) -> Optional[str]:

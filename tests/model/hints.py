@@ -3,7 +3,7 @@ like."""
 from typing import Callable, Dict, List, Optional, Protocol, Sequence, Tuple
 
 from .contents import ARCHIVES, OPS, SUM
-from .indexes import IDX
+from .indexes import EARLIER_IDX, IDX
 from .lines import address_word, arch_word, digest_word, is_hex, uuid_word
 from .plans import Plan
 
@@ -28,6 +28,7 @@ def look_of(there: bytes) -> Optional[str]:
         OPS: "an operations file, which `apply` takes",
         SUM: "a summary, which `delta` takes",
         IDX: "an index, which `index` writes",
+        EARLIER_IDX: "an index of an earlier release, which `index` makes anew",
     }
     if there[:8] in kinds:
         return kinds[there[:8]]

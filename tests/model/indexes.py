@@ -9,7 +9,7 @@ from .images import U32_MAX, Image, image_of, sha, slice_of
 from .pages import NO_CLAIM, Claim, claim_at, stored
 from .tables import table_of
 
-IDX = b"MSYMIDX1"
+IDX, EARLIER_IDX = b"MSYMIDX2", b"MSYMIDX1"
 PLACED_LEN, ENTRY_LEN, END_LEN = 74, 122, 41
 
 

@@ -6,7 +6,7 @@ import uuid
 from typing import Dict, Iterable, Iterator, List, Optional, Sequence, Tuple
 
 from ..model.contents import Source
-from ..model.indexes import entries_in, index_of, index_stream
+from ..model.indexes import EARLIER_IDX, entries_in, index_of, index_stream
 from ..model.tables import table_of
 
 Arch = Tuple[int, int]
@@ -149,7 +149,7 @@ def index(images: Iterable[bytes]) -> bytes:
 
 def index_without_tables(text: bytes) -> bytes:
     """The index of an archive as it was before it had tables: the first 74 bytes of each entry, and a number."""
-    return b"".join(pieces_of_archive((entry[:74] for entry in entries_in(index_of(text))), b"MSYMIDX1"))
+    return b"".join(pieces_of_archive((entry[:74] for entry in entries_in(index_of(text))), b"MSYMIDX2"))
 
 
 def table_before_lines(made: bytes) -> bytes:
@@ -164,6 +164,11 @@ def index_before_lines(text: bytes) -> bytes:
     found = bytearray()
     index_stream(Source(text), found.extend, table_before_lines)
     return bytes(found)
+
+
+def index_of_2_3(text: bytes) -> bytes:
+    """The index of an archive as releases before 2.4 wrote it, if no frame in it changed."""
+    return EARLIER_IDX + index_of(text)[len(EARLIER_IDX) :]
 
 
 def digest_of(made: bytes) -> str:

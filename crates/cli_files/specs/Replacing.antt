@@ -4,7 +4,7 @@ use Rattle.archive_records.specs.Kind.{kind_of, magic_of}
 use Rattle.archive_records.specs.declared.format.Format.{Format}
 use Rattle.archive_records.specs.declared.kind.TextKind.{TextKind}
 use Rattle.archive_records.specs.declared.kind.TextKind.TheVariants.{Archive, Summary}
-use Rattle.index_format.specs.Text.{index_magic}
+use Rattle.index_format.specs.Text.{earlier_magic, index_magic}
 use Rattle.cli_files.specs.declared.replaceable.ReplaceRule.{ReplaceRule}
 use Rattle.cli_files.specs.declared.replaceable.ReplaceRule.TheVariants.{ArchivesBelow, Summaries, Indexes, SameBytes}
 
@@ -16,7 +16,7 @@ IsMagicOf kind bytes = (format : Format) × (kind_of format ≡ kind) × (bytes 
 abbrev pub IsOfKind : ReplaceRule → List ℕ → Type 0
 IsOfKind ArchivesBelow bytes = IsMagicOf Archive bytes
 IsOfKind Summaries bytes = IsMagicOf Summary bytes
-IsOfKind Indexes bytes = bytes ≡ index_magic
+IsOfKind Indexes bytes = (bytes ≡ index_magic) ⊎ (bytes ≡ earlier_magic)
 IsOfKind SameBytes bytes = Unit {0}
 
 -- A file that begins so may give way: it is empty, or of that kind.

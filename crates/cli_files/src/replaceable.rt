@@ -10,7 +10,10 @@ use memory::NoMemory;
 use std::io::{self, Read};
 
 /// What an index begins with.
-const INDEX_MAGIC: LeadingBytes = *b"MSYMIDX1";
+const INDEX_MAGIC: LeadingBytes = *b"MSYMIDX2";
+
+/// What an index of a release before 2.4 begins with.
+const EARLIER_INDEX_MAGIC: LeadingBytes = *b"MSYMIDX1";
 
 /// Why OUT takes no bytes, or was not published.
 #[derive(Clone, Copy, Debug)]
@@ -57,7 +60,7 @@ pub enum ReplaceRule {
     ArchivesBelow,
     /// A summary.
     Summaries,
-    /// An index.
+    /// An index, of this release or of an earlier one.
     Indexes,
     /// Those that have the very bytes of the new one: what it writes is a slice.
     SameBytes,
@@ -72,7 +75,7 @@ impl ReplaceRule {
         match self {
             ReplaceRule::ArchivesBelow => TextKind::Archive.format_of(bytes).is_some(),
             ReplaceRule::Summaries => TextKind::Summary.format_of(bytes).is_some(),
-            ReplaceRule::Indexes => *bytes == INDEX_MAGIC,
+            ReplaceRule::Indexes => *bytes == INDEX_MAGIC || *bytes == EARLIER_INDEX_MAGIC,
             ReplaceRule::SameBytes => true,
         }
     }

@@ -11,6 +11,8 @@ pub enum FileKind {
     Operations,
     Summary,
     Index,
+    /// It is an index of a release before 2.4.
+    EarlierIndex,
     MachO,
     Universal,
     JavaClass,
@@ -22,8 +24,9 @@ pub enum FileKind {
 }
 
 /// What other files begin with: indexes, mach-o/loader.h and mach-o/fat.h, in either byte order, and common formats.
-const BEGINNINGS: [(&[u8], FileKind); 11] = [
-    (b"MSYMIDX1", FileKind::Index),
+const BEGINNINGS: [(&[u8], FileKind); 12] = [
+    (b"MSYMIDX2", FileKind::Index),
+    (b"MSYMIDX1", FileKind::EarlierIndex),
     (b"\xcf\xfa\xed\xfe", FileKind::MachO),
     (b"\xce\xfa\xed\xfe", FileKind::MachO),
     (b"\xfe\xed\xfa\xcf", FileKind::MachO),
@@ -85,6 +88,7 @@ impl fmt::Display for FileKind {
             FileKind::Operations => "an operations file, which `apply` takes",
             FileKind::Summary => "a summary, which `delta` takes",
             FileKind::Index => "an index, which `index` writes",
+            FileKind::EarlierIndex => "an index of an earlier release, which `index` makes anew",
             FileKind::MachO => "a Mach-O file, which `admit` takes",
             FileKind::Universal => "a universal file, which `admit` takes",
             FileKind::JavaClass => "a Java class file, which no command takes",

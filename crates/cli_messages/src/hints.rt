@@ -163,7 +163,7 @@ impl Display for Hint {
                 Some(FileKind::Archive) => "there, and an archive",
                 Some(FileKind::Operations) => "there, and an operations file",
                 Some(FileKind::Summary) => "there, and a summary",
-                Some(FileKind::Index) => "there, and an index",
+                Some(FileKind::Index | FileKind::EarlierIndex) => "there, and an index",
                 _ => "there, and neither empty nor one of symarch's files",
             }),
             Hint::DamagedArchive => f.write_str("there, and an archive that is damaged"),

@@ -60,8 +60,11 @@ module _ {S : Type 0} (left whole : S → Option (List ℕ)) (failures place_fai
       → Extracts (extract_of (readers left failures archives now) (readers whole place_failures archives now)
       (readers whole place_failures ix ix) key digest (out_of out).draft) out report result
   whole_extracted archives now ix out report result some same none ends =
-      rw (none, extract_by_records (readers left failures archives now) (readers whole place_failures archives now) key digest
-      (out_of out).draft (some_read left failures archives now same some)) ends
+      rw (
+        none,
+        extract_by_records (readers left failures archives now) (readers whole place_failures archives now) key digest
+            (out_of out).draft (some_read left failures archives now same some),
+      ) ends
 
   pub alone_stopped : {D T : Type 0} (archives ix : List S) (out : Outs D T) (report : Writer)
       (fault : CommandFault) → IsAlone (length archives) (length ix) fault → 0 < length (readers whole place_failures ix ix)

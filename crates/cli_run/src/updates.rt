@@ -44,13 +44,16 @@ pub fn extract<A: Archive + Drop, S: Source + Placed, T: Target, P: Sink>(
         (out_of known).draft) known (writer P.held P.failures report.old report.new) result }
 {
     if indexes.is_empty() {
-        return run_extract::<A, _, _, _>(
-            heap, &mut Records { archives }, key, digest, out, report,
-        );
+        return run_extract::<A, _, _, _>(heap, &mut Records { archives }, key, digest, out, report);
     }
     check_pairs(archives.len(), indexes.len())?;
     run_extract::<A, _, _, _>(
-        heap, &mut Indexes { indexes, archives }, key, digest, out, report,
+        heap,
+        &mut Indexes { indexes, archives },
+        key,
+        digest,
+        out,
+        report,
     )
 }
 

@@ -16,9 +16,13 @@ use Rattle.index_format.specs.declared.index_fault.IndexFaultKind.{IndexFaultKin
 use Rattle.index_format.specs.declared.index_fault.IndexFaultKind.TheVariants.{BadTag, BadKind, BadLength, NotAscending}
 use Rattle.index_format.specs.declared.index_fault.IndexFaultKind.TheVariants.{BadTable}
 
--- MSYMIDX1
+-- MSYMIDX2
 abbrev pub index_magic : List ℕ
-index_magic = 0x4d ∷ 0x53 ∷ 0x59 ∷ 0x4d ∷ 0x49 ∷ 0x44 ∷ 0x58 ∷ 0x31 ∷ []
+index_magic = 0x4d ∷ 0x53 ∷ 0x59 ∷ 0x4d ∷ 0x49 ∷ 0x44 ∷ 0x58 ∷ 0x32 ∷ []
+
+-- MSYMIDX1: what an index of a release before 2.4 begins with
+abbrev pub earlier_magic : List ℕ
+earlier_magic = 0x4d ∷ 0x53 ∷ 0x59 ∷ 0x4d ∷ 0x49 ∷ 0x44 ∷ 0x58 ∷ 0x31 ∷ []
 
 -- what an entry must be after this last one, where the tables end at this offset
 unfoldable pub check_entry : ℕ → List ℕ → List ℕ → Result (Unit {0}) IndexFaultKind

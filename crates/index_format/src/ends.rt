@@ -39,7 +39,7 @@ pub(crate) struct Ends {
 pub fn magic() -> [u8; 8]
     ensures { result ≡ index_magic }
 {
-    *b"MSYMIDX1"
+    *b"MSYMIDX2"
 }
 
 /// How many bytes there are.

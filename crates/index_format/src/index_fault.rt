@@ -6,7 +6,7 @@ ghost use Rattle.index_format.specs.declared.index_fault.IndexFaultKind.TheVaria
 /// Why bytes are no index, or why they were not read to their end.
 #[derive(Clone, Copy, Debug, PartialEq, Eq)]
 pub enum IndexFaultKind {
-    /// One of the first eight bytes is not that of `MSYMIDX1`.
+    /// One of the first eight bytes is not that of `MSYMIDX2`.
     BadMagic,
     /// There is no room for an end record, or none stands at the end.
     Truncated,

@@ -1,7 +1,7 @@
 //! The index of an archive with the tables of its slices: what it says of each record, how it is read from its end, and
 //! what is read at the places that it names.
 //!
-//! An index is the magic `MSYMIDX1`, the stored tables of the slices in the order of their records in the archive, an
+//! An index is the magic `MSYMIDX2`, the stored tables of the slices in the order of their records in the archive, an
 //! entry of 122 bytes for each record, strictly ascending in byte order, and the end record: `03`, the number of
 //! entries and the SHA-256 of their bytes. An entry is that of a summary, whether it is a companion's, the offset and
 //! the length of the record in the archive's text of version 2, and the claim of its table: where it is stored in the

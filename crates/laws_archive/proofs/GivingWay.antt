@@ -4,7 +4,7 @@ use Rattle.archive_records.specs.Kind.{kind_of, magic_of}
 use Rattle.archive_records.specs.declared.format.Format.{Format}
 use Rattle.archive_records.specs.declared.format.Format.TheVariants as format
 use Rattle.archive_records.specs.declared.kind.TextKind.TheVariants.{Archive, Summary}
-use Rattle.index_format.specs.Text.{index_magic}
+use Rattle.index_format.specs.Text.{earlier_magic, index_magic}
 use Rattle.cli_files.specs.FileCalls.{FileCall, Begins, Compares, Finds, FindsNothing}
 use Rattle.cli_files.specs.Publishing.{BeginsSo, IsReplaced, IsTested, both_give}
 use Rattle.cli_files.specs.Replacing.{GivesWay, IsMagicOf}
@@ -54,7 +54,8 @@ no_summary bytes (inr (one, kind, is)) archive =
 
 no_index : (bytes : List ℕ) → GivesWay Indexes bytes → IsMagicOf Archive bytes → ⊥
 no_index bytes (inl none) archive = let h = fifth_of bytes [] none (fifth bytes archive) in grind (arith, h)
-no_index bytes (inr is) archive = let h = fifth_of bytes index_magic is (fifth bytes archive) in grind (arith, h)
+no_index bytes (inr (inl is)) archive = let h = fifth_of bytes index_magic is (fifth bytes archive) in grind (arith, h)
+no_index bytes (inr (inr is)) archive = let h = fifth_of bytes earlier_magic is (fifth bytes archive) in grind (arith, h)
 
 -- files that are the same are not asked for their kind
 same_unasked : (draft target bytes : List ℕ) (pieces : List (List ℕ))

@@ -1,7 +1,7 @@
 """Indexes of archives: of each record its entry in the summary, whether it is a companion's, where it stands, and
 where the table of its slice is stored in the index. An index is read from its end: its tables are not read for that,
-and are copied from one index into another. docs/FILES.md has the bytes. One of another kind does not count: without
-tables, or whose last table is not as long as its head states."""
+and are copied from one index into another. docs/FILES.md has the bytes. One of another kind does not count: of a
+release before 2.4, without tables, or whose last table is not as long as its head states."""
 import hashlib
 import io
 import os
@@ -12,7 +12,7 @@ from typing import BinaryIO, Dict, Iterable, Iterator, List, NamedTuple, Optiona
 from .contents import ADMISSION, DIGEST, END, ENTRY, KEY, LENGTH, MAGIC, RETIREMENT, Content, Malformed, digest_in
 from .contents import head_of, record_size, words_of
 
-INDEX = b"MSYMIDX1"
+INDEX, EARLIER_INDEX = b"MSYMIDX2", b"MSYMIDX1"
 ROW = struct.Struct(f">{len(ADMISSION) + ENTRY}sBQQQQ{DIGEST}s")
 # How long the end record of an archive is, and that of an index, which has the SHA-256 of the entries.
 TAIL = len(END) + LENGTH
@@ -34,7 +34,7 @@ OTHER_KIND = "is an index of another kind"
 
 
 class OtherKind(Malformed):
-    """An index without tables, or with tables that have no lines. No release wrote one."""
+    """An index of a release before 2.4; or without tables, or with tables that have no lines: no release wrote one."""
 
 
 class IndexRow(NamedTuple):
@@ -155,7 +155,7 @@ def index_in(file: BinaryIO, path: bytes = b"") -> Index:
     the SHA-256, and its tables fill what stands before them."""
     file.seek(0)
     begins, size = file.read(MAGIC), file.seek(0, os.SEEK_END)
-    if begins == INDEX and is_without_tables(file, size):
+    if begins == EARLIER_INDEX or begins == INDEX and is_without_tables(file, size):
         raise OtherKind(OTHER_KIND)
     end = last_of(file, size, INDEX_TAIL)
     count = int.from_bytes(end[len(END) : TAIL], "big")
