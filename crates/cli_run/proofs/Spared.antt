@@ -5,7 +5,6 @@ use Rattle.archive_core.specs.declared.keys.{Digest.Digest, SliceKey.SliceKey}
 use Rattle.archive_records.specs.declared.fault.MergeCause.{MergeCause}
 use Rattle.archive_records.specs.declared.fault.MergeCause.TheVariants.{Left, Right, Write}
 use Rattle.archive_records.specs.declared.kind.TextKind.{TextKind}
-use Rattle.text_inputs.specs.declared.frame.Frame.{Frame}
 use Rattle.command_queries.specs.Frames.{AskedOfFrames, frames_held, prints_frames}
 use Rattle.archive_exchange.specs.Rehearse.{rehearse}
 use Rattle.command_queries.specs.Name.{name}
@@ -14,7 +13,7 @@ use Rattle.command_write.specs.{MergeStreams.IsSide, MergeStreams.merge_as_it_co
 use Rattle.command_write.specs.Retire.{retire_as_it_comes}
 use Rattle.command_common.specs.Archives.{AreRefused, further_name}
 use Rattle.command_common.specs.Ends.{EndsStreamed, Query}
-use Rattle.command_common.specs.Inputs.{IsAccepted, IsArchive, IsArchiveRefused, IsFileRefused, IsFirstRefused}
+use Rattle.command_common.specs.Inputs.{IsAccepted, IsArchive, IsArchiveRefused, IsFileRefused, IsFirstRefused, IsFrames}
 use Rattle.command_common.specs.Inputs.{IsRefusedInTurn, IsRefusedOps, IsRefusedSummary, IsTextRefused, Reader}
 use Rattle.command_common.specs.Outputs.{Outs, Writer, draft_of, out_of}
 use Rattle.command_common.specs.declared.faults.{InputName.InputName, Why.Why}
@@ -75,9 +74,9 @@ together archive others at (inl r) = text _ archive r.0.1
 together archive others at (inr r) = text _ r.2.input r.2.refused
 
 framed : {Q : Type 0} (crash : Reader Q) (asked : AskedOfFrames)
-    → ((listed : List Frame) → Spares (asked.Refuses listed)) → Spares (prints_frames crash asked).Refuses
+    → ((says : IsFrames crash) → Spares (asked.Refuses says.0)) → Spares (prints_frames crash asked).Refuses
 framed crash asked spares at (inl r) = r.0.1
-framed crash asked spares at (inr r) = spares r.0.0 at r.2
+framed crash asked spares at (inr r) = spares r.0 at r.2
 
 side : (cause : MergeCause) (at : InputName) → IsSide cause at CannotOpen → ⊥
 side (Left fault) at r = cc r.1
@@ -176,11 +175,11 @@ symbolicate archives places indexes key load lines slices addresses at r =
 frames : {S : Type 0} (lines slices : Bool) (crash : Reader S) (archives places indexes : List (Reader S))
     → Spares (frames_of lines slices crash archives places indexes).Refuses
 frames lines slices crash (archive ∷ others) places [] at r =
-    framed crash (frames_held lines slices archive others) (λ listed. together archive others) at r
+    framed crash (frames_held lines slices archive others) (λ says. together archive others) at r
 frames lines slices crash archives places indexes at r =
     when_paired (length archives) (length indexes) (frames_at lines slices crash indexes places)
     (framed crash (frames_by_indexes lines slices indexes places)
-    (λ listed. asking lines slices (keys_of listed) indexes places)) at r
+    (λ says. asking lines slices (keys_of says.0) indexes places)) at r
 
 stops_at : {S : Type 0} (indexes places : List (Reader S)) (key : SliceKey) (digest : Option Digest) (draft : Writer)
     (at : InputName) → (extract_at indexes places key digest draft).writes.Stops (Input at CannotOpen) → ⊥

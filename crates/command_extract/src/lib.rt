@@ -13,20 +13,21 @@
 //!
 //! - [`run_extract`] publishes at OUT, where it ends `Done`, the bytes of the slice that its evidence chose, and then
 //!   its line is in the report. Where there is no such slice, or several answer, OUT is as it was, and the report has a
-//!   line for each that answers (`Extracts`). An input is refused before OUT is begun, the first of them in the order
-//!   of the command line.
+//!   line for each that answers (`Extracts`). The first input in the order of the command line that is refused is
+//!   refused before OUT is begun; but the slice of an entry may change while it is sent.
 //! - By the records of archives that slice is the one that answers under the key in their join, or a held one with the
 //!   digest argument (`extract`).
-//! - By indexes, which are read first, it is the one that their entries tell so. What is published stands where the
-//!   entry says, has its length and its SHA-256, and so had what was read there before OUT was begun; otherwise the
-//!   index is `Stale` at that entry, and nothing is published (`extract_at`).
+//! - By indexes, which are read first, it is the one that their entries name so. What is published is at the place of
+//!   the entry, and has its length and its SHA-256; otherwise the index is `Stale` at that entry, and nothing is
+//!   published (`extract_at`).
 //!
 //! # Why it is so
 //!
 //! - A digest argument finds a slice that does not answer too, as an image whose companion does.
 //! - The line of the slice is made before OUT is begun, so that nothing was written if memory runs out for it.
-//! - The slice is whole and tested before OUT is begun, so that a pipe gets no byte of one that is refused. By an entry
-//!   it is gone through twice, in the memory of one piece.
+//! - A slice that is kept is whole and tested before OUT is begun. By an entry it is read twice, in the memory of one
+//!   piece: a pipe gets no byte of one that is found changed at the first time, and the beginning of one that changes
+//!   between the two.
 //! - A slice that was read is kept with its archive, and is told by the number of its record, so that it is held once.
 //! - A pass over bytes at an offset holds one piece, that of the caller, so that several passes have one. A copy is
 //!   hashed as it goes out, so that who compared a hash before knows whether the same went out.

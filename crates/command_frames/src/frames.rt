@@ -1,4 +1,5 @@
-//! `frames FRAMES [--lines] [--slices] ARCHIVE...`, over any evidence; and the answers of indexes to frames.
+//! `frames FRAMES [--lines] [--slices] ARCHIVE... [--index INDEX]...`, over any evidence; and the answers of indexes to
+//! frames.
 ghost use Rattle.std.specs.Prelude.{◌≡◌, IfOk, length};
 ghost use Rattle.command_common.specs.Ends.{EndsReport};
 ghost use Rattle.command_common.specs.Inputs.{ReadsInputs, reader, readers};

@@ -1,5 +1,5 @@
-//! `symbolicate ARCHIVE UUID ARCH [--load HEX] [--lines] [--slices] ADDRESS...`, over one archive or several: `frames`
-//! for the addresses under one key.
+//! `symbolicate ARCHIVE UUID ARCH [--load HEX] [--lines] [--slices] ADDRESS... [--with OTHER]... [--index INDEX]...`:
+//! `frames` for the addresses under one key.
 ghost use Rattle.std.specs.Prelude.{◌≡◌, IfOk};
 ghost use Rattle.command_common.specs.Ends.{EndsReport};
 ghost use Rattle.command_common.specs.Outputs.{writer};

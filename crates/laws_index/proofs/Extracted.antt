@@ -32,7 +32,7 @@ use Rattle.command_index_queries.specs.Together.{AreLater, IsOneOf}
 use Rattle.command_extract.specs.Entries.{HoldsSlice, IsChosen, StandFor, AreUnchosen}
 use Rattle.command_extract.specs.Indexed.{MakesEntry, extract_at, LacksEntry}
 use Rattle.command_extract.specs.Wanted.{IsWanted, slice_line, written_line, AreUndecided, slice_row, slices_text}
-use Rattle.command_extract.proofs.Extracted.{under_key, undecided_alike, wanted_alike}
+use Rattle.command_extract.proofs.Extracted.{wanted_alike, undecided_alike}
 use Rattle.laws_index.specs.Contents.{AreIndexed, AreOwnIndexes, IsIndexGiven, IsOwnIndex, AreIndexesGiven}
 use Rattle.laws_index.proofs.Accepted.{still_given, of_given, first_third}
 use Rattle.laws_index.proofs.ByIndex.{held_alike}
@@ -130,6 +130,11 @@ wanted_of os texts all key None x files is_key tell chosen =
 wanted_of os texts all key (Some digest) x files is_key tell chosen =
     let s = slice_of_entry os texts all files x chosen.among (admission_if os texts all files key is_key x chosen.lives) in
     (s.0, s.1, (lives_if os texts all files key is_key x s.0 s.1 chosen.lives, sym s.1.is.is.digest_is ∙ chosen.digest_is))
+
+-- a slice that is wanted under a key has it
+under_key : (o : Operations) (key : SliceKey) (digest : Option Digest) (slice : List ℕ) → IsWanted o key digest slice → key_of slice ≡ key
+under_key o key None slice is = ((is.exactly slice).0 (in_front slice [])).live.under
+under_key o key (Some digest) slice is = is.0.under
 
 module _ {I P : Type 0} (inputs : List (Reader I)) (archives : List (Reader P)) (os : List Operations) (own : AreOwnIndexes inputs archives os) where
   own_texts : AreTextsOf inputs os

@@ -1,4 +1,7 @@
 use Rattle.std.proofs.{Common.refl, Common.rules, lemmas.Result.err_from_is_err_and}
+use Rattle.command_common.specs.{Ends.EndsReport, Inputs.reader, Inputs.readers, Outputs.writer}
+use Rattle.command_frames.specs.Frames.{frames_at}
+use Rattle.cli_run.specs.Queries.{frames_of}
 use Rattle.cli_run.proofs.Dispatched.{alone_refused, frames_by, not_none, paired_kept, some_read}
 use Rattle.cli_run.proofs.queries.frames.Goals as goal
 
@@ -18,8 +21,16 @@ returns g c =
     let failures = g.S.Placed.failures in
     let kept = c.run_frames-2.ensures.keeps in
     let after = c.run_frames-2.new.evidence in
-    let ends = paired_kept g.S.Source.left whole g.S.Source.failures failures c.args.archives.now after.archives.now
-    c.args.indexes.now after.indexes.now _ _ _ _ c.in_ok-check_pairs.ensures.same kept.3 kept.2
-    (frames_by _ _ _ _ _ _ (some_read whole failures c.args.indexes.now after.indexes.now kept.2
-    (not_none c.args.indexes.now c.if-is_empty.ensures))) c.run_frames-2.ensures.ends in
+    let crash = reader g.S.Source.left g.S.Source.failures c.args.crash.now c.run_frames-2.new.crash in
+    let archives = readers g.S.Source.left g.S.Source.failures c.args.archives.now after.archives.now in
+    let places = readers whole failures c.args.archives.now after.archives.now in
+    let indexes = readers whole failures c.args.indexes.now after.indexes.now in
+    let report = writer g.P.Sink.held g.P.Sink.failures c.args.report.now c.run_frames-2.new.report in
+    let ends : EndsReport (frames_of c.args.lines c.args.slices crash archives places indexes) report c.run_frames-2.result =
+    paired_kept g.S.Source.left whole g.S.Source.failures failures c.args.archives.now after.archives.now
+    c.args.indexes.now after.indexes.now (frames_of c.args.lines c.args.slices crash archives places indexes)
+    (frames_at c.args.lines c.args.slices crash indexes places) report c.run_frames-2.result
+    c.in_ok-check_pairs.ensures.same kept.3 kept.2
+    (frames_by c.args.lines c.args.slices crash archives places indexes (some_read whole failures c.args.indexes.now
+    after.indexes.now kept.2 (not_none c.args.indexes.now c.if-is_empty.ensures))) c.run_frames-2.ensures.ends in
     search rules
