@@ -12,7 +12,7 @@ import time
 from typing import Any, Callable, Iterator, List, Optional, Sequence, Tuple
 
 from .support import traces
-from .support.cases import Without, Wrong, digest_of, is_done, pieces_in, same
+from .support.cases import Wrong, digest_of, pieces_in, same
 from .support.made_images import EMPTY, admission, archive, image, number_uuid, operations
 from .support.outs import BEFORE, CANNOT_CREATE, CANNOT_REPLACE, COMMANDS, INPUTS, NOTHING, OUT, RETIRED, WITH_ANOTHER
 from .support.outs import OutCase, digest, mounted, replaced_by, state_of
@@ -188,9 +188,8 @@ class Stopped(OutCase):
 class KilledCase(OutCase):
     """A run that is killed at fifty moments leaves the old file or the new one."""
 
-    def killed(self, words: List[str], new: str) -> None:
-        """Kills runs of a command, whose text has this digest."""
-        before = replaced_by(words[0])[-1]
+    def killed(self, words: List[str], new: str, before: bytes = BEFORE) -> None:
+        """Kills runs of a command, whose text has this digest, over a file that it replaces."""
         old = digest(before)
         for _ in range(2):
             began = time.monotonic()
@@ -255,13 +254,73 @@ class KilledMerge(KilledCase):
         self.killed(["merge", "even.sym", OUT, "odd.sym"], digest_of(pieces_of(range(200), 1)))
 
 
+class KilledExtract(KilledCase):
+    """`extract` of 100 MB."""
+
+    seconds = 40
+
+    def test_extract(self) -> None:
+        large = image(1, more=MEGABYTE * 100)
+        self.put("both.sym", archive([large]))
+        self.killed(COMMANDS["extract"][0], digest(large), NOTHING)
+
+
+class KilledAtCalls(OutCase):
+    """A run that is killed before one of its calls, at each of them."""
+
+    is_side_by_side = True
+    seconds = 30
+
+    def test_absent(self) -> None:
+        for name in COMMANDS:
+            self.killed_at_each(name, None)
+
+    def test_there(self) -> None:
+        for name in COMMANDS:
+            self.killed_at_each(name, replaced_by(name)[-1])
+
+    def killed_at_each(self, name: str, before: Optional[bytes]) -> None:
+        """Before it is renamed OUT is as it was, and nothing is printed; then it is whole. In between, the draft is
+        left."""
+        words, text = COMMANDS[name]
+        self.bring(before)
+        calls = self.calls(words)
+        created = next(at for at, it in enumerate(calls) if "O_EXCL" in it.line)
+        renamed = next(at for at, it in enumerate(calls) if it.kind == "rename")
+        same(f"{name}: calls", 0 < created < renamed < len(calls) - 2, True)
+        for at, call in enumerate(calls):
+            self.bring(before)
+            was = state_of(self.out)
+            status, printed, told = self.run_program(words, under=call.killing())
+            what = f"{name}, killed before {call}"
+            same(what, (status, told), (-signal.SIGKILL, ""))
+            if at <= renamed:
+                same(f"{what}: OUT and the report", (state_of(self.out), printed), (was, b""))
+            else:
+                same(f"{what}: OUT", self.out.read_bytes(), text)
+            same(f"{what}: drafts", len(self.sizes_of_drafts()), int(created < at <= renamed))
+
+    def bring(self, before: Optional[bytes]) -> None:
+        self.out.unlink(missing_ok=True)
+        if before is not None:
+            self.out.write_bytes(before)
+
+    def calls(self, words: List[str]) -> List[traces.Call]:
+        """What a run calls, from the first call on that names OUT or an input."""
+        traces.need_strace()
+        trace = self.folder / "trace"
+        same(f"{words}", self.run_program(words, under=["strace", "-qq", "-o", trace])[0], 0)
+        calls = traces.calls_in(trace.read_text())
+        first = next(at for at, it in enumerate(calls) if ".sym" in it.line and not it.line.startswith("execve"))
+        return calls[first:]
+
+
 class Calls(OutCase):
     """What is called of the system."""
 
     def test_turns(self) -> None:
         """Each input is opened at its turn, after the one before it was closed, and none behind a refused one."""
-        if not is_done(["strace", "-o", os.devnull, "true"]):
-            raise Without("strace is not there, or may not trace")
+        traces.need_strace()
         for words, wanted in (
             (["admit", "one.sym", OUT, "two", "one"], ["one", "one.sym", "two"]),
             (["admit", "one.sym", OUT, "one.sym", "two"], ["one.sym", "one.sym"]),
@@ -288,8 +347,7 @@ class Calls(OutCase):
     def test_calls(self) -> None:
         """A draft is created, written, synced and renamed, and its folder is synced, before the report. Nothing else is
         made, and what was there is opened and not written."""
-        if not is_done(["strace", "-o", os.devnull, "true"]):
-            raise Without("strace is not there, or may not trace")
+        traces.need_strace()
         wanted = "create DRAFT > write DRAFT > sync DRAFT > rename DRAFT out.sym > sync . > report"
         for name, (words, _) in COMMANDS.items():
             self.out.unlink(missing_ok=True)

@@ -12,8 +12,8 @@ from typing import List
 from .support.cases import is_done, same
 from .support.made_images import archive
 from .support.outs import CANNOT_CREATE, CANNOT_REPLACE, COMMANDS, DAMAGED_FILES, INPUTS, KINDS, NOTHING
-from .support.outs import OTHER_FILES, OTHER_USER, OUT, OWN_FILES, REPLACED, RETIRED, SLICES, VERSION_1, WITH_ANOTHER
-from .support.outs import OutCase, mounted, need_root, replaced_by, state_of
+from .support.outs import OTHER_FILES, OTHER_USER, OUT, REPLACED, SLICES, VERSION_1, WITH_ANOTHER, OutCase, mounted
+from .support.outs import need_root, replaced_by, state_of, stays_at
 from .support.program import MOST_SECONDS, Word
 from .support.second_lines import DAMAGED, FOREIGN, MACHO, OF_AN_INPUT, OTHER_SLICE, losing, path_in, said_by
 from .support.second_lines import second_line
@@ -45,30 +45,21 @@ class WhatIsThere(OutCase):
             for kind, contents in {**KINDS, "an archive": archives}.items():
                 for content in () if kind == REPLACED.get(name, "an archive") else contents:
                     self.out.write_bytes(content)
-                    self.keeps(words, CANNOT_REPLACE, f", there, and {kind}")
+                    self.keeps(words, CANNOT_REPLACE, stays_at(name, f", there, and {kind}"))
 
     def test_other_files(self) -> None:
         """Each other file stays, also where it is one of several images."""
-        for words, _ in COMMANDS.values():
+        for name, (words, _) in COMMANDS.items():
             for content in OTHER_FILES:
                 self.out.write_bytes(content)
-                self.keeps(words, CANNOT_REPLACE, FOREIGN)
+                self.keeps(words, CANNOT_REPLACE, stays_at(name))
         self.keeps(["admit", "one.sym", "one", "two"], CANNOT_REPLACE, FOREIGN, out="one")
 
     def test_slices(self) -> None:
-        """A slice replaces an empty file and itself, and no other file, one of the program's own neither."""
-        words = ["extract", "both.sym", *RETIRED[:2], OUT]
-        for content in (None, b"", SLICES[1]):
-            self.out.unlink(missing_ok=True)
-            if content is not None:
-                self.out.write_bytes(content)
-            status, printed, told = self.run_program(words)
-            line = f"slice {' '.join(RETIRED)}, {len(SLICES[1])} bytes\n".encode()
-            same("extract", (status, printed, told, self.out.read_bytes()), (0, line, "", SLICES[1]))
-        others = [SLICES[1] + b"\0", SLICES[1][:-1], SLICES[1][:-1] + b"\xff", SLICES[2]]
-        for content in OWN_FILES + WITH_ANOTHER + DAMAGED_FILES + OTHER_FILES + others:
+        """A slice does not replace another one, nor a file with a byte more, one less, or another one."""
+        for content in (SLICES[1] + b"\0", SLICES[1][:-1], SLICES[1][:-1] + b"\xff", SLICES[2]):
             self.out.write_bytes(content)
-            self.keeps(words, CANNOT_REPLACE, OTHER_SLICE)
+            self.keeps(COMMANDS["extract"][0], CANNOT_REPLACE, OTHER_SLICE)
 
     def test_archives_above(self) -> None:
         """An archive replaces those below it: the same one, one with less, one of which it retires a slice, and one of
@@ -376,5 +367,5 @@ class NoRegularFile(OutCase):
             there = str(self.put("there", OTHER_FILES[0]))[1:]
             for path in (Path(shared, "out"), Path("/dev/fd/..", *[".."] * 8, there)):
                 path.write_bytes(SLICES[0])
-                for words, _ in COMMANDS.values():
-                    self.keeps(words, CANNOT_REPLACE, FOREIGN, out=path)
+                for name, (words, _) in COMMANDS.items():
+                    self.keeps(words, CANNOT_REPLACE, stays_at(name), out=path)

@@ -1,38 +1,38 @@
 """Properties of OUT that no contract states: set-id bits, access lists and attributes, paths of descriptors, failing
-syncs, other spellings of inputs, `extract` at links, descriptors and kills, indexes that stay open, and the memory of a
-comparison."""
+syncs, other spellings of inputs, indexes that are replaced meanwhile, and the memory of a comparison."""
 import errno
+import functools
 import os
+import resource
+import signal
 import stat
 import struct
-import time
-from typing import Dict, List
+from typing import Any, Callable, Dict, Iterator, List, Optional, Sequence, Tuple
 
 from .support import traces
-from .support.cases import Without, is_done, same
-from .support.made_images import EMPTY, archive, image, index, slice_words
-from .support.outs import CANNOT_CREATE, CANNOT_REPLACE, COMMANDS, INPUTS, NOTHING, OUT, RETIRED, SLICES
-from .support.outs import OutCase, digest, replaced_by
+from .support.cases import Without, same
+from .support.made_images import archive, image, index, slice_words
+from .support.outs import CANNOT_CREATE, CANNOT_REPLACE, COMMANDS, INPUTS, NOTHING, OUT, RETIRED, OutCase, replaced_by
+from .support.outs import state_of
 from .support.program import MOST_SECONDS, Word
-from .support.second_lines import OF_AN_INPUT, losing, said_by
-from .test_drafts import MEGABYTE, KilledCase
+from .support.second_lines import OF_AN_INPUT, OTHER_SLICE, losing, said_by, second_line
+from .support.waits import wait_until
+from .test_indexes import with_symbols
+from .test_inputs import LIMIT, MEGABYTE
 
-EXTRACT = ["extract", "both.sym", *RETIRED[:2], OUT]
-# The commands whose OUT may be an input: all that have one.
-ASKED = {**{name: words for name, (words, _) in COMMANDS.items() if name != "new"}, "extract": EXTRACT}
 # An access list in the form of the system: the owner, one user, the group, what all of these may at most, and others.
 USER, NOBODY = 0xFFFFFFFF, 65534
 ACCESS_LIST = struct.pack("<I", 2) + b"".join(
     struct.pack("<HHI", *it) for it in ((1, 6, USER), (2, 4, NOBODY), (4, 4, USER), (16, 4, USER), (32, 0, USER))
 )
 ATTRIBUTES = {"system.posix_acl_access": ACCESS_LIST, "user.note": b"mine"}
-# The most kilobytes that a comparison with 8 records of 16 MB takes beyond one with a single one.
-MOST_MORE = 64 << 10
-
-
-def need_strace() -> None:
-    if not is_done(["strace", "-o", os.devnull, "true"]):
-        raise Without("strace is not there, or may not trace")
+# How each command has its inputs, also those of options.
+BY_OPTIONS = {
+    "summary by an index": ["summary", "one.sym", OUT, "--index", "one.idx"],
+    "extract of two": ["extract", "one.sym", *RETIRED[:2], OUT, "--with", "two.sym"],
+    "extract by an index": ["extract", "one.sym", *RETIRED[:2], OUT, "--index", "one.idx"],
+}
+WORDS = {**{name: words for name, (words, _) in COMMANDS.items()}, **BY_OPTIONS}
 
 
 class Rights(OutCase):
@@ -62,23 +62,20 @@ class Rights(OutCase):
 
 
 class Descriptors(OutCase):
-    """OUT by each path of a descriptor is written to directly, by `extract` too."""
+    """OUT by each path of a descriptor is written to directly."""
 
     def test_standard_error(self) -> None:
         """Also where it is a regular file, which stays the one that is open."""
-        for name, text in self.texts().items():
+        for name, (words, text) in COMMANDS.items():
             said = self.put("said", NOTHING)
             before = said.stat().st_ino
             with open(said, "r+b") as file:
-                with self.start(ASKED.get(name, COMMANDS["new"][0]), out="/dev/stderr", stderr=file) as process:
-                    process.communicate(timeout=MOST_SECONDS)
-                same(name, process.returncode, 0)
+                same(name, self.run_program(words, out="/dev/stderr", stderr=file)[0], 0)
             same(f"{name}: /dev/stderr", (said.stat().st_ino, said.read_bytes(), self.drafts()), (before, text, []))
 
     def test_numbers(self) -> None:
         """Of this process, of any thread of it, and of another one."""
-        for name, text in self.texts().items():
-            words = ASKED.get(name, COMMANDS["new"][0])
+        for name, (words, text) in COMMANDS.items():
             for path in ("/dev/fd/{}", "/proc/self/fd/{}", "/proc/thread-self/fd/{}", f"/proc/{os.getpid()}/fd/{{}}"):
                 said = self.put("said", b"what stood here before")
                 before = said.stat().st_ino
@@ -87,140 +84,193 @@ class Descriptors(OutCase):
                     same(name, self.run_program(words, path.format(number), pass_fds=[number])[0::2], (0, ""))
                 same(f"{name}: {path}", (said.stat().st_ino, said.read_bytes(), self.drafts()), (before, text, []))
 
-    def texts(self) -> Dict[str, bytes]:
-        return {**{name: text for name, (_, text) in COMMANDS.items()}, "extract": SLICES[1]}
+    def test_no_draft(self) -> None:
+        """No draft is made, and nothing is renamed."""
+        traces.need_strace()
+        trace = self.folder / "trace"
+        for name, (words, _) in COMMANDS.items():
+            for path in ("/dev/stdout", "/dev/stderr", "/dev/fd/1", "/proc/self/fd/2"):
+                self.run_program(words, path, under=traces.words(trace))
+                steps = traces.steps(trace.read_text(), self.folder)
+                same(f"{name}: {path}", [it for it in steps if "DRAFT" in it or "rename" in it], [])
 
 
 class Syncs(OutCase):
     """What cannot be synced."""
 
-    def failing(self, at: int) -> List[Word]:
-        return ["strace", "-qq", "-o", "/dev/null", "-e", "trace=fsync", "-e", f"inject=fsync:error=EIO:when={at}"]
+    def failing(self, at: int, error: str) -> List[Word]:
+        return ["strace", "-qq", "-o", "/dev/null", "-e", "trace=fsync", "-e", f"inject=fsync:error={error}:when={at}"]
 
     def test_folder(self) -> None:
         """If it is the folder, the file is in place, and nothing is said."""
-        need_strace()
+        traces.need_strace()
         for name in COMMANDS:
-            self.places(name, under=self.failing(2))
-            self.out.unlink()
+            for error in ("EIO", "EINVAL"):
+                self.places(name, under=self.failing(2, error))
+                self.out.unlink()
+
+    def test_unreadable_folder(self) -> None:
+        """The same of a folder that takes files, and may not be opened."""
+        self.give_up_root()
+        out = self.put("closed/out.sym")
+        out.parent.chmod(0o333)
+        for name in COMMANDS:
+            for content in (None, replaced_by(name)[-1]):
+                out.unlink(missing_ok=True)
+                if content is not None:
+                    out.write_bytes(content)
+                    out.chmod(0o666)
+                self.places(name, out="closed/out.sym")
 
     def test_draft(self) -> None:
         """If it is the draft, OUT is as it was, and the draft is gone."""
-        need_strace()
+        traces.need_strace()
         for name, (words, _) in COMMANDS.items():
             self.put("out.sym", replaced_by(name)[-1])
-            self.keeps(words, CANNOT_REPLACE, said_by(errno.EIO), under=self.failing(1))
+            self.keeps(words, CANNOT_REPLACE, said_by(errno.EIO), under=self.failing(1, "EIO"))
 
 
 class Spellings(OutCase):
     """No command writes to a file that it reads, however either is spelled."""
 
+    def asked(self) -> Iterator[Tuple[Sequence[str], str]]:
+        """The words of each command, with each of its inputs."""
+        for words in WORDS.values():
+            for name in sorted({word for word in words if word in INPUTS}):
+                yield words, name
+
+    def stays(self, words: Sequence[str], name: str, out: str, **more: Any) -> None:
+        """An input stays, where OUT is this path of it, and where the input has this path, and OUT is the input."""
+        before = state_of(self.folder / name)
+        for given, path in ((words, out), ([out if word == name else word for word in words], name)):
+            told = f"symarch: {CANNOT_CREATE}\n{second_line(given, CANNOT_CREATE, path, OF_AN_INPUT)}"
+            same(f"{given} to {path}", self.run_program(given, path, **more), (2, b"", told))
+            same(f"{given}: input and drafts", (state_of(self.folder / name), self.drafts()), (before, []))
+
+    def test_one_text(self) -> None:
+        """A path that is the same text is refused before anything is opened."""
+        for words, name in self.asked():
+            self.keeps([*words], f"invalid OUT '{name}': expected a path that is no input", out=name, status=3)
+
     def test_other_spellings(self) -> None:
+        """Another path, a symbolic link, one to such a link, and a hard link."""
         (self.folder / "folder").mkdir()
-        for words in ASKED.values():
-            for name in {word for word in words if word in INPUTS}:
-                (self.folder / "link").symlink_to(name)
-                (self.folder / "folder/second").symlink_to("../link")
-                os.link(self.folder / name, self.folder / "hard")
-                spelled = (f"./{name}", f"folder/../{name}", str(self.folder / name), "link", "folder/second", "hard")
-                for out in spelled:
-                    self.keeps(words, CANNOT_CREATE, OF_AN_INPUT, out=out)
-                    swapped = [out if word == name else word for word in words]
-                    self.keeps(swapped, CANNOT_CREATE, OF_AN_INPUT, out=name)
-                for left in ("link", "folder/second", "hard"):
-                    (self.folder / left).unlink()
+        for words, name in self.asked():
+            (self.folder / "link").symlink_to(name)
+            (self.folder / "folder/second").symlink_to("../link")
+            os.link(self.folder / name, self.folder / "hard")
+            for out in (f"./{name}", f"folder/../{name}", str(self.folder / name), "link", "folder/second", "hard"):
+                self.stays(words, name, out)
+            for left in ("link", "folder/second", "hard"):
+                (self.folder / left).unlink()
 
-
-class Extracted(OutCase):
-    """`extract` at links, as the other commands."""
-
-    def test_links(self) -> None:
-        """What a link leads to is replaced if it is empty or the slice itself; the link stays. One to nothing is
-        refused."""
-        real = self.put("elsewhere/real", NOTHING, 0o640)
-        (self.folder / "link").symlink_to("elsewhere/real")
-        for _ in range(2):
-            before = real.stat().st_ino
-            same("extract", self.run_program(EXTRACT, out="link")[0::2], (0, ""))
-            same("the slice", (real.read_bytes(), real.stat().st_ino != before), (SLICES[1], True))
-            same("the link and the mode", (os.readlink(self.folder / "link"), oct(real.stat().st_mode & 0o777)), (
-                "elsewhere/real", oct(0o640)
-            ))
-        (self.folder / "nothing").symlink_to("nowhere")
-        self.keeps(EXTRACT, CANNOT_CREATE, said_by(errno.ENOENT), out="nothing")
-        os.link(real, self.folder / "hard")
-        same("extract", self.run_program(EXTRACT, out="elsewhere/real")[0::2], (0, ""))
-        same("another name", ((self.folder / "hard").read_bytes(), self.drafts()), (SLICES[1], []))
-
-
-class KilledExtract(KilledCase):
-    """`extract` of 100 MB leaves an empty file or the slice at each of some moments."""
-
-    seconds = 40
-
-    def test_extract(self) -> None:
-        large = image(1, more=MEGABYTE * 100)
-        self.put("both.sym", archive([large]))
-        words = ["extract", "both.sym", *slice_words(large)[:2], OUT]
-        digests = digest(NOTHING), digest(large)
-        began = time.monotonic()
-        same("status", self.run_program(words)[0], 0)
-        seconds = time.monotonic() - began
-        for moment in (1, 9, 5, 13, 3, 11, 7, 15):
-            self.out.write_bytes(NOTHING)
-            self.kill(words, seconds * moment / 16, digests)
+    def test_descriptors(self) -> None:
+        """A descriptor on which the input is open, of this process and of another one."""
+        for words, name in self.asked():
+            with open(self.folder / name, "r+b") as file:
+                number = file.fileno()
+                for folder in ("/dev/fd", "/proc/self/fd", f"/proc/{os.getpid()}/fd"):
+                    self.stays(words, name, f"{folder}/{number}", pass_fds=[number])
 
 
 class Indexes(OutCase):
-    """Each index is read, and stays open until the command ends."""
+    """Each index is read, and stays open until the command ends, as its archive does."""
 
-    def test_open_to_the_end(self) -> None:
-        need_strace()
-        both = ["one.sym", RETIRED[0], "--with", "two.sym"]
-        for number in ("one", "two"):
-            self.put(f"{number}.idx", index(SLICES[1:2] if number == "one" else SLICES[2:3]))
-        asked = ["--index", "one.idx", "--index", "two.idx"]
-        for words, wanted in (
-            (["find", *both, *asked], 0),
-            (["symbolicate", "one.sym", *RETIRED[:2], *both[2:], *asked, "0"], 1),
-            (["extract", "one.sym", *RETIRED[:2], OUT, *both[2:], *asked], 0),
-        ):
-            trace = self.folder / "trace"
-            under = ["strace", "-y", "-qq", "-o", trace, "-e", "trace=openat,open,close"]
-            same(f"{words}", self.run_program(words, under=under)[0], wanted)
-            read = [traces.input_in(line, self.folder) for line in trace.read_text().split("\n")]
-            used = [it for it in read if it in ("one.idx", "two.idx", "one.sym", "two.sym")]
-            for name in ("one.idx", "two.idx"):
-                places = [at for at, it in enumerate(used) if it == name]
-                last = max(at for at, it in enumerate(used) if used[:at].count(it) % 2 == 0)
-                same(f"{words}: {name} opened once", len(places) in (1, 2), True)
-                same(f"{words}: {name} closed before another is opened", places[1:] != [] and places[1] < last, False)
+    IMAGES = {"one": with_symbols(3, {b"_a": 0x1000, b"_b": 0x1040}), "two": with_symbols(4, {b"_c": 0x1000})}
+    # Other symbols of the same keys, with which each file is as long as before.
+    OTHERS = {"one": with_symbols(3, {b"_x": 0x1000, b"_y": 0x1040}), "two": with_symbols(4, {b"_z": 0x1000})}
+
+    def setUp(self) -> None:
+        super().setUp()
+        self.bring(self.IMAGES)
+        uuids = [slice_words(made)[0] for made in self.IMAGES.values()]
+        self.put("asked.frames", "".join(f"{it} x86_64 - 1044\n" for it in uuids).encode())
+
+    def bring(self, images: Dict[str, bytes]) -> None:
+        """Puts archives of these images and their indexes in the place of those that are there, as new files."""
+        for name, made in images.items():
+            for path, content in ((f"{name}.sym", archive([made])), (f"{name}.idx", index([made]))):
+                os.replace(self.put(f"{path}.new", content), self.folder / path)
+
+    def commands(self) -> Iterator[List[str]]:
+        """Each command by indexes. The last archive that it opens stands there with its whole path."""
+        uuid, arch, _ = slice_words(self.IMAGES["one"])
+        one, two = str(self.folder / "one.sym"), str(self.folder / "two.sym")
+        more = ["--with", two, "--index", "one.idx", "--index", "two.idx"]
+        yield ["list", one, "--index", "one.idx"]
+        yield ["summary", one, OUT, "--index", "one.idx"]
+        yield ["find", "one.sym", uuid, *more]
+        yield ["symbolicate", "one.sym", uuid, arch, "1000", "1044", "--lines", *more]
+        yield ["frames", "asked.frames", "--slices", "--index", "one.idx", "--index", "two.idx", "one.sym", two]
+        yield ["extract", "one.sym", uuid, arch, OUT, *more]
+
+    def test_replaced_meanwhile(self) -> None:
+        """Once the last archive is open, others that take the place of the indexes and the archives change no answer,
+        and neither does their removal."""
+        traces.need_strace()
+        for words in self.commands():
+            wanted = self.ends(words)
+            last = next(it for it in words if it.startswith(str(self.folder)))
+            for change in (lambda: self.bring(self.OTHERS), self.remove):
+                self.bring(self.IMAGES)
+                same(f"{words}", self.ends(words, last, change), wanted)
+            self.bring(self.OTHERS)
+            same(f"{words}: whether it answers as before", self.ends(words) == wanted, False)
+            self.bring(self.IMAGES)
+
+    def remove(self) -> None:
+        for path in ("one.sym", "one.idx", "two.sym", "two.idx"):
+            (self.folder / path).unlink()
+
+    def ends(self, words: List[str], opened: str = "", change: Optional[Callable[[], None]] = None) -> List[object]:
+        """The end of a run, its streams, and what is at OUT then. If something is to change, the run is stopped when it
+        has opened a file, and goes on after that."""
+        self.out.unlink(missing_ok=True)
+        trace = self.put("trace", b"")
+        stop = ["-e", "trace=open,openat", "-e", "inject=open,openat:signal=SIGSTOP:when=1"]
+        under: List[Word] = ["strace", "-D", "-qq", "-o", trace, "-P", opened, *stop] if change else []
+        with self.start(words, under=under) as process:
+            if change:
+                wait_until(lambda: b"stopped by" in trace.read_bytes(), process)
+                change()
+                process.send_signal(signal.SIGCONT)
+            printed, told = process.communicate(timeout=MOST_SECONDS)
+        return [process.returncode, printed, told, self.out.read_bytes() if self.out.exists() else None]
 
 
 class Memory(OutCase):
-    """An archive at OUT is compared with the draft in the memory of one record of each."""
+    """What is at OUT is compared with the draft in less memory than it has bytes."""
 
-    def test_comparison(self) -> None:
-        made = [image(number, more=MEGABYTE * 16) for number in range(8)]
-        self.put("all.sym", archive(made))
-        self.put("empty.sym", EMPTY)
-        peaks = {}
-        for name, slices in (("absent", None), ("small", made[:1]), ("large", made)):
-            self.out.unlink(missing_ok=True)
-            if slices is not None:
-                self.out.write_bytes(archive(slices))
-            peaks[name] = self.peak(["merge", "all.sym", OUT, "empty.sym"])
-        same(f"kilobytes at most: {peaks}", peaks["large"] - peaks["small"] < MOST_MORE, True)
-        self.out.write_bytes(archive([*made, image(9)]))
-        self.keeps(["merge", "all.sym", OUT, "empty.sym"], CANNOT_REPLACE, losing(1))
+    seconds = 10
 
-    def peak(self, words: List[str]) -> int:
-        """How many kilobytes a run has at once, which ends well."""
-        with self.start(words) as process:
-            assert process.stdout and process.stderr
-            process.stdout.read()
-            told = process.stderr.read()
-            _, status, used = os.wait4(process.pid, 0)
-            process.returncode = status
-        same(f"{words}", (status, told), (0, b""))
-        return used.ru_maxrss
+    def setUp(self) -> None:
+        super().setUp()
+        self.before = functools.partial(resource.setrlimit, resource.RLIMIT_AS, (LIMIT, LIMIT))
+
+    def replaces(self, words: List[str], before: bytes, after: bytes) -> None:
+        self.out.write_bytes(before)
+        number = self.out.stat().st_ino
+        same(f"{words}", self.run_program(words)[0::2], (0, ""))
+        same(f"{words}: OUT", (self.out.read_bytes() == after, self.out.stat().st_ino != number), (True, True))
+
+    def test_archives(self) -> None:
+        """Of 64 MB, in slices of a megabyte: the same, one below it, and one that has another slice."""
+        made = [image(number, more=bytes([number]) * MEGABYTE) for number in range(64)]
+        whole = archive(made)
+        self.put("all.sym", whole)
+        self.put("empty.sym")
+        words = ["merge", "all.sym", OUT, "empty.sym"]
+        for slices in (made, made[1::2]):
+            self.replaces(words, archive(slices), whole)
+        self.out.write_bytes(archive([*made, image(64)]))
+        self.keeps(words, CANNOT_REPLACE, losing(1))
+
+    def test_a_slice(self) -> None:
+        """Of 64 MB: the same, and one with another last byte."""
+        made = image(1, more=bytes(2 * LIMIT))
+        self.put("one.sym", archive([made]))
+        self.put("one.idx", index([made]))
+        words = ["extract", "one.sym", *slice_words(made)[:2], OUT, "--index", "one.idx"]
+        self.replaces(words, made, made)
+        self.out.write_bytes(made[:-1] + b"\1")
+        self.keeps(words, CANNOT_REPLACE, OTHER_SLICE)

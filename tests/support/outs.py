@@ -10,7 +10,7 @@ from typing import Any, Callable, Dict, Iterator, List, Optional, Sequence, Tupl
 from .cases import ProgramCase, Without, is_done, same
 from .made_images import EMPTY, archive, image, index, operations, slice_words, summary, universal
 from .program import MOST_SECONDS, Word, symarch
-from .second_lines import second_line
+from .second_lines import FOREIGN, OTHER_SLICE, second_line
 
 CANNOT_CREATE, CANNOT_REPLACE = "output: cannot create", "output: cannot replace"
 OTHER_USER = 65534
@@ -29,6 +29,7 @@ INPUTS = {
     "old.sym": archive(SLICES[1:3], retired=SLICES[2:3], magic=VERSION_1),
     "two.ops": operations(SLICES[2:3]),
     "one.sum": summary(SLICES[1:2]),
+    "one.idx": index(SLICES[1:2]),
 }
 RETIRED = slice_words(SLICES[1])
 # Each command that writes: its words, and the text that it writes.
@@ -43,6 +44,7 @@ COMMANDS: Dict[str, Tuple[List[str], bytes]] = {
     "summary": (["summary", "one.sym", OUT], summary(SLICES[1:2])),
     "index": (["index", "both.sym", OUT], index(SLICES[1:3])),
     "delta": (["delta", "both.sym", "one.sum", OUT], archive(SLICES[2:3])),
+    "extract": (["extract", "both.sym", *RETIRED[:2], OUT], SLICES[1]),
 }
 # What may be at OUT: an empty file, which each command replaces, and files of the program by their kind.
 NOTHING = b""
@@ -52,9 +54,8 @@ KINDS = {
     "an index": [index(SLICES[:1])],
     "an operations file": [operations(SLICES[:1])],
 }
-OWN_FILES = [content for contents in KINDS.values() for content in contents]
 # What a command replaces that writes no archive.
-REPLACED = {"summary": "a summary", "index": "an index"}
+REPLACED = {"summary": "a summary", "index": "an index", "extract": "the same slice"}
 # Archives that have a slice which no other command brings, what begins as an archive and is none, and others.
 WITH_ANOTHER = [archive(SLICES[:1]), archive(SLICES[:1], magic=VERSION_1)]
 DAMAGED_FILES = [EMPTY[:8], EMPTY + b"\0", archive(SLICES[:1])[:-1], archive(SLICES[1:2])[:-1] + b"\2"]
@@ -74,7 +75,13 @@ Path = Union[str, pathlib.Path]
 
 def replaced_by(name: str) -> List[bytes]:
     """Files that a command replaces."""
-    return [NOTHING, *KINDS[REPLACED.get(name, "an archive")]]
+    same_slice = {"the same slice": [SLICES[1]]}
+    return [NOTHING, *{**KINDS, **same_slice}[REPLACED.get(name, "an archive")]]
+
+
+def stays_at(name: str, kind: str = FOREIGN) -> str:
+    """What is said of a file of a kind, or of any, that a command does not replace: what it is, but of no slice."""
+    return OTHER_SLICE if name == "extract" else kind
 
 
 def state_of(path: Path) -> Any:
@@ -155,7 +162,7 @@ class OutCase(ProgramCase):
             except subprocess.TimeoutExpired:
                 process.kill()
                 raise
-        return process.returncode, printed or b"", told.decode()
+        return process.returncode, printed or b"", (told or b"").decode(errors="surrogateescape")
 
     def places(self, name: str, out: Optional[Path] = None, at: Optional[Path] = None, **more: Any) -> None:
         """A command puts its text in place at OUT, or at the path `at` to which that leads."""

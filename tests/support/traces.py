@@ -1,11 +1,13 @@
 """What a program asks of the system that makes, changes or removes a file, by strace."""
+import collections
 import itertools
 import os
 import pathlib
 import re
-from typing import List, Optional, Tuple
+from typing import Counter, List, NamedTuple, Optional, Tuple
 
-from .program import Word
+from .cases import Without
+from .program import Word, is_done
 
 CALLS = {
     "open": ("open", "openat", "creat"),
@@ -22,6 +24,40 @@ LINE = re.compile(r"(\w+)\((.*)\) += (-?[0-9]+)")
 DESCRIPTOR = re.compile(r"([0-9]+)<(.*?)>")
 QUOTED = re.compile(r'"(.*?)"')
 WRITES = ("O_WRONLY", "O_RDWR", "O_CREAT", "O_TRUNC")
+
+
+class Call(NamedTuple):
+    """A call of a run: its name, which one of this name it is, from 1, and its line in the trace."""
+
+    name: str
+    number: int
+    line: str
+
+    @property
+    def kind(self) -> Optional[str]:
+        return KINDS.get(self.name)
+
+    def killing(self) -> List[Word]:
+        """The words that run a program, and kill it before this call. The program is the process that they begin."""
+        kill = ["-e", f"trace={self.name}", "-e", f"inject={self.name}:signal=KILL:when={self.number}"]
+        return ["strace", "-D", "-qq", "-o", os.devnull, *kill]
+
+
+def calls_in(text: str) -> List[Call]:
+    """Each call of a trace."""
+    counts: Counter[str] = collections.Counter()
+    calls = []
+    for line in text.split("\n"):
+        name, is_call, _ = line.partition("(")
+        if is_call and name.isidentifier():
+            counts[name] += 1
+            calls.append(Call(name, counts[name], line))
+    return calls
+
+
+def need_strace() -> None:
+    if not is_done(["strace", "-o", os.devnull, "true"]):
+        raise Without("strace is not there, or may not trace")
 
 
 def words(trace: Word) -> List[Word]:
