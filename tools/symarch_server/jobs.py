@@ -18,7 +18,7 @@ from symarch_tools.console.json_lines import encoded
 from symarch_tools.console.screen import Screen
 from symarch_tools.formats.builds import BuildLines, Named, field, field_shown
 from symarch_tools.formats.contents import digest_in
-from symarch_tools.formats.packed_files import DESCRIPTORS
+from symarch_tools.formats.files import DESCRIPTORS
 from symarch_tools.reports.archives import with_levels
 from symarch_tools.store import lock
 from symarch_tools.store.archive import Archive

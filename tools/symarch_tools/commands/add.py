@@ -14,7 +14,7 @@ from ..console.faults import SliceRefused
 from ..console.screen import Screen, screen_of
 from ..formats.builds import Builds, Sight, days_of
 from ..formats.contents import Content
-from ..formats.packed_files import DESCRIPTORS
+from ..formats.files import DESCRIPTORS
 from ..store.archive import Archive
 from ..store.draft import Draft, News
 from ..store.program import Program

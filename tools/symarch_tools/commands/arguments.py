@@ -2,12 +2,15 @@
 import argparse
 import os
 import re
-import uuid
+from typing import TYPE_CHECKING
 
 from ..console.escapes import shown
 from ..console.faults import Failed
 from ..formats.builds import MOST_OF_FIELD, field, is_day
 from ..formats.contents import numbers_of
+
+if TYPE_CHECKING:
+    import uuid
 
 ARCHITECTURES = "x86_64, x86_64h, arm64, arm64e or cpu:CCCCCCCC/00SSSSSS"
 # The help of arguments, of which those after a colon are completed.
@@ -30,7 +33,9 @@ def other_form(name: str, argument: str, form: str) -> Failed:
     return Failed(f"{name} is `{shown(argument)}`: expected {form}", 3)
 
 
-def uuid_of(argument: str) -> uuid.UUID:
+def uuid_of(argument: str) -> "uuid.UUID":
+    import uuid
+
     try:
         return uuid.UUID(argument)
     except ValueError:

@@ -6,10 +6,7 @@ from typing import List, NoReturn, Optional, Sequence
 from ..console.escapes import shown
 from ..console.faults import Failed
 from ..formats.files import beginning
-from ..formats.packed_files import ZIP
-from ..formats.universal_files import UNIVERSAL
 from ..store.file_names import is_archive
-from ..store.slices import THIN, is_dsym
 
 # In a call standard input; and in place of ARCHIVE, if no argument may be that.
 STANDARD_INPUT, ARCHIVE = "-", "ARCHIVE"
@@ -17,6 +14,10 @@ STANDARD_INPUT, ARCHIVE = "-", "ARCHIVE"
 
 def is_input(path: str) -> bool:
     """Whether an argument names what `add` puts into an archive."""
+    from ..formats.packed_files import ZIP
+    from ..formats.universal_files import UNIVERSAL
+    from ..store.slices import THIN
+
     return path == STANDARD_INPUT or os.path.isdir(path) or beginning(path, len(THIN)) in (THIN, ZIP, *UNIVERSAL)
 
 
@@ -40,6 +41,8 @@ def refuse_order(command: str, options: Sequence[str], names: Sequence[str]) -> 
         refuse(f"{shown(names[1])} is no folder, and FOLDER comes before NAME", command, options, names, first)
     if is_archive(first):
         return
+    from ..store.slices import is_dsym
+
     archive = archive_in(command, names) if command != "repair" and len(names) > 1 else None
     is_standard_input = first == STANDARD_INPUT and not os.path.exists(first)
     if archive is not None and (command != "add" or is_input(first) or os.path.exists(first)):

@@ -19,7 +19,6 @@ from ..store.file_names import NEXT_INDEX
 from ..store.lock import looks
 from ..store.log import NEXT_LOG
 from ..store.losses import counted, lost_lines
-from ..store.program import Program
 
 DESCRIPTION = """\
 Prints the content of ARCHIVE in numbers, and the sites with which it exchanges. It reads the indexes; `check` reads
@@ -57,6 +56,8 @@ def carry_out(arguments: argparse.Namespace) -> int:
     archive = Archive(os.fsencode(arguments.archive), writes=arguments.accept)
     if arguments.accept:
         archive.take_lock(screen, arguments.wait)
+        from ..store.program import Program
+
         accept(archive, archive.content(Program(), screen), screen)
     else:
         archive.say_damaged_builds(screen)

@@ -1,5 +1,4 @@
 """Texts in a line of a terminal, in which nothing is printed that moves it or ends the line."""
-import json
 import os
 import re
 from typing import Optional, Union
@@ -47,4 +46,4 @@ def is_kept(character: str) -> bool:
 
 def json_shown(text: str) -> str:
     """JSON of which a terminal obeys nothing. Its value is the same."""
-    return OF_TERMINAL.sub(lambda found: json.dumps(found[0])[1:-1], text)
+    return OF_TERMINAL.sub(lambda found: f"\\u{ord(found[0]):04x}", text)

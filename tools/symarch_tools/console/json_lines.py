@@ -1,9 +1,9 @@
 """What --json prints: an object a line. A path is text, in which U+FFFD stands in place of each byte that is no
 UTF-8; then `path_hex` has its bytes."""
-import json
+import functools
 import os
 import re
-from typing import Any, Dict, Union
+from typing import Any, Callable, Dict, Union
 
 from .escapes import json_shown
 
@@ -36,5 +36,12 @@ def path_members(path: Union[bytes, str], name: str = "path") -> Members:
 NO_PATH: Members = {"path": None, "path_hex": None}
 
 
+@functools.lru_cache(maxsize=None)
+def encoder() -> Callable[[Members], str]:
+    import json
+
+    return json.JSONEncoder(ensure_ascii=False).encode
+
+
 def encoded(members: Members) -> str:
-    return json_shown(SURROGATE.sub("\ufffd", json.dumps(members, ensure_ascii=False)))
+    return json_shown(SURROGATE.sub("\ufffd", encoder()(members)))

@@ -20,7 +20,6 @@ from ..formats.contents import Content, kept_text
 from ..store.archive import ASKED, Archive
 from ..store.archive_file import kept_at
 from ..store.log import DATE
-from .shared_folder import digest_of
 from .times import fault_of_time, time_after
 
 # So many questions of this site may be answered late.
@@ -88,6 +87,8 @@ class Exchanged:
 
     def lacking_in(self, content: Content) -> Content:
         """What was asked with and a content lacks."""
+        from .shared_folder import digest_of
+
         if self.questions and self.questions[-1][1] == digest_of(content.summary()):
             self.last = content
         return self.content().beyond(content)

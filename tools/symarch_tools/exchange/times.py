@@ -1,6 +1,5 @@
 """The times of files in a shared folder. Others may write any time there, and a clock may be wrong for a while: a time
 that is no date, or is more than a day ahead, does not count."""
-import calendar
 import contextlib
 import time
 from typing import Iterable, Optional
@@ -11,6 +10,8 @@ DAY = 24 * 60 * 60
 
 def seconds_of(text: str) -> Optional[int]:
     """The seconds of a time; None if it is no date."""
+    import calendar
+
     with contextlib.suppress(ValueError):
         return calendar.timegm(time.strptime(text, TIME))
     return None

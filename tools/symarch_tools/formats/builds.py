@@ -5,7 +5,6 @@ What two files have together is the union of their lines, where of lines that di
 stays. So sites that know the same have the same bytes, in whatever order it came."""
 import contextlib
 import dataclasses
-import datetime
 import functools
 import hashlib
 import io
@@ -119,6 +118,8 @@ def today() -> bytes:
 
 @functools.lru_cache(maxsize=4096)
 def is_day(text: bytes) -> bool:
+    import datetime
+
     with contextlib.suppress(ValueError):
         return datetime.date.fromisoformat(text.decode()).isoformat() == text.decode()
     return False

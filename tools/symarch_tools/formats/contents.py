@@ -5,7 +5,6 @@ import hashlib
 import os
 import re
 import struct
-import uuid
 from dataclasses import dataclass, field
 from typing import BinaryIO, Callable, Collection, Dict, Iterable, Iterator, List, Optional, Sequence, Set, Tuple
 
@@ -215,9 +214,16 @@ def arch_of(numbers: Tuple[int, int]) -> str:
     return NAMES.get(numbers) or "cpu:{:08x}/{:08x}".format(*numbers)
 
 
+def uuid_text(number: bytes) -> str:
+    """A UUID as it is printed."""
+    import uuid
+
+    return str(uuid.UUID(bytes=number))
+
+
 def words_of(entry: bytes) -> str:
     """UUID, ARCH and DIGEST of a slice."""
-    return f"{uuid.UUID(bytes=entry[:16])} {arch_in(entry[16:KEY])} {entry[KEY:].hex()}"
+    return f"{uuid_text(entry[:16])} {arch_in(entry[16:KEY])} {entry[KEY:].hex()}"
 
 
 @functools.lru_cache(maxsize=None)

@@ -7,6 +7,9 @@ from typing import Iterable, Optional, Tuple, Union
 from ..console.faults import about
 from ..console.streams import write
 
+# By what the program gets the files that this tool has open, also those whose paths are no UTF-8.
+DESCRIPTORS = "/dev/fd"
+
 
 def stamp(path: bytes, of: bytes) -> None:
     """Gives a file the time of another one. It is synced."""

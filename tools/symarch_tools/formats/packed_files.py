@@ -10,9 +10,8 @@ from typing import IO, Any, BinaryIO, Callable, Container, Dict, Iterator, Named
 
 from ..console.signals import signals
 from .contents import CHUNK, TOO_LARGE
+from .files import DESCRIPTORS
 
-# By what the program gets the files that this tool has open, also those whose paths are no UTF-8.
-DESCRIPTORS = "/dev/fd"
 ZIP, GZIP = b"PK\3\4", b"\x1f\x8b"
 MAGIC_AT, TAR = 257, b"ustar"
 # What such files are called that are taken of folders.

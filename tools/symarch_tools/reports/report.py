@@ -13,14 +13,14 @@ from ..console.streams import standard_input
 from .encodings import decoded
 from .faults import Failure, NoReport, NoStacks, Status
 from .images import HAD_NAME, IS_INLINED, MOST_IMAGES, NO_IMAGE, Frames, GivenImage, Images, one_of
-from .json.report import JsonReport
-from .json.walk import Broken, flat_at
 from .text.doubled import Doubled, undoubled
 from .text.pasted import FIRST_WORDS, MOST_OF_BEGINNING, lines_in, unpasted
-from .text.report import TextReport
 
 if TYPE_CHECKING:
     from .json.readable import ReadableReport
+    from .json.report import JsonReport
+    from .json.walk import Broken
+    from .text.report import TextReport
 
 DOCUMENT = re.compile(rb"\s*(?=[{\[])")
 # The path that means standard input.
@@ -40,8 +40,8 @@ KINDS = {"211": "an analytics report", "298": "a jetsam report"}
 # Of so many parts a report is made, and so many of its faults are said.
 MOST_PARTS, MOST_NOTES = 10_000, 10
 
-# What a report is made of. What makes JSON readable is imported where it is asked for.
-Part = Union[JsonReport, TextReport, "ReadableReport"]
+# What a report is made of. What reads JSON or text, and what makes JSON readable, is imported where it is asked for.
+Part = Union["JsonReport", "TextReport", "ReadableReport"]
 
 
 @dataclass
@@ -175,6 +175,8 @@ class Report:
         found = DOCUMENT.match(self.data, last_flat(self.data, begin)) if count < MOST_PARTS else None
         if not found:
             return None
+        from .json.report import JsonReport
+
         part = JsonReport(self.data, found.end(), self.images, self.is_kept)
         if part.broken and not part.broken.is_cut and not len(part.frames):
             if part.broken.limit:
@@ -195,6 +197,8 @@ class Report:
         outside = self.pasted.outside(self.data, begin)
         if outside > begin and DOCUMENT.match(self.data, outside):
             heading = end = outside
+        from .text.report import TextReport
+
         part = TextReport(self.data, begin, end, self.images)
         part.heading = heading
         self.note_cut(part)
@@ -251,8 +255,9 @@ class Report:
         """The frames of each part, and those of its backtraces."""
         for part in self.parts:
             yield part.frames
-            if not isinstance(part, (JsonReport, TextReport)) and part.backtraces:
-                yield part.backtraces.frames
+            backtraces: Optional[TextReport] = getattr(part, "backtraces", None)
+            if backtraces:
+                yield backtraces.frames
 
     def find_interrupted(self) -> bool:
         """Whether there are frames that a signal interrupted, as the names of the archive say, which have to be asked
@@ -264,7 +269,11 @@ def last_flat(data: bytes, begin: int) -> int:
     """Where the last one begins of the documents from a place on that follow one another, and have no others in them;
     the place itself if there are none. Such have no frames."""
     found, last = DOCUMENT.match(data, begin), begin
-    flat = flat_at(data, found.end()) if found else None
+    if not found:
+        return last
+    from .json.walk import flat_at
+
+    flat = flat_at(data, found.end())
     while found and flat:
         last = found.start()
         found = DOCUMENT.match(data, flat[1])
@@ -274,6 +283,8 @@ def last_flat(data: bytes, begin: int) -> int:
 
 def is_plain(part: Union[JsonReport, TextReport]) -> bool:
     """Whether a part is JSON without frames."""
+    from .json.report import JsonReport
+
     return isinstance(part, JsonReport) and not len(part.frames) and not part.broken
 
 
@@ -287,7 +298,11 @@ def kind_of(data: bytes, found: Sequence[Union[JsonReport, TextReport]]) -> Opti
     """What a report is by the type that its first line states, if it is one of those without stacks, or if all of its
     JSON is there."""
     first = DOCUMENT.match(data)
-    flat = flat_at(data, first.end()) if first else None
+    if not first:
+        return None
+    from .json.walk import flat_at
+
+    flat = flat_at(data, first.end())
     if not flat or not isinstance(flat[0], dict):
         return None
     number = str(flat[0].get("bug_type", ""))

@@ -1,8 +1,10 @@
 """An archive: ARCHIVE, its levels and ARCHIVE.today, which are asked as their join; what they have, and what is
 lost; and what a kill left of it. How more comes in is in `draft`. Each index is made from the old ones and that of
 the new records, and the heads of all records are compared with it, so a changed byte never becomes a known one."""
+from __future__ import annotations
+
 import os
-from typing import List, Optional, Sequence, Tuple
+from typing import TYPE_CHECKING, List, Optional, Sequence, Tuple
 
 from ..console.escapes import shown
 from ..console.faults import CutShort, Failed
@@ -20,7 +22,9 @@ from .folder import ArchiveFolder, watched
 from .levels import ArchiveFiles
 from .lock import Lock
 from .losses import LOST, Lost, changed_line, counted, lost_lines
-from .program import Program
+
+if TYPE_CHECKING:
+    from .program import Program
 
 ASKED = b".asked"
 

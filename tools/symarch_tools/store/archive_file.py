@@ -2,11 +2,13 @@
 FILE.idx.next that of a new file which takes its place, by the steps of `Archive.replace`. Each has the time of the
 file of which it was made, so that another file differs from that one. An archive belongs to an index that has its
 length, and its time or else the heads of all its records; an index that a kill left needs all three."""
+from __future__ import annotations
+
 import contextlib
 import operator
 import os
 from dataclasses import dataclass, field
-from typing import BinaryIO, Iterator, List, Optional, Tuple
+from typing import TYPE_CHECKING, BinaryIO, Iterator, List, Optional, Tuple
 
 from ..console.escapes import shown
 from ..console.faults import Failed
@@ -17,7 +19,9 @@ from ..formats.files import remove, size_of, time_of
 from ..formats.indexes import Index, OtherKind, changes, index_at
 from .file_names import INDEX, NEXT_INDEX, NEXT_SUM, SUM
 from .lock import State, state_of
-from .program import Program
+
+if TYPE_CHECKING:
+    from .program import Program
 
 NO_UUID = "00000000-0000-0000-0000-000000000000"
 # So many bytes of a retirement may differ where it changed: half of its digest.
@@ -217,6 +221,8 @@ class ArchiveFile:
             with open(self.path, "rb") as file:
                 yield file
         except Malformed as fault:
+            from .program import Program
+
             self.look_through(program or Program())
             raise Failed(f"{shown(self.path)}: {fault}") from None
 

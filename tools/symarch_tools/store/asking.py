@@ -10,8 +10,8 @@ from ..console.faults import CutShort, Failed, system_text
 from ..console.program_faults import fault_on_standard_error
 from ..console.screen import Screen
 from ..formats.contents import DIGEST, EMPTY, Moved, digest_in, entry_in, join_of, unmoved
+from ..formats.files import DESCRIPTORS
 from ..formats.indexes import HEAD, Index, IndexRow
-from ..formats.packed_files import DESCRIPTORS
 from .archive import Archive
 from .archive_file import ArchiveFile
 from .changes import index_read

@@ -9,8 +9,6 @@ from ..console.escapes import shown
 from ..console.faults import Failed
 from ..formats.contents import MAGIC, MAGICS
 from ..formats.files import beginning as beginning  # Also for reports, which import no format.
-from ..formats.packed_files import ZIP
-from .slices import is_dsym
 
 TODAY, LOCK = b".today", b".lock"
 INDEX, NEXT_INDEX = b".idx", b".idx.next"
@@ -108,6 +106,8 @@ def is_archive(path: str) -> bool:
 
 
 def is_zip_file(path: str) -> bool:
+    from ..formats.packed_files import ZIP
+
     return beginning(path, len(ZIP)) == ZIP
 
 
@@ -140,6 +140,10 @@ def refuse_other(path: bytes, place: bytes, is_made: bool) -> None:
         was_there = os.path.exists(place + INDEX)
         how = "restore it from a backup or another site" if was_there else "symarch-keep add makes an archive"
         raise Failed(f"{shown(path)}: No such file; {how}") from None
+    if stat.S_ISREG(mode) and is_archive(os.fsdecode(place)):
+        return
+    from .slices import is_dsym
+
     if is_dsym(path) or is_dsym(place):
         name = path.rstrip(b"/")
         typed = shown(shlex.quote(os.fsdecode(name)))

@@ -2,13 +2,12 @@
 had and lacks, as after a restore, until it is back or is taken as lost. ARCHIVE.lost is written before the index
 with the lost entries is removed. Accepted losses stay there, since a copied folder may bring back a question that
 names them."""
-import uuid
 from dataclasses import dataclass, field
 from typing import Iterable, List, Optional
 
 from ..console.escapes import shown
 from ..console.json_lines import NO_PATH, Line, Members, line_of, path_members
-from ..formats.contents import KEY, Content, KeptFile, Malformed, arch_in, kept_text, words_of
+from ..formats.contents import KEY, Content, KeptFile, Malformed, arch_in, kept_text, uuid_text, words_of
 from ..formats.indexes import IndexRow
 
 LOST = b".lost"
@@ -75,7 +74,7 @@ def record_members(entry: Optional[bytes], is_retirement: bool = False) -> Membe
     if entry is None:
         return {"record": None, "uuid": None, "arch": None, "digest": None}
     record = "retirement" if is_retirement else "slice"
-    name, arch, digest = str(uuid.UUID(bytes=entry[:16])), arch_in(entry[16:KEY]), entry[KEY:].hex()
+    name, arch, digest = uuid_text(entry[:16]), arch_in(entry[16:KEY]), entry[KEY:].hex()
     return {"record": record, "uuid": name, "arch": arch, "digest": digest}
 
 

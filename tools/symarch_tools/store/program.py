@@ -1,10 +1,12 @@
 """The program symarch, which reads and writes archives."""
+from __future__ import annotations
+
 import contextlib
 import os
 import re
 import subprocess
 from dataclasses import dataclass, field
-from typing import Dict, List, Mapping, Optional, Sequence, Tuple, Union
+from typing import TYPE_CHECKING, Dict, List, Mapping, Optional, Sequence, Tuple, Union
 
 from ..console.escapes import shown
 from ..console.faults import CutShort, Failed, SliceRefused
@@ -14,8 +16,10 @@ from ..console.program_path import candidates, named
 from ..console.signals import signals
 from ..console.streams import write
 from ..formats.contents import END, LENGTH, MAGIC, MAGICS, Moved, unmoved
-from ..formats.packed_files import DESCRIPTORS
-from .slices import Slice
+from ..formats.files import DESCRIPTORS
+
+if TYPE_CHECKING:
+    from .slices import Slice
 
 Argument = Union[str, bytes]
 # The faults of a slice and of a file, which have those of the image in parentheses.
