@@ -94,7 +94,7 @@ class Clauses(unittest.TestCase):
     """PROOFS lists each public function without a clause, and no other, by its crate and its type."""
 
     def test_functions_without_one(self) -> None:
-        listed = re.findall(r"^\| `(\w+)` \| ((?:`[\w:]+`(?:, )?)+) \|", text_of("docs/PROOFS.md"), re.M)
+        listed = re.findall(r"^- `(\w+)`: ((?:`[\w:]+`(?:,\s+)?)+)$", text_of("docs/PROOFS.md"), re.M)
         self.assertEqual({crate: re.findall(r"`([\w:]+)`", names) for crate, names in listed}, without_a_clause())
 
 
@@ -153,14 +153,14 @@ class Crates(unittest.TestCase):
                 self.assertIn(used, drawn)
         self.assertEqual(sorted(drawn), sorted(uses))
 
-    def test_table(self) -> None:
+    def test_list(self) -> None:
         listed = re.findall(r"^ *(\w+) *:", text_of("crates.txt"), re.M)
         parts = re.split(r"^### ", text_of("docs/ARCHITECTURE.md").partition("\n## Families\n")[2], flags=re.M)[1:]
-        tables = [re.findall(r"^\| `(\w+)` \|", part, re.M) for part in parts]
-        self.assertEqual(sorted(sum(tables, [])), sorted(listed))
-        for names in tables:
+        lists = [re.findall(r"^- `(\w+)`: ", part, re.M) for part in parts]
+        self.assertEqual(sorted(sum(lists, [])), sorted(listed))
+        for names in lists:
             self.assertEqual(names, [it for it in listed if it in names])
-        families = [{it.partition("_")[0] for it in names} for names in tables[1:]]
+        families = [{it.partition("_")[0] for it in names} for names in lists[1:]]
         self.assertEqual(len(set().union(*families)), sum(map(len, families)))
 
 
@@ -186,9 +186,9 @@ class Commands(unittest.TestCase):
                 self.assertEqual(usage, "".join(f" {it.usage()}" for it in self.commands[name]), name)
 
     def test_arguments_of_the_manual(self) -> None:
-        """Its table of arguments has each that is no flag, paths in one row."""
+        """Its list of arguments has each that is no flag, paths in one item."""
         sections = dict(re.findall(r"^## (.*?)\n(.*?)(?=^## |\Z)", text_of("docs/COMMANDS.md"), re.M | re.S))
-        rows = dict(re.findall(r"^\| ([A-Z, ]+) \| (.*) \|$", sections["Arguments"], re.M))
+        rows = dict(re.findall(r"^- ([A-Z, ]+): (.*)$", sections["Arguments"], re.M))
         every = [it for arguments in self.commands.values() for it in arguments if it.count != "Flag"]
         for is_path in (True, False):
             came = [word for words, form in rows.items() if (form == "paths") == is_path for word in words.split(", ")]
