@@ -1,5 +1,5 @@
-"""README's command lines, and the lines that it shows, with the packages in a root of Debian's essential packages and
-Python."""
+"""README's command lines, and the lines that it shows, with the packages in a root of Debian's essential packages, apt
+and Python."""
 import os
 import re
 import shutil
@@ -9,8 +9,8 @@ from typing import ClassVar, List, Tuple
 
 from .support import fresh_root
 from .support.cases import Without
-from .support.packages import CRASHES, PackageCase, said
-from .support.program import TOP, symarch
+from .support.packages import CRASHES, PackageCase
+from .support.program import TOP
 
 
 def readme() -> str:
@@ -50,7 +50,7 @@ class InRoot(PackageCase):
         cls.root = str(cls.room / "root")
         os.mkdir(cls.root)
         try:
-            fresh_root.make(cls.root)
+            fresh_root.make(cls.root, "apt")
             cls.furnish(Path(cls.root) / "root")
             cls.before = fresh_root.run(cls.root, WHAT_IS_THERE)
             cls.first = fresh_root.run(cls.root, "\n".join(command_lines()[:3]))
@@ -59,7 +59,7 @@ class InRoot(PackageCase):
 
     @classmethod
     def furnish(cls, home: Path) -> None:
-        """What README's commands find: the packages, a folder of dSYMs, reports, and the archives of other sites."""
+        """What README's commands find: the packages, two folders of builds, reports, and an archive of version 1."""
         for it in cls.made.names.values():
             shutil.copy(cls.made.folder / it, home)
         inside = home / "dSYMs/spool.app.dSYM/Contents/Resources/DWARF"
@@ -69,8 +69,9 @@ class InRoot(PackageCase):
         shutil.copy(CRASHES / "spool-1", home / "spool")
         shutil.copy(CRASHES / "arm64.ips", home / "report.ips")
         shutil.copy(CRASHES / "arm64.crash", home / "report.crash")
-        empty = TOP / "examples/first/empty.sym"
-        said(symarch, "admit", empty, home / "west.sym", CRASHES / "spool-2", CRASHES / "spool-2.dSYM")
+        (home / "others").mkdir()
+        for name in ("spool-2", "spool-2.dSYM"):
+            shutil.copy(CRASHES / name, home / "others")
         shutil.copy(TOP / "tests/fixtures/version-1/retired.sym", home / "site.sym")
 
     def said(self, script: str) -> str:
@@ -85,7 +86,7 @@ class InRoot(PackageCase):
     def test_three_commands(self) -> None:
         """README's first block, as it stands, in a folder that has the package, the dSYMs and the report."""
         words = [it.split()[0] for it in command_lines()[:3]]
-        self.assertEqual(words, ["dpkg", "symarch-keep", "symbolicate-report"])
+        self.assertEqual(words, ["apt-get", "symarch-keep", "symbolicate-report"])
         self.assertEqual(self.first.returncode, 0, self.first.stderr)
         self.assertRegex(self.first.stdout, r"(?m)^0 .* copy_body \+ 12 \(spool\.c:9\)$")
         self.assertRegex(self.first.stderr, r"(?m)^[1-9][0-9]* of [0-9]+ frames named")
@@ -111,7 +112,7 @@ class InRoot(PackageCase):
 
     def test_decimal_and_hexadecimal(self) -> None:
         """What README says of numbers: by its own words of a report's address."""
-        (offset,) = found_in_readme(r'"imageOffset" : ([0-9]+)` with `--offset`')
+        (offset,) = found_in_readme(r'"imageOffset" : ([0-9]+)`')
         self.assertIn(f'"imageOffset" : {offset}', (CRASHES / "arm64.ips").read_text())
         (by_hand,) = found_in_readme(rf"`(symarch-keep symbolicate --offset [^`]* {offset})`")
         printed = self.said(by_hand.replace("UUID", "4c4c4419-5555-3144-a1d2-4341c97782f0"))

@@ -312,8 +312,8 @@ class Behind(ServerCase):
         self.port = free_port()
         of_nginx = r"(limit_conn_zone .*\nserver \{\n(?:.*\n)+?\}\n)"
         of_caddy = r"(builds\.example\.com \{\n(?:.*\n)+?\}\n)"
-        self.of_nginx = written(rf"^```\n{of_nginx}\n{of_caddy}```")
-        self.of_caddy = written(rf"^{of_caddy}```")
+        self.of_nginx = written(rf"^```\n{of_nginx}```")
+        self.of_caddy = written(rf"^```\n{of_caddy}```")
         self.words = ["--host", self.NAME, "--uploads", tokens(self.room, "uploads", {"ci": self.TOKEN})]
 
     def begin(self, *words: object, environment: Dict[str, str] = {}) -> "subprocess.Popen[bytes]":

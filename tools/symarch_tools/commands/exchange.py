@@ -43,6 +43,8 @@ CALL = "symarch-keep exchange [--quiet] [--wait SECONDS] [--json] [--take-name] 
 USAGE = f"""{CALL}
     {CALL} --key FILE --signers FILE"""
 ABOUT = "exchange with other sites over a folder"
+MOST = """accept no longer file of FOLDER, and send no more in all answers together; BYTES may end in k, M, G or T,
+powers of 1000"""
 KEYS = ("added", "retired", "answered", "not_whole", "refused", "lost")
 
 
@@ -50,7 +52,7 @@ def define(parser: argparse.ArgumentParser) -> None:
     parser.add_argument("--take-name", action="store_true", help="take NAME, which another site has or had")
     parser.add_argument("--key", metavar="FILE", help="sign with this key, whose private half may be in an agent")
     parser.add_argument("--signers", metavar="FILE", help="accept only files that a key of these sites signed")
-    parser.add_argument("--most", metavar="BYTES", help="accept no longer file of FOLDER, and send no more")
+    parser.add_argument("--most", metavar="BYTES", help=MOST)
     define_archive(parser, "FOLDER", "NAME")
 
 
