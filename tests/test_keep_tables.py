@@ -1,16 +1,19 @@
 """The tables in kept indexes: added, copied, checked and repaired; and sites whose indexes had none, or tables without
 lines. Expected indexes are made by tests.model, from docs/FILES.md."""
 import hashlib
+import os
 import pathlib
 import random
+import subprocess
 from typing import Callable, Dict, List
 
 from .model.indexes import entries_in, table_place
-from .support.cases import same
+from .support.cases import same, symarch
 from .support.kills import Left
 from .support.made_images import EMPTY, archive, image, index_before_lines, index_of, index_of_2_3
 from .support.made_images import index_without_tables, slice_words, slices_in
 from .support.program import TOP
+from .support.reports import TOOL as REPORT
 from .support.rooms import RoomCase, change, kept_index, today_of
 from .support.sites import Site, until_same
 
@@ -203,6 +206,14 @@ class OtherKinds(TableCase):
         self.texts = self.text, archive([*self.new[:1]], retired=[self.made[0]])
         self.files = self.room.archive, today_of(self.room.archive)
 
+    def reported(self) -> str:
+        """A report with names, and what was named."""
+        words = [REPORT, "--text", CRASH / "arm64.crash", self.room.archive]
+        environment = {**os.environ, "SYMARCH": symarch}
+        ended = subprocess.run(words, env=environment, capture_output=True, text=True, check=False)
+        self.assertEqual(ended.returncode, 0, ended.stderr)
+        return ended.stdout + ended.stderr
+
     def begin_with(self, index_made: Callable[[bytes], bytes]) -> None:
         self.room.begin_anew()
         for path, text in zip(self.files, self.texts):
@@ -244,10 +255,23 @@ class OtherKinds(TableCase):
             for command, status in (("status", 0), ("check", 2)):
                 _, errors = self.room.call(command, self.room.archive, status=status)
                 same(command, sorted(errors[:2]), sorted(told.format(path) for path in self.files))
-            _, errors = self.room.call("find", self.room.archive, slice_words(self.made[3])[0], status=2)
-            self.assertIn("is of another kind: run symarch-keep check", errors[0])
+            if index_made is not index_of_2_3:
+                _, errors = self.room.call("find", self.room.archive, slice_words(self.made[3])[0], status=2)
+                self.assertIn("is of another kind: run symarch-keep check", errors[0])
             self.room.call("add", "--dry-run", self.room.archive, CRASH / "spool-1")
             same("files", {path.name: path.read_bytes() for path in self.folder.glob("site.sym*")}, before)
+
+    def test_one_of_an_earlier_release_counts_as_none(self) -> None:
+        """Until it is made anew, lookups and reports answer by the archive, as they do by its new index."""
+        self.begin_with(index_of_2_3)
+        uuid, arch, _ = slice_words(self.new[1])
+        asked = ["find", self.room.archive, uuid], ["symbolicate", self.room.archive, uuid, arch, "0x100000432"]
+        before = [self.room.call(*words)[0] for words in asked]
+        report = self.reported()
+        self.room.call("status", "--accept", self.room.archive)
+        self.is_indexed(*self.files)
+        same("answers", [self.room.call(*words)[0] for words in asked], before)
+        same("report", self.reported(), report)
 
     def test_killed_before_each_step(self) -> None:
         self.begin_with(index_without_tables)

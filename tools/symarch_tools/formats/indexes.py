@@ -170,6 +170,12 @@ def index_in(file: BinaryIO, path: bytes = b"") -> Index:
     return index
 
 
+def is_of_earlier_release(path: bytes) -> bool:
+    """Whether a file begins as an index of a release before 2.4, by whose tables nothing is answered any more."""
+    with open(path, "rb") as file:
+        return file.read(MAGIC) == EARLIER_INDEX
+
+
 def is_without_tables(file: BinaryIO, size: int) -> bool:
     """Whether an index ends as one without tables, which has no SHA-256 of its entries."""
     count = max(size - MAGIC - TAIL, 0) // PLACED

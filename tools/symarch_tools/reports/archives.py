@@ -64,7 +64,8 @@ class NamedArchive:
                 raise Failure(f"{shown(one)} is {file_names.NO_FILE}: remove it", Status.REFUSED)
         # That of a new file may have no other name yet.
         is_next = not os.path.lexists(self.beside(INDEX)) and self.file.has_length_of(NEXT_INDEX)
-        last = self.beside(INDEX) if os.path.lexists(self.beside(INDEX)) else ""
+        has_own = os.path.lexists(self.beside(INDEX)) and not self.file.has_earlier_index()
+        last = self.beside(INDEX) if has_own else ""
         self.index = self.beside(NEXT_INDEX) if is_next else last
 
     def beside(self, ending: bytes) -> str:

@@ -16,7 +16,7 @@ from ..console.screen import Screen
 from ..formats.contents import EMPTY, MAGIC, MAGICS, RETIREMENT, Content, EndsEarly, KeptFile, Malformed, content_in
 from ..formats.contents import heads_in, records_in
 from ..formats.files import remove, size_of, time_of
-from ..formats.indexes import Index, OtherKind, changes, index_at
+from ..formats.indexes import Index, OtherKind, changes, index_at, is_of_earlier_release
 from .file_names import INDEX, NEXT_INDEX, NEXT_SUM, SUM
 from .lock import State, state_of
 
@@ -174,6 +174,12 @@ class ArchiveFile:
             return True
         except (FileNotFoundError, Malformed):
             pass
+        return False
+
+    def has_earlier_index(self) -> bool:
+        """Whether its index is of an earlier release, so that it is asked as if it had none."""
+        with contextlib.suppress(FileNotFoundError):
+            return is_of_earlier_release(self.beside(INDEX))
         return False
 
     def say_other_index(self, screen: Screen) -> None:

@@ -79,13 +79,14 @@ class Asked:
         raise self.unvouched(file)
 
     def as_it_stands(self, file: ArchiveFile) -> Optional[AskedFile]:
-        """A file with its index, if that is of it, or it has none."""
+        """A file with its index, if that is of it, or it has none that this release reads."""
         with contextlib.ExitStack() as closing:
             opened = closing.enter_context(open(file.path, "rb"))
             index, is_same = file.known()
             index_file = self.index_file(index, closing)
             is_whole = not index or not index.path or index_file is not None
-            if is_whole and self.is_still(file, opened) and (is_same or not index and not file.fault_of_index()):
+            has_none = not index and (file.has_earlier_index() or not file.fault_of_index())
+            if is_whole and self.is_still(file, opened) and (is_same or has_none):
                 self.ends.push(closing.pop_all())
                 return AskedFile(file, opened, index, index_file)
         return None
