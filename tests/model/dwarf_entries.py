@@ -11,7 +11,8 @@ ASKED: Dict[int, str] = {
     **{0x59: "call_line", 0x6E: "linkage_name", 0x72: "str_offsets_base", 0x73: "addr_base"},
     **{0x74: "rnglists_base", 0x2007: "MIPS_linkage_name"},
 }
-MOST_BYTES = 1024
+# How many bytes the first entry of a unit has at most, and those that are read on the way to a name together.
+MOST_BYTES = 16384
 Attributes = Dict[str, Value]
 
 
@@ -102,14 +103,16 @@ class Unit(NamedTuple):
                 found.setdefault(ASKED[attribute], value)
         return Entry(declaration.tag, declaration.has_children, found)
 
-    def entry_of(self, place: int) -> Optional[Entry]:
-        """The one entry at a place of __debug_info, which has at most 1,024 bytes."""
+    def entry_of(self, place: int, most: int) -> Optional[Tuple[Entry, int]]:
+        """The one entry at a place of __debug_info, if it has at most so many bytes, and how many these are fewer."""
         if place < self.first:
             return None
+        r = Reader(self.info, place, min(place + most, self.end))
         try:
-            return self.entry_at(Reader(self.info, place, min(place + MOST_BYTES, self.end)))
+            entry = self.entry_at(r)
         except Unread:
             return None
+        return None if entry is None else (entry, most - (r.at - place))
 
     def entries(self) -> Iterator[Tuple[int, Entry]]:
         """The entries, each with its depth: until the first is closed, or one cannot be read."""

@@ -5,7 +5,7 @@ from bisect import bisect_right
 from functools import lru_cache
 from typing import Dict, List, NamedTuple, Optional, Tuple
 
-from .dwarf_entries import Attributes, Entry, Unit, unit_at
+from .dwarf_entries import MOST_BYTES, Attributes, Entry, Unit, unit_at
 from .dwarf_lines import PathParts, names_of, parts_of, row_of
 from .dwarf_numbers import MASK, Texts, number_of, units_of
 from .dwarf_ranges import Range, RangeSections, aranges_of
@@ -153,8 +153,8 @@ class Debug:
             return None
         if offset not in self.read_units:
             unit = unit_at(self.section("info"), self.section("abbrev"), offset, self.units[offset])
-            first = None if unit is None else unit.entry_of(unit.first)
-            self.read_units[offset] = None if unit is None or first is None else DebugUnit(self, unit, first)
+            first = None if unit is None else unit.entry_of(unit.first, MOST_BYTES)
+            self.read_units[offset] = None if unit is None or first is None else DebugUnit(self, unit, first[0])
         return self.read_units[offset]
 
     def unit_of(self, address: int) -> Optional[DebugUnit]:
@@ -174,19 +174,22 @@ class Debug:
                 return unit
         return None
 
-    def entry_at(self, place: int) -> Optional[Tuple[DebugUnit, Entry]]:
-        """The entry at a place of __debug_info, of the unit that has the place."""
+    def entry_at(self, place: int, most: int) -> Optional[Tuple[DebugUnit, Entry, int]]:
+        """The entry at a place of __debug_info, of the unit that has the place, if it and the first entry of the unit
+        have at most so many bytes, and how many these are fewer."""
         number = bisect_right(self.offsets, place)
         if number == 0 or place >= self.units[self.offsets[number - 1]]:
             return None
         unit = self.unit(self.offsets[number - 1])
-        entry = None if unit is None else unit.unit.entry_of(place)
-        return None if unit is None or entry is None else (unit, entry)
+        first = None if unit is None else unit.unit.entry_of(unit.unit.first, most)
+        found = None if unit is None or first is None else unit.unit.entry_of(place, first[1])
+        return None if unit is None or found is None else (unit, *found)
 
     def name_of(self, unit: DebugUnit, attributes: Attributes) -> Optional[bytes]:
         """The first linkage name on the way from an entry by DW_AT_abstract_origin, else DW_AT_specification, and else
         the first name."""
         name: Optional[bytes] = None
+        most = MOST_BYTES
         for _ in range(MOST_STEPS):
             for attribute in ("linkage_name", "MIPS_linkage_name"):
                 linkage = unit.texts.of(attributes.get(attribute))
@@ -198,10 +201,10 @@ class Debug:
             if place is None:
                 inner = number_of(origin, "ref")
                 place = None if inner is None else (unit.unit.offset + inner) & MASK
-            found = None if place is None else self.entry_at(place)
+            found = None if place is None else self.entry_at(place, most)
             if found is None:
                 break
-            unit, attributes = found[0], found[1].attributes
+            unit, attributes, most = found[0], found[1].attributes, found[2]
         return name or None
 
 

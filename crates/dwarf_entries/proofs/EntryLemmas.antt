@@ -13,7 +13,7 @@ use Rattle.dwarf_encoding.proofs.SequenceLemmas.{none_or_some, nothing, mapped a
 use Rattle.dwarf_encoding.proofs.ShorterLemmas.{leb128_shorter, value_shorter}
 use Rattle.dwarf_entries.specs.Attributes.{AttributesRecord, with_attribute}
 use Rattle.dwarf_entries.specs.Abbreviations.{DeclarationRecord, declaration_of}
-use Rattle.dwarf_entries.specs.Entries.{EntryRecord, PlacedRecord, attributes_from, entry_at, depth_after, entries_within, entries_from, entry_of}
+use Rattle.dwarf_entries.specs.Entries.{EntryRecord, PlacedRecord, attributes_from, entry_at, depth_after, entries_within, entries_from, entry_of, left_after}
 use Rattle.dwarf_entries.specs.declared.unit_header.UnitHeader.{UnitHeader}
 
 -- a value more of an entry
@@ -186,17 +186,20 @@ entry_less abbreviations header bytes rest found read = (entry_shortens abbrevia
 
 -- one entry at its offset
 pub one_found : (abbreviations : List ℕ) (header : UnitHeader) (unit : List ℕ) (offset : ℕ) (found : Option EntryRecord)
-    (rest : List ℕ) → header.entries_offset ≤ offset
+    (rest : List ℕ) (room : ℕ) → header.entries_offset ≤ offset
     → ◌≡◌ {A = Option (Option EntryRecord × List ℕ)} (Some (found, rest))
-    (entry_at abbreviations header (take 1024 (drop offset unit))) → found
-    ≡ entry_of abbreviations header unit offset
-one_found abbreviations header unit offset found rest h read =
-    rw (le-leb header.entries_offset offset h) (ap (option_and_then (λ (x : Option EntryRecord × List ℕ). x.0)) read)
+    (entry_at abbreviations header (take room (drop offset unit)))
+    → option_map (λ e. (e, left_after room (take room (drop offset unit)) rest)) found
+    ≡ entry_of room abbreviations header unit offset
+one_found abbreviations header unit offset found rest room h read =
+    rw (le-leb header.entries_offset offset h)
+    (ap (option_and_then (λ (x : Option EntryRecord × List ℕ). option_map (λ e. (e, left_after room (take room (drop offset unit)) x.1)) x.0)) read)
 
-pub one_missing : (abbreviations : List ℕ) (header : UnitHeader) (unit : List ℕ) (offset : ℕ) → header.entries_offset ≤ offset
-    → entry_at abbreviations header (take 1024 (drop offset unit)) ≡ None → entry_of abbreviations header unit offset ≡ None
-one_missing abbreviations header unit offset h read =
-    rw (le-leb header.entries_offset offset h) (ap (option_and_then (λ (x : Option EntryRecord × List ℕ). x.0)) read)
+pub one_missing : (abbreviations : List ℕ) (header : UnitHeader) (unit : List ℕ) (offset room : ℕ) → header.entries_offset ≤ offset
+    → entry_at abbreviations header (take room (drop offset unit)) ≡ None → entry_of room abbreviations header unit offset ≡ None
+one_missing abbreviations header unit offset room h read =
+    rw (le-leb header.entries_offset offset h)
+    (ap (option_and_then (λ (x : Option EntryRecord × List ℕ). option_map (λ e. (e, left_after room (take room (drop offset unit)) x.1)) x.0)) read)
 
 -- a step at an optional depth
 pub next_step : (abbreviations : List ℕ) (header : UnitHeader) (size : ℕ) (depth next : Option ℕ) (d : ℕ)

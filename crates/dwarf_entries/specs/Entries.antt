@@ -75,9 +75,16 @@ abbrev pub entries_of : List ℕ → UnitHeader → List ℕ → List PlacedReco
 entries_of abbreviations header unit =
     entries_from abbreviations header (length unit) 0 (drop header.entries_offset unit)
 
--- the one entry at an offset of its unit, which has at most 1,024 bytes
-abbrev pub entry_of : List ℕ → UnitHeader → List ℕ → ℕ → Option EntryRecord
-entry_of abbreviations header unit offset =
+-- how many of so many bytes are left after an entry that begins these bytes, and after which the rest comes
+abbrev pub left_after : ℕ → List ℕ → List ℕ → ℕ
+left_after room bytes rest = room - (length bytes - length rest)
+
+-- the one entry at an offset of its unit, of which so many bytes are read at most, and how many of these are left
+abbrev pub entry_of : ℕ → List ℕ → UnitHeader → List ℕ → ℕ → Option (EntryRecord × ℕ)
+entry_of room abbreviations header unit offset =
     if nat_le header.entries_offset offset
-    then option_and_then (λ x. x.0) (entry_at abbreviations header (take 1024 (drop offset unit)))
+    then
+    option_and_then
+    (λ x. option_map (λ e. (e, left_after room (take room (drop offset unit)) x.1)) x.0)
+    (entry_at abbreviations header (take room (drop offset unit)))
     else None

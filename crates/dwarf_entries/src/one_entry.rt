@@ -10,34 +10,34 @@ use crate::entry::Entry;
 use crate::unit_header::UnitHeader;
 use crate::unread_entry::skip_entry;
 
-/// How many bytes of an entry are read at most, if it is not read with the others of its unit.
-const ENTRY_LEN_MAX: usize = 1024;
-
-/// The bytes from an offset on, 1,024 at most.
-fn entry_bytes_at(unit: &[u8], offset: usize) -> &[u8]
-    ensures { result.now ≡ take 1024 (drop offset unit.now) }
+/// The bytes from an offset on, at most so many.
+fn bytes_at(unit: &[u8], offset: usize, room: usize) -> &[u8]
+    ensures { result.now ≡ take room (drop offset unit.now) }
 {
     let (_, from) = unit.split_at(offset.min(unit.len()));
-    from.split_at(ENTRY_LEN_MAX.min(from.len())).0
+    from.split_at(room.min(from.len())).0
 }
 
-/// The one entry at an offset of its unit, of which the unit gives at most 1,024 bytes; `None` if the offset lies
-/// before the first entry, the entry cannot be read, or it is a null entry.
+/// The one entry at an offset of its unit, of which at most `room` bytes are read, and how many of these are left;
+/// `None` if the offset lies before the first entry, the entry cannot be read, or it is a null entry.
 pub fn entry_of<'a>(
     abbreviations: &Abbreviations<'a>,
     header: &UnitHeader,
     unit: &'a [u8],
     offset: u64,
-) -> Option<Entry<'a>>
-    ensures { option_map entry_view result ≡ entry_of abbreviations.now header.now unit.now offset }
+    room: usize,
+) -> Option<(Entry<'a>, usize)>
+    ensures { option_map (λ x. (entry_view x.0, x.1)) result
+        ≡ entry_of room abbreviations.now header.now unit.now offset }
 {
     if offset < header.entries_offset as u64 {
         return None;
     }
     let table = abbreviations.table(u64::from(header.debug_abbrev_offset));
-    let (entry, _) = skip_entry(&table, header, entry_bytes_at(unit, offset as usize))?;
+    let bytes = bytes_at(unit, offset as usize, room);
+    let (entry, rest) = skip_entry(&table, header, bytes)?;
     match entry {
-        Some(entry) => Some(entry.read()),
+        Some(entry) => Some((entry.read(), room - (bytes.len() - rest.len()))),
         None => None,
     }
 }

@@ -27,24 +27,24 @@ no_text : (s : DebugSectionsRecord) (e : UnitEntryRecord) → e.entry.attributes
 unfolding text_in
 no_text s e none = rw none refl
 
-name_there : (count : ℕ) (s : DebugSectionsRecord) (e : UnitEntryRecord) (place : ℕ) (name : Option (List ℕ))
+name_there : (count room : ℕ) (s : DebugSectionsRecord) (e : UnitEntryRecord) (place : ℕ) (name : Option (List ℕ))
     → linkage_name s e ≡ None → text_in s e e.entry.attributes.name ≡ None → origin_place e ≡ Some place
-    → IsNameWithin (suc count) s e None name → IsNameAtWithin count s place name
-name_there count s e place name none text leads h =
+    → IsNameWithin (suc count) room s e None name → IsNameAtWithin count room s place name
+name_there count room s e place name none text leads h =
     let inside = rw (none, text, leads) at h in (inside.0, inside.1, inside.2)
 
-name_here : (count : ℕ) (s : DebugSectionsRecord) (e : UnitEntryRecord) (place : ℕ) (name : Option (List ℕ))
+name_here : (count room : ℕ) (s : DebugSectionsRecord) (e : UnitEntryRecord) (place : ℕ) (name : Option (List ℕ))
     → linkage_name s e ≡ None → text_in s e e.entry.attributes.name ≡ None → origin_place e ≡ Some place
-    → IsNameAtWithin count s place name → IsNameWithin (suc count) s e None name
-name_here count s e place name none text leads h = rw (none, text, leads) (h.0, h.1, h.2)
+    → IsNameAtWithin count room s place name → IsNameWithin (suc count) room s e None name
+name_here count room s e place name none text leads h = rw (none, text, leads) (h.0, h.1, h.2)
 
 module _ (e : UnitEntryRecord) (no_linkage_name : e.entry.attributes.linkage_name ≡ None)
     (no_mips : e.entry.attributes.mips_linkage_name ≡ None) (no_name : e.entry.attributes.name ≡ None) where
   is_named_at : (place : ℕ) → origin_place e ≡ Some place → IsNamedAt e place
   unfolding IsNameAt
   is_named_at place leads = record {
-    there = λ s name h. name_there 15 s e place name (no_linkage s e no_linkage_name no_mips) (no_text s e no_name) leads h;
-    here = λ s name h. name_here 15 s e place name (no_linkage s e no_linkage_name no_mips) (no_text s e no_name) leads h;
+    there = λ s name h. name_there 15 16384 s e place name (no_linkage s e no_linkage_name no_mips) (no_text s e no_name) leads h;
+    here = λ s name h. name_here 15 16384 s e place name (no_linkage s e no_linkage_name no_mips) (no_text s e no_name) leads h;
   }
 
   pub named_by_origin : (found : Option ℕ) → found ≡ origin_place e → IfSome found (IsNamedAt e)

@@ -9,15 +9,16 @@ use Rattle.dwarf_functions.specs.declared.functions.Function.{Function}
 use Rattle.dwarf_functions.specs.declared.origins.Origin.{Origin}
 use Rattle.dwarf_functions.specs.declared.origins.Origins.{Origins}
 
--- the name of the entry at a place and of those that it leads to, of the so many first ones on the way
-abbrev pub IsNameAtWithin : ℕ → DebugSectionsRecord → ℕ → Option (List ℕ) → Type 0
-IsNameAtWithin count sections place name =
-    (origin : Option UnitEntryRecord) × IsEntryAt sections place origin
-    × MatchOption origin (name ≡ None) (λ o. IsNameWithin count sections o None name)
+-- the name of the entry at a place and of those that it leads to, of the so many first ones on the way, for which so
+-- many bytes are read at most
+abbrev pub IsNameAtWithin : ℕ → ℕ → DebugSectionsRecord → ℕ → Option (List ℕ) → Type 0
+IsNameAtWithin count room sections place name =
+    (origin : Option (UnitEntryRecord × ℕ)) × IsEntryAt room sections place origin
+    × MatchOption origin (name ≡ None) (λ o. IsNameWithin count o.1 sections o.0 None name)
 
 -- the name of the entry at a place: with the one that leads there, 16 are on the way
 unfoldable pub IsNameAt : DebugSectionsRecord → ℕ → Option (List ℕ) → Type 0
-IsNameAt sections place name = IsNameAtWithin 15 sections place name
+IsNameAt sections place name = IsNameAtWithin 15 16384 sections place name
 
 -- an entry has the name of the entry at a place
 pub record IsNamedAt (e : UnitEntryRecord) (place : ℕ) : Type 0 where

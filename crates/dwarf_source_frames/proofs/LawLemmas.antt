@@ -74,54 +74,57 @@ one_unit_with section offset (Some x) (Some y) p q = elim (order x.0 y.0) [
 ]
 
 -- one name
-one_entry_at : (s : DebugSectionsRecord) (place : ℕ) (one other : Option UnitEntryRecord) → IsEntryAt s place one → IsEntryAt s place other → one ≡ other
-one_entry_at s place one other p q =
-    p.2 ∙ ap (entry_with s.debug_abbrev place) (one_unit_with s.debug_info place p.0 q.0 p.1 q.1) ∙ sym q.2
+one_entry_at : (room : ℕ) (s : DebugSectionsRecord) (place : ℕ) (one other : Option (UnitEntryRecord × ℕ)) → IsEntryAt room s place one
+    → IsEntryAt room s place other → one ≡ other
+one_entry_at room s place one other p q =
+    p.2 ∙ ap (entry_with room s.debug_abbrev place) (one_unit_with s.debug_info place p.0 q.0 p.1 q.1) ∙ sym q.2
 
-one_origin_by : (s : DebugSectionsRecord) (o : Option ℕ) (one other : Option UnitEntryRecord)
-    → MatchOption o (one ≡ None) (λ place. IsEntryAt s place one)
-    → MatchOption o (other ≡ None) (λ place. IsEntryAt s place other) → one ≡ other
-one_origin_by s None one other p q = p ∙ sym q
-one_origin_by s (Some place) one other p q = one_entry_at s place one other p q
+one_origin_by : (room : ℕ) (s : DebugSectionsRecord) (o : Option ℕ) (one other : Option (UnitEntryRecord × ℕ))
+    → MatchOption o (one ≡ None) (λ place. IsEntryAt room s place one)
+    → MatchOption o (other ≡ None) (λ place. IsEntryAt room s place other) → one ≡ other
+one_origin_by room s None one other p q = p ∙ sym q
+one_origin_by room s (Some place) one other p q = one_entry_at room s place one other p q
 
-one_origin : (s : DebugSectionsRecord) (e : UnitEntryRecord) (one other : Option UnitEntryRecord) → IsOrigin s e one → IsOrigin s e other → one ≡ other
-one_origin s e one other p q = one_origin_by s (origin_place e) one other p q
+one_origin : (room : ℕ) (s : DebugSectionsRecord) (e : UnitEntryRecord) (one other : Option (UnitEntryRecord × ℕ)) → IsOrigin room s e one
+    → IsOrigin room s e other → one ≡ other
+one_origin room s e one other p q = one_origin_by room s (origin_place e) one other p q
 
 -- the name of an entry that leads to another one, or to none
-abbrev IsNameAfter : ℕ → DebugSectionsRecord → Option (List ℕ) → Option UnitEntryRecord → Option (List ℕ) → Type 0
-IsNameAfter count s name o found = MatchOption o (found ≡ name) (λ e. IsNameWithin count s e name found)
+abbrev IsNameAfter : ℕ → DebugSectionsRecord → Option (List ℕ) → Option (UnitEntryRecord × ℕ) → Option (List ℕ) → Type 0
+IsNameAfter count s name o found = MatchOption o (found ≡ name) (λ x. IsNameWithin count x.1 s x.0 name found)
 
-one_name_after : (count : ℕ) (s : DebugSectionsRecord) (name : Option (List ℕ)) (o : Option UnitEntryRecord) (one other : Option (List ℕ))
-    → ((e : UnitEntryRecord) → IsNameWithin count s e name one → IsNameWithin count s e name other → one ≡ other)
+one_name_after : (count : ℕ) (s : DebugSectionsRecord) (name : Option (List ℕ)) (o : Option (UnitEntryRecord × ℕ)) (one other : Option (List ℕ))
+    → ((x : UnitEntryRecord × ℕ) → IsNameWithin count x.1 s x.0 name one → IsNameWithin count x.1 s x.0 name other → one ≡ other)
     → IsNameAfter count s name o one → IsNameAfter count s name o other → one ≡ other
 one_name_after count s name None one other same p q = p ∙ sym q
-one_name_after count s name (Some e) one other same p q = same e p q
+one_name_after count s name (Some x) one other same p q = same x p q
 
 -- the name of an entry that has this linkage name, or none
-abbrev IsNameOf : ℕ → DebugSectionsRecord → UnitEntryRecord → Option (List ℕ) → Option (List ℕ) → Option (List ℕ) → Type 0
-IsNameOf count s e name linkage found =
-    MatchOption linkage ((origin : Option UnitEntryRecord) × IsOrigin s e origin × IsNameAfter count s name origin found) (λ l. found ≡ Some l)
+abbrev IsNameOf : ℕ → ℕ → DebugSectionsRecord → UnitEntryRecord → Option (List ℕ) → Option (List ℕ) → Option (List ℕ) → Type 0
+IsNameOf count room s e name linkage found =
+    MatchOption linkage ((origin : Option (UnitEntryRecord × ℕ)) × IsOrigin room s e origin × IsNameAfter count s name origin found)
+    (λ l. found ≡ Some l)
 
-one_name_of : (count : ℕ) (s : DebugSectionsRecord) (e : UnitEntryRecord) (name linkage one other : Option (List ℕ))
-    → ((o : UnitEntryRecord) → IsNameWithin count s o name one → IsNameWithin count s o name other → one ≡ other)
-    → IsNameOf count s e name linkage one → IsNameOf count s e name linkage other → one ≡ other
-one_name_of count s e name (Some l) one other same p q = p ∙ sym q
-one_name_of count s e name None one other same p q =
+one_name_of : (count room : ℕ) (s : DebugSectionsRecord) (e : UnitEntryRecord) (name linkage one other : Option (List ℕ))
+    → ((x : UnitEntryRecord × ℕ) → IsNameWithin count x.1 s x.0 name one → IsNameWithin count x.1 s x.0 name other → one ≡ other)
+    → IsNameOf count room s e name linkage one → IsNameOf count room s e name linkage other → one ≡ other
+one_name_of count room s e name (Some l) one other same p q = p ∙ sym q
+one_name_of count room s e name None one other same p q =
     one_name_after count s name p.0 one other same p.2
-    (subst (λ (o : Option UnitEntryRecord). IsNameAfter count s name o other) (sym (one_origin s e p.0 q.0 p.1 q.1)) q.2)
+    (subst (λ (o : Option (UnitEntryRecord × ℕ)). IsNameAfter count s name o other) (sym (one_origin room s e p.0 q.0 p.1 q.1)) q.2)
 
-one_name : (count : ℕ) (s : DebugSectionsRecord) (e : UnitEntryRecord) (before one other : Option (List ℕ))
-    → IsNameWithin count s e before one → IsNameWithin count s e before other → one ≡ other
-one_name zero s e before one other p q = p ∙ sym q
-one_name (suc count) s e before one other p q =
+one_name : (count room : ℕ) (s : DebugSectionsRecord) (e : UnitEntryRecord) (before one other : Option (List ℕ))
+    → IsNameWithin count room s e before one → IsNameWithin count room s e before other → one ≡ other
+one_name zero room s e before one other p q = p ∙ sym q
+one_name (suc count) room s e before one other p q =
     let name = option_or before (text_in s e e.entry.attributes.name) in
-    one_name_of count s e name (linkage_name s e) one other (λ o h k. one_name count s o name one other h k) p q
+    one_name_of count room s e name (linkage_name s e) one other (λ x h k. one_name count x.1 s x.0 name one other h k) p q
 
 -- one frame
 one_frame : (s : DebugSectionsRecord) (lines : LinesRecord) (e : UnitEntryRecord) (place : SourceLocation)
     (one other : FrameRecord) → IsFrame s lines e place one → IsFrame s lines e place other → one ≡ other
 one_frame s lines e place one other p q =
-    let name : one.name ≡ other.name = one_name 16 s e None one.name other.name p.name q.name in
+    let name : one.name ≡ other.name = one_name 16 16384 s e None one.name other.name p.name q.name in
     let path : one.path ≡ other.path = p.path ∙ sym q.path in
     let line : one.line ≡ other.line = p.line ∙ sym q.line in
     let column : one.column ≡ other.column = p.column ∙ sym q.column in

@@ -11,11 +11,11 @@ mapped_or f None b = refl
 mapped_or f (Some x) b = refl
 
 -- one that leads on
-pub name_next : (count : ℕ) (s : DebugSectionsRecord) (e o : UnitEntryRecord) (before next name : Option (List ℕ))
-    → 0 < count → linkage_name s e ≡ None → IsOrigin s e (Some o)
-    → next ≡ option_or before (text_in s e e.entry.attributes.name) → IsNameWithin (count - 1) s o next name → IsNameWithin count s e before name
-name_next zero s e o before next name some none origin same rest = absurd (omega arith)
-name_next (suc count) s e o before next name some none origin same rest =
+pub name_next : (count room left : ℕ) (s : DebugSectionsRecord) (e o : UnitEntryRecord) (before next name : Option (List ℕ))
+    → 0 < count → linkage_name s e ≡ None → IsOrigin room s e (Some (o, left))
+    → next ≡ option_or before (text_in s e e.entry.attributes.name) → IsNameWithin (count - 1) left s o next name → IsNameWithin count room s e before name
+name_next zero room left s e o before next name some none origin same rest = absurd (omega arith)
+name_next (suc count) room left s e o before next name some none origin same rest =
     let less : suc count - 1 ≡ count = omega arith in
-    let here : IsNameWithin count s o next name = subst (λ (n : ℕ). IsNameWithin n s o next name) less rest in
-    rw none (Some o, origin, subst (λ (b : Option (List ℕ)). IsNameWithin count s o b name) same here)
+    let here : IsNameWithin count left s o next name = subst (λ (n : ℕ). IsNameWithin n left s o next name) less rest in
+    rw none (Some (o, left), origin, subst (λ (b : Option (List ℕ)). IsNameWithin count left s o b name) same here)

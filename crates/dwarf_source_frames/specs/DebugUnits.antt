@@ -16,14 +16,19 @@ pub record UnitRecord : Type 0 where
   pub header : UnitHeader
   pub first : EntryRecord
 
--- the unit of some bytes at an offset, if its header and its first entry can be read
-unfoldable pub unit_of_bytes : List ℕ → ℕ → List ℕ → Option UnitRecord
-unit_of_bytes abbreviations offset bytes =
+-- the unit of some bytes at an offset, if its header and its first entry can be read, of which so many bytes are read
+-- at most, and how many of these are left
+unfoldable pub unit_within : ℕ → List ℕ → ℕ → List ℕ → Option (UnitRecord × ℕ)
+unit_within room abbreviations offset bytes =
     option_and_then
     (λ header. option_map
-    (λ first. record { offset = offset; bytes = bytes; header = header; first = first })
-    (entry_of abbreviations header bytes header.entries_offset))
+    (λ x. (record { offset = offset; bytes = bytes; header = header; first = x.0 }, x.1))
+    (entry_of room abbreviations header bytes header.entries_offset))
     (header_of bytes)
+
+-- the unit of some bytes at an offset, if its header and its first entry can be read, which has at most 16,384 bytes
+unfoldable pub unit_of_bytes : List ℕ → ℕ → List ℕ → Option UnitRecord
+unit_of_bytes abbreviations offset bytes = option_map (λ x. x.0) (unit_within 16384 abbreviations offset bytes)
 
 -- an offset that an attribute names, or another one
 abbrev pub offset_or : Option ValueRecord → ℕ → ℕ
@@ -52,19 +57,24 @@ place_of unit (UnitReference offset) = Some ((unit.offset + offset) % 2 ^ 64)
 place_of unit (SectionReference offset) = Some offset
 place_of unit _ = None
 
--- the entry at an offset of a unit
-abbrev pub entry_in : List ℕ → UnitRecord → ℕ → Option UnitEntryRecord
-entry_in abbreviations unit offset =
-    option_map (λ entry. record { unit = unit; entry = entry }) (entry_of abbreviations unit.header unit.bytes offset)
+-- the entry at an offset of a unit, of which so many bytes are read at most, and how many of these are left
+abbrev pub entry_in : ℕ → List ℕ → UnitRecord → ℕ → Option (UnitEntryRecord × ℕ)
+entry_in room abbreviations unit offset =
+    option_map
+    (λ x. (record { unit = unit; entry = x.0 }, x.1))
+    (entry_of room abbreviations unit.header unit.bytes offset)
 
--- the entry at a place of __debug_info, in the unit that has the place
-unfoldable pub entry_with : List ℕ → ℕ → Option (ℕ × List ℕ) → Option UnitEntryRecord
-entry_with abbreviations place found =
+-- the entry at a place of __debug_info, in the unit that has the place: of the first entry of that unit and of this one
+-- so many bytes are read at most, and so many of these are left
+unfoldable pub entry_with : ℕ → List ℕ → ℕ → Option (ℕ × List ℕ) → Option (UnitEntryRecord × ℕ)
+entry_with room abbreviations place found =
     option_and_then
-    (λ u. option_and_then (λ unit. entry_in abbreviations unit (place - u.0)) (unit_of_bytes abbreviations u.0 u.1))
+    (λ u. option_and_then
+    (λ x. entry_in x.1 abbreviations x.0 (place - u.0))
+    (unit_within room abbreviations u.0 u.1))
     found
 
-abbrev pub IsEntryAt : DebugSectionsRecord → ℕ → Option UnitEntryRecord → Type 0
-IsEntryAt sections place found =
+abbrev pub IsEntryAt : ℕ → DebugSectionsRecord → ℕ → Option (UnitEntryRecord × ℕ) → Type 0
+IsEntryAt room sections place found =
     (unit : Option (ℕ × List ℕ)) × IsUnitWith sections.debug_info place unit
-    × (found ≡ entry_with sections.debug_abbrev place unit)
+    × (found ≡ entry_with room sections.debug_abbrev place unit)

@@ -27,23 +27,25 @@ unfoldable pub origin_place : UnitEntryRecord → Option ℕ
 origin_place e =
     option_and_then (place_of e.unit) (option_or e.entry.attributes.abstract_origin e.entry.attributes.specification)
 
--- the entry there
-abbrev pub IsOrigin : DebugSectionsRecord → UnitEntryRecord → Option UnitEntryRecord → Type 0
-IsOrigin sections e found =
-    MatchOption (origin_place e) (found ≡ None) (λ place. IsEntryAt sections place found)
+-- the entry there, for which so many bytes are read at most, and how many of these are left
+abbrev pub IsOrigin : ℕ → DebugSectionsRecord → UnitEntryRecord → Option (UnitEntryRecord × ℕ) → Type 0
+IsOrigin room sections e found =
+    MatchOption (origin_place e) (found ≡ None) (λ place. IsEntryAt room sections place found)
 
--- the name of an entry and of at most so many that it leads to: the first linkage name, and else the first DW_AT_name,
--- of which one may be known before
-abbrev pub IsNameWithin : ℕ → DebugSectionsRecord → UnitEntryRecord → Option (List ℕ) → Option (List ℕ) → Type 0
-IsNameWithin zero sections e before name = name ≡ before
-IsNameWithin (suc count) sections e before name =
+-- the name of an entry and of those that it leads to, at most so many, for which so many bytes are read at most: the
+-- first linkage name, and else the first DW_AT_name, of which one may be known before
+abbrev pub IsNameWithin :
+    ℕ → ℕ → DebugSectionsRecord → UnitEntryRecord → Option (List ℕ) → Option (List ℕ) → Type 0
+IsNameWithin zero room sections e before name = name ≡ before
+IsNameWithin (suc count) room sections e before name =
     MatchOption (linkage_name sections e)
-    ((origin : Option UnitEntryRecord) × IsOrigin sections e origin
+    ((origin : Option (UnitEntryRecord × ℕ)) × IsOrigin room sections e origin
     × MatchOption origin
     (name ≡ option_or before (text_in sections e e.entry.attributes.name))
-    (λ o. IsNameWithin count sections o (option_or before (text_in sections e e.entry.attributes.name)) name))
+    (λ o. IsNameWithin count o.1 sections o.0 (option_or before (text_in sections e e.entry.attributes.name)) name))
     (λ linkage. name ≡ Some linkage)
 
--- the name of an entry, of the 16 first ones on the way
+-- the name of an entry, of the 16 first ones on the way: those after it and the first entries of their units have 16,384
+-- bytes together
 abbrev pub IsName : DebugSectionsRecord → UnitEntryRecord → Option (List ℕ) → Type 0
-IsName sections e name = IsNameWithin 16 sections e None name
+IsName sections e name = IsNameWithin 16 16384 sections e None name

@@ -26,21 +26,29 @@ pub struct DebugInfo<'a> {
     ghost abbreviations_are: { abbreviations ≡ sections.debug_abbrev.now },
 }
 
-/// The entry at a place of `__debug_info`, of the unit that has the place.
+/// The entry at a place of `__debug_info`, of the unit that has the place, for which at most `room` bytes are read, and
+/// how many of these are left.
 #[tactic(auto, unfolding(crate::specs::DebugUnits::entry_with))]
 fn entry_with<'a>(
     abbreviations: &Abbreviations<'a>,
     place: u64,
     found: Option<(u64, &'a [u8])>,
-) -> Option<UnitEntry<'a>>
+    room: usize,
+) -> Option<(UnitEntry<'a>, usize)>
     requires { IfSome found (λ u. u.0 ≤ place) }
-    ensures { option_map unit_entry_view result
-        ≡ entry_with abbreviations.now place (option_map (λ u. (u.0, u.1.now)) found.entry) }
+    ensures { option_map (λ x. (unit_entry_view x.0, x.1)) result
+        ≡ entry_with room abbreviations.now place (option_map (λ u. (u.0, u.1.now)) found.entry) }
 {
     let (offset, bytes) = found?;
-    let unit = DebugUnit::read(abbreviations, offset, bytes)?;
-    let entry = entry_of(abbreviations, &unit.header, unit.bytes, place - offset)?;
-    Some(UnitEntry { unit, entry })
+    let (unit, room) = DebugUnit::read_within(abbreviations, offset, bytes, room)?;
+    let (entry, left) = entry_of(
+        abbreviations,
+        &unit.header,
+        unit.bytes,
+        place - offset,
+        room,
+    )?;
+    Some((UnitEntry { unit, entry }, left))
 }
 
 impl<'a> DebugUnit<'a> {
@@ -71,12 +79,13 @@ impl<'a> DebugInfo<'a> {
         })
     }
 
-    /// The entry at a place of `__debug_info`; `None` if no unit has the place, or the unit or the entry cannot be
-    /// read.
-    pub fn entry_at(&self, place: u64) -> Option<UnitEntry<'a>>
-        ensures { IsEntryAt (sections_view self.now.sections) place (option_map unit_entry_view result) }
+    /// The entry at a place of `__debug_info`, and how many of `room` bytes are left after it and the first entry of its
+    /// unit; `None` if no unit has the place, or these entries cannot be read or have more bytes.
+    pub fn entry_at(&self, place: u64, room: usize) -> Option<(UnitEntry<'a>, usize)>
+        ensures { IsEntryAt room (sections_view self.now.sections) place
+            (option_map (λ x. (unit_entry_view x.0, x.1)) result) }
     {
         let found = self.units.containing(place);
-        entry_with(&self.abbreviations, place, found)
+        entry_with(&self.abbreviations, place, found, room)
     }
 }

@@ -4,13 +4,16 @@ ghost use Rattle.std.specs.Prelude.{◌≡◌, ◌≤◌, IfSome, length};
 ghost use Rattle.std.specs.Option.{option_map};
 ghost use Rattle.dwarf_encoding.specs.TextViews.{text_sections_view};
 ghost use Rattle.dwarf_encoding.specs.Views.{value_view};
-ghost use Rattle.dwarf_source_frames.specs.DebugUnits.{unit_of_bytes, offset_or, texts_of};
+ghost use Rattle.dwarf_source_frames.specs.DebugUnits.{unit_of_bytes, unit_within, offset_or, texts_of};
 ghost use Rattle.dwarf_source_frames.specs.SectionsViews.{sections_view};
 ghost use Rattle.dwarf_source_frames.specs.UnitViews.{unit_view};
 
 use crate::debug_sections::DebugSections;
 use dwarf_encoding::{TextSections, Value};
 use dwarf_entries::{Abbreviations, Attribute, Entry, UnitHeader, entry_of};
+
+/// How many bytes of the first entry of a unit are read at most.
+const FIRST_ENTRY_MAX: usize = 16 * 1024;
 
 /// A unit whose header and first entry can be read.
 #[derive(Clone, Copy)]
@@ -42,6 +45,31 @@ pub(crate) fn offset_or(value: Option<Value<'_>>, default: u64) -> u64
 }
 
 impl<'a> DebugUnit<'a> {
+    /// The unit of some bytes at an offset, of whose first entry at most `room` bytes are read, and how many of these
+    /// are left; `None` if its header or its first entry cannot be read.
+    #[tactic(auto, unfolding(crate::specs::DebugUnits::unit_within))]
+    pub(crate) fn read_within(
+        abbreviations: &Abbreviations<'a>,
+        offset: u64,
+        bytes: &'a [u8],
+        room: usize,
+    ) -> Option<(DebugUnit<'a>, usize)>
+        ensures value { option_map (λ x. (unit_view x.0, x.1)) result
+            ≡ unit_within room abbreviations.now offset bytes.now }
+        ensures within { IfSome result (λ x. x.0.header.entries_offset ≤ length x.0.bytes.now) }
+    {
+        let header = UnitHeader::of(bytes)?;
+        let start = header.entries_offset as u64;
+        let (first, left) = entry_of(abbreviations, &header, bytes, start, room)?;
+        let unit = DebugUnit {
+            offset,
+            bytes,
+            header,
+            first,
+        };
+        Some((unit, left))
+    }
+
     /// The unit of some bytes at an offset; `None` if its header or its first entry cannot be read.
     #[tactic(auto, unfolding(crate::specs::DebugUnits::unit_of_bytes))]
     pub fn read(
@@ -52,14 +80,8 @@ impl<'a> DebugUnit<'a> {
         ensures value { option_map unit_view result ≡ unit_of_bytes abbreviations.now offset bytes.now }
         ensures within { IfSome result (λ u. u.header.entries_offset ≤ length u.bytes.now) }
     {
-        let header = UnitHeader::of(bytes)?;
-        let first = entry_of(abbreviations, &header, bytes, header.entries_offset as u64)?;
-        Some(DebugUnit {
-            offset,
-            bytes,
-            header,
-            first,
-        })
+        let (unit, _) = DebugUnit::read_within(abbreviations, offset, bytes, FIRST_ENTRY_MAX)?;
+        Some(unit)
     }
 
     /// The sections of texts, for this unit.

@@ -18,6 +18,9 @@ use dwarf_entries::Attribute;
 /// How many entries are looked at for a name.
 const NAME_STEPS_MAX: u8 = 16;
 
+/// How many bytes of entries are read for a name at most, after those of the frame's own entry.
+const NAME_BYTES_MAX: usize = 16 * 1024;
+
 /// A text that is not empty.
 fn some_text(text: &[u8]) -> Option<&[u8]>
     ensures { option_map (λ t. t.now) result ≡ some_text text.now }
@@ -65,25 +68,27 @@ fn origin_place(of: &UnitEntry<'_>) -> Option<u64>
 }
 
 impl<'a> DebugInfo<'a> {
-    /// The entry that an entry leads to.
-    fn origin(&self, of: &UnitEntry<'a>) -> Option<UnitEntry<'a>>
-        ensures { IsOrigin (sections_view self.now.sections) (unit_entry_view of.now)
-            (option_map unit_entry_view result) }
+    /// The entry that an entry leads to, and how many of `room` bytes are left after it.
+    fn origin(&self, of: &UnitEntry<'a>, room: usize) -> Option<(UnitEntry<'a>, usize)>
+        ensures { IsOrigin room (sections_view self.now.sections) (unit_entry_view of.now)
+            (option_map (λ x. (unit_entry_view x.0, x.1)) result) }
     {
         match origin_place(of) {
-            Some(place) => self.entry_at(place),
+            Some(place) => self.entry_at(place, room),
             None => None,
         }
     }
 
-    /// The name of an entry and of at most so many that it leads to, if a name is known before.
+    /// The name of an entry and of those that it leads to, at most so many, for which at most `room` bytes are read, if
+    /// a name is known before.
     fn name_within(
         &self,
         count: u8,
+        room: usize,
         of: &UnitEntry<'a>,
         before: Option<&'a [u8]>,
     ) -> Option<&'a [u8]>
-        ensures { IsNameWithin count (sections_view self.now.sections) (unit_entry_view of.now)
+        ensures { IsNameWithin count room (sections_view self.now.sections) (unit_entry_view of.now)
             (option_map (λ t. t.now) before.entry) (option_map (λ t. t.now) result) }
     {
         if count == 0 {
@@ -94,17 +99,18 @@ impl<'a> DebugInfo<'a> {
         }
         let own = text_in(&self.sections, of, of.entry.attributes.get(Attribute::Name));
         let name = before.or(own);
-        match self.origin(of) {
-            Some(origin) => self.name_within(count - 1, &origin, name),
+        match self.origin(of, room) {
+            Some((origin, left)) => self.name_within(count - 1, left, &origin, name),
             None => name,
         }
     }
 
     /// The name of an entry's function: the first linkage name on its way by DW_AT_abstract_origin and
-    /// DW_AT_specification, and else the first DW_AT_name, of 16 entries at most.
+    /// DW_AT_specification, and else the first DW_AT_name, of 16 entries at most; those after it and the first entries
+    /// of their units have 16,384 bytes together.
     pub fn name_of(&self, of: &UnitEntry<'a>) -> Option<&'a [u8]>
         ensures { IsName (sections_view self.now.sections) (unit_entry_view of.now) (option_map (λ t. t.now) result) }
     {
-        self.name_within(NAME_STEPS_MAX, of, None)
+        self.name_within(NAME_STEPS_MAX, NAME_BYTES_MAX, of, None)
     }
 }

@@ -12,7 +12,7 @@ returns-in-Some-origin t c =
     let e = unit_entry_view c.args.of.now in
     let some : 0 < c.args.count = omega arith in
     let none : linkage_name s e ≡ None = sym c.in_default.ensures in
-    name_next c.args.count s e (unit_entry_view c.in-Some-origin.origin) (option_map (λ b. b.now) c.args.before)
+    name_next c.args.count c.args.room c.in-Some-origin.left s e (unit_entry_view c.in-Some-origin.origin) (option_map (λ b. b.now) c.args.before)
     (option_map (λ b. b.now) c.or-name.result) (option_map (λ b. b.now) c.name_within.result)
     some none c.in-Some-origin.ensures
     (ap (option_map (λ (b : Bor (List ℕ)). b.now)) c.or-name.ensures
