@@ -14,6 +14,7 @@ from .images import image_of
 SUBPROGRAM, INLINED_SUBROUTINE = 0x2E, 0x1D
 MOST_FRAMES, MOST_STEPS = 256, 16
 ENTRIES_A_BYTE = 4
+MOST_NUMBER = 2**32 - 1
 
 
 class Frame(NamedTuple):
@@ -27,6 +28,11 @@ class Frame(NamedTuple):
     @property
     def path(self) -> Optional[bytes]:
         return None if self.parts is None else self.parts.path()
+
+
+def known(number: int) -> int:
+    """A line or a column; a greater one is not known."""
+    return number if number <= MOST_NUMBER else 0
 
 
 class Scope(NamedTuple):
@@ -121,7 +127,7 @@ class DebugUnit:
     def frames(self, address: int) -> List[Frame]:
         """The frames of an address, the innermost first."""
         row = None if self.lines is None else row_of(self.lines, address)
-        file, line, column = (None, 0, 0) if row is None else (row.file, row.line, row.column)
+        file, line, column = (None, 0, 0) if row is None else (row.file, known(row.line), known(row.column))
         chain = self.chain(address)
         if not chain and row is not None:
             return [Frame(None, self.parts(file), line, column)]
@@ -130,7 +136,7 @@ class DebugUnit:
             found.append(Frame(self.debug.name_of(self, entry.attributes), self.parts(file), line, column))
             call = entry.attributes
             file = number_of(call.get("call_file"), "constant")
-            line, column = (number_of(call.get(it), "constant") or 0 for it in ("call_line", "call_column"))
+            line, column = (known(number_of(call.get(it), "constant") or 0) for it in ("call_line", "call_column"))
         return found
 
 

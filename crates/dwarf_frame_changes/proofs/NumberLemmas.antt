@@ -130,7 +130,7 @@ names_still P Q links names still are = record {
   each = λ i link number there is. still number (link_view link).name (are.each i link number there is);
 }
 
-module _ (P P' : ℕ → Option (List ℕ) → Type 0) (F F' : Option ℕ → List FrameRecord → Type 0) (names : StillTells P P')
+module _ (P P' : ℕ → Option (List ℕ) → Type 0) (F F' : ℕ → List FrameRecord → Type 0) (names : StillTells P P')
     (frames : StillTells F F') (lines : LinesRecord) (links : List LinkRecord) where
   pub is_linked_still : (link : LinkRecord) (linked : Linked) → IsLinked P F lines links link linked → IsLinked P' F' lines links link linked
   is_linked_still link linked is =
@@ -147,7 +147,7 @@ link_there links all index link is within here =
     slice_get-map link_view links (length all)
     ∙ ap (option_map link_view) (slice_get_read links (length links) (length all) link refl within (here ∙ ap (λ n. get_or links n link) is))
 
-pub linked_at : (P : ℕ → Option (List ℕ) → Type 0) (F : Option ℕ → List FrameRecord → Type 0) (lines : LinesRecord)
+pub linked_at : (P : ℕ → Option (List ℕ) → Type 0) (F : ℕ → List FrameRecord → Type 0) (lines : LinesRecord)
     (links : List LinkRecord) (i : ℕ) (link : LinkRecord) (linked : Linked) → slice_get links i ≡ Some link
     → IsLinked P F lines links link linked → IsLinkedAt P F lines links i linked
 linked_at P F lines links i link linked there is other at =
@@ -159,7 +159,7 @@ link_of [] i within = absurd (omega (arith, within))
 link_of (link ∷ links) zero within = (link, refl)
 link_of (link ∷ links) (suc i) within = link_of links i (omega (arith, within))
 
-pub numbers_of : (P : ℕ → Option (List ℕ) → Type 0) (F : Option ℕ → List FrameRecord → Type 0) (lines : LinesRecord)
+pub numbers_of : (P : ℕ → Option (List ℕ) → Type 0) (F : ℕ → List FrameRecord → Type 0) (lines : LinesRecord)
     (links : List Link) (count : ℕ) (all : List Linked) (i : ℕ) (linked : Linked)
     → AreLinked P F lines (links_view links) count all → i < length all → linked ≡ get_or all i linked → i < length links
     → (link : LinkRecord) × (slice_get (links_view links) i ≡ Some link) × IsLinked P F lines (links_view links) link linked
@@ -169,7 +169,7 @@ numbers_of P F lines links count all i linked are within here inside =
     (there.0, there.1, are.each i linked (slice_get_read all (length all) i linked refl within here) there.0 there.1)
 
 pub parts_still : (P P' : ℕ → Option (List ℕ) → Type 0) (Q Q' : ℕ → Option PathRecord → Type 0)
-    (F F' : Option ℕ → List FrameRecord → Type 0) (lines : LinesRecord) (parts : UnitParts) → StillTells P P'
+    (F F' : ℕ → List FrameRecord → Type 0) (lines : LinesRecord) (parts : UnitParts) → StillTells P P'
     → StillTells Q Q' → StillTells F F'
     → ArePartsTold P Q F lines parts → ArePartsTold P' Q' F' lines parts
 parts_still P P' Q Q' F F' lines parts names paths frames told =
@@ -199,7 +199,7 @@ frames_of_row_alone lines links (Some row) number none =
     subst (λ (m : ℕ). AreFramesOfRowAndLink lines links (Some row) m (row_frames lines (Some row))) (sym none) refl
 
 -- one after another
-module _ (P : ℕ → Option (List ℕ) → Type 0) (F : Option ℕ → List FrameRecord → Type 0) (lines : LinesRecord) (links : List LinkRecord) where
+module _ (P : ℕ → Option (List ℕ) → Type 0) (F : ℕ → List FrameRecord → Type 0) (lines : LinesRecord) (links : List LinkRecord) where
   pub linked_more : (all : List Linked) (next : Linked) → AreLinked P F lines links (length all) all
       → IsLinkedAt P F lines links (length all) next → AreLinked P F lines links (length (all ++ next ∷ []))
       (all ++ next ∷ [])

@@ -33,7 +33,7 @@ pub record AreNameNumbers (tells : ℕ → Option (List ℕ) → Type 0) (links 
       → slice_get names.by_number.items link.name_number ≡ Some (Some number) → tells number (link_view link).name
 
 -- the numbers of the name of a link, and of the frames of the links that it stands in, at the call that it is
-pub record IsLinked (names : ℕ → Option (List ℕ) → Type 0) (frames : Option ℕ → List FrameRecord → Type 0)
+pub record IsLinked (names : ℕ → Option (List ℕ) → Type 0) (frames : ℕ → List FrameRecord → Type 0)
     (lines : LinesRecord) (links : List LinkRecord) (link : LinkRecord) (linked : Linked) : Type 0 where
   pub name : names linked.name link.name
   pub outer : List FrameRecord
@@ -41,13 +41,13 @@ pub record IsLinked (names : ℕ → Option (List ℕ) → Type 0) (frames : Opt
   pub callers : frames linked.callers outer
 
 -- those of the link of an index
-abbrev pub IsLinkedAt : (ℕ → Option (List ℕ) → Type 0) → (Option ℕ → List FrameRecord → Type 0) → LinesRecord
+abbrev pub IsLinkedAt : (ℕ → Option (List ℕ) → Type 0) → (ℕ → List FrameRecord → Type 0) → LinesRecord
     → List LinkRecord → ℕ → Linked → Type 0
 IsLinkedAt names frames lines links index linked =
     (link : LinkRecord) → slice_get links index ≡ Some link → IsLinked names frames lines links link linked
 
 -- those of so many first links
-pub record AreLinked (names : ℕ → Option (List ℕ) → Type 0) (frames : Option ℕ → List FrameRecord → Type 0)
+pub record AreLinked (names : ℕ → Option (List ℕ) → Type 0) (frames : ℕ → List FrameRecord → Type 0)
     (lines : LinesRecord) (links : List LinkRecord) (count : ℕ) (all : List Linked) : Type 0 where
   pub count_is : length all ≡ count
   pub each : (i : ℕ) (linked : Linked) → slice_get all i ≡ Some linked
@@ -55,7 +55,7 @@ pub record AreLinked (names : ℕ → Option (List ℕ) → Type 0) (frames : Op
 
 -- the paths that are kept and the links of a unit have their numbers
 pub record ArePartsTold (tells_name : ℕ → Option (List ℕ) → Type 0) (tells_path : ℕ → Option PathRecord → Type 0)
-    (tells_frames : Option ℕ → List FrameRecord → Type 0) (lines : LinesRecord) (parts : UnitParts) : Type 0 where
+    (tells_frames : ℕ → List FrameRecord → Type 0) (lines : LinesRecord) (parts : UnitParts) : Type 0 where
   pub paths : ArePathNumbers tells_path lines parts.paths
   pub callers : AreCallersBefore (links_view parts.links.links.items)
   pub linked : AreLinked tells_name tells_frames lines (links_view parts.links.links.items)

@@ -64,7 +64,7 @@ impl<'a> UnitParts<'a> {
         taker: &mut T,
         row: Option<Row>,
         number: usize,
-    ) -> Result<Option<u32>, NoMemory>
+    ) -> Result<u32, NoMemory>
         requires within { number ≤ length self.old.links.links.items }
         requires told { ArePartsTold (T.tells_name taker.old) (T.tells_path taker.old) (T.tells_frames taker.old)
             (lines_view lines.now) self.old }

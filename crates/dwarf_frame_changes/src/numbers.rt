@@ -16,7 +16,7 @@ use crate::names::Names;
 use crate::taker::FrameTaker;
 use dwarf_functions::{Link, Links};
 use dwarf_lines::Row;
-use dwarf_source_frames::UnitLines;
+use dwarf_source_frames::{SourceLocation, UnitLines};
 use memory::{Heap, NoMemory};
 use std::collections::BTreeMap;
 
@@ -106,7 +106,7 @@ impl Paths {
 #[derive(Clone, Copy)]
 pub(crate) struct Linked {
     pub name: u32,
-    pub callers: Option<u32>,
+    pub callers: u32,
 }
 
 /// Adds the numbers of the next link, those of the links before it being known.
@@ -183,7 +183,7 @@ pub(crate) fn frames_of_row<'a, T: FrameTaker<'a>>(
     paths: &mut Paths,
     row: Option<Row>,
     taker: &mut T,
-) -> Result<Option<u32>, NoMemory>
+) -> Result<u32, NoMemory>
     requires { ArePathNumbers (T.tells_path taker.old) (lines_view lines.now) paths.old }
     ensures is { IfOk result (λ found. T.tells_frames taker.new found (row_frames (lines_view lines.now) row)) }
     ensures kept { OnOk result (ArePathNumbers (T.tells_path taker.new) (lines_view lines.now) paths.new) }
@@ -194,8 +194,8 @@ pub(crate) fn frames_of_row<'a, T: FrameTaker<'a>>(
     let Some(row) = row else {
         return Ok(taker.no_frames());
     };
-    let place = row.registers;
-    let path = paths.number(lines, taker, Some(place.file))?;
+    let place = SourceLocation::of_row(Some(row));
+    let path = paths.number(lines, taker, place.file)?;
     let none = taker.name(None)?;
     let callers = taker.no_frames();
     let alone = taker.frames(none, path, place.line, place.column, callers)?;

@@ -19,7 +19,7 @@ pub trait FrameTaker<'a> {
 
     ghost tells_path: { Self → ℕ → Option PathRecord → Type 0 };
 
-    ghost tells_frames: { Self → Option ℕ → List FrameRecord → Type 0 };
+    ghost tells_frames: { Self → ℕ → List FrameRecord → Type 0 };
 
     // It is as it is once it has taken these, in this order.
     ghost has_taken: { Self → List TurnRecord → Type 0 };
@@ -41,7 +41,7 @@ pub trait FrameTaker<'a> {
         ensures taken { Takes (has_taken self.old) (has_taken self.new) [] };
 
     /// The number of no frames.
-    fn no_frames(&self) -> Option<u32>
+    fn no_frames(&self) -> u32
         ensures { tells_frames self.now result [] };
 
     /// The number of a frame and of those that it is inlined into.
@@ -49,10 +49,10 @@ pub trait FrameTaker<'a> {
         &mut self,
         name: u32,
         path: u32,
-        line: u64,
-        column: u64,
-        callers: Option<u32>,
-    ) -> Result<Option<u32>, NoMemory>
+        line: u32,
+        column: u32,
+        callers: u32,
+    ) -> Result<u32, NoMemory>
         requires name { (n : Option (List ℕ)) × tells_name self.old name n }
         requires path { (p : Option PathRecord) × tells_path self.old path p }
         requires callers { (outer : List FrameRecord) × tells_frames self.old callers outer }
@@ -67,7 +67,7 @@ pub trait FrameTaker<'a> {
         ensures taken { Takes (has_taken self.old) (has_taken self.new) [] };
 
     /// Takes an address and the number of its frames.
-    fn take(&mut self, address: u64, number: Option<u32>) -> Result<(), NoMemory>
+    fn take(&mut self, address: u64, number: u32) -> Result<(), NoMemory>
         requires { (frames : List FrameRecord) × tells_frames self.old number frames }
         ensures taken { OnOk result ((frames : List FrameRecord) → tells_frames self.old number frames
             → Takes (has_taken self.old) (has_taken self.new)

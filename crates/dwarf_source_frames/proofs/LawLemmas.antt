@@ -1,9 +1,10 @@
 -- An address has one list of frames.
 use Rattle.std.proofs.Common.{◌≡◌, ℕ, zero, suc, ◌<◌, nat_lt, List, [], ◌∷◌, Option, Some, None, slice_get, refl, sym}
-use Rattle.std.proofs.Common.{ap, subst, ◌∙◌, inl, inr, arith, ◌⊎◌, reverse}
-use Rattle.std.specs.Prelude.{MatchOption}
+use Rattle.std.proofs.Common.{ap, subst, ◌∙◌, ◌^◌, inl, inr, arith, ◌⊎◌, reverse}
+use Rattle.std.specs.Prelude.{All, MatchOption}
 use Rattle.std.specs.Option.{option_and_then, option_or}
 use Rattle.std.proofs.lemmas.Bool.{cases_Bool, ltb-true, ltb-false}
+use Rattle.std.proofs.lemmas.List.Elements.{All-cons, All-nil}
 use Rattle.std.proofs.lemmas.Option.{none-some, same_Some}
 use Rattle.dwarf_encoding.specs.Sequences.{placed_from, placed_within}
 use Rattle.dwarf_encoding.specs.Units.{unit_of, IsUnitWith}
@@ -14,6 +15,7 @@ use Rattle.dwarf_source_frames.specs.AddressFrames.{rows_of, AreFramesInUnit, Ar
 use Rattle.dwarf_source_frames.specs.DebugSections.{DebugSectionsRecord}
 use Rattle.dwarf_source_frames.specs.DebugUnits.{UnitRecord, UnitEntryRecord, unit_of_bytes, entry_with, IsEntryAt}
 use Rattle.dwarf_source_frames.specs.Frames.{FrameRecord, IsFrame, AreFramesFrom, AreFramesOfChain, location_of_row, location_of_call}
+use Rattle.dwarf_source_frames.specs.Frames.{constant_or_zero, frame_of_row, known_number}
 use Rattle.dwarf_source_frames.specs.Names.{linkage_name, origin_place, text_in, IsOrigin, IsNameWithin}
 use Rattle.dwarf_source_frames.specs.Scopes.{ScopeRecord, IsFirst, IsChainWithin, calls_of, scopes_of}
 use Rattle.dwarf_source_frames.specs.UnitAddresses.{read_unit}
@@ -172,6 +174,53 @@ one_by s a one other p q =
     let place : q.place ≡ p.place = one_place s a q.place p.place q.is_unit p.is_unit in
     one_in s (option_and_then (read_unit s) p.place) a one other p.are_frames
     (subst (λ (o : Option ℕ). AreFramesIn s (option_and_then (read_unit s) o) a other) place q.are_frames)
+
+-- lines and columns are below 2^32
+abbrev Small : FrameRecord → Type 0
+Small f = (f.line < 2 ^ 32) × (f.column < 2 ^ 32)
+
+known_small : (n : ℕ) → known_number n < 2 ^ 32
+known_small n = elim (cases_Bool (nat_lt n (2 ^ 32))) [
+  | inl t ↦ rw t (ltb-true n (2 ^ 32) t)
+  | inr f ↦ rw f (omega arith)
+]
+
+row_small : (row : Option Row) → ((location_of_row row).line < 2 ^ 32) × ((location_of_row row).column < 2 ^ 32)
+row_small None = (omega arith, omega arith)
+row_small (Some row) = (known_small row.registers.line, known_small row.registers.column)
+
+none_small : (frames : List FrameRecord) → frames ≡ [] → All Small frames
+none_small frames none = subst (All Small) (sym none) (All-nil Small)
+
+small_from : (s : DebugSectionsRecord) (lines : LinesRecord) (unit : UnitRecord) (place : SourceLocation)
+    (chain : List EntryRecord) (frames : List FrameRecord) → place.line < 2 ^ 32 → place.column < 2 ^ 32
+    → AreFramesFrom s lines unit place chain frames → All Small frames
+small_from s lines unit place [] frames line column p = none_small frames p
+small_from s lines unit place (e ∷ es) [] line column p = absurd p
+small_from s lines unit place (e ∷ es) (f ∷ fs) line column p =
+    All-cons Small f fs
+    (subst (λ (n : ℕ). n < 2 ^ 32) (sym p.0.line) line, subst (λ (n : ℕ). n < 2 ^ 32) (sym p.0.column) column)
+    (small_from s lines unit (location_of_call e) es fs (known_small (constant_or_zero e.attributes.call_line))
+    (known_small (constant_or_zero e.attributes.call_column)) p.1)
+
+small_of_chain : (s : DebugSectionsRecord) (lines : LinesRecord) (unit : UnitRecord) (chain : List EntryRecord)
+    (row : Option Row) (frames : List FrameRecord) → AreFramesOfChain s lines unit chain row frames → All Small frames
+small_of_chain s lines unit [] None frames p = none_small frames p
+small_of_chain s lines unit [] (Some row) frames p =
+    subst (All Small) (sym p)
+    (All-cons Small (frame_of_row lines row) [] (known_small row.registers.line, known_small row.registers.column) (All-nil Small))
+small_of_chain s lines unit (e ∷ es) row frames p =
+    small_from s lines unit (location_of_row row) (e ∷ es) frames (row_small row).0 (row_small row).1 p
+
+small_in : (s : DebugSectionsRecord) (unit : Option UnitRecord) (a : ℕ) (frames : List FrameRecord)
+    → AreFramesIn s unit a frames → All Small frames
+small_in s None a frames p = none_small frames p
+small_in s (Some unit) a frames p =
+    small_of_chain s (lines_of s unit) unit (calls_of (reverse p.chain)) p.row frames p.are_frames
+
+pub small_by : (s : DebugSectionsRecord) (a : ℕ) (frames : List FrameRecord) → AreFramesBy s a frames
+    → All (λ (f : FrameRecord). (f.line < 2 ^ 32) × (f.column < 2 ^ 32)) frames
+small_by s a frames p = small_in s (option_and_then (read_unit s) p.place) a frames p.are_frames
 
 -- without units nothing is read
 no_units : (offset : ℕ) → unit_of [] offset ≡ None

@@ -3,4 +3,4 @@ pub mod NameLemmas
 pub mod ScopeLemmas
 pub mod UnitAddressLemmas
 pub mod ByUnitLemmas
-mod LawLemmas
+pub mod LawLemmas

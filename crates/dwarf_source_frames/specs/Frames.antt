@@ -1,5 +1,5 @@
 -- The frames of an address, of which the entries and the row are known (DWARF 5, sections 2.14, 3.3.8.2 and 6.2.2).
-use Rattle.std.specs.Prelude.{ℕ, List, [], ◌∷◌, ◌≡◌, Option, Some, None}
+use Rattle.std.specs.Prelude.{ℕ, List, [], ◌∷◌, ◌≡◌, ◌^◌, nat_lt, if◌then◌else◌, Option, Some, None}
 use Rattle.std.specs.Option.{option_and_then}
 use Rattle.dwarf_encoding.specs.Values.{ValueRecord, Constant}
 use Rattle.dwarf_entries.specs.Entries.{EntryRecord}
@@ -28,19 +28,27 @@ abbrev pub constant_of : Option ValueRecord → Option ℕ
 constant_of (Some (Constant n)) = Some n
 constant_of _ = None
 
+-- a line or a column; one of 2^32 or more is not known: 0
+abbrev pub known_number : ℕ → ℕ
+known_number n = if nat_lt n (2 ^ 32) then n else 0
+
 -- the location of a row, or none
 abbrev pub location_of_row : Option Row → SourceLocation
 location_of_row None = record { file = None; line = 0; column = 0 }
 location_of_row (Some row) =
-    record { file = Some row.registers.file; line = row.registers.line; column = row.registers.column }
+    record {
+      file = Some row.registers.file;
+      line = known_number row.registers.line;
+      column = known_number row.registers.column;
+    }
 
 -- the location of the call that an entry is: DW_AT_call_file, DW_AT_call_line and DW_AT_call_column
 abbrev pub location_of_call : EntryRecord → SourceLocation
 location_of_call entry =
     record {
       file = constant_of entry.attributes.call_file;
-      line = constant_or_zero entry.attributes.call_line;
-      column = constant_or_zero entry.attributes.call_column;
+      line = known_number (constant_or_zero entry.attributes.call_line);
+      column = known_number (constant_or_zero entry.attributes.call_column);
     }
 
 -- the path of a file, by the names of the program
@@ -73,8 +81,8 @@ frame_of_row lines row =
     record {
       name = None;
       path = path_in lines (Some row.registers.file);
-      line = row.registers.line;
-      column = row.registers.column;
+      line = known_number row.registers.line;
+      column = known_number row.registers.column;
     }
 
 -- the frames of the entries of an address and of its row: without an entry there is one without a name, if there is a

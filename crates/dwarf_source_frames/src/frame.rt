@@ -6,7 +6,7 @@ ghost use Rattle.dwarf_entries.specs.EntryViews.{entry_view};
 ghost use Rattle.dwarf_encoding.specs.Views.{value_view};
 ghost use Rattle.dwarf_lines.specs.PathViews.{path_view};
 ghost use Rattle.dwarf_source_frames.specs.FrameViews.{frame_view, lines_view};
-ghost use Rattle.dwarf_source_frames.specs.Frames.{constant_of, constant_or_zero, frame_of_row, path_in};
+ghost use Rattle.dwarf_source_frames.specs.Frames.{constant_of, constant_or_zero, frame_of_row, known_number, path_in};
 ghost use Rattle.dwarf_source_frames.specs.Frames.{location_of_call};
 ghost use Rattle.dwarf_source_frames.specs.Frames.{location_of_row};
 
@@ -21,9 +21,9 @@ pub struct SourceLocation {
     /// The index of a file, by the names of the unit's program.
     pub file: Option<u64>,
     /// A line, from 1 on; 0 if none is known.
-    pub line: u64,
+    pub line: u32,
     /// A column, from 1 on; 0 if none is known.
-    pub column: u64,
+    pub column: u32,
 }
 
 /// A frame.
@@ -33,8 +33,8 @@ pub struct Frame<'a> {
     pub name: Option<&'a [u8]>,
     /// The path of its file.
     pub path: Option<PathParts<'a>>,
-    pub line: u64,
-    pub column: u64,
+    pub line: u32,
+    pub column: u32,
 }
 
 /// A constant, or 0.
@@ -57,6 +57,13 @@ fn constant_of(value: Option<Value<'_>>) -> Option<u64>
     }
 }
 
+/// A line or a column; one of 2^32 or more is not known: 0.
+fn known_number(number: u64) -> u32
+    ensures { result ≡ known_number number }
+{
+    if number < 1 << 32 { number as u32 } else { 0 }
+}
+
 impl SourceLocation {
     /// The location of a row, or none.
     pub fn of_row(row: Option<Row>) -> SourceLocation
@@ -65,8 +72,8 @@ impl SourceLocation {
         match row {
             Some(row) => SourceLocation {
                 file: Some(row.registers.file),
-                line: row.registers.line,
-                column: row.registers.column,
+                line: known_number(row.registers.line),
+                column: known_number(row.registers.column),
             },
             None => SourceLocation {
                 file: None,
@@ -82,8 +89,8 @@ impl SourceLocation {
     {
         SourceLocation {
             file: constant_of(entry.attributes.get(Attribute::CallFile)),
-            line: constant_or_zero(entry.attributes.get(Attribute::CallLine)),
-            column: constant_or_zero(entry.attributes.get(Attribute::CallColumn)),
+            line: known_number(constant_or_zero(entry.attributes.get(Attribute::CallLine))),
+            column: known_number(constant_or_zero(entry.attributes.get(Attribute::CallColumn))),
         }
     }
 }
@@ -109,8 +116,8 @@ impl<'a> UnitLines<'a> {
         Frame {
             name: None,
             path: self.path_in(Some(row.registers.file)),
-            line: row.registers.line,
-            column: row.registers.column,
+            line: known_number(row.registers.line),
+            column: known_number(row.registers.column),
         }
     }
 }

@@ -1,6 +1,6 @@
 //! What the definitions say of each other.
 
-ghost use Rattle.std.specs.Prelude.{[], ◌≡◌, ℕ, List, Option};
+ghost use Rattle.std.specs.Prelude.{[], ◌≡◌, ◌<◌, ◌^◌, ℕ, All, List, Option};
 ghost use Rattle.dwarf_source_frames.specs.AddressFrames.{AreFramesOf};
 ghost use Rattle.dwarf_source_frames.specs.DebugSections.{DebugSectionsRecord, debug_sections};
 ghost use Rattle.dwarf_source_frames.specs.Frames.{FrameRecord};
@@ -16,6 +16,12 @@ pub fn one_unit()
 pub fn one_list_of_frames()
     ensures { (image : List ℕ) (address : ℕ) (one other : List FrameRecord) →
         AreFramesOf image address one → AreFramesOf image address other → one ≡ other }
+{}
+
+/// The lines and the columns of frames are below 2^32.
+pub fn lines_below_two_to_32()
+    ensures { (image : List ℕ) (address : ℕ) (frames : List FrameRecord) → AreFramesOf image address frames
+        → All (λ f. (f.line < 2 ^ 32) × (f.column < 2 ^ 32)) frames }
 {}
 
 /// An address of an image without `__debug_info` has no frames.

@@ -8,7 +8,7 @@ use Rattle.std.proofs.lemmas.List.Elements.{All-head, All-tail}
 use Rattle.dwarf_source_frames.specs.Frames.{FrameRecord}
 use Rattle.table_source_frames.specs.Numbering.{same_chain, same_path, same_text, numbered_with, numbered_after, number_in}
 use Rattle.table_source_frames.specs.LineText.{chains_of, chains_in, files_in, texts_in, innermost_name, innermost_path, path_texts}
-use Rattle.table_source_frames.specs.LineTable.{HaveFewLines}
+use Rattle.table_source_frames.specs.Opened.{HaveFewLines}
 use Rattle.table_source_frames.specs.Steps.{StepRecord}
 use Rattle.table_source_frames.proofs.NumberingLemmas.{Has, has_left, has_right, has_filter_map, has_flat_map}
 use Rattle.table_source_frames.proofs.NumberingLemmas.{number_within, number-push, number-push_other, number-append}

@@ -1,16 +1,18 @@
 -- The head of a line table.
-use Rattle.std.proofs.Common.{◌≡◌, ℕ, ◌+◌, ◌*◌, ◌≤◌, List, length, take, drop, refl, sym, ap, ◌∙◌, subst, inl, inr, arith, length-drop, lit<}
+use Rattle.std.proofs.Common.{◌≡◌, ℕ, ◌+◌, ◌*◌, ◌≤◌, List, get_or, length, take, drop, refl, sym, ap, ◌∙◌, subst, inl, inr, arith, length-drop, lit<}
 use Rattle.std.specs.Prelude.{Option, Some, None, MatchOption}
 use Rattle.std.proofs.lemmas.Option.{MatchOption-at_none, MatchOption-at_some}
 use Rattle.std.specs.Int.{w64, from_be_bytes}
 use Rattle.std.specs.List.{concat}
 use Rattle.std.proofs.lemmas.Nat.{from_be_bytes-to_be_bytes_8}
+use Rattle.dwarf_source_frames.specs.DebugSections.{debug_sections}
+use Rattle.dwarf_source_frames.proofs.LawLemmas.{small_by}
 use Rattle.table_checked_pages.specs.Views.{ArePagesOf}
 use Rattle.table_checked_pages.specs.declared.pages.Pages.{Pages}
 use Rattle.table_source_frames.specs.LineTable.{AreFew, IsLineTable, IsLineTextWithin, no_lines, room_of}
 use Rattle.table_source_frames.specs.LineText.{LineParts, head_bytes, line_text, parts_of}
 use Rattle.table_checked_pages.specs.Standing.{IsRestFrom}
-use Rattle.table_source_frames.specs.Opened.{IsOpened}
+use Rattle.table_source_frames.specs.Opened.{HaveFewLines, IsOpened}
 use Rattle.table_source_frames.specs.Runs.{runs_of}
 use Rattle.table_source_frames.specs.Steps.{AreFrameSteps, StepRecord}
 use Rattle.table_source_frames.specs.declared.opening.Head.{Head}
@@ -122,6 +124,10 @@ pub record HasHead (table : LineTable) (offset : ℕ) (head : Head) : Type 0 whe
   pub texts : table.texts ≡ head.texts
   pub bytes : table.bytes ≡ head.bytes
 
+few_lines : (image : List ℕ) (steps : List StepRecord) → AreFrameSteps image steps → HaveFewLines steps
+few_lines image steps are =
+    λ k d lt. small_by (debug_sections image) (get_or steps k d).start (get_or steps k d).frames (are.each k d lt)
+
 pub opens_none : (image bytes : List ℕ) (head : Head) → IsLineTable image bytes → IsHead head (take 56 bytes) → head.lines ≡ 0 → bytes ≡ no_lines
 opens_none image bytes head is has none = by_text is.is_text
   where
@@ -142,7 +148,7 @@ opens_some image all bytes text pages offset head table are stands is has some m
           record {
             are_pages = are;
             stands = subst (λ n. IsRestFrom all n (line_text is.steps)) (sym made.offset_is) (stands.0, stands.1 ∙ h.1);
-            widths = record { starts = is.are_steps.below; lines = h.0.lines; few = h.0.few };
+            widths = record { starts = is.are_steps.below; lines = few_lines image is.steps is.are_steps; few = h.0.few };
             head = record {
               runs = made.runs ∙ says.runs;
               steps = made.steps ∙ says.steps;

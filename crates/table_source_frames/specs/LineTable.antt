@@ -1,13 +1,9 @@
 -- The line table of an image.
-use Rattle.std.specs.Prelude.{◌≡◌, ◌<◌, ◌≤◌, ◌*◌, ◌^◌, ◌⊎◌, ℕ, List, ◌++◌, All, length, max}
+use Rattle.std.specs.Prelude.{◌≡◌, ◌<◌, ◌≤◌, ◌*◌, ◌^◌, ◌⊎◌, ℕ, List, ◌++◌, length, max}
 use Rattle.std.specs.Int.{w64, to_be_bytes}
 use Rattle.std.specs.List.{concat}
 use Rattle.table_source_frames.specs.LineText.{LineParts, line_text, parts_of}
 use Rattle.table_source_frames.specs.Steps.{AreFrameSteps, StepRecord}
-
--- lines and columns of frames have four bytes
-abbrev pub HaveFewLines : List StepRecord → Type 0
-HaveFewLines steps = All (λ s. All (λ f. (f.line < 2 ^ 32) × (f.column < 2 ^ 32)) s.frames) steps
 
 -- the counts of parts have four bytes, and so have the places and lengths of texts
 pub record AreFew (parts : LineParts) : Type 0 where
@@ -19,7 +15,6 @@ pub record AreFew (parts : LineParts) : Type 0 where
 
 -- the table of some steps fits into so many bytes, and each of its numbers into its own
 pub record FitsLines (room : ℕ) (steps : List StepRecord) : Type 0 where
-  pub lines : HaveFewLines steps
   pub few : AreFew (parts_of steps)
   pub size : length (line_text steps) ≤ room
 

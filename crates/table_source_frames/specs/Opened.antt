@@ -7,7 +7,7 @@ use Rattle.table_checked_pages.specs.Standing.{IsRestFrom}
 use Rattle.table_checked_pages.specs.Views.{ArePagesOf, claim_view}
 use Rattle.table_checked_pages.specs.declared.fault.CheckFault.{CheckFault}
 use Rattle.table_checked_pages.specs.declared.pages.Pages.{Pages}
-use Rattle.table_source_frames.specs.LineTable.{AreFew, HaveFewLines}
+use Rattle.table_source_frames.specs.LineTable.{AreFew}
 use Rattle.table_source_frames.specs.LineText.{LineParts, line_text, parts_of}
 use Rattle.table_source_frames.specs.Runs.{runs_of}
 use Rattle.table_source_frames.specs.Steps.{StepRecord}
@@ -21,6 +21,10 @@ pub record IsHeadOf (table : LineTable) (parts : LineParts) : Type 0 where
   pub files : table.files ≡ length parts.files
   pub texts : table.texts ≡ length parts.texts
   pub bytes : table.bytes ≡ length (concat parts.texts)
+
+-- lines and columns of frames have four bytes
+abbrev pub HaveFewLines : List StepRecord → Type 0
+HaveFewLines steps = All (λ s. All (λ f. (f.line < 2 ^ 32) × (f.column < 2 ^ 32)) s.frames) steps
 
 -- each number of the table of some steps fits into its bytes
 pub record HaveWidths (steps : List StepRecord) : Type 0 where

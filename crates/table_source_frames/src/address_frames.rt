@@ -91,8 +91,8 @@ impl LineTable {
         Ok(OwnedFrame {
             name,
             path,
-            line: u64::from(row.line),
-            column: u64::from(row.column),
+            line: row.line,
+            column: row.column,
         })
     }
 

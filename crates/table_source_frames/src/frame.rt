@@ -28,8 +28,8 @@ pub struct OwnedFrame {
     pub name: Option<Vec<u8, Heap>>,
     /// The path of its file.
     pub path: Option<OwnedPath>,
-    pub line: u64,
-    pub column: u64,
+    pub line: u32,
+    pub column: u32,
 }
 
 impl OwnedPath {

@@ -137,8 +137,6 @@ module _ (old new : KeptRecord) (h : Grows old new) where
     name = omega (arith, is.name, longer_on old.texts new.texts h.texts);
     file = omega (arith, is.file, longer_on old.files new.files h.files);
     caller = is.caller;
-    line = is.line;
-    column = is.column;
   }
 
   pub path_same : (key : FileKey) → IsFileKey old key → path_of_key new key ≡ path_of_key old key
@@ -302,11 +300,10 @@ is_file k new key n path h is = record {
 
 -- a location more
 module _ (k : KeptRecord) (kept : IsKept k) (key : LocationKey) (name : key.name ≤ length k.texts)
-    (file : key.file ≤ length k.files) (caller : key.caller ≤ length k.locations) (line : key.line < 2 ^ 32)
-    (column : key.column < 2 ^ 32)
+    (file : key.file ≤ length k.files) (caller : key.caller ≤ length k.locations)
     (new : List LocationKey) (n : ℕ) (h : IsNumberedIn (record { name = 0; file = 0; line = 0; column = 0; caller = 0 }) k.locations key n new) where
   pub located_kept : IsKept (record k { locations = new })
-  located_kept = location_kept k kept new key n h (record { name = name; file = file; caller = omega (arith, caller); line = line; column = column })
+  located_kept = location_kept k kept new key n h (record { name = name; file = file; caller = omega (arith, caller) })
 
   pub located_grows : Grows k (record k { locations = new })
   located_grows = record {

@@ -1,4 +1,4 @@
--- The least steps of an image, and of all that was added.
+-- The least steps of an image.
 use Rattle.std.proofs.Common.{◌≡◌, ◌≢◌, ℕ, zero, suc, ◌+◌, ◌-◌, ◌<◌, ◌≤◌, ◌^◌, true, List, [], ◌∷◌, length, get_or, refl, sym, ◌∙◌, inl, inr, arith, subst, ◌⊎◌}
 use Rattle.std.proofs.Common.{nat_lt, ◌&&◌, cond, ◌++◌, Option, Some, None, ap, append_assoc, All, append-nil, Contains, IsPermutation, insert}
 use Rattle.std.specs.List.{AllByRecursion}
@@ -13,7 +13,7 @@ use Rattle.dwarf_source_frames.specs.Frames.{FrameRecord}
 use Rattle.table_source_frames.specs.Numbering.{same_chain}
 use Rattle.table_source_frames.specs.Steps.{AreFrameSteps, AreFramesBefore, Changes, Stays, StepRecord, starts_of}
 use Rattle.table_source_frames.proofs.SameLemmas.{chain_decides}
-use Rattle.table_source_frames_build.specs.Lines.{AreLeastSteps, changes_after, IsWritten, after_steps, have_few_lines}
+use Rattle.table_source_frames_build.specs.Lines.{AreLeastSteps, changes_after}
 
 -- a step starts there
 abbrev HasStart : List StepRecord → ℕ → Type 0
@@ -219,106 +219,3 @@ module _ (image : List ℕ) (one : (a : ℕ) (f g : List FrameRecord) → AreFra
           Contains-permutation (starts_of added) (starts_of least.sorted) a
           (IsPermutation-map (λ (s : StepRecord). s.start) added least.sorted least.are_those) c in
           none (has_start least.sorted a there.0 there.1 there.2)))
-
--- ---- all that was added, and its least steps
-
--- ---- steps in the order of their starts
-
--- the place of a start among some that do not fall
-place : (ss : List StepRecord) (t : ℕ) (d : StepRecord) → IsNonDecreasingBy (λ (s : StepRecord). s.start) ss → (n : ℕ) → n ≤ length ss
-    → ((k : ℕ) (e : StepRecord) → n ≤ k → k < length ss → t ≤ (get_or ss k e).start)
-    → (i : ℕ) × (i ≤ length ss) × ((k : ℕ) (e : StepRecord) → k < i → (get_or ss k e).start ≤ t)
-    × ((k : ℕ) (e : StepRecord) → i ≤ k → k < length ss → t ≤ (get_or ss k e).start)
-place ss t d up zero within above = (0, omega arith, λ k e less. absurd (omega arith), above)
-place ss t d up (suc n) within above =
-    let same : (e : StepRecord) → (get_or ss n e).start ≡ (get_or ss n d).start =
-    λ e. ap (λ (s : StepRecord). s.start) (get_or_default ss n e d (omega arith)) in
-    elim (cases_lt (get_or ss n d).start t) [
-      | inl less ↦ (suc n, within, λ k e l. let le = up k n e (omega arith) (omega arith) in omega (arith, le, same e, less), above)
-      | inr past ↦ place ss t d up n (omega arith) (λ k e from l. let le = up n k e from l in omega (arith, le, same e, past))
-    ]
-
-in_order : (added : List StepRecord) → (sorted : List StepRecord) × IsPermutation added sorted × IsNonDecreasingBy (λ (s : StepRecord). s.start) sorted
-in_order [] = ([], IsPermutation-refl [], IsNonDecreasingBy-short (λ (s : StepRecord). s.start) [] (omega arith))
-in_order (s ∷ ss) =
-    let rest = in_order ss in
-    let at = place rest.0 s.start s rest.2 (length rest.0) (omega arith) (λ k e from l. absurd (omega arith)) in (
-      insert rest.0 at.0 s,
-      IsPermutation-trans (s ∷ ss) (s ∷ rest.0) (insert rest.0 at.0 s) (IsPermutation-cons s ss rest.0 rest.1) (IsPermutation-insert rest.0 at.0 s),
-      IsNonDecreasingBy-insert (λ (t : StepRecord). t.start) rest.0 at.0 s rest.2 at.1 at.2 at.3,
-    )
-
--- ---- lines and columns
-
-abbrev Few : FrameRecord → Type 0
-Few f = (f.line < 2 ^ 32) × (f.column < 2 ^ 32)
-
-few_test : (frames : List FrameRecord) → All (λ (f : FrameRecord). (f.line < 2 ^ 32) × (f.column < 2 ^ 32)) frames → have_few_lines frames ≡ true
-few_test [] h = refl
-few_test (f ∷ fs) h =
-    let one = All-head Few f fs h in
-    and_from (nat_lt f.line (2 ^ 32) && nat_lt f.column (2 ^ 32)) (have_few_lines fs)
-    (and_from (nat_lt f.line (2 ^ 32)) (nat_lt f.column (2 ^ 32)) (lt-ltb f.line (2 ^ 32) one.0)
-    (lt-ltb f.column (2 ^ 32) one.1)) (few_test fs (All-tail Few f fs h))
-
--- the changes have all frames but none
-few_all : (ss : List StepRecord) (before : List FrameRecord) → All Few before
-    → All (λ (s : StepRecord). All Few s.frames) (changes_after before ss)
-    → All (λ (s : StepRecord). All Few s.frames) ss
-unfolding changes_after
-few_all [] before b h = h
-few_all (s ∷ ss) before b h = elim (cases_Bool (same_chain s.frames before)) [
-  | inl t ↦
-      let same : s.frames ≡ before = (chain_decides s.frames before).0 t in
-      let here : All Few s.frames = subst (λ (l : List FrameRecord). All Few l) (sym same) b in
-      let rest : All (λ (u : StepRecord). All Few u.frames) (changes_after before ss) = rw t at h in
-      All-cons (λ (u : StepRecord). All Few u.frames) s ss here (few_all ss before b rest)
-  | inr f ↦
-      let all : All (λ (u : StepRecord). All Few u.frames) (s ∷ changes_after s.frames ss) = rw f at h in
-      let here : All Few s.frames = All-head (λ (u : StepRecord). All Few u.frames) s (changes_after s.frames ss) all in
-      All-cons (λ (u : StepRecord). All Few u.frames) s ss here
-      (few_all ss s.frames here (All-tail (λ (u : StepRecord). All Few u.frames) s (changes_after s.frames ss) all))
-]
-
--- a store that has no step too wide has all of them
-after_few : (ss before : List StepRecord) → All (λ (s : StepRecord). All Few s.frames) ss → after_steps (Some before) ss ≡ Some (before ++ ss)
-after_few [] before h = ap Some (sym (append-nil before))
-after_few (s ∷ ss) before h =
-    let few : have_few_lines s.frames ≡ true = few_test s.frames (All-head (λ (u : StepRecord). All Few u.frames) s ss h) in
-    ap (λ b. after_steps (cond b (Some (before ++ s ∷ [])) None) ss) few
-    ∙ after_few ss (before ++ s ∷ []) (All-tail (λ (u : StepRecord). All Few u.frames) s ss h) ∙ ap Some (append_assoc before (s ∷ []) ss)
-
--- and one that has steps has all of them
-after_none : (ss : List StepRecord) → after_steps None ss ≡ None
-after_none [] = refl
-after_none (s ∷ ss) = after_none ss
-
-after_all : (ss before whole : List StepRecord) → after_steps (Some before) ss ≡ Some whole → before ++ ss ≡ whole
-after_all [] before whole e = append-nil before ∙ (cc e)
-after_all (s ∷ ss) before whole e = elim (cases_Bool (have_few_lines s.frames)) [
-  | inl t ↦
-      let next : after_steps (Some (before ++ s ∷ [])) ss ≡ Some whole = sym (ap (λ b. after_steps (cond b (Some (before ++ s ∷ [])) None) ss) t) ∙ e in
-      sym (append_assoc before (s ∷ []) ss) ∙ after_all ss (before ++ s ∷ []) whole next
-  | inr f ↦
-      let gone : ◌≡◌ {A = Option (List StepRecord)} None (Some whole) = sym (after_none ss)
-      ∙ sym (ap (λ b. after_steps (cond b (Some (before ++ s ∷ [])) None) ss) f) ∙ e in
-      cc gone
-]
-
-all_by : (room : ℕ) (added : List StepRecord) (bytes : List ℕ) (store : Option (List StepRecord))
-    → after_steps (Some []) added ≡ store → IsWritten room store bytes → IsWritten room (Some added) bytes
-all_by room added bytes None e h =
-    let sorted = in_order added in (
-      changes_after [] sorted.0,
-      record { sorted = sorted.0; are_those = sorted.1; ascend = sorted.2; are_changes = refl },
-      inr (
-        λ fits.
-            let few : All (λ (s : StepRecord). All Few s.frames) sorted.0 = few_all sorted.0 [] (All-nil Few) fits.lines in
-            cc (after_few added [] (All-permutation (λ (s : StepRecord). All Few s.frames) sorted.0 added (IsPermutation-sym added sorted.0 sorted.1) few), e),
-        h,
-      ),
-    )
-all_by room added bytes (Some whole) e h = subst (λ (l : List StepRecord). IsWritten room (Some l) bytes) (sym (after_all added [] whole e)) h
-
-pub of_all : (room : ℕ) (added : List StepRecord) (bytes : List ℕ) → IsWritten room (after_steps (Some []) added) bytes → IsWritten room (Some added) bytes
-of_all room added bytes h = all_by room added bytes (after_steps (Some []) added) refl h

@@ -224,30 +224,7 @@ starts_same : (k : KeptRecord) (steps : List Step) → starts_of (map (step_of k
 starts_same k [] = refl
 starts_same k (s ∷ steps) = λ i. s.start ∷ starts_same k steps i
 
--- lines and columns of a chain have four bytes
-abbrev FewFrame : FrameRecord → Type 0
-FewFrame f = (f.line < 2 ^ 32) × (f.column < 2 ^ 32)
-
 module _ (k : KeptRecord) (kept : IsKept k) where
-  chain_few : (room n : ℕ) → n ≤ room → n ≤ length k.locations → All (λ (f : FrameRecord). (f.line < 2 ^ 32) × (f.column < 2 ^ 32)) (chain_at k n)
-  chain_few room zero r a = subst (λ (l : List FrameRecord). All FewFrame l) (sym (chain_none k)) (All-nil FewFrame)
-  chain_few zero (suc n) r a = absurd (omega arith)
-  chain_few (suc room) (suc n) r a =
-      let key : LocationKey = location_key_at k (suc n) in
-      let one = kept.each_location (suc n) (record { some = omega arith; within = a }) in
-      subst (λ (l : List FrameRecord). All FewFrame l) (sym (chain_step k kept n a))
-      (All-cons FewFrame (frame_of_key k key) (chain_at k key.caller) (one.line, one.column)
-      (chain_few room key.caller (omega (arith, one.caller, r)) (omega (arith, one.caller, a))))
-
-  pub few_lines : (steps : List Step) → HaveLocations k steps
-      → All (λ (s : StepRecord). All (λ (f : FrameRecord). (f.line < 2 ^ 32) × (f.column < 2 ^ 32)) s.frames)
-      (map (step_of k) steps)
-  few_lines [] h = All-nil (λ (s : StepRecord). All FewFrame s.frames)
-  few_lines (s ∷ steps) h =
-      All-cons (λ (t : StepRecord). All FewFrame t.frames) (step_of k s) (map (step_of k) steps)
-      (chain_few s.location s.location (omega arith) (All-head (λ (t : Step). t.location ≤ length k.locations) s steps
-      h)) (few_lines steps (All-tail (λ (t : Step). t.location ≤ length k.locations) s steps h))
-
   module _ (locations files texts : List ℕ) (are_locations : Each (IsNumber (length k.locations)) locations)
       (are_files : Each (IsNumber (length k.files)) files) (are_texts : Each (IsNumber (length k.texts)) texts)
       (steps_told : List StepRecord) where
@@ -366,7 +343,6 @@ module _ (k : KeptRecord) (kept : IsKept k) where
         → length (text_of_parts k steps locations files texts) ≤ room
         → FitsLines room (map (step_of k) steps)
     fits room s l f t b size = record {
-      lines = few_lines steps h;
       few = record {
         steps = omega (arith, s, length-map steps (step_of k));
         chains = omega (arith, l, ap length chains_is, length-map locations (chain_at k));

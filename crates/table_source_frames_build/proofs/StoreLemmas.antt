@@ -11,11 +11,9 @@ use Rattle.table_source_frames.specs.LineTable.{IsLineTextWithin}
 use Rattle.table_source_frames.specs.Numbering.{same_chain}
 use Rattle.table_source_frames.specs.Steps.{StepRecord}
 use Rattle.table_source_frames.proofs.SameLemmas.{chain_decides}
-use Rattle.table_source_frames_build.specs.Kept.{Grows, IsKept, KeptRecord, chain_at}
+use Rattle.table_source_frames_build.specs.Kept.{Grows, IsKept, IsLocation, KeptRecord, StillTells, chain_at}
 use Rattle.table_source_frames_build.specs.Lines.{AreLeastSteps, IsWritten, changes_after}
-use Rattle.table_source_frames_build.specs.Located.{IsLocated, StillTells}
 use Rattle.table_source_frames_build.specs.StepViews.{HaveLocations, changed_after, step_of}
-use Rattle.table_source_frames_build.specs.StoreViews.{taken_steps}
 use Rattle.table_source_frames_build.specs.declared.step.Step.{Step}
 use Rattle.table_source_frames_build.proofs.KeptLemmas.{chain_none, chain_same, location_stays, name_stays, path_stays}
 use Rattle.table_source_frames_build.proofs.FirstUsesLemmas.{told_same}
@@ -36,22 +34,17 @@ module _ (old new : KeptRecord) (kept : IsKept old) (grows : Grows old new) wher
       λ i. here i ∷ steps_same steps (All-tail (λ (t : Step). t.location ≤ length old.locations) s steps h) i
 
   pub still_tells : StillTells old new
-  still_tells = record { names = name_stays old new kept grows; paths = path_stays old new kept grows; frames = frames_stay }
-    where
-      frames_stay : (number : Option ℕ) (frames : List FrameRecord) → IsLocated old frames number → IsLocated new frames number
-      frames_stay None frames is = is
-      frames_stay (Some number) frames is = (location_stays old new kept grows number frames is.0, is.1)
+  still_tells = record { names = name_stays old new kept grows; paths = path_stays old new kept grows; frames = location_stays old new kept grows }
 
   pub told_before : (value : KeptRecord) → old ≡ value → StillTells value new
   told_before value e = subst (λ k. StillTells k new) e still_tells
 
-  pub taken_same : (wide : Bool) (steps : List Step) (value : Option (List StepRecord)) → HaveLocations old steps
-      → taken_steps wide old steps ≡ value → taken_steps wide new steps ≡ value
-  taken_same true steps value h e = e
-  taken_same false steps value h e = ap Some (steps_same steps h) ∙ e
+  pub taken_same : (steps : List Step) (value : List StepRecord) → HaveLocations old steps
+      → map (step_of old) steps ≡ value → map (step_of new) steps ≡ value
+  taken_same steps value h e = steps_same steps h ∙ e
 
-pub no_frames_located : (k : KeptRecord) → IsLocated k [] (Some 0)
-no_frames_located k = (record { within = omega arith; is = chain_none k }, refl)
+pub no_frames_located : (k : KeptRecord) → IsLocation k 0 []
+no_frames_located k = record { within = omega arith; is = chain_none k }
 
 -- ---- the least steps
 
@@ -113,9 +106,7 @@ module _ (k : KeptRecord) (kept : IsKept k) where
 
   -- ---- what is written
 
-  pub written : (room : ℕ) (wide : Bool) (steps changed : List Step) (value : Option (List StepRecord)) (bytes : List ℕ)
-      → wide ≡ false → taken_steps wide k steps ≡ value
-      → AreLeastSteps (map (step_of k) steps) (map (step_of k) changed)
+  pub written : (room : ℕ) (steps changed : List Step) (value : List StepRecord) (bytes : List ℕ)
+      → map (step_of k) steps ≡ value → AreLeastSteps (map (step_of k) steps) (map (step_of k) changed)
       → IsLineTextWithin room (map (step_of k) changed) bytes → IsWritten room value bytes
-  written room true steps changed value bytes not_wide e least text = cc not_wide
-  written room false steps changed value bytes not_wide e least text = subst (λ v. IsWritten room v bytes) e (map (step_of k) changed, least, text)
+  written room steps changed value bytes e least text = subst (λ v. IsWritten room v bytes) e (map (step_of k) changed, least, text)

@@ -87,8 +87,6 @@ pub record IsLocationKey (k : KeptRecord) (number : ℕ) (key : LocationKey) : T
   pub name : key.name ≤ length k.texts
   pub file : key.file ≤ length k.files
   pub caller : key.caller < number
-  pub line : key.line < 2 ^ 32
-  pub column : key.column < 2 ^ 32
 
 -- each thing is kept once, and each number tells of something
 pub record IsKept (k : KeptRecord) : Type 0 where
@@ -143,3 +141,9 @@ pub record IsFile (k : KeptRecord) (number : ℕ) (path : Option PathRecord) : T
 pub record IsLocation (k : KeptRecord) (number : ℕ) (frames : List FrameRecord) : Type 0 where
   pub within : number ≤ length k.locations
   pub is : chain_at k number ≡ frames
+
+-- what numbers told of before they tell of now
+pub record StillTells (old new : KeptRecord) : Type 0 where
+  pub names : (number : ℕ) (name : Option (List ℕ)) → IsName old number name → IsName new number name
+  pub paths : (number : ℕ) (path : Option PathRecord) → IsFile old number path → IsFile new number path
+  pub frames : (number : ℕ) (frames : List FrameRecord) → IsLocation old number frames → IsLocation new number frames

@@ -7,7 +7,6 @@ pub mod FirstUses
 pub mod StepViews
 pub mod StoreViews
 pub mod Lines
-pub mod Located
 pub mod PartNumbers
 pub mod PartBytes
 pub mod WholeText

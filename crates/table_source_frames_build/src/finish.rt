@@ -110,14 +110,7 @@ impl<'a> LineStore<'a> {
     pub fn finish(self, heap: Heap, room: u64) -> Result<Vec<u8, Heap>, NoMemory>
         ensures { IfOk result (λ bytes. IsWritten room self.entry.taken bytes.items) }
     {
-        let LineStore {
-            kept,
-            mut steps,
-            too_wide,
-        } = self;
-        if too_wide {
-            return no_lines(heap);
-        }
+        let LineStore { kept, mut steps } = self;
         steps.sort_unstable_by_key(|step| step.start);
         let changed = changed_steps(heap.share(), &steps)?;
         match kept.table_within(heap.share(), &changed, room)? {

@@ -1,12 +1,12 @@
 //! What the definitions say of each other, and why it is enough to take the turns of an image.
 
-ghost use Rattle.std.specs.Prelude.{◌<◌, ◌^◌, ℕ, List, [], All, Contains, Some};
+ghost use Rattle.std.specs.Prelude.{◌<◌, ◌^◌, ℕ, List, All, Contains};
 ghost use Rattle.dwarf_source_frames.specs.AddressFrames.{AreFramesOf};
 ghost use Rattle.dwarf_frame_changes.specs.Given.{AreTurnsOf, TurnRecord};
 ghost use Rattle.dwarf_frame_changes.specs.Turns.{IsTurn};
 ghost use Rattle.table_source_frames.specs.LineTable.{IsLineTable, room_of};
 ghost use Rattle.table_source_frames.specs.Steps.{AreFrameSteps, Stays, StepRecord, starts_of};
-ghost use Rattle.table_source_frames_build.specs.Lines.{AreLeastSteps, IsWritten, after_steps};
+ghost use Rattle.table_source_frames_build.specs.Lines.{AreLeastSteps, IsWritten};
 ghost use Rattle.table_source_frames_build.specs.TurnSteps.{steps_of_turns};
 
 use dwarf_frame_changes::laws::{empty_before_turns, same_between_turns};
@@ -22,12 +22,6 @@ pub fn least_steps_are_frame_steps()
 {
     one_list_of_frames();
 }
-
-/// What a store writes that took the frames of some addresses is the table of all of them, also if it gave up.
-pub fn table_of_all()
-    ensures { (room : ℕ) (added : List StepRecord) (bytes : List ℕ) →
-        IsWritten room (after_steps (Some []) added) bytes → IsWritten room (Some added) bytes }
-{}
 
 /// Where the frames at all turns are known, those of an address that is no turn are those of the address before.
 pub fn frames_stay_between_turns()
@@ -50,8 +44,7 @@ pub fn steps_by_turns()
 /// What a store writes that took the turns of an image is the line table of the image.
 pub fn table_by_turns()
     ensures { (image : List ℕ) (turns : List TurnRecord) (bytes : List ℕ) → AreTurnsOf image turns
-        → IsWritten (room_of image) (after_steps (Some []) (steps_of_turns turns)) bytes → IsLineTable image bytes }
+        → IsWritten (room_of image) (steps_of_turns turns) bytes → IsLineTable image bytes }
 {
-    table_of_all();
     steps_by_turns();
 }

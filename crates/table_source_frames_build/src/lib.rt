@@ -17,7 +17,6 @@
 //! - A location is a frame with the number of the location that it is inlined into. So numbers are equal where chains
 //!   of frames are, and frames are compared no more once they have come.
 //! - A table has its numbers in the order of first use, which is known at the end: there each number gets another.
-//! - A table with a line or a column past four bytes has no lines, so a store that meets one keeps no more.
 #![tactic(auto)]
 
 mod changes;

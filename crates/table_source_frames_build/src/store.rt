@@ -1,6 +1,6 @@
 //! The frames of addresses, taken in any order.
 
-ghost use Rattle.std.specs.Prelude.{◌≡◌, ◌∷◌, ℕ, IfOk, List, OnErr, OnOk, Option, Some, [], map};
+ghost use Rattle.std.specs.Prelude.{◌≡◌, ◌∷◌, ◌++◌, ℕ, IfOk, List, OnErr, OnOk, Option, []};
 
 use crate::kept::Kept;
 use crate::keys::LocationKey;
@@ -9,24 +9,23 @@ use dwarf_lines::PathParts;
 use memory::{Heap, NoMemory};
 use std::marker::Model;
 
-/// The frames of addresses. A contract sees those of each, as they came, or none if a line or a column of one has more
-/// than four bytes; and what frames have, which is told by number.
+/// The frames of addresses. A contract sees those of each, as they came, and what frames have, which is told by number.
 #[derive(Drop)]
 pub struct LineStore<'a> {
     pub(crate) kept: Kept<'a>,
     pub(crate) steps: Vec<Step, Heap>,
-    pub(crate) too_wide: bool,
 }
 
 impl<'a> Model for LineStore<'a> {
+    ghost use Rattle.std.specs.Prelude.{map};
     ghost use Rattle.table_source_frames_build.specs.KeptViews.{kept_view};
-    ghost use Rattle.table_source_frames_build.specs.StepViews.{HaveLocations};
-    ghost use Rattle.table_source_frames_build.specs.StoreViews.{StoreRecord, taken_steps};
+    ghost use Rattle.table_source_frames_build.specs.StepViews.{HaveLocations, step_of};
+    ghost use Rattle.table_source_frames_build.specs.StoreViews.{StoreRecord};
 
     ghost Value = { StoreRecord };
 
     ghost view = { λ s. record {
-      taken = taken_steps s.too_wide (kept_view s.kept) s.steps.items;
+      taken = map (step_of (kept_view s.kept)) s.steps.items;
       kept = kept_view s.kept;
     } };
 
@@ -39,21 +38,18 @@ impl<'a> LineStore<'a> {
     ghost use Rattle.dwarf_lines.specs.PathViews.{path_view};
     ghost use Rattle.dwarf_source_frames.specs.Frames.{FrameRecord};
     ghost use Rattle.dwarf_source_frames.specs.FrameViews.{frame_view};
-    ghost use Rattle.table_source_frames_build.specs.Kept.{IsFile, IsName};
-    ghost use Rattle.table_source_frames_build.specs.Lines.{after_step};
-    ghost use Rattle.table_source_frames_build.specs.Located.{IsLocated, StillTells};
+    ghost use Rattle.table_source_frames_build.specs.Kept.{IsFile, IsLocation, IsName, StillTells};
 
     /// No address.
     pub fn new(heap: Heap) -> LineStore<'a>
         ensures { result ≡ record {
-          taken = Some [];
+          taken = [];
           kept = record { texts = []; files = []; locations = [] };
         } }
     {
         LineStore {
             kept: Kept::new(heap.share()),
             steps: Vec::new(heap),
-            too_wide: false,
         }
     }
 
@@ -78,63 +74,52 @@ impl<'a> LineStore<'a> {
     }
 
     /// The number of no frames.
-    pub fn no_frames(&self) -> Option<u32>
-        ensures { IsLocated self.now.kept [] result }
+    pub fn no_frames(&self) -> u32
+        ensures { IsLocation self.now.kept result [] }
     {
-        Some(0)
+        0
     }
 
-    /// The number of a frame and of those that it is inlined into; `None` if a line or a column has more than four
-    /// bytes. It takes the time of a search, and the memory of a location that has not come before.
+    /// The number of a frame and of those that it is inlined into. It takes the time of a search, and the memory of a
+    /// location that has not come before.
     pub fn frames(
         &mut self,
         name: u32,
         path: u32,
-        line: u64,
-        column: u64,
-        callers: Option<u32>,
-    ) -> Result<Option<u32>, NoMemory>
+        line: u32,
+        column: u32,
+        callers: u32,
+    ) -> Result<u32, NoMemory>
         requires name { (n : Option (List ℕ)) × IsName self.old.kept name n }
         requires path { (p : Option PathRecord) × IsFile self.old.kept path p }
-        requires callers { (outer : List FrameRecord) × IsLocated self.old.kept outer callers }
+        requires callers { (outer : List FrameRecord) × IsLocation self.old.kept callers outer }
         ensures is { IfOk result (λ number.
             (n : Option (List ℕ)) (p : Option PathRecord) (outer : List FrameRecord) → IsName self.old.kept name n
-            → IsFile self.old.kept path p → IsLocated self.old.kept outer callers
-            → IsLocated self.new.kept (record { name = n; path = p; line = line; column = column } ∷ outer) number) }
+            → IsFile self.old.kept path p → IsLocation self.old.kept callers outer
+            → IsLocation self.new.kept number (record { name = n; path = p; line = line; column = column } ∷ outer)) }
         ensures tells { StillTells self.old.kept self.new.kept }
         ensures taken { self.new.taken ≡ self.old.taken }
     {
-        let (Ok(line), Ok(column)) = (u32::try_from(line), u32::try_from(column)) else {
-            return Ok(None);
-        };
-        let Some(caller) = callers else {
-            return Ok(None);
-        };
-        let number = self.kept.location_number(LocationKey {
+        self.kept.location_number(LocationKey {
             name,
             file: path,
             line,
             column,
-            caller,
-        })?;
-        Ok(Some(number))
+            caller: callers,
+        })
     }
 
     /// Takes an address and the number of its frames; an address is to come once. It takes the memory of 16 bytes.
-    pub fn add_frames(&mut self, address: u64, number: Option<u32>) -> Result<(), NoMemory>
-        requires { (frames : List FrameRecord) × IsLocated self.old.kept frames number }
-        ensures added { OnOk result ((frames : List FrameRecord) → IsLocated self.old.kept frames number
-            → self.new.taken ≡ after_step self.old.taken (record { start = address; frames = frames })) }
+    pub fn add_frames(&mut self, address: u64, number: u32) -> Result<(), NoMemory>
+        requires { (frames : List FrameRecord) × IsLocation self.old.kept number frames }
+        ensures added { OnOk result ((frames : List FrameRecord) → IsLocation self.old.kept number frames
+            → self.new.taken ≡ self.old.taken ++ record { start = address; frames = frames } ∷ []) }
         ensures kept { self.new.kept ≡ self.old.kept }
         ensures unchanged { OnErr result (self.new ≡ self.old) }
     {
-        let Some(location) = number else {
-            self.too_wide = true;
-            return Ok(());
-        };
         self.steps.push(Step {
             start: address,
-            location,
+            location: number,
         })?;
         Ok(())
     }

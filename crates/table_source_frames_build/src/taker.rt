@@ -12,21 +12,19 @@ pub(crate) struct StoreTaker<'a> {
 }
 
 impl<'a> FrameTaker<'a> for StoreTaker<'a> {
-    ghost use Rattle.std.specs.Prelude.{[], ◌≡◌, Some};
+    ghost use Rattle.std.specs.Prelude.{◌≡◌};
     ghost use Rattle.table_source_frames_build.specs.TurnSteps.{steps_of_turns};
-    ghost use Rattle.table_source_frames_build.specs.Kept.{IsFile, IsName};
-    ghost use Rattle.table_source_frames_build.specs.Lines.{after_steps};
-    ghost use Rattle.table_source_frames_build.specs.Located.{IsLocated};
+    ghost use Rattle.table_source_frames_build.specs.Kept.{IsFile, IsLocation, IsName};
 
     // The store tells of names, paths and frames.
     ghost tells_name = { λ taker number name. IsName taker.store.kept number name };
 
     ghost tells_path = { λ taker number path. IsFile taker.store.kept number path };
 
-    ghost tells_frames = { λ taker number frames. IsLocated taker.store.kept frames number };
+    ghost tells_frames = { λ taker number frames. IsLocation taker.store.kept number frames };
 
     // The store has taken the frames of each of the turns.
-    ghost has_taken = { λ taker turns. taker.store.taken ≡ after_steps (Some []) (steps_of_turns turns) };
+    ghost has_taken = { λ taker turns. taker.store.taken ≡ steps_of_turns turns };
 
     fn name(&mut self, name: Option<&'a [u8]>) -> Result<u32, NoMemory> {
         self.store.name(name)
@@ -36,7 +34,7 @@ impl<'a> FrameTaker<'a> for StoreTaker<'a> {
         self.store.path(path)
     }
 
-    fn no_frames(&self) -> Option<u32> {
+    fn no_frames(&self) -> u32 {
         self.store.no_frames()
     }
 
@@ -44,14 +42,14 @@ impl<'a> FrameTaker<'a> for StoreTaker<'a> {
         &mut self,
         name: u32,
         path: u32,
-        line: u64,
-        column: u64,
-        callers: Option<u32>,
-    ) -> Result<Option<u32>, NoMemory> {
+        line: u32,
+        column: u32,
+        callers: u32,
+    ) -> Result<u32, NoMemory> {
         self.store.frames(name, path, line, column, callers)
     }
 
-    fn take(&mut self, address: u64, number: Option<u32>) -> Result<(), NoMemory> {
+    fn take(&mut self, address: u64, number: u32) -> Result<(), NoMemory> {
         self.store.add_frames(address, number)?;
         Ok(())
     }

@@ -11,7 +11,7 @@ use Rattle.dwarf_frame_changes.proofs.GivenLemmas.{takes_none}
 use Rattle.dwarf_frame_changes.proofs.NumberLemmas.{no_names, takes_nothing}
 use Rattle.dwarf_frame_changes.proofs.numbers.all_linked.Goals as goal
 
-none_linked : (P : ℕ → Option (List ℕ) → Type 0) (F : Option ℕ → List FrameRecord → Type 0) (lines : LinesRecord)
+none_linked : (P : ℕ → Option (List ℕ) → Type 0) (F : ℕ → List FrameRecord → Type 0) (lines : LinesRecord)
     (links : List LinkRecord) (all : List Linked) → all ≡ [] → AreLinked P F lines links (length all) all
 none_linked P F lines links all none = rw none (record { count_is = refl; each = λ i linked there. absurd (none-some linked there) })
 

@@ -28,7 +28,7 @@ returns-clause-read g c =
       says = λ text known all steps told callers opened is.
           same_frame_parts _ _ _ _ told (name.says text known all steps told.name opened is.name)
           (path.says text known all steps told.path (kept _ _ _ _ _ _ opened (c.in_ok-name.ensures.keeps text all known opened.are_pages)) is.file)
-          (c.from.ensures ∙ is.line) (c.from-2.ensures ∙ is.column);
+          is.line is.column;
       keeps = path.keeps;
       counts = path.counts;
     }

@@ -1,4 +1,4 @@
-use Rattle.std.proofs.Common.{List, sym, subst, arith}
+use Rattle.std.proofs.Common.{List, sym, subst}
 use Rattle.table_source_frames_build.specs.Kept.{Grows, IsKept, KeptRecord}
 use Rattle.table_source_frames_build.specs.KeptViews.{kept_view}
 use Rattle.table_source_frames_build.specs.Numbers.{IsNumbered}
@@ -15,7 +15,7 @@ invariant_of-self c =
       right =
           either_way c.number.result _ _ _ c.number.ensures.numbered c.number.ensures.unchanged
           (λ n h. located_kept k c.args.self.now.right c.args.key c.requires.name c.requires.file c.requires.caller
-          (omega arith) (omega arith) c.number.new.self n
+          c.number.new.self n
           (location_told c.args.self.now.locations c.args.key n c.number.new.self h))
           (λ e. subst (λ (l : List LocationKey). IsKept (record k { locations = l })) (sym e) c.args.self.now.right);
     }
@@ -25,7 +25,7 @@ returns-clause-grows c =
     let k : KeptRecord = kept_view c.args.self.now in
     either_way c.number.result _ _ _ c.number.ensures.numbered c.number.ensures.unchanged
     (λ n h. located_grows k c.args.self.now.right c.args.key c.requires.name c.requires.file c.requires.caller
-    (omega arith) (omega arith) c.number.new.self n
+    c.number.new.self n
     (location_told c.args.self.now.locations c.args.key n c.number.new.self h))
     (λ e. subst (λ (l : List LocationKey). Grows k (record k { locations = l })) (sym e) (grows_none k))
 
@@ -33,6 +33,6 @@ pub returns-clause-is : goal.returns-clause-is
 returns-clause-is c =
     let k : KeptRecord = kept_view c.args.self.now in
     IfOk-weaker c.number.result (λ n. IsNumbered location_cmp c.args.self.now.locations c.args.key n c.number.new.self) _
-    (λ n h. located k c.args.self.now.right c.args.key c.requires.name c.requires.file c.requires.caller (omega arith)
-    (omega arith) c.number.new.self n (location_told c.args.self.now.locations c.args.key n c.number.new.self h))
+    (λ n h. located k c.args.self.now.right c.args.key c.requires.name c.requires.file c.requires.caller
+    c.number.new.self n (location_told c.args.self.now.locations c.args.key n c.number.new.self h))
     c.number.ensures.numbered

@@ -25,8 +25,8 @@ returns-in-Some c =
     let found = subst (λ o. IsTextIfFits c.args.room (map (step_of k) c.deref-2.result.now) (option_map (λ t. t.items) o)) c.in-Some.is c.in_ok-bytes.ensures in
     let text = subst (λ (l : List Step). FitsLines c.args.room (map (step_of k) l)
     × (c.in-Some.bytes.items ≡ line_text (map (step_of k) l))) c.deref-2.ensures.value found in
-    written k c.self.inside.kept.right c.args.room c.self.inside.too_wide c.self.inside.steps.items
-    c.in_ok-changed.changed.items c.args.self.taken c.in-Some.bytes.items c.if-too_wide.false
+    written k c.self.inside.kept.right c.args.room c.self.inside.steps.items
+    c.in_ok-changed.changed.items c.args.self.taken c.in-Some.bytes.items
     (ap (λ (s : StoreRecord). s.taken) c.self.view_is)
     (least_are k c.self.inside.kept.right c.self.inside.steps.items c.sort_unstable_by_key.new.self.items
     c.in_ok-changed.changed.items c.self.invariant c.sort_unstable_by_key.ensures.permutation
@@ -39,14 +39,14 @@ returns-in-None c =
     let k = kept_view c.self.inside.kept in
     let found = subst (λ o. IsTextIfFits c.args.room (map (step_of k) c.deref-2.result.now) (option_map (λ t. t.items) o)) c.in-None.is c.in_ok-bytes.ensures in
     let not = subst (λ (l : List Step). FitsLines c.args.room (map (step_of k) l) → ⊥) c.deref-2.ensures.value found in
-    IfOk-weaker c.no_lines-in-None.result (λ bytes. bytes.items ≡ no_lines) _
+    IfOk-weaker c.no_lines.result (λ bytes. bytes.items ≡ no_lines) _
     (λ bytes is.
-    written k c.self.inside.kept.right c.args.room c.self.inside.too_wide c.self.inside.steps.items
-    c.in_ok-changed.changed.items c.args.self.taken bytes.items c.if-too_wide.false
+    written k c.self.inside.kept.right c.args.room c.self.inside.steps.items
+    c.in_ok-changed.changed.items c.args.self.taken bytes.items
     (ap (λ (s : StoreRecord). s.taken) c.self.view_is)
     (least_are k c.self.inside.kept.right c.self.inside.steps.items c.sort_unstable_by_key.new.self.items
     c.in_ok-changed.changed.items c.self.invariant c.sort_unstable_by_key.ensures.permutation
     (IsNonDecreasingBy-from_sort_by_key (λ (s : Step). s.start) c.sort_unstable_by_key.new.self.items
     c.sort_unstable_by_key.ensures.sorted (λ a r q k. search rules))
     (c.in_ok-changed.ensures ∙ ap (changed_after 0) c.deref.ensures.value)) (inr (not, is)))
-    c.no_lines-in-None.ensures
+    c.no_lines.ensures

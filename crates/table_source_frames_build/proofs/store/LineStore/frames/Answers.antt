@@ -4,17 +4,6 @@ use Rattle.table_source_frames_build.specs.StoreViews.{StoreRecord}
 use Rattle.table_source_frames_build.proofs.StoreLemmas.{taken_same, told_before}
 use Rattle.table_source_frames_build.proofs.store.LineStore.frames.Goals as goal
 
-pub returns-in_err-number-clause-tells : goal.returns-in_err-number-clause-tells
-returns-in_err-number-clause-tells c = told_before (kept_view c.self.inside.kept) (kept_view c.location_number.new.self)
-    c.self.inside.kept.right c.location_number.ensures.grows c.args.self.now.kept
-    (ap (λ (s : StoreRecord). s.kept) c.self.view_is)
-
-pub returns-in_err-number-clause-taken : goal.returns-in_err-number-clause-taken
-returns-in_err-number-clause-taken c =
-    taken_same (kept_view c.self.inside.kept) (kept_view c.location_number.new.self) c.self.inside.kept.right
-    c.location_number.ensures.grows c.self.inside.too_wide c.self.inside.steps.items c.args.self.now.taken
-    c.self.invariant (ap (λ (s : StoreRecord). s.taken) c.self.view_is)
-
 pub returns-clause-tells : goal.returns-clause-tells
 returns-clause-tells c = told_before (kept_view c.self.inside.kept) (kept_view c.location_number.new.self)
     c.self.inside.kept.right c.location_number.ensures.grows c.args.self.now.kept
@@ -23,5 +12,5 @@ returns-clause-tells c = told_before (kept_view c.self.inside.kept) (kept_view c
 pub returns-clause-taken : goal.returns-clause-taken
 returns-clause-taken c =
     taken_same (kept_view c.self.inside.kept) (kept_view c.location_number.new.self) c.self.inside.kept.right
-    c.location_number.ensures.grows c.self.inside.too_wide c.self.inside.steps.items c.args.self.now.taken
+    c.location_number.ensures.grows c.self.inside.steps.items c.args.self.now.taken
     c.self.invariant (ap (λ (s : StoreRecord). s.taken) c.self.view_is)

@@ -11,5 +11,5 @@ returns-clause-tells c = told_before (kept_view c.self.inside.kept) (kept_view c
 pub returns-clause-taken : goal.returns-clause-taken
 returns-clause-taken c =
     taken_same (kept_view c.self.inside.kept) (kept_view c.name.new.self) c.self.inside.kept.right c.name.ensures.grows
-    c.self.inside.too_wide c.self.inside.steps.items c.args.self.now.taken c.self.invariant
+    c.self.inside.steps.items c.args.self.now.taken c.self.invariant
     (ap (λ (s : StoreRecord). s.taken) c.self.view_is)
