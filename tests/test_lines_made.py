@@ -1,11 +1,14 @@
 """Source lines of DWARF that is made by hand, by the model and by the program, with an index and without: the lines are
-those that the standard gives, and llvm-symbolizer of what it reads."""
+those that the standard gives, and llvm-symbolizer of what it reads, but for the rules in which it differs."""
 import struct
 from typing import Dict, List
 
 from .support.cases import same
+from .support.kept_lines import frame_line
+from .support.llvm import frames as frames_by_llvm
 from .support.made_dsyms import LOWEST
 from .support.made_units import WIDE, Function, Unit, of_units
+from .support.other_rules import others
 from .test_lines import LinesCase, lines_by_model
 
 Wanted = Dict[int, List[str]]
@@ -92,3 +95,17 @@ class Nested(MadeCase):
                 5: ["    call at a:6:0", "    outer at a:7:0"],
             },
         )
+
+
+class Others(MadeCase):
+    """Rules in which llvm-symbolizer differs."""
+
+    def test_here(self) -> None:
+        for one in others():
+            self.compare(one.rule, one.content, {one.address: one.here})
+
+    def test_by_llvm(self) -> None:
+        for one in others():
+            self.file("companion", one.content)
+            found = frames_by_llvm(self.folder / "companion", [LOWEST + one.address], False)
+            same(one.rule, [frame_line(it) for it in found[0]], one.by_llvm)

@@ -18,18 +18,36 @@ PROGRAM = re.compile(r"^debug_line\[0x([0-9a-f]+)\]", re.M)
 Row = Tuple[int, int, int, int, bool]
 
 
-def tool(name: str) -> str:
-    """The path of a tool: by its plain name, or the highest version of it."""
-    versions = [path for folder in os.get_exec_path() for path in pathlib.Path(folder).glob(name + "-[0-9]*")]
-    versions.sort(key=lambda path: int(path.name.rsplit("-", 1)[1]))
-    found = shutil.which(name) or (str(versions[-1]) if versions else None)
-    if found is None:
-        raise Without(f"no {name}: apt-get install clang lld lldb llvm")
-    return found
+VERSION = re.compile(rb"\bversion (\d+)\.")
 
 
 def output(*words: Word, stdin: bytes = b"") -> bytes:
     return subprocess.run(words, input=stdin, stdout=subprocess.PIPE, check=True).stdout
+
+
+def tools(name: str) -> List[str]:
+    """The paths of a tool: by its plain name, then those with a version, the highest first."""
+    versions = [path for folder in os.get_exec_path() for path in pathlib.Path(folder).glob(name + "-[0-9]*")]
+    versions.sort(key=lambda path: int(path.name.rsplit("-", 1)[1]), reverse=True)
+    plain = shutil.which(name)
+    return [*([plain] if plain else []), *map(str, versions)]
+
+
+def tool(name: str) -> str:
+    """The path of a tool: by its plain name, or the highest version of it."""
+    found = tools(name)
+    if not found:
+        raise Without(f"no {name}: apt-get install clang lld lldb llvm")
+    return found[0]
+
+
+def tool_from(name: str, least: int) -> Optional[str]:
+    """The path of a tool of this version of LLVM or a later one."""
+    for path in tools(name):
+        version = VERSION.search(output(path, "--version"))
+        if version and int(version[1]) >= least:
+            return path
+    return None
 
 
 class Place(NamedTuple):

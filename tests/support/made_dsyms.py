@@ -2,9 +2,9 @@
 import pathlib
 import struct
 import zlib
-from typing import Dict, List, NamedTuple, Sequence, Tuple
+from typing import Dict, List, NamedTuple, Optional, Sequence, Tuple
 
-from .llvm import output, tool
+from .llvm import output, tool, tool_from
 from .made_images import ARM64, UUID_COMMAND, X86_64, number_uuid
 from .program import TOP, Word
 
@@ -16,6 +16,8 @@ LOWEST = 0x1_0000_0000
 ARCHES = {"arm64": ARM64, "x86_64": X86_64}
 C, CC = ("a.c", "b.c"), ("one.cc", "two.cc")
 ALL = ("both.cc", *CC, "b.c")
+# The first version of dsymutil that links DWARF 5 here; version 14 drops its lists of ranges.
+LINKS_5 = 19
 # What of the system the sources do without, and where they are said to stand.
 PLAIN = ["-ffreestanding", "-nostdinc", "-fno-exceptions", "-fno-rtti", "-fno-stack-protector", "-w"]
 PLACE = [f"-fdebug-prefix-map={SOURCES}=/src", "-fdebug-compilation-dir=/src"]
@@ -144,6 +146,11 @@ class Elf:
 # ---- built ones
 
 
+def dsymutil_of(version: int) -> Optional[str]:
+    """The path of a dsymutil that links this version of DWARF, if there is one."""
+    return tool("dsymutil") if version < 5 else tool_from("dsymutil", LINKS_5)
+
+
 class Recipe(NamedTuple):
     """A companion that is built: its name, the linker of its image, the architecture, the version of DWARF, the
     sources, and what else clang is told."""
@@ -176,7 +183,7 @@ class Recipe(NamedTuple):
         objects = self.compile(folder, f"{self.arch}-apple-macos11")
         version = ["-platform_version", "macos", "11.0", "11.0"]
         output(tool("ld64.lld"), "-arch", self.arch, *version, "-e", "_start", "-o", image, *objects)
-        output(tool("dsymutil"), "-f", "-o", made, image)
+        output(dsymutil_of(self.version) or tool("dsymutil"), "-f", "-o", made, image)
         return made
 
     def by_ld(self, folder: pathlib.Path) -> pathlib.Path:
@@ -213,11 +220,11 @@ KEPT = [
 
 
 def all_recipes() -> List[Recipe]:
-    """What is built of each version and architecture."""
+    """What is built of each version and architecture; of version 5 by dsymutil where one links it."""
     found = []
     for arch in ARCHES:
         for version in (2, 3, 4, 5):
-            if version < 5:
+            if dsymutil_of(version):
                 found += [recipe("ld64.lld", arch, version, kind, it) for kind, it in (("c", C), ("cc", CC))]
                 found.append(recipe("ld64.lld", arch, version, "tables", CC, "-gline-tables-only"))
             found.append(recipe("ld.lld", arch, version, "plain", CC))
