@@ -1,6 +1,7 @@
 //! Bytes of the readers of `std` that seek.
 
-ghost use Rattle.std.specs.Prelude.{◌≡◌, ◌≤◌, IfOk, length};
+ghost use Rattle.std.specs.Prelude.{◌≡◌, ◌==◌, ◌+◌, ◌<◌, ◌≤◌, IfOk, Some, is_some, length, not};
+ghost use Rattle.byte_device.specs.Devices.{most_failures};
 
 use crate::{Failed, Placed};
 use std::io::{self, Read, Seek, SeekFrom};
@@ -13,6 +14,8 @@ pub struct Placing<R> {
     reader: R,
     failures: u64,
     reason: Option<io::Error>,
+    // There is a reason exactly if it failed.
+    ghost said: { is_some reason ≡ not (failures == 0) },
 }
 
 impl<R: Read + Seek + Drop> Placing<R> {
@@ -27,9 +30,23 @@ impl<R: Read + Seek + Drop> Placing<R> {
         }
     }
 
-    /// The reader's last error, if it had one.
-    pub fn reason(&self) -> Option<io::Error> {
+    /// The reader's last error, if it had one: it has one exactly if the device failed.
+    pub fn reason(&self) -> Option<io::Error>
+        ensures reason { result ≡ self.now.reason }
+        ensures failed { is_some result ≡ not (⟦<Placing<R> as Placed>⟧.failures self.now == 0) }
+    {
         self.reason
+    }
+
+    // Counts a failure, with its error.
+    fn fail(&mut self, error: io::Error) -> Failed
+        requires { self.old.failures < most_failures }
+        ensures reason { self.new.reason ≡ Some error }
+        ensures failures { self.new.failures ≡ self.old.failures + 1 }
+    {
+        self.reason = Some(error);
+        self.failures += 1;
+        Failed
     }
 
     // Takes bytes from the place on.
@@ -55,11 +72,7 @@ impl<R: Read + Seek + Drop> Placed for Placing<R> {
         }
         match self.read_from(at, buf) {
             Ok(n) => Ok(n),
-            Err(error) => {
-                self.reason = Some(error);
-                self.failures += 1;
-                Err(Failed)
-            }
+            Err(error) => Err(self.fail(error)),
         }
     }
 
@@ -69,11 +82,7 @@ impl<R: Read + Seek + Drop> Placed for Placing<R> {
         }
         match self.reader.seek(SeekFrom::End(0)) {
             Ok(size) => Ok(size),
-            Err(error) => {
-                self.reason = Some(error);
-                self.failures += 1;
-                Err(Failed)
-            }
+            Err(error) => Err(self.fail(error)),
         }
     }
 }

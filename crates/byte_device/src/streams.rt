@@ -1,6 +1,7 @@
 //! Devices over the readers and writers of `std`.
 
-ghost use Rattle.std.specs.Prelude.{◌≡◌};
+ghost use Rattle.std.specs.Prelude.{◌≡◌, ◌==◌, ◌+◌, ◌<◌, Some, false, is_some, not};
+ghost use Rattle.byte_device.specs.Devices.{most_failures};
 
 use crate::{Failed, Sink, Source};
 use std::io::{self, Read, Write};
@@ -11,6 +12,8 @@ pub struct Reading<R> {
     reader: R,
     failures: u64,
     reason: Option<io::Error>,
+    // There is a reason exactly if it failed.
+    ghost said: { is_some reason ≡ not (failures == 0) },
 }
 
 impl<R: Read + Drop> Reading<R> {
@@ -26,9 +29,24 @@ impl<R: Read + Drop> Reading<R> {
         }
     }
 
-    /// The reader's last error, if it had one.
-    pub fn reason(&self) -> Option<io::Error> {
+    /// The reader's last error, if it had one: it has one exactly if the device failed.
+    pub fn reason(&self) -> Option<io::Error>
+        ensures reason { result ≡ self.now.reason }
+        ensures failed { is_some result ≡ not (⟦<Reading<R> as Source>⟧.failures self.now == 0) }
+    {
         self.reason
+    }
+
+    /// Counts a failure, with its error.
+    fn fail(&mut self, error: io::Error) -> Failed
+        requires { self.old.failures < most_failures }
+        ensures reason { self.new.reason ≡ Some error }
+        ensures failures { self.new.failures ≡ self.old.failures + 1 }
+        ensures reader { self.new.reader ≡ self.old.reader }
+    {
+        self.reason = Some(error);
+        self.failures += 1;
+        Failed
     }
 }
 
@@ -43,11 +61,7 @@ impl<R: Read + Drop> Source for Reading<R> {
         }
         match self.reader.read(buf) {
             Ok(n) => Ok(n),
-            Err(error) => {
-                self.reason = Some(error);
-                self.failures += 1;
-                Err(Failed)
-            }
+            Err(error) => Err(self.fail(error)),
         }
     }
 }
@@ -60,6 +74,8 @@ pub struct Writing<W> {
     writer: W,
     failures: u64,
     reason: Option<io::Error>,
+    // It failed if there is a reason. A write that takes no byte has none.
+    ghost said: { failures ≡ 0 → is_some reason ≡ false },
 }
 
 impl<W: Write + Drop> Writing<W> {
@@ -75,8 +91,11 @@ impl<W: Write + Drop> Writing<W> {
         }
     }
 
-    /// The writer's last error, if it had one.
-    pub fn reason(&self) -> Option<io::Error> {
+    /// The writer's last error, if that was how it failed last.
+    pub fn reason(&self) -> Option<io::Error>
+        ensures reason { result ≡ self.now.reason }
+        ensures unfailed { ⟦<Writing<W> as Sink>⟧.failures self.now ≡ 0 → is_some result ≡ false }
+    {
         self.reason
     }
 }
