@@ -105,34 +105,38 @@ pub uncompared_last : (calls : List FileCall) → IsUncompared calls
     → (before : List FileCall) × (said : FileCall) × (is_failure said ≡ false) × (calls ≡ before ++ said ∷ [])
 uncompared_last calls (before, path, bytes, kind, is) = (before, Begins path bytes, refl, is)
 
-no_creation : (stop : MergeCause) (reason : Option Error) → IsUnread stop (NotCreated reason) → ⊥
-no_creation (Left stop) reason unread = unread
-no_creation (Right stop) reason unread = unread
-no_creation Write reason unread = unread
+no_creation : (stop : MergeCause) (of_draft of_target reason : Option Error)
+    → IsUnread stop of_draft of_target (NotCreated reason) → ⊥
+no_creation (Left stop) of_draft of_target reason unread = unread
+no_creation (Right stop) of_draft of_target reason unread = unread
+no_creation Write of_draft of_target reason unread = unread
 
-no_kind : (stop : MergeCause) (bytes : List ℕ) → IsUnread stop (NotReplaced (OtherKind bytes)) → ⊥
-no_kind (Left stop) bytes unread = unread
-no_kind (Right stop) bytes unread = unread
-no_kind Write bytes unread = unread
+no_kind : (stop : MergeCause) (of_draft of_target : Option Error) (bytes : List ℕ)
+    → IsUnread stop of_draft of_target (NotReplaced (OtherKind bytes)) → ⊥
+no_kind (Left stop) of_draft of_target bytes unread = unread
+no_kind (Right stop) of_draft of_target bytes unread = unread
+no_kind Write of_draft of_target bytes unread = unread
 
-pub no_loss : (stop : MergeCause) (lost : ℕ) → IsUnread stop (NotReplaced (Loses lost)) → ⊥
-no_loss (Left stop) lost unread = unread
-no_loss (Right stop) lost unread = unread
-no_loss Write lost unread = unread
+pub no_loss : (stop : MergeCause) (of_draft of_target : Option Error) (lost : ℕ)
+    → IsUnread stop of_draft of_target (NotReplaced (Loses lost)) → ⊥
+no_loss (Left stop) of_draft of_target lost unread = unread
+no_loss (Right stop) of_draft of_target lost unread = unread
+no_loss Write of_draft of_target lost unread = unread
 
-no_difference : (stop : MergeCause) → IsUnread stop (NotReplaced Differs) → ⊥
-no_difference (Left stop) unread = unread
-no_difference (Right stop) unread = unread
-no_difference Write unread = unread
+no_difference : (stop : MergeCause) (of_draft of_target : Option Error)
+    → IsUnread stop of_draft of_target (NotReplaced Differs) → ⊥
+no_difference (Left stop) of_draft of_target unread = unread
+no_difference (Right stop) of_draft of_target unread = unread
+no_difference Write of_draft of_target unread = unread
 
 -- reading one of two archives stopped, after what was said of them
-pub unread_said : (replaces : ReplaceRule) (stop : MergeCause) (fault : OutFault) (calls : List FileCall)
-    → IsUnread stop fault → IsUncompared calls → IsSaid replaces fault calls
-unread_said replaces stop OutOfMemory calls unread last = uncompared_last calls last
-unread_said replaces stop (NotReplaced Damaged) calls unread last = last
-unread_said replaces stop (NotReplaced (Refused None)) calls unread last = last
-unread_said replaces stop (NotReplaced (Refused (Some error))) calls unread last = inr last
-unread_said replaces stop (NotReplaced (OtherKind bytes)) calls unread last = absurd (no_kind stop bytes unread)
-unread_said replaces stop (NotReplaced (Loses lost)) calls unread last = absurd (no_loss stop lost unread)
-unread_said replaces stop (NotReplaced Differs) calls unread last = absurd (no_difference stop unread)
-unread_said replaces stop (NotCreated reason) calls unread last = absurd (no_creation stop reason unread)
+pub unread_said : (replaces : ReplaceRule) (stop : MergeCause) (of_draft of_target : Option Error)
+    (fault : OutFault) (calls : List FileCall) → IsUnread stop of_draft of_target fault → IsUncompared calls → IsSaid replaces fault calls
+unread_said replaces stop of_draft of_target OutOfMemory calls unread last = uncompared_last calls last
+unread_said replaces stop of_draft of_target (NotReplaced Damaged) calls unread last = last
+unread_said replaces stop of_draft of_target (NotReplaced (Refused None)) calls unread last = last
+unread_said replaces stop of_draft of_target (NotReplaced (Refused (Some error))) calls unread last = inr last
+unread_said replaces stop of_draft of_target (NotReplaced (OtherKind bytes)) calls unread last = absurd (no_kind stop of_draft of_target bytes unread)
+unread_said replaces stop of_draft of_target (NotReplaced (Loses lost)) calls unread last = absurd (no_loss stop of_draft of_target lost unread)
+unread_said replaces stop of_draft of_target (NotReplaced Differs) calls unread last = absurd (no_difference stop of_draft of_target unread)
+unread_said replaces stop of_draft of_target (NotCreated reason) calls unread last = absurd (no_creation stop of_draft of_target reason unread)

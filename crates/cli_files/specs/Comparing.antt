@@ -6,7 +6,7 @@ use Rattle.archive_merge.specs.Losses.{IsNotCompared, Loses}
 use Rattle.archive_records.specs.declared.fault.MergeCause.{MergeCause}
 use Rattle.cli_files.specs.FileCalls.{FileCall}
 use Rattle.cli_files.specs.Publishing.{BeginsSo}
-use Rattle.cli_files.specs.Refusals.{IsUnread}
+use Rattle.cli_files.specs.Refusals.{Fails, IsUnread}
 use Rattle.cli_files.specs.declared.replaceable.OutFault.{OutFault}
 use Rattle.cli_files.specs.declared.replaceable.Obstacle.TheVariants as obstacle
 use Rattle.cli_files.specs.declared.replaceable.OutFault.TheVariants as fault
@@ -35,26 +35,29 @@ pub record AreUncompared {R : Type 0} (new old : Sources (ArchiveSide R)) (draft
   pub stop : MergeCause
   pub stops : IsNotCompared (stream new.left new.failures sides.new_before sides.new_after)
       (stream old.left old.failures sides.old_before sides.old_after) stop
-  pub unread : IsUnread stop refusal
+  pub unread : IsUnread stop sides.new_after.reading.reason sides.old_after.reading.reason refusal
 
--- OUT is refused before the two are read: a call of the system failed, memory was wanting, or what is at the target is
--- of another kind.
-abbrev pub IsBeforeComparison : OutFault → Type 0
-IsBeforeComparison fault.OutOfMemory = ⊤
-IsBeforeComparison (fault.NotReplaced (obstacle.OtherKind bytes)) = ⊤
-IsBeforeComparison (fault.NotReplaced (obstacle.Refused (Some error))) = ⊤
-IsBeforeComparison refusal = ⊥
+-- OUT is refused before the two are read: the last of these calls failed, memory was wanting, or what is at the target
+-- is of another kind.
+abbrev pub IsBeforeComparison : List FileCall → OutFault → Type 0
+IsBeforeComparison calls fault.OutOfMemory = ⊤
+IsBeforeComparison calls (fault.NotReplaced (obstacle.OtherKind bytes)) = ⊤
+IsBeforeComparison calls (fault.NotReplaced (obstacle.Refused (Some error))) = Fails error calls
+IsBeforeComparison calls refusal = ⊥
 
 -- If only the comparison of the two gives this fault, it did: so many records would be lost, or one of the two was not
--- read to its end.
+-- read to its end. An error is that of the last call, or the last one of a file that was not read to its end.
 abbrev pub IsOfComparison : {R : Type 0} → Sources (ArchiveSide R) → Sources (ArchiveSide R) → List ℕ → List ℕ
-    → OutFault → Type 0
-IsOfComparison new old draft target (fault.NotReplaced (obstacle.Loses lost)) = AreCompared new old draft target lost
-IsOfComparison new old draft target (fault.NotReplaced obstacle.Damaged) =
+    → List FileCall → OutFault → Type 0
+IsOfComparison new old draft target calls (fault.NotReplaced (obstacle.Loses lost)) =
+    AreCompared new old draft target lost
+IsOfComparison new old draft target calls (fault.NotReplaced obstacle.Damaged) =
     AreUncompared new old draft target (fault.NotReplaced obstacle.Damaged)
-IsOfComparison new old draft target (fault.NotReplaced (obstacle.Refused None)) =
+IsOfComparison new old draft target calls (fault.NotReplaced (obstacle.Refused None)) =
     AreUncompared new old draft target (fault.NotReplaced (obstacle.Refused None))
-IsOfComparison new old draft target refusal = ⊤
+IsOfComparison new old draft target calls (fault.NotReplaced (obstacle.Refused (Some error))) =
+    Fails error calls ⊎ AreUncompared new old draft target (fault.NotReplaced (obstacle.Refused (Some error)))
+IsOfComparison new old draft target calls refusal = ⊤
 
 -- Nothing is at the target, or an empty file, as the last calls say; or the archive there was compared with the draft,
 -- which has or covers each of its records.

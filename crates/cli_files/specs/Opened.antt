@@ -1,7 +1,14 @@
 -- A file that is open, or closed at its end.
 use Rattle.std.specs.Prelude.{ℕ, List, [], Option, Some, None}
+use Rattle.std.specs.declared.io.Error.{Error}
+use Rattle.byte_device.specs.declared.streams.Reading.{Reading}
 
 -- what it has left: nothing where it is closed
 abbrev pub left_of : {R : Type 0} → (R → Option (List ℕ)) → Option R → Option (List ℕ)
 left_of left (Some reading) = left reading
 left_of left None = Some []
+
+-- its last error, if it had one: none where it is closed
+abbrev pub reason_of : {R : Type 0} → Option (Reading R) → Option Error
+reason_of (Some reading) = reading.reason
+reason_of None = None

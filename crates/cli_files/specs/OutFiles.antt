@@ -1,6 +1,7 @@
 -- OUT: how far it is, and what is known of it.
 use Rattle.std.specs.Prelude.{◌≡◌, ◌≢◌, ℕ, Bool, true, false, List, [], Option, Some, None, Result, IsErr, string_bytes}
 use Rattle.std.specs.Io.KnownBytes.{WriteAppends}
+use Rattle.std.specs.declared.io.Error.{Error}
 use Rattle.cli_files.specs.FileCalls.{FileCall, bytes_in}
 use Rattle.cli_files.specs.Publishing.{IsDescriptor, IsDrafted, IsRemoved, IsTargetOf, IsWritable, IsWrittenThrough}
 use Rattle.cli_files.specs.Publishing.{account, there}
@@ -8,7 +9,9 @@ use Rattle.cli_files.specs.Refusals.{IsRefused}
 use Rattle.cli_files.specs.declared.out_file.OutState.{OutState}
 use Rattle.cli_files.specs.declared.out_file.OutState.TheVariants as state
 use Rattle.cli_files.specs.declared.published.Published.{Published}
-use Rattle.cli_files.specs.declared.replaceable.OutFault.{OutFault}
+use Rattle.cli_files.specs.declared.replaceable.{Obstacle.Obstacle, OutFault.OutFault}
+use Rattle.cli_files.specs.declared.replaceable.Obstacle.TheVariants as obstacle
+use Rattle.cli_files.specs.declared.replaceable.OutFault.TheVariants as fault
 use Rattle.cli_files.specs.declared.replaceable.ReplaceRule.{ReplaceRule}
 use Rattle.cli_files.specs.declared.ways.WriteMode.{WriteMode}
 use Rattle.cli_files.specs.declared.ways.WriteMode.TheVariants as way
@@ -90,6 +93,17 @@ fault_of (Drafted draft target) = None
 fault_of (Refused fault) = Some fault
 fault_of Removed = None
 fault_of Settled = None
+
+-- why what is at its path was not replaced, if it was not
+abbrev pub obstacle_of : Stage → Option Obstacle
+obstacle_of (Refused (fault.NotReplaced obstacle)) = Some obstacle
+obstacle_of stage = None
+
+-- what the system said where it failed: where it was not begun or not published, or where it took no bytes last
+abbrev pub reason_of : Stage → Option Error → Option Error
+reason_of (Refused (fault.NotCreated reason)) last = reason
+reason_of (Refused (fault.NotReplaced (obstacle.Refused reason))) last = reason
+reason_of stage last = last
 
 -- OUT is written so, of whose path the system said this, where these files are replaced
 abbrev pub IsWayTo : ReplaceRule → List ℕ → WriteMode → List FileCall → Type 0

@@ -40,15 +40,18 @@ IsUncompared calls =
     (before : List FileCall) × (path : List ℕ) × (bytes : List ℕ) × IsOfKind ArchivesBelow bytes
     × (calls ≡ before ++ Begins path bytes ∷ [])
 
--- Of two archives, of which the left one is the draft, this comes where reading them stops so.
-abbrev pub IsUnread : MergeCause → OutFault → Type 0
-IsUnread (Left stop) fault.OutOfMemory = stop.kind ≡ record_fault.OutOfMemory
-IsUnread (Right stop) fault.OutOfMemory = stop.kind ≡ record_fault.OutOfMemory
-IsUnread (Right stop) (fault.NotReplaced obstacle.Damaged) = IsOfText stop.kind
-IsUnread (Right stop) (fault.NotReplaced (obstacle.Refused reason)) = stop.kind ≡ record_fault.Device
-IsUnread (Left stop) (fault.NotReplaced (obstacle.Refused reason)) = stop.kind ≢ record_fault.OutOfMemory
-IsUnread Write (fault.NotReplaced (obstacle.Refused reason)) = Unit {0}
-IsUnread stop refusal = ⊥
+-- Of two archives, of which the left one is the draft, this comes where reading them stops so. These are the last
+-- errors of the draft and of the other one, if they had one.
+abbrev pub IsUnread : MergeCause → Option Error → Option Error → OutFault → Type 0
+IsUnread (Left stop) of_draft of_target fault.OutOfMemory = stop.kind ≡ record_fault.OutOfMemory
+IsUnread (Right stop) of_draft of_target fault.OutOfMemory = stop.kind ≡ record_fault.OutOfMemory
+IsUnread (Right stop) of_draft of_target (fault.NotReplaced obstacle.Damaged) = IsOfText stop.kind
+IsUnread (Right stop) of_draft of_target (fault.NotReplaced (obstacle.Refused reason)) =
+    (stop.kind ≡ record_fault.Device) × (reason ≡ of_target)
+IsUnread (Left stop) of_draft of_target (fault.NotReplaced (obstacle.Refused reason)) =
+    (stop.kind ≢ record_fault.OutOfMemory) × (reason ≡ of_draft)
+IsUnread Write of_draft of_target (fault.NotReplaced (obstacle.Refused reason)) = reason ≡ of_draft
+IsUnread stop of_draft of_target refusal = ⊥
 
 -- what is at the target is in the way, as the last calls say
 abbrev pub IsInTheWay : ReplaceRule → Obstacle → List FileCall → Type 0

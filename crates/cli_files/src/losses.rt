@@ -45,7 +45,7 @@ pub fn check_losses<'d, 't, F: Files>(
     ensures compared { OnOk result (NoneLost ⟦<ArchiveSide<'d, F::File> as Source>⟧
         ⟦<ArchiveSide<'t, F::File> as Source>⟧ draft.now target.now calls.old.entries calls.new.entries) }
     ensures uncompared { IfErr result (λ fault. IsOfComparison ⟦<ArchiveSide<'d, F::File> as Source>⟧
-        ⟦<ArchiveSide<'t, F::File> as Source>⟧ draft.now target.now fault) }
+        ⟦<ArchiveSide<'t, F::File> as Source>⟧ draft.now target.now calls.new.entries fault) }
 {
     if replaceable_beginning(system, target, ReplaceRule::ArchivesBelow, calls)?.is_none() {
         return Ok(());
@@ -73,7 +73,7 @@ fn lost_at<'d, 't, F: Files>(
     ensures compared { IfOk result (λ lost. AreCompared ⟦<ArchiveSide<'d, F::File> as Source>⟧
         ⟦<ArchiveSide<'t, F::File> as Source>⟧ draft.now target.now lost) }
     ensures uncompared { IfErr result (λ fault. IsOfComparison ⟦<ArchiveSide<'d, F::File> as Source>⟧
-        ⟦<ArchiveSide<'t, F::File> as Source>⟧ draft.now target.now fault) }
+        ⟦<ArchiveSide<'t, F::File> as Source>⟧ draft.now target.now calls.new.entries fault) }
 {
     let heap = Heap::new(alloc)?;
     let mut new = side_at(alloc, system, draft, calls)?;
@@ -99,7 +99,7 @@ fn lost_between<'d, 't, R: Read + Drop>(
         × IsNotCompared (stream ⟦<ArchiveSide<'d, R> as Source>⟧.left ⟦<ArchiveSide<'d, R> as Source>⟧.failures new.old
         new.new)
         (stream ⟦<ArchiveSide<'t, R> as Source>⟧.left ⟦<ArchiveSide<'t, R> as Source>⟧.failures old.old old.new) stop
-        × IsUnread stop fault) }
+        × IsUnread stop new.new.reading.reason old.new.reading.reason fault) }
 {
     let (draft, target) = (new.path(), old.path());
     match lost_operations(heap, new, old) {
@@ -127,7 +127,7 @@ pub fn replaceable_beginning<F: Files>(
     ensures refused { OnErr result ((tests : List FileCall) × (are_probes tests ≡ true)
         × (calls.new.entries ≡ calls.old.entries ++ tests)) }
     ensures said { IfErr result (λ fault. IsSaid replaces fault calls.new.entries) }
-    ensures before { IfErr result (λ fault. IsBeforeComparison fault) }
+    ensures before { IfErr result (λ fault. IsBeforeComparison calls.new.entries fault) }
 {
     let beginning = match beginning_at(system, path, calls) {
         Ok(beginning) => beginning,
@@ -172,7 +172,7 @@ fn side_at<'p, F: Files>(
         × (calls.new.entries ≡ calls.old.entries ++ tests)) }
     ensures said { (replaces : ReplaceRule) → IsUncompared calls.old.entries
         → IfErr result (λ fault. IsSaid replaces fault calls.new.entries) }
-    ensures before { IfErr result (λ fault. IsBeforeComparison fault) }
+    ensures before { IfErr result (λ fault. IsBeforeComparison calls.new.entries fault) }
 {
     let opened = match system.open(path, false, calls) {
         Ok(opened) => opened,
@@ -191,7 +191,8 @@ fn refused(error: io::Error) -> OutFault
     ensures memory { error_kind error ≡ ErrorKind.OutOfMemory → result ≡ OutFault.OutOfMemory }
     ensures other { error_kind error ≢ ErrorKind.OutOfMemory
         → result ≡ OutFault.NotReplaced (Obstacle.Refused (Some error)) }
-    ensures before { IsBeforeComparison result }
+    ensures before { (calls : List FileCall) → Fails error calls ⊎ (error_kind error ≡ ErrorKind.OutOfMemory)
+        → IsBeforeComparison calls result }
 {
     if error.kind() == ErrorKind::OutOfMemory {
         OutFault::OutOfMemory
@@ -203,7 +204,7 @@ fn refused(error: io::Error) -> OutFault
 /// The fault where one of the two archives was not read to its end, with what the system said of each. The draft was
 /// written by this command: where it cannot be read, its device is why.
 fn unread(fault: MergeFault, of_draft: Option<io::Error>, of_target: Option<io::Error>) -> OutFault
-    ensures { IsUnread fault.cause result }
+    ensures { IsUnread fault.cause of_draft of_target result }
 {
     match fault.cause {
         MergeCause::Left(fault) | MergeCause::Right(fault)

@@ -2,7 +2,7 @@
 
 ghost use Rattle.std.specs.Prelude.{◌≡◌, ◌≤◌, ◌<◌, None, Ok, IfOk, ◌∷◌, [], length};
 ghost use Rattle.std.specs.Io.KnownBytes.{ReadConsumes};
-ghost use Rattle.cli_files.specs.Opened.{left_of};
+ghost use Rattle.cli_files.specs.Opened.{left_of, reason_of};
 
 use crate::call_log::CallLog;
 use byte_device::{Failed, Reading, Source};
@@ -43,7 +43,9 @@ impl<R: Read + Drop> OpenedFile<R> {
     }
 
     /// Why it could not be read, if it could not.
-    pub fn reason(&self) -> Option<io::Error> {
+    pub fn reason(&self) -> Option<io::Error>
+        ensures { result ≡ reason_of self.now.reading }
+    {
         match &self.reading {
             Some(reading) => reading.reason(),
             None => None,

@@ -6,7 +6,7 @@ ghost use Rattle.std.specs.Prelude.{IfOk};
 ghost use Rattle.std.specs.Prelude.{IsSome, OnErr, OnOk, length, true, false, [], option_map, string_bytes};
 ghost use Rattle.cli_files.specs.FileCalls.{are_probes, bytes_in};
 ghost use Rattle.cli_files.specs.OutFiles.{IsSoFar, Settled, Untouched, WritesBegun, WritesTo};
-ghost use Rattle.cli_files.specs.OutFiles.{draft_account, fault_of};
+ghost use Rattle.cli_files.specs.OutFiles.{draft_account, fault_of, obstacle_of, reason_of};
 ghost use Rattle.cli_files.specs.OutFiles.{has_calls, is_drafted, is_settled, stage_of, takes_bytes};
 ghost use Rattle.cli_files.specs.declared.replaceable.ReplaceRule.{ReplaceRule};
 ghost use Rattle.cli_files.specs.declared.replaceable.ReplaceRule.TheVariants.{ArchivesBelow};
@@ -275,7 +275,9 @@ impl<'a, F: Files> OutFile<'a, F> {
     }
 
     /// What the system said where it failed, if it did.
-    pub fn reason(&self) -> Option<io::Error> {
+    pub fn reason(&self) -> Option<io::Error>
+        ensures { result ≡ reason_of (stage_of self.now.state) self.now.reason }
+    {
         match self.state {
             OutState::Refused(
                 OutFault::NotCreated(reason) | OutFault::NotReplaced(Obstacle::Refused(reason)),
@@ -285,7 +287,9 @@ impl<'a, F: Files> OutFile<'a, F> {
     }
 
     /// Why what is at its path was not replaced, if it was not.
-    pub fn obstacle(&self) -> Option<Obstacle> {
+    pub fn obstacle(&self) -> Option<Obstacle>
+        ensures { result ≡ obstacle_of (stage_of self.now.state) }
+    {
         match self.state {
             OutState::Refused(OutFault::NotReplaced(obstacle)) => Some(obstacle),
             _ => None,

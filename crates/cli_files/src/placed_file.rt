@@ -1,6 +1,6 @@
 //! A file of the system that was opened to be read from any place.
 
-ghost use Rattle.std.specs.Prelude.{◌≡◌, ◌∷◌, []};
+ghost use Rattle.std.specs.Prelude.{◌≡◌, ◌==◌, ◌∷◌, [], is_some, not};
 
 use crate::call_log::CallLog;
 use crate::opened_file::{LEADING_LEN, LeadingBytes, keep};
@@ -37,7 +37,10 @@ impl<R: Read + Seek + Drop> PlacedFile<R> {
     }
 
     /// Why it could not be read, if it could not.
-    pub fn reason(&self) -> Option<io::Error> {
+    pub fn reason(&self) -> Option<io::Error>
+        ensures reason { result ≡ self.now.placing.reason }
+        ensures failed { is_some result ≡ not (⟦<PlacedFile<R> as Placed>⟧.failures self.now == 0) }
+    {
         self.placing.reason()
     }
 }

@@ -1,11 +1,12 @@
 //! An archive of two that are compared, which is read from its beginning.
 
-ghost use Rattle.std.specs.Prelude.{◌≡◌, ◌≤◌, IfOk, length};
+ghost use Rattle.std.specs.Prelude.{◌≡◌, ◌==◌, ◌≤◌, IfErr, IfOk, is_some, length, not};
+ghost use Rattle.std.specs.IoError.{error_kind};
 
 use crate::system_calls::Opened;
 use byte_device::{Failed, PIECE_LEN, Reading, Source};
 use std::alloc::Global;
-use std::io::{self, BufReader, Read};
+use std::io::{self, BufReader, ErrorKind, Read};
 
 /// The archive in the file that was opened at a path.
 #[derive(Drop)]
@@ -20,6 +21,7 @@ pub fn side_of<'p, R: Read + Drop>(
     opened: Opened<'p, R>,
 ) -> io::Result<ArchiveSide<'p, R>>
     ensures path { IfOk result (λ side. side.path.now ≡ opened.entry.path.now) }
+    ensures memory { IfErr result (λ error. error_kind error ≡ ErrorKind.OutOfMemory) }
 {
     let path = opened.path();
     let reader = BufReader::with_capacity(alloc, PIECE_LEN, opened.into_reader())?;
@@ -38,7 +40,10 @@ impl<'p, R: Read + Drop> ArchiveSide<'p, R> {
     }
 
     /// Why it could not be read, if it could not.
-    pub fn reason(&self) -> Option<io::Error> {
+    pub fn reason(&self) -> Option<io::Error>
+        ensures reason { result ≡ self.now.reading.reason }
+        ensures failed { is_some result ≡ not (⟦<ArchiveSide<'p, R> as Source>⟧.failures self.now == 0) }
+    {
         self.reading.reason()
     }
 }

@@ -26,7 +26,7 @@ returns-in_err-lost-clause-said g c =
 pub returns-in_err-replaceable_beginning-clause-uncompared : goal.returns-in_err-replaceable_beginning-clause-uncompared
 returns-in_err-replaceable_beginning-clause-uncompared g c =
     let p = err_from_is_err_and c.from_residual.result c.from_residual.ensures.1 in
-    rw (p.1, p.2) (before_comparison _ _ c.args.draft.now c.args.target.now _ c.in_err-replaceable_beginning.ensures.before)
+    rw (p.1, p.2) (before_comparison _ _ c.args.draft.now c.args.target.now _ _ c.in_err-replaceable_beginning.ensures.before)
 
 pub returns-in_err-lost-clause-uncompared : goal.returns-in_err-lost-clause-uncompared
 returns-in_err-lost-clause-uncompared g c =

@@ -7,5 +7,5 @@ returns-clause-compared g c = compared_at _ _ c.args.draft.now c.args.target.now
     c.in_ok-new.ensures.path c.in_ok-old.ensures.path c.lost_between.ensures.lost
 
 pub returns-clause-uncompared : goal.returns-clause-uncompared
-returns-clause-uncompared g c = uncompared_at _ _ c.args.draft.now c.args.target.now _ _ _ _ c.lost_between.result
+returns-clause-uncompared g c = uncompared_at _ _ c.args.draft.now c.args.target.now _ _ _ _ _ c.lost_between.result
     c.in_ok-new.ensures.path c.in_ok-old.ensures.path c.lost_between.ensures.unread
