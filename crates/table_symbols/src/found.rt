@@ -11,7 +11,7 @@ ghost use Rattle.macho_symbols.specs.Views.{found_view};
 ghost use Rattle.table_symbols.specs.Steps.{AreBytes};
 ghost use Rattle.table_symbols.specs.Table.{IsTableOf, TableParts, table_bytes};
 ghost use Rattle.table_symbols.specs.Found.{names_at, owned_view};
-ghost use Rattle.table_symbols.specs.Opened.{IsOpened};
+ghost use Rattle.table_symbols.specs.Opened.{IsOpened, IsOpenedIn};
 
 use crate::Table;
 use crate::nearest::NearestSymbol;
@@ -77,6 +77,8 @@ impl Table {
         ensures claim { self.new.pages.claim ≡ self.old.pages.claim }
         ensures keeps { (text : List ℕ) (t : TableParts) → P.whole device.old ≡ Some text → IsOpened self.old text t
             → IsOpened self.new text t }
+        ensures bytes { (text all : List ℕ) → P.whole device.old ≡ Some text → IsOpenedIn self.old text all
+            → IsOpenedIn self.new text all }
         ensures read { ReadsStored P.whole P.failures device.old device.new result
             (λ text names. (t : TableParts) → IsOpened self.old text t → names ≡ names_at t.names sect)
             (λ text. (t : TableParts) → IsOpened self.old text t
@@ -101,6 +103,8 @@ impl Table {
         ensures claim { self.new.pages.claim ≡ self.old.pages.claim }
         ensures keeps { (text : List ℕ) (t : TableParts) → P.whole device.old ≡ Some text → IsOpened self.old text t
             → IsOpened self.new text t }
+        ensures bytes { (text all : List ℕ) → P.whole device.old ≡ Some text → IsOpenedIn self.old text all
+            → IsOpenedIn self.new text all }
         ensures read { ReadsStored P.whole P.failures device.old device.new result
             (λ text found. (image : List ℕ) (t : TableParts) → AreBytes image → IsTableOf image t
             → IsOpened self.old text t → FindsNearest image address (option_map owned_view found))

@@ -3,7 +3,7 @@
 ghost use Rattle.std.specs.Prelude.{◌≡◌, ℕ, List};
 ghost use Rattle.table_checked_pages.specs.Views.{ArePagesOf};
 ghost use Rattle.table_checked_pages.specs.Standing.{IsRestFrom};
-ghost use Rattle.table_symbols.specs.Opened.{IsOpened};
+ghost use Rattle.table_symbols.specs.Opened.{IsOpened, IsOpenedIn, lines_at};
 ghost use Rattle.table_symbols.specs.Table.{TableParts, table_bytes};
 
 use crate::Table;
@@ -16,6 +16,8 @@ impl Table {
         ensures claim { result.0.claim ≡ self.pages.claim }
         ensures lines { (text : List ℕ) (t : TableParts) → IsOpened self text t
             → ArePagesOf result.0 text (table_bytes t) × IsRestFrom (table_bytes t) result.1 t.lines }
+        ensures bytes { (text all : List ℕ) → IsOpenedIn self text all
+            → ArePagesOf result.0 text all × (result.1 ≡ lines_at all) }
     {
         let first = self.first_line();
         let mut pages = self.pages;

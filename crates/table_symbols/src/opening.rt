@@ -1,11 +1,11 @@
 //! The head of a stored table.
 
-ghost use Rattle.std.specs.Prelude.{◌≡◌, ◌+◌, ◌*◌, ◌<◌, ◌^◌, ℕ, ◌↔◌, Option, IfOk, IsTrue, length};
+ghost use Rattle.std.specs.Prelude.{◌≡◌, ◌+◌, ◌*◌, ◌<◌, ◌^◌, ℕ, ◌↔◌, List, Option, Some, IfOk, IsTrue, length};
 ghost use Rattle.table_checked_pages.specs.Pages.{AreStored, MayBeStored};
 ghost use Rattle.table_checked_pages.specs.Views.{claim_view};
 ghost use Rattle.table_checked_pages.specs.Reading.{ReadsStored};
 ghost use Rattle.table_symbols.specs.Table.{FitsTable, TableParts, base_flag, base_or_zero, head_bytes, table_bytes};
-ghost use Rattle.table_symbols.specs.Opened.{IsHeadOf, IsOpened};
+ghost use Rattle.table_symbols.specs.Opened.{HasCounts, IsHeadOf, IsOpened, IsOpenedIn};
 
 use crate::head::Head;
 use crate::row::ROW_LEN;
@@ -30,7 +30,8 @@ fn base_of(flag: u64, value: u64) -> Option<u64>
 /// The head that these bytes are.
 fn head_of(bytes: &[u8]) -> Head
     requires { length bytes.now ≡ 48 }
-    ensures { (t : TableParts) → FitsTable t → bytes.now ≡ head_bytes t → IsHeadOf result t }
+    ensures is { (t : TableParts) → FitsTable t → bytes.now ≡ head_bytes t → IsHeadOf result t }
+    ensures counts { HasCounts result bytes.now }
 {
     Head {
         base: base_of(u64_be_at(bytes, 0), u64_be_at(bytes, 8)),
@@ -56,6 +57,8 @@ impl Table {
     /// The table that a claim names, with its head read.
     pub fn open<P: Placed>(heap: Heap, device: &mut P, claim: Claim) -> Result<Table, CheckFault>
         ensures claim { IfOk result (λ table. table.pages.claim ≡ claim) }
+        ensures bytes { IfOk result (λ table. (text all : List ℕ) → P.whole device.old ≡ Some text
+            → MayBeStored text (claim_view claim) all → IsOpenedIn table text all) }
         ensures read { ReadsStored P.whole P.failures device.old device.new result
             (λ text table. (t : TableParts) → FitsTable t → MayBeStored text (claim_view claim) (table_bytes t)
             → IsOpened table text t)

@@ -1,6 +1,9 @@
-use Rattle.std.proofs.Common.{subst}
-use Rattle.table_checked_pages.proofs.ReadLemmas.{after_ok}
+use Rattle.std.proofs.Common.{subst, sym}
+use Rattle.table_checked_pages.specs.Pages.{AreStored}
+use Rattle.table_checked_pages.specs.Views.{claim_view}
+use Rattle.table_checked_pages.proofs.ReadLemmas.{after_ok, passed_on}
 use Rattle.table_symbols.specs.Found.{IsSaid}
+use Rattle.table_symbols.specs.Table.{table_bytes}
 use Rattle.table_symbols.proofs.FoundLemmas.{found_said}
 use Rattle.table_symbols.proofs.table.Table.found.Goals as goal
 
@@ -22,3 +25,12 @@ returns-clause-read g c =
       keeps = names.keeps;
       counts = names.counts;
     }
+
+pub returns-in_err-names-clause-read : goal.returns-in_err-names-clause-read
+returns-in_err-names-clause-read g c =
+    let symbol = c.in_ok-symbol.ensures.read in
+    passed_on _ _ _ _ _ _ _ _ _ _ _ c.in_err-names.was c.from_residual-in_err-names.ensures.1
+    (λ text known absent t opened stored.
+    absent t (c.in_ok-symbol.ensures.keeps text t known opened)
+    (subst (λ claim. AreStored text (claim_view claim) (table_bytes t)) (sym c.in_ok-symbol.ensures.claim) stored))
+    (after_ok _ _ _ _ _ _ _ _ symbol.keeps symbol.counts c.section_names.ensures.read)

@@ -69,3 +69,19 @@ returns-clause-read g c =
       keeps = name.keeps;
       counts = name.counts;
     }
+
+pub returns-in_err-name-clause-bytes : goal.returns-in_err-name-clause-bytes
+returns-in_err-name-clause-bytes g c = λ text all known is. record {
+  headed = is.headed;
+  counts = is.counts;
+  pages = c.name_from.ensures.keeps text all (c.in_ok-row.ensures.read.keeps ∙ known)
+      (c.in_ok-row.ensures.keeps text all known is.pages);
+}
+
+pub returns-clause-bytes : goal.returns-clause-bytes
+returns-clause-bytes g c = λ text all known is. record {
+  headed = is.headed;
+  counts = is.counts;
+  pages = c.in_ok-name.ensures.keeps text all (c.in_ok-row.ensures.read.keeps ∙ known)
+      (c.in_ok-row.ensures.keeps text all known is.pages);
+}

@@ -1,9 +1,10 @@
-use Rattle.std.proofs.Common.{sym, subst, ◌∙◌, arith}
+use Rattle.std.proofs.Common.{ap, sym, subst, ◌∙◌, arith}
 use Rattle.table_checked_pages.specs.Pages.{AreStored}
 use Rattle.table_checked_pages.specs.Views.{ArePagesOf, claim_view}
 use Rattle.table_checked_pages.proofs.PageLemmas.{may_be}
 use Rattle.table_checked_pages.proofs.ReadLemmas.{after_ok, passed_on}
 use Rattle.table_symbols.specs.Table.{table_bytes}
+use Rattle.table_symbols.proofs.HeadedLemmas.{counted, headed}
 use Rattle.table_symbols.proofs.TableLemmas.{head_in, length-table, table_has_size}
 use Rattle.table_symbols.proofs.table.Table.open.Goals as goal
 
@@ -29,7 +30,7 @@ returns-then-not-has_size-clause-read g c =
     record {
       says = λ text known long t fits stored.
           let pages = opened.says text known (table_bytes t) (may_be text (table_bytes t) (claim_view c.args.claim) stored) in
-          let head = c.head_of-head.ensures t fits (head_in t _ _ c.read.auto.buf (read.says text known (table_bytes t) pages)) in
+          let head = c.head_of-head.ensures.is t fits (head_in t _ _ c.read.auto.buf (read.says text known (table_bytes t) pages)) in
           absurd (cc (c.if-not-has_size.ensures.1 (table_has_size t c.head_of-head.result c.args.claim.size fits head stored.size)));
       keeps = read.keeps;
       counts = read.counts;
@@ -45,8 +46,23 @@ returns-clause-read g c =
           record {
             fits = fits;
             pages = c.in_ok-read.ensures.keeps text (table_bytes t) (opened.keeps ∙ known) pages;
-            head = c.head_of-head.ensures t fits (head_in t _ _ c.read.auto.buf (read.says text known (table_bytes t) pages));
+            head = c.head_of-head.ensures.is t fits (head_in t _ _ c.read.auto.buf (read.says text known (table_bytes t) pages));
           };
       keeps = read.keeps;
       counts = read.counts;
+    }
+
+pub returns-clause-bytes : goal.returns-clause-bytes
+returns-clause-bytes g c = λ text all known may.
+    let opened = c.in_ok-pages.ensures.read in
+    let read = after_ok _ _ _ _ _ _ _ _ opened.keeps opened.counts c.in_ok-read.ensures.read in
+    let pages : ArePagesOf c.in_ok-pages.pages text all = opened.says text known all may in
+    let came = read.says text known all pages in
+    let counts = counted all c.read.new.buf _ c.head_of-head.result c.read.auto.buf came c.head_of-head.ensures.counts in
+    record {
+      headed = headed all c.head_of-head.result c.args.claim.size counts may.size
+          (omega (arith, c.read.auto.buf, c.in_ok-read.ensures.within (omega (arith, c.read.auto.buf)), ap (λ claim. claim.size) c.in_ok-pages.ensures.claim))
+          (c.if-not-has_size.ensures.0 (cc));
+      counts = counts;
+      pages = c.in_ok-read.ensures.keeps text all (opened.keeps ∙ known) pages;
     }
