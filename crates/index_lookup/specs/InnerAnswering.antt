@@ -6,14 +6,16 @@ use Rattle.std.specs.List.{AllZip, list_any}
 use Rattle.std.specs.Str.{bytes_eq}
 use Rattle.byte_device.specs.Devices.{FailedIn}
 use Rattle.table_checked_pages.specs.Pages.{Claim, MayBeStored}
+use Rattle.table_checked_pages.specs.Views.{ArePagesOf}
 use Rattle.table_checked_pages.specs.declared.pages.Pages.{Pages}
 use Rattle.macho_image.specs.Sections.{text_base_of}
 use Rattle.macho_symbols.specs.Found.{FoundRecord}
 use Rattle.dwarf_source_frames.specs.Frames.{FrameRecord}
-use Rattle.table_symbols.specs.Opened.{IsOpened}
+use Rattle.table_symbols.specs.Opened.{IsOpened, IsOpenedIn}
 use Rattle.table_symbols.specs.Steps.{AreBytes}
 use Rattle.table_symbols.specs.Table.{FitsTable, IsTableOf, TableParts, table_bytes}
 use Rattle.table_symbols.specs.declared.table.Table.{Table}
+use Rattle.table_source_frames.specs.OfBytes.{AreFramesIn, AreStoredFrames}
 use Rattle.table_source_frames.specs.Opened.{IsOpened as AreLinesOpened}
 use Rattle.table_source_frames.specs.Steps.{AreFrameSteps, StepRecord}
 use Rattle.table_source_frames.specs.declared.table.LineTable.{LineTable}
@@ -83,10 +85,10 @@ pub record HaveTie (xs : List EntryAt) : Type 0 where
   pub other_in : Contains xs other
   pub unordered : HaveNoOrder one other
 
--- the table is opened where a claim says: it is each that may be stored there
-abbrev pub IsTableBy : List ℕ → Claim → Table → Type 0
-IsTableBy text claim table =
-    (t : TableParts) → FitsTable t → MayBeStored text claim (table_bytes t) → IsOpened table text t
+-- The table is opened where a claim says: it is each that may be stored there, and so are any bytes.
+pub record IsTableBy (text : List ℕ) (claim : Claim) (table : Table) : Type 0 where
+  pub opened : (t : TableParts) → FitsTable t → MayBeStored text claim (table_bytes t) → IsOpened table text t
+  pub of_bytes : (all : List ℕ) → MayBeStored text claim all → IsOpenedIn table text all
 
 -- what a table that is opened tells of a place
 abbrev pub IsOwnOpened : Table → List ℕ → Where → Option FoundRecord → Type 0
@@ -98,16 +100,20 @@ abbrev pub IsBaseBy : List ℕ → Claim → Option ℕ → Type 0
 IsBaseBy text claim base = (slice table : List ℕ) → AreBytes slice → IsSliceTable slice table
     → MayBeStored text claim table → base ≡ text_base_of slice
 
--- the frames that a line table which is opened has of a place, of a slice with this vmaddr
-abbrev pub AreFramesOpened : LineTable → Pages → Option ℕ → List ℕ → Where → List FrameRecord → Type 0
-AreFramesOpened table pages base text asked frames = (slice all : List ℕ) (steps : List StepRecord)
-    → AreFrameSteps slice steps → base ≡ text_base_of slice → AreLinesOpened table pages text all steps
-    → AreFramesOfPlace asked slice frames
+-- The frames that a line table which is opened has of a place, of a slice with this vmaddr; and of any bytes, those of
+-- a location.
+pub record AreFramesOpened (table : LineTable) (pages : Pages) (base : Option ℕ) (text : List ℕ) (asked : Where)
+    (frames : List FrameRecord) : Type 0 where
+  pub of_slice : (slice all : List ℕ) (steps : List StepRecord) → AreFrameSteps slice steps → base ≡ text_base_of slice
+      → AreLinesOpened table pages text all steps → AreFramesOfPlace asked slice frames
+  pub of_bytes : (all : List ℕ) → ArePagesOf pages text all → (location : ℕ) × AreStoredFrames table all location frames
 
--- the frames that a table has of a place, over any bytes of the index, of a slice with this vmaddr
-abbrev pub AreFramesBased : Option ℕ → List ℕ → Claim → Where → List FrameRecord → Type 0
-AreFramesBased base text claim asked frames = (slice table : List ℕ) → AreBytes slice → base ≡ text_base_of slice
-    → IsSliceTable slice table → MayBeStored text claim table → AreFramesOfPlace asked slice frames
+-- The frames that a table has of a place, over any bytes of the index, of a slice with this vmaddr; and of any bytes.
+pub record AreFramesBased (base : Option ℕ) (text : List ℕ) (claim : Claim) (asked : Where) (frames : List FrameRecord)
+    : Type 0 where
+  pub of_slice : (slice table : List ℕ) → AreBytes slice → base ≡ text_base_of slice → IsSliceTable slice table
+      → MayBeStored text claim table → AreFramesOfPlace asked slice frames
+  pub of_bytes : (all : List ℕ) → MayBeStored text claim all → AreFramesIn all frames
 
 -- what an entry tells of places, in their order, over these bytes of its index
 pub record IsColumnOf (text : List ℕ) (lines : Bool) (asked : List Where) (x : EntryAt) (column : EntryAnswers)

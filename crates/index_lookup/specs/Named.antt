@@ -1,7 +1,7 @@
 -- The slices that entries name.
 use Rattle.std.specs.Prelude.{◌≡◌, ℕ, ◌-◌, true, List, take, drop, if◌then◌else◌}
 use Rattle.std.specs.List.{AllZip}
-use Rattle.archive_core.specs.Key.{key_bytes}
+use Rattle.archive_core.specs.Key.{IsKey, key_bytes}
 use Rattle.archive_core.specs.declared.find.FindRow.{FindRow}
 use Rattle.archive_core.specs.declared.find.FindState.{FindState}
 use Rattle.archive_core.specs.declared.find.FindState.TheVariants.{Image, Dsym}
@@ -22,8 +22,9 @@ state_at x = if is_companion x.entry then Dsym else Image
 abbrev pub size_at : EntryAt → ℕ
 size_at x = length_in x.entry - 33
 
--- the row is what an entry says of its slice
+-- the row is what an entry says of its slice, with a key whose parts have their widths
 pub record IsRowAt (x : EntryAt) (row : FindRow) : Type 0 where
+  pub is_key : IsKey row.key
   pub key_is : key_bytes row.key ≡ take 24 (drop 1 x.entry)
   pub digest_is : row.digest.0 ≡ digest_at x
   pub state_is : row.state ≡ state_at x

@@ -2,9 +2,11 @@
 use Rattle.std.specs.Prelude.{◌≡◌, ◌&&◌, ◌==◌, ℕ, Bool, List, [], slice_index, Option, MatchOption}
 use Rattle.macho_symbols.specs.Found.{FoundRecord}
 use Rattle.table_checked_pages.specs.Pages.{Claim, MayBeStored}
+use Rattle.table_symbols.specs.Opened.{AreHeaded}
 use Rattle.table_symbols.specs.Steps.{AreBytes}
 use Rattle.dwarf_source_frames.specs.AddressFrames.{AreFramesOf}
 use Rattle.dwarf_source_frames.specs.Frames.{FrameRecord}
+use Rattle.table_source_frames.specs.OfBytes.{AreFramesIn, HaveNoLines}
 use Rattle.table_source_frames.specs.SliceTable.{HasNoLines, IsSliceTable}
 use Rattle.archive_core.specs.Content.{is_admission}
 use Rattle.archive_core.specs.Lookup.{IsOwn, file_address}
@@ -20,10 +22,11 @@ abbrev pub is_companion : List ℕ → Bool
 is_companion e = slice_index e 57 == 1
 
 -- What a table tells of a place, over any bytes of the index: what each slice tells whose table may be stored where the
--- claim says.
-abbrev pub IsToldBy : List ℕ → Claim → Where → Option FoundRecord → Type 0
-IsToldBy text claim asked own = (slice table : List ℕ) → AreBytes slice → IsSliceTable slice table
-    → MayBeStored text claim table → IsOwn slice asked own
+-- claim says. Whatever bytes may be stored there, they begin with the head of a table of their size.
+pub record IsToldBy (text : List ℕ) (claim : Claim) (asked : Where) (own : Option FoundRecord) : Type 0 where
+  pub of_slice : (slice table : List ℕ) → AreBytes slice → IsSliceTable slice table → MayBeStored text claim table
+      → IsOwn slice asked own
+  pub of_bytes : (all : List ℕ) → MayBeStored text claim all → AreHeaded all
 
 -- the frames of a place in a slice: those of the address that it stands for, or none where it stands for no address
 abbrev pub AreFramesOfPlace : Where → List ℕ → List FrameRecord → Type 0
@@ -31,12 +34,15 @@ AreFramesOfPlace asked slice frames =
     MatchOption (file_address slice asked) (frames ≡ []) (λ address. AreFramesOf slice address frames)
 
 -- The frames that a table has of a place, over any bytes of the index: those of the place in each slice whose table may
--- be stored where the claim says.
-abbrev pub AreFramesToldBy : List ℕ → Claim → Where → List FrameRecord → Type 0
-AreFramesToldBy text claim asked frames = (slice table : List ℕ) → AreBytes slice → IsSliceTable slice table
-    → MayBeStored text claim table → AreFramesOfPlace asked slice frames
+-- be stored where the claim says. Whatever bytes may be stored there, the frames are those of a location in them.
+pub record AreFramesToldBy (text : List ℕ) (claim : Claim) (asked : Where) (frames : List FrameRecord) : Type 0 where
+  pub of_slice : (slice table : List ℕ) → AreBytes slice → IsSliceTable slice table → MayBeStored text claim table
+      → AreFramesOfPlace asked slice frames
+  pub of_bytes : (all : List ℕ) → MayBeStored text claim all → AreFramesIn all frames
 
 -- A table has no lines, over any bytes of the index: no slice has some whose table may be stored where the claim says.
-abbrev pub HasNoLinesBy : List ℕ → Claim → Type 0
-HasNoLinesBy text claim = (slice table : List ℕ) → AreBytes slice → IsSliceTable slice table
-    → MayBeStored text claim table → HasNoLines slice
+-- Whatever bytes may be stored there, they say that they have none.
+pub record HasNoLinesBy (text : List ℕ) (claim : Claim) : Type 0 where
+  pub of_slice : (slice table : List ℕ) → AreBytes slice → IsSliceTable slice table → MayBeStored text claim table
+      → HasNoLines slice
+  pub of_bytes : (all : List ℕ) → MayBeStored text claim all → HaveNoLines all

@@ -1,6 +1,6 @@
 //! The source frames of places, by the line table of an entry.
 
-ghost use Rattle.std.specs.Prelude.{◌≡◌, ℕ, List, IfOk, MatchOption, None, Some, map, true};
+ghost use Rattle.std.specs.Prelude.{◌≡◌, ℕ, List, IfOk, IsOk, MatchOption, None, Some, false, map, true};
 ghost use Rattle.std.specs.List.{AllZip};
 ghost use Rattle.table_checked_pages.specs.Pages.{AreStored};
 ghost use Rattle.table_checked_pages.specs.Views.{KeepsPages, claim_view};
@@ -102,6 +102,7 @@ pub(crate) fn frames_if<P: Placed>(
     asked: &[Where],
 ) -> Result<Option<Vec<Vec<OwnedFrame, Heap>, Heap>>, CheckFault>
     ensures wanted { IfOk result (λ found. found ≡ None → lines ≡ true) }
+    ensures unasked { lines ≡ false → IsOk result }
     ensures read { ReadsStored P.whole P.failures device.old device.new result
         (λ text found. IsTableBy text (claim_view table.pages.claim) table
         → MatchOption found (HasNoLinesBy text (claim_view table.pages.claim))

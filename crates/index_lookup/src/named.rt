@@ -2,7 +2,7 @@
 
 ghost use Rattle.std.specs.Prelude.{◌≡◌, ◌≢◌, Contains, IfOk, MatchOption, drop, map, take};
 ghost use Rattle.std.specs.List.{AllZip};
-ghost use Rattle.archive_core.specs.Key.{key_bytes};
+ghost use Rattle.archive_core.specs.Key.{IsKey, key_bytes};
 ghost use Rattle.index_lookup.specs.Among.{AreTied, EntryAt};
 ghost use Rattle.index_lookup.specs.InnerAnswering.{entry_at};
 ghost use Rattle.index_lookup.specs.Named.{LivesAmong, Names, NamesAmong, digest_at, state_at};
@@ -32,6 +32,7 @@ pub struct NamedSlice {
 
 /// What an entry says of its slice.
 fn row_of(numbered: &Numbered) -> FindRow
+    ensures is_key { IsKey result.key }
     ensures key { key_bytes result.key ≡ take 24 (drop 1 (entry_at numbered.now).entry) }
     ensures digest { result.digest.0 ≡ digest_at (entry_at numbered.now) }
     ensures state { result.state ≡ state_at (entry_at numbered.now) }

@@ -6,7 +6,7 @@ ghost use Rattle.table_checked_pages.specs.Views.{claim_view};
 ghost use Rattle.table_checked_pages.specs.Reading.{ReadsStored};
 ghost use Rattle.table_symbols.specs.Steps.{AreBytes};
 ghost use Rattle.table_symbols.specs.Table.{IsTableOf, TableParts, table_bytes};
-ghost use Rattle.table_symbols.specs.Opened.{IsOpened};
+ghost use Rattle.table_symbols.specs.Opened.{IsOpened, IsOpenedIn};
 ghost use Rattle.archive_core.specs.Lookup.{IsOwn};
 ghost use Rattle.index_lookup.specs.Views.{told_view};
 
@@ -26,6 +26,8 @@ pub(crate) fn own_of<P: Placed>(
     ensures claim { table.new.pages.claim ≡ table.old.pages.claim }
     ensures keeps { (text : List ℕ) (t : TableParts) → P.whole device.old ≡ Some text → IsOpened table.old text t
         → IsOpened table.new text t }
+    ensures bytes { (text all : List ℕ) → P.whole device.old ≡ Some text → IsOpenedIn table.old text all
+        → IsOpenedIn table.new text all }
     ensures read { ReadsStored P.whole P.failures device.old device.new result
         (λ text own. (slice : List ℕ) (t : TableParts) → AreBytes slice → IsTableOf slice t
         → IsOpened table.old text t → IsOwn slice asked (told_view own))

@@ -6,7 +6,7 @@ ghost use Rattle.std.specs.List.{AllZip};
 ghost use Rattle.table_checked_pages.specs.Pages.{AreStored};
 ghost use Rattle.table_checked_pages.specs.Views.{claim_view};
 ghost use Rattle.table_checked_pages.specs.Reading.{ReadsStored};
-ghost use Rattle.table_symbols.specs.Opened.{IsOpened};
+ghost use Rattle.table_symbols.specs.Opened.{IsOpened, IsOpenedIn};
 ghost use Rattle.table_symbols.specs.Table.{TableParts, table_bytes};
 ghost use Rattle.table_source_frames.specs.SliceTable.{IsSliceTable};
 ghost use Rattle.index_lookup.specs.Among.{EntryAt};
@@ -38,6 +38,8 @@ fn owns_of<P: Placed>(
     ensures claim { OnOk result (table.new.pages.claim ≡ table.old.pages.claim) }
     ensures keeps { OnOk result ((text : List ℕ) (t : TableParts) → P.whole device.old ≡ Some text
         → IsOpened table.old text t → IsOpened table.new text t) }
+    ensures bytes { OnOk result ((text all : List ℕ) → P.whole device.old ≡ Some text
+        → IsOpenedIn table.old text all → IsOpenedIn table.new text all) }
     ensures read { ReadsStored P.whole P.failures device.old device.new result
         (λ text owns. AllZip (IsOwnOpened table.old text) asked.now (map told_view owns.items))
         (λ text. (t : TableParts) → IsOpened table.old text t

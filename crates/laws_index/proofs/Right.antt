@@ -43,7 +43,7 @@ use Rattle.laws_index.proofs.OfContent.{IsAt, in_turn, one_place, shorter_first}
 
 -- ---- lists place by place
 
-zip_left : {X Y : Type 0} (R : X → Y → Type 0) (xs : List X) (ys : List Y) (x : X) → AllZip R xs ys → Contains xs x → (y : Y) × Contains ys y × R x y
+pub zip_left : {X Y : Type 0} (R : X → Y → Type 0) (xs : List X) (ys : List Y) (x : X) → AllZip R xs ys → Contains xs x → (y : Y) × Contains ys y × R x y
 zip_left R [] ys x all c = absurd (omega (arith, c.1))
 zip_left R (z ∷ xs) [] x all c = absurd all
 zip_left R (z ∷ xs) (y ∷ ys) x all c = elim (in_cons z xs x c) [
@@ -155,7 +155,8 @@ module _ (os : List Operations) (texts : List (List ℕ)) (indexes : List (List 
     digest_is = told.digest_is ∙ is.of.is.is.digest_is;
     own_is =
         let its = is.of.is.is in
-        told.own_is is.of.of.text is.of.of.file.text_at slice its.table its.bytes its.is_table (may_be is.of.of.text its.table (claim_in x.entry) its.stored);
+        (told.own_is is.of.of.text is.of.of.file.text_at).of_slice slice its.table its.bytes its.is_table
+        (may_be is.of.of.text its.table (claim_in x.entry) its.stored);
   }
 
   one_slice : (key : SliceKey) (asked : Where) (x : EntryAt) (row : OwnRow) (own : Option FoundRecord)
@@ -180,7 +181,7 @@ module _ (os : List Operations) (texts : List (List ℕ)) (indexes : List (List 
       → IsAnsweringSlice key x slice → AreFramesToldAt texts asked x frames → AreFramesAt asked slice frames
   frames_right key asked x slice frames is told =
       let its = is.of.is.is in
-      told is.of.of.text is.of.of.file.text_at slice its.table its.bytes its.is_table (may_be is.of.of.text its.table (claim_in x.entry) its.stored)
+      (told is.of.of.text is.of.of.file.text_at).of_slice slice its.table its.bytes its.is_table (may_be is.of.of.text its.table (claim_in x.entry) its.stored)
 
   shown_right : (key : SliceKey) (lines : Bool) (asked : Where) (xs : List EntryAt) (ss : List (List ℕ))
       (lists : List (List FrameRecord)) → AllZip (IsAnsweringSlice key) xs ss → AreShownAmong texts lines asked xs lists
@@ -234,7 +235,7 @@ module _ (os : List Operations) (texts : List (List ℕ)) (indexes : List (List 
             answers = λ key is_key is. answers_if os texts indexes all key is_key x s.0 s.1
                 (subst (λ (f : List ℕ). answers_among f (all_of indexes) x.entry ≡ true) (sym is) answers);
           },
-          lacking.lacks s.0 is.table is.bytes is.is_table (may_be lacking.text is.table (claim_in x.entry) is.stored),
+          lacking.lacks.of_slice s.0 is.table is.bytes is.is_table (may_be lacking.text is.table (claim_in x.entry) is.stored),
         )
 
     module _ (key : SliceKey) (is_key : IsKey key) where

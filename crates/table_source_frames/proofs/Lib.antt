@@ -7,5 +7,6 @@ pub mod TextLemmas
 pub mod OpenedLemmas
 pub mod OpeningLemmas
 pub mod SearchLemmas
+pub mod ByteLemmas
 mod CountLemmas
 pub mod SliceTables

@@ -1,10 +1,12 @@
 -- What single rows say: the words of inner functions. No contract of a public one has them.
-use Rattle.std.specs.Prelude.{◌≡◌, ◌<◌, ◌≤◌, ℕ, List, [], ◌∷◌, Option, Some, None, length, map, slice_index}
+use Rattle.std.specs.Prelude.{◌≡◌, ◌+◌, ◌<◌, ◌≤◌, ℕ, List, [], ◌∷◌, Option, Some, None, length, map, slice_index}
 use Rattle.std.specs.Prelude.{slice_index_or, take}
 use Rattle.std.specs.List.{concat}
 use Rattle.dwarf_lines.specs.Paths.{PathRecord}
 use Rattle.dwarf_source_frames.specs.Frames.{FrameRecord}
 use Rattle.table_source_frames.specs.LineText.{LineParts, parts_of}
+use Rattle.table_source_frames.specs.OfBytes.{IsMaybeStoredPath, IsMaybeStoredText, IsStoredText, caller_of, file_at}
+use Rattle.table_source_frames.specs.OfBytes.{location_at, text_at, u32_at}
 use Rattle.table_source_frames.specs.Numbering.{number_in, same_chain, same_path, same_text}
 use Rattle.table_source_frames.specs.Runs.{RunRecord, lower_half, runs_of, upper_half}
 use Rattle.table_source_frames.specs.Steps.{StepRecord, starts_of}
@@ -13,6 +15,7 @@ use Rattle.table_source_frames.specs.declared.row.Location.{Location}
 use Rattle.table_source_frames.specs.declared.row.Run.{Run}
 use Rattle.table_source_frames.specs.declared.row.Step.{Step}
 use Rattle.table_source_frames.specs.declared.row.Text.{Text}
+use Rattle.table_source_frames.specs.declared.table.LineTable.{LineTable}
 
 -- this is the number of one of some texts
 pub record IsTextNumber (parts : LineParts) (number : ℕ) (text : List ℕ) : Type 0 where
@@ -84,3 +87,41 @@ pub record IsFileRow (parts : LineParts) (row : File) (path : PathRecord) : Type
 pub record IsTextRow (parts : LineParts) (index : ℕ) (row : Text) : Type 0 where
   pub place : row.place ≡ length (concat (take index parts.texts))
   pub long : row.length ≡ length (slice_index_or parts.texts index [])
+
+-- ---- of any bytes
+
+-- a row is the location of a number
+pub record IsLocationIn (table : LineTable) (all : List ℕ) (number : ℕ) (row : Location) : Type 0 where
+  pub some : 0 < number
+  pub counted : number ≤ table.locations
+  pub name : row.name ≡ u32_at all (location_at table number)
+  pub file : row.file ≡ u32_at all (location_at table number + 4)
+  pub line : row.line ≡ u32_at all (location_at table number + 8)
+  pub column : row.column ≡ u32_at all (location_at table number + 12)
+  pub caller : row.caller ≡ caller_of table all number
+
+-- a row is the file of a number
+pub record IsFileIn (table : LineTable) (all : List ℕ) (number : ℕ) (row : File) : Type 0 where
+  pub some : 0 < number
+  pub counted : number ≤ table.files
+  pub base : row.base ≡ u32_at all (file_at table number)
+  pub directory : row.directory ≡ u32_at all (file_at table number + 4)
+  pub name : row.name ≡ u32_at all (file_at table number + 8)
+
+-- a row is that of the text of a number
+pub record IsTextIn (table : LineTable) (all : List ℕ) (number : ℕ) (row : Text) : Type 0 where
+  pub place : row.place ≡ u32_at all (text_at table number)
+  pub long : row.length ≡ u32_at all (text_at table number + 4)
+
+-- a path has the texts of a row
+pub record HasTextsOf (table : LineTable) (all : List ℕ) (row : File) (path : PathRecord) : Type 0 where
+  pub base : IsStoredText table all row.base path.base
+  pub directory : IsStoredText table all row.directory path.directory
+  pub name : IsStoredText table all row.name path.name
+
+-- a frame is that of a row
+pub record IsFrameIn (table : LineTable) (all : List ℕ) (row : Location) (frame : FrameRecord) : Type 0 where
+  pub name : IsMaybeStoredText table all row.name frame.name
+  pub path : IsMaybeStoredPath table all row.file frame.path
+  pub line : frame.line ≡ row.line
+  pub column : frame.column ≡ row.column

@@ -4,6 +4,7 @@ pub mod Numbering
 pub mod LineText
 pub mod LineTable
 pub mod Opened
+pub mod OfBytes
 pub mod FrameViews
 pub mod Inner
 pub mod SliceTable

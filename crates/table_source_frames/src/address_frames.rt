@@ -1,14 +1,15 @@
 //! The frames of an address, by a line table.
 
-ghost use Rattle.std.specs.Prelude.{◌≡◌, ◌<◌, ◌≤◌, ◌++◌, ◌∷◌, [], ℕ, List, Some, IfErr, OnOk, length};
+ghost use Rattle.std.specs.Prelude.{◌≡◌, ◌<◌, ◌≤◌, ◌++◌, ◌∷◌, [], ℕ, List, Some, IfErr, IfOk, OnOk, length};
 ghost use Rattle.table_checked_pages.specs.Pages.{AreStored};
-ghost use Rattle.table_checked_pages.specs.Views.{KeepsPages, claim_view};
+ghost use Rattle.table_checked_pages.specs.Views.{ArePagesOf, KeepsPages, claim_view};
 ghost use Rattle.table_checked_pages.specs.Reading.{ReadsStored};
 ghost use Rattle.dwarf_source_frames.specs.AddressFrames.{AreFramesOf};
 ghost use Rattle.dwarf_source_frames.specs.Frames.{FrameRecord};
 ghost use Rattle.table_source_frames.specs.FrameViews.{owned_frame_view, owned_frames};
-ghost use Rattle.table_source_frames.specs.Inner.{IsChainNumber, IsLocation, IsMaybeChain};
+ghost use Rattle.table_source_frames.specs.Inner.{IsChainNumber, IsFrameIn, IsLocation, IsLocationIn, IsMaybeChain};
 ghost use Rattle.table_source_frames.specs.LineText.{parts_of};
+ghost use Rattle.table_source_frames.specs.OfBytes.{AreStoredFrames, IsTrueOfBytes};
 ghost use Rattle.table_source_frames.specs.Opened.{IsOpened};
 ghost use Rattle.table_source_frames.specs.Steps.{AreFrameSteps, StepRecord};
 
@@ -52,6 +53,8 @@ impl LineTable {
             (λ text. (all : List ℕ) (steps : List StepRecord) (frame : FrameRecord) (callers : List FrameRecord)
             → AreStored text (claim_view pages.old.claim) all → IsOpened self.now pages.old text all steps
             → IsChainNumber (parts_of steps) number (frame ∷ callers) → ⊥) }
+        ensures bytes { IfOk result (λ row. IsTrueOfBytes P.whole device.old pages.old
+            (λ all. IsLocationIn self.now all number row)) }
     {
         let Some(index) = index_of(number, self.locations) else {
             return Err(CheckFault::Changed);
@@ -85,6 +88,8 @@ impl LineTable {
             (λ text. (all : List ℕ) (steps : List StepRecord) (told : FrameRecord) (callers : List FrameRecord)
             → AreStored text (claim_view pages.old.claim) all → IsOpened self.now pages.old text all steps
             → IsLocation (parts_of steps) row told callers → ⊥) }
+        ensures bytes { IfOk result (λ frame. IsTrueOfBytes P.whole device.old pages.old
+            (λ all. IsFrameIn self.now all row (owned_frame_view frame))) }
     {
         let name = self.maybe_text(heap.share(), device, pages, row.name)?;
         let path = self.maybe_path(heap, device, pages, row.file)?;
@@ -113,6 +118,8 @@ impl LineTable {
             (λ text. (all : List ℕ) (steps : List StepRecord) (chain : List FrameRecord)
             → AreStored text (claim_view pages.old.claim) all → IsOpened self.now pages.old text all steps
             → IsMaybeChain (parts_of steps) location chain → length chain ≤ 256 → ⊥) }
+        ensures bytes { IfOk result (λ frames. IsTrueOfBytes P.whole device.old pages.old
+            (λ all. AreStoredFrames self.now all location (owned_frames frames.items))) }
     {
         let mut frames = Vec::new(heap.share());
         let mut number = location;
@@ -143,8 +150,10 @@ impl LineTable {
         ensures claim { pages.new.claim ≡ pages.old.claim }
         ensures keeps { KeepsPages P.whole device.old pages.old pages.new }
         ensures read { ReadsStored P.whole P.failures device.old device.new result
-            (λ text frames. (image all : List ℕ) (steps : List StepRecord) → AreFrameSteps image steps
+            (λ text frames. ((image all : List ℕ) (steps : List StepRecord) → AreFrameSteps image steps
             → IsOpened self.now pages.old text all steps → AreFramesOf image address (owned_frames frames.items))
+            × ((all : List ℕ) → ArePagesOf pages.old text all
+            → (location : ℕ) × AreStoredFrames self.now all location (owned_frames frames.items)))
             (λ text. (image all : List ℕ) (steps : List StepRecord) → AreStored text (claim_view pages.old.claim) all
             → AreFrameSteps image steps → IsOpened self.now pages.old text all steps → ⊥) }
     {

@@ -1,12 +1,13 @@
 //! The files of a table, by their numbers.
 
-ghost use Rattle.std.specs.Prelude.{◌≡◌, Option, Some};
+ghost use Rattle.std.specs.Prelude.{◌≡◌, IfOk, Option, Some};
 ghost use Rattle.std.specs.Option.{option_map};
 ghost use Rattle.table_checked_pages.specs.Views.{KeepsPages};
 ghost use Rattle.dwarf_lines.specs.Paths.{PathRecord};
 ghost use Rattle.table_source_frames.specs.FrameViews.{owned_path_view};
-ghost use Rattle.table_source_frames.specs.Inner.{IsFileNumber, IsFileRow, IsMaybeFile};
+ghost use Rattle.table_source_frames.specs.Inner.{HasTextsOf, IsFileIn, IsFileNumber, IsFileRow, IsMaybeFile};
 ghost use Rattle.table_source_frames.specs.LineText.{parts_of};
+ghost use Rattle.table_source_frames.specs.OfBytes.{IsMaybeStoredPath, IsTrueOfBytes};
 ghost use Rattle.table_source_frames.specs.Opened.{ReadsPart};
 
 use crate::frame::OwnedPath;
@@ -29,6 +30,8 @@ impl LineTable {
         ensures read { ReadsPart PathRecord P.whole P.failures device.old device.new result self.now pages.old
             (λ steps path. IsFileNumber (parts_of steps) number path)
             (λ steps path row. IsFileRow (parts_of steps) row path) }
+        ensures bytes { IfOk result (λ row. IsTrueOfBytes P.whole device.old pages.old
+            (λ all. IsFileIn self.now all number row)) }
     {
         let Some(index) = index_of(number, self.files) else {
             return Err(CheckFault::Changed);
@@ -56,6 +59,8 @@ impl LineTable {
         ensures read { ReadsPart PathRecord P.whole P.failures device.old device.new result self.now pages.old
             (λ steps told. IsFileRow (parts_of steps) row told)
             (λ _ told path. owned_path_view path ≡ told) }
+        ensures bytes { IfOk result (λ path. IsTrueOfBytes P.whole device.old pages.old
+            (λ all. HasTextsOf self.now all row (owned_path_view path))) }
     {
         let base = self.text(heap.share(), device, pages, row.base)?;
         let directory = self.text(heap.share(), device, pages, row.directory)?;
@@ -80,6 +85,8 @@ impl LineTable {
         ensures read { ReadsPart (Option PathRecord) P.whole P.failures device.old device.new result self.now pages.old
             (λ steps told. IsMaybeFile (parts_of steps) number told)
             (λ _ told found. option_map owned_path_view found ≡ told) }
+        ensures bytes { IfOk result (λ found. IsTrueOfBytes P.whole device.old pages.old
+            (λ all. IsMaybeStoredPath self.now all number (option_map owned_path_view found))) }
     {
         if number == 0 {
             return Ok(None);

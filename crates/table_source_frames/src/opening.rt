@@ -1,12 +1,13 @@
 //! The head of a line table.
 
-ghost use Rattle.std.specs.Prelude.{◌≡◌, ◌+◌, ◌*◌, ℕ, List, IfSome, MatchOption, None, Some, length, take, drop};
+ghost use Rattle.std.specs.Prelude.{◌≡◌, ◌+◌, ◌*◌, ℕ, List, IfOk, IfSome, MatchOption, None, Some, length, take, drop};
 ghost use Rattle.std.specs.Int.{w64, from_be_bytes};
 ghost use Rattle.table_checked_pages.specs.Pages.{AreStored};
 ghost use Rattle.table_checked_pages.specs.Standing.{IsRestFrom};
 ghost use Rattle.table_checked_pages.specs.Views.{ArePagesOf, KeepsPages, claim_view};
 ghost use Rattle.table_checked_pages.specs.Reading.{ReadsStored};
 ghost use Rattle.table_source_frames.specs.LineTable.{IsLineTable, no_lines};
+ghost use Rattle.table_source_frames.specs.OfBytes.{IsFoundIn, IsTrueOfBytes};
 ghost use Rattle.table_source_frames.specs.Opened.{IsOpened};
 ghost use Rattle.table_source_frames.specs.Steps.{AreFrameSteps, StepRecord};
 
@@ -72,6 +73,8 @@ impl Head {
         ensures files { IfSome result (λ table. table.files ≡ self.now.files) }
         ensures texts { IfSome result (λ table. table.texts ≡ self.now.texts) }
         ensures bytes { IfSome result (λ table. table.bytes ≡ self.now.bytes) }
+        ensures adds { IfSome result (λ _. offset + 56 + 8 * self.now.runs + 8 * self.now.steps
+            + 20 * self.now.locations + 12 * self.now.files + 8 * self.now.texts + self.now.bytes ≡ size) }
         ensures none { result ≡ None → offset + 56 + 8 * self.now.runs + 8 * self.now.steps + 20 * self.now.locations
             + 12 * self.now.files + 8 * self.now.texts + self.now.bytes ≡ size → ⊥ }
     {
@@ -105,6 +108,8 @@ impl LineTable {
             (λ table. (steps : List StepRecord) × AreFrameSteps image steps × IsOpened table pages.new text all steps))
             (λ text. (image all bytes : List ℕ) → AreStored text (claim_view pages.old.claim) all
             → ArePagesOf pages.old text all → IsRestFrom all offset bytes → IsLineTable image bytes → ⊥) }
+        ensures bytes { IfOk result (λ found. IsTrueOfBytes P.whole device.old pages.old
+            (λ all. IsFoundIn all offset found)) }
     {
         let mut bytes = [0; HEAD_LEN];
         pages.read(device, offset, &mut bytes)?;

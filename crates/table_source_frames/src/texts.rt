@@ -1,12 +1,14 @@
 //! The texts of a table, by their numbers.
 
-ghost use Rattle.std.specs.Prelude.{◌≡◌, ◌<◌, ℕ, List, Option, Some, IfErr, IfOk, length, slice_get};
+ghost use Rattle.std.specs.Prelude.{◌≡◌, ◌<◌, ◌≤◌, ◌+◌, ℕ, List, Option, Some, IfErr, IfOk, length, slice_get};
+ghost use Rattle.std.specs.Prelude.{drop, take};
 ghost use Rattle.std.specs.Option.{option_map};
 ghost use Rattle.table_checked_pages.specs.Pages.{AreStored};
 ghost use Rattle.table_checked_pages.specs.Views.{KeepsPages, claim_view};
 ghost use Rattle.table_checked_pages.specs.Reading.{ReadsStored};
-ghost use Rattle.table_source_frames.specs.Inner.{IsMaybeText, IsTextNumber, IsTextRow};
+ghost use Rattle.table_source_frames.specs.Inner.{IsMaybeText, IsTextIn, IsTextNumber, IsTextRow};
 ghost use Rattle.table_source_frames.specs.LineText.{parts_of};
+ghost use Rattle.table_source_frames.specs.OfBytes.{IsMaybeStoredText, IsStoredText, IsTrueOfBytes, texts_at};
 ghost use Rattle.table_source_frames.specs.Opened.{IsOpened, ReadsPart, ReadsTable};
 ghost use Rattle.table_source_frames.specs.Steps.{StepRecord};
 
@@ -41,6 +43,8 @@ impl LineTable {
         ensures keeps { KeepsPages P.whole device.old pages.old pages.new }
         ensures read { ReadsTable P.whole P.failures device.old device.new result self.now pages.old
             (λ steps row. IsTextRow (parts_of steps) index row) }
+        ensures bytes { IfOk result (λ row. IsTrueOfBytes P.whole device.old pages.old
+            (λ all. IsTextIn self.now all (index + 1) row)) }
     {
         let mut bytes = [0; TEXT_LEN];
         let offset = self.first_text() + TEXT_LEN as u64 * index;
@@ -69,6 +73,9 @@ impl LineTable {
             (λ text. (all : List ℕ) (steps : List StepRecord) (index : ℕ)
             → AreStored text (claim_view pages.old.claim) all → IsOpened self.now pages.old text all steps
             → index < length (parts_of steps).texts → IsTextRow (parts_of steps) index row → ⊥) }
+        ensures inside { IfOk result (λ bytes. row.place + row.length ≤ self.now.bytes) }
+        ensures bytes { IfOk result (λ bytes. IsTrueOfBytes P.whole device.old pages.old
+            (λ all. bytes.items ≡ take row.length (drop (texts_at self.now + row.place) all))) }
     {
         let end = u64::from(row.place) + u64::from(row.length);
         if end > self.bytes {
@@ -93,6 +100,8 @@ impl LineTable {
         ensures read { ReadsPart (List ℕ) P.whole P.failures device.old device.new result self.now pages.old
             (λ steps told. IsTextNumber (parts_of steps) number told)
             (λ _ told bytes. bytes.items ≡ told) }
+        ensures bytes { IfOk result (λ bytes. IsTrueOfBytes P.whole device.old pages.old
+            (λ all. IsStoredText self.now all number bytes.items)) }
     {
         let Some(index) = index_of(number, self.texts) else {
             return Err(CheckFault::Changed);
@@ -115,6 +124,8 @@ impl LineTable {
         ensures read { ReadsPart (Option (List ℕ)) P.whole P.failures device.old device.new result self.now pages.old
             (λ steps told. IsMaybeText (parts_of steps) number told)
             (λ _ told found. option_map (λ n. n.items) found ≡ told) }
+        ensures bytes { IfOk result (λ found. IsTrueOfBytes P.whole device.old pages.old
+            (λ all. IsMaybeStoredText self.now all number (option_map (λ n. n.items) found))) }
     {
         if number == 0 {
             return Ok(None);

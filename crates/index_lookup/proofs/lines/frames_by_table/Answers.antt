@@ -6,7 +6,7 @@ use Rattle.table_checked_pages.proofs.PageLemmas.{may_be}
 use Rattle.table_source_frames.specs.LineTable.{IsLineTable}
 use Rattle.table_source_frames.proofs.OpeningLemmas.{found_none, found_some}
 use Rattle.index_lookup.proofs.Columns.{zip_as}
-use Rattle.index_lookup.proofs.OpenedLines.{lines_here}
+use Rattle.index_lookup.proofs.OpenedLines.{bytes_here, frames_in, lines_here, no_lines_in}
 use Rattle.index_lookup.proofs.lines.frames_by_table.Goals as goal
 
 pub returns-in_err-lines : goal.returns-in_err-lines
@@ -25,11 +25,18 @@ returns-in_default g c =
     let claim = claim_view c.args.table.pages.claim in
     let lines = c.in_ok-lines.ensures.read in
     record {
-      says = λ text known opened slice all bytes is may.
-          let here = lines_here c.args.table c.into_lines-pages.result.0 c.into_lines-pages.result.1 claim text slice
-          all is c.into_lines-pages.ensures.lines opened may in
-          subst (IsLineTable slice) (found_none slice all is.lines text c.open.new.pages _ c.in_default.is
-          (lines.says text known slice all is.lines here.0 here.1 is.are_lines)) is.are_lines;
+      says = λ text known opened. record {
+        of_slice = λ slice all bytes is may.
+            let here = lines_here c.args.table c.into_lines-pages.result.0 c.into_lines-pages.result.1 claim text slice
+            all is c.into_lines-pages.ensures.lines opened may in
+            subst (IsLineTable slice) (found_none slice all is.lines text c.open.new.pages _ c.in_default.is
+            (lines.says text known slice all is.lines here.0 here.1 is.are_lines)) is.are_lines;
+        of_bytes = λ all may.
+            let here = bytes_here c.args.table c.into_lines-pages.result.0 c.into_lines-pages.result.1 claim text all
+            c.into_lines-pages.ensures.bytes opened may in
+            no_lines_in c.args.table c.into_lines-pages.result.1 claim text all _ opened may here.1
+            (c.in_ok-lines.ensures.bytes text all known here.0) c.in_default.is;
+      };
       keeps = lines.keeps;
       counts = lines.counts;
     }
@@ -55,12 +62,20 @@ returns g c =
     let lists = after_ok _ _ _ _ _ _ _ _ lines.keeps lines.counts c.in_ok-lists.ensures in
     record {
       says = λ text known opened.
-          zip_as _ _ c.args.asked.now _ (λ place frames told slice all bytes base is may.
-          let here = lines_here c.args.table c.into_lines-pages.result.0 c.into_lines-pages.result.1 claim text slice
-          all is c.into_lines-pages.ensures.lines opened may in
-          let found = found_some slice all is.lines text c.open.new.pages _ c.in-Some.lines c.in-Some.is
-          (lines.says text known slice all is.lines here.0 here.1 is.are_lines) in
-          told slice all found.0 found.1 base found.2) (lists.says text known);
+          zip_as _ _ c.args.asked.now _ (λ place frames told. record {
+            of_slice = λ slice all bytes base is may.
+                let here = lines_here c.args.table c.into_lines-pages.result.0 c.into_lines-pages.result.1 claim text slice
+                all is c.into_lines-pages.ensures.lines opened may in
+                let found = found_some slice all is.lines text c.open.new.pages _ c.in-Some.lines c.in-Some.is
+                (lines.says text known slice all is.lines here.0 here.1 is.are_lines) in
+                told.of_slice slice all found.0 found.1 base found.2;
+            of_bytes = λ all may.
+                let here = bytes_here c.args.table c.into_lines-pages.result.0 c.into_lines-pages.result.1 claim text all
+                c.into_lines-pages.ensures.bytes opened may in
+                frames_in c.args.table c.into_lines-pages.result.1 claim text all _ c.in-Some.lines frames opened may
+                here.1 (c.in_ok-lines.ensures.bytes text all known here.0) c.in-Some.is
+                (told.of_bytes all (c.in_ok-lines.ensures.keeps text all known here.0));
+          }) (lists.says text known);
       keeps = lists.keeps;
       counts = lists.counts;
     }

@@ -36,9 +36,14 @@ asked-preserved g c =
           (get_or_default c.args.asked.now c.asked.place-index (File 0) _ c.asked-test.true)
           c.in_default.ensures.items
           (c.asked.invariant.told text known)
-          (λ slice all steps are base opened. own.read.says text (c.asked.invariant.whole ∙ known) slice all steps are
-          base (still c.args.table.now c.args.pages.now c.asked.pages text all steps
-          (c.asked.invariant.keeps text all known) opened));
+          (record {
+            of_slice = λ slice all steps are base opened.
+                (own.read.says text (c.asked.invariant.whole ∙ known)).of_slice slice all steps are
+                base (still c.args.table.now c.args.pages.now c.asked.pages text all steps
+                (c.asked.invariant.keeps text all known) opened);
+            of_bytes = λ all pages. (own.read.says text (c.asked.invariant.whole ∙ known)).of_bytes all
+                (c.asked.invariant.keeps text all known pages);
+          });
     }
 
 pub returns-in_err-frames : goal.returns-in_err-frames

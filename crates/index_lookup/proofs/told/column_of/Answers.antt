@@ -60,8 +60,10 @@ returns-clause-read g c =
             frames = λ wanted.
                 subst (λ claim. AllZip (AreFramesToldBy text claim) c.args.asked.now
                 (map list_in c.in-Some.frames.items)) (sym c.args.numbered.now.fields.claim_is)
-                (zip_as _ _ c.args.asked.now _ (λ place list one slice all bytes is may. one slice all bytes
-                (told.1 slice all bytes is may) is may)
+                (zip_as _ _ c.args.asked.now _ (λ place list one. record {
+                  of_slice = λ slice all bytes is may. one.of_slice slice all bytes (told.1 slice all bytes is may) is may;
+                  of_bytes = one.of_bytes;
+                })
                 (has (MatchOption-at_some _ _ _ c.in-Some.is (frames.says text known opened) wanted)));
           };
       keeps = frames.keeps;

@@ -29,14 +29,19 @@ returns-clause-read g c =
     let asked = after_ok _ _ _ _ _ _ _ _ opened.keeps opened.counts c.in_ok-owns.ensures.read in
     record {
       says = λ text known. (
-        λ t fits may. c.in_ok-owns.ensures.keeps text t (opened.keeps ∙ known) (opened.says text known t fits may),
+        record {
+          opened = λ t fits may. c.in_ok-owns.ensures.keeps text t (opened.keeps ∙ known) (opened.says text known t fits may);
+          of_bytes = λ all may. c.in_ok-owns.ensures.bytes text all (opened.keeps ∙ known) (c.in_ok-table.ensures.bytes text all known may);
+        },
         λ slice all bytes is may.
             let here = opened.says text known is.is_table.0 is.is_table.2 (subst (MayBeStored text (claim_view c.args.claim)) is.is_table.3 may) in
             c.text_base-base.ensures ∙ here.head.base ∙ is.is_table.1.base,
-        zip_as _ _ c.args.asked.now _ (λ place own told slice all bytes is may.
-            told slice is.is_table.0 bytes is.is_table.1
-            (opened.says text known is.is_table.0 is.is_table.2
-            (subst (MayBeStored text (claim_view c.args.claim)) is.is_table.3 may))) (asked.says text known),
+        zip_as _ _ c.args.asked.now _ (λ place own told. record {
+          of_slice = λ slice all bytes is may. told slice is.is_table.0 bytes is.is_table.1
+              (opened.says text known is.is_table.0 is.is_table.2
+              (subst (MayBeStored text (claim_view c.args.claim)) is.is_table.3 may));
+          of_bytes = λ all may. (c.in_ok-table.ensures.bytes text all known may).headed;
+        }) (asked.says text known),
       );
       keeps = asked.keeps;
       counts = asked.counts;

@@ -19,6 +19,7 @@ asked-preserved g c =
       whole = own.read.keeps ∙ c.asked.invariant.whole;
       unfailed = own.read.counts ∙ c.asked.invariant.unfailed;
       keeps = λ text t known opened. own.keeps text t (c.asked.invariant.whole ∙ known) (c.asked.invariant.keeps text t known opened);
+      bytes = λ text all known opened. own.bytes text all (c.asked.invariant.whole ∙ known) (c.asked.invariant.bytes text all known opened);
       told = λ text known.
           zip_viewed (IsOwnOpened c.args.table.now text) told_view c.args.asked.now c.asked.place-index
           (get_or c.args.asked.now c.asked.place-index (File 0)) c.asked.owns.items c.push.new.self.items

@@ -1,6 +1,7 @@
 use Rattle.std.proofs.Common.{length, refl, arith}
 use Rattle.table_checked_pages.proofs.ReadLemmas.{passed_on}
 use Rattle.table_source_frames.proofs.OpenedLemmas.{file_number, file_read, opened_long}
+use Rattle.table_source_frames.proofs.ByteLemmas.{file_in}
 use Rattle.table_source_frames.proofs.table.LineTable.file_row.Goals as goal
 
 pub returns-in_default-clause-read : goal.returns-in_default-clause-read
@@ -26,3 +27,9 @@ returns-clause-read g c = record {
   keeps = c.in_ok-read.ensures.read.keeps;
   counts = c.in_ok-read.ensures.read.counts;
 }
+
+pub returns-clause-bytes : goal.returns-clause-bytes
+returns-clause-bytes g c = λ text all known pages.
+    file_in c.args.self.now all c.read.new.buf c.args.number c.in-Some.index (length c.read.new.buf) _ _
+    c.in-Some.ensures.is c.in-Some.ensures.inside c.read.auto.buf (omega (arith, c.first_file.ensures))
+    (c.in_ok-read.ensures.read.says text known all pages) c.u32_be_at.ensures c.u32_be_at-2.ensures c.u32_be_at-3.ensures

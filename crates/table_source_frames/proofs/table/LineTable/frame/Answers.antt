@@ -1,4 +1,4 @@
-use Rattle.std.proofs.Common.{sym, subst, ◌∙◌}
+use Rattle.std.proofs.Common.{refl, sym, subst, ◌∙◌}
 use Rattle.table_checked_pages.specs.Pages.{AreStored}
 use Rattle.table_checked_pages.specs.Views.{claim_view}
 use Rattle.table_checked_pages.proofs.ReadLemmas.{after_ok, passed_on}
@@ -32,3 +32,12 @@ returns-clause-read g c =
       keeps = path.keeps;
       counts = path.counts;
     }
+
+pub returns-clause-bytes : goal.returns-clause-bytes
+returns-clause-bytes g c = λ text all known pages. record {
+  name = c.in_ok-name.ensures.bytes text all known pages;
+  path = c.in_ok-path.ensures.bytes text all (c.in_ok-name.ensures.read.keeps ∙ known)
+      (c.in_ok-name.ensures.keeps text all known pages);
+  line = refl;
+  column = refl;
+}

@@ -1,4 +1,4 @@
-use Rattle.std.proofs.Common.{sym, subst}
+use Rattle.std.proofs.Common.{sym, subst, ◌∙◌}
 use Rattle.table_checked_pages.specs.Pages.{AreStored}
 use Rattle.table_checked_pages.specs.Views.{claim_view}
 use Rattle.table_checked_pages.proofs.ReadLemmas.{after_ok, passed_on}
@@ -31,13 +31,19 @@ returns-clause-read g c =
     let location = c.in_ok-location.ensures.read in
     let frames = after_ok _ _ _ _ _ _ _ _ location.keeps location.counts c.in_ok-frames.ensures.read in
     record {
-      says = λ text known image all steps are opened.
-          let found = location.says text known all steps are.rising opened in
-          let right = c.frames_by_step.ensures image steps c.args.address found.0 c.ranges.address.fits are found.1 in
-          let told = frames.says text known all steps (frames_at steps found.0)
-          (kept _ _ _ _ _ _ opened (c.in_ok-location.ensures.keeps text all known opened.are_pages)) found.2
-          (few_frames image c.args.address (frames_at steps found.0) right) in
-          subst (AreFramesOf image c.args.address) (sym told) right;
+      says = λ text known. (
+        λ image all steps are opened.
+            let found = location.says text known all steps are.rising opened in
+            let right = c.frames_by_step.ensures image steps c.args.address found.0 c.ranges.address.fits are found.1 in
+            let told = frames.says text known all steps (frames_at steps found.0)
+            (kept _ _ _ _ _ _ opened (c.in_ok-location.ensures.keeps text all known opened.are_pages)) found.2
+            (few_frames image c.args.address (frames_at steps found.0) right) in
+            subst (AreFramesOf image c.args.address) (sym told) right,
+        λ all pages. (
+          c.in_ok-location.location,
+          c.in_ok-frames.ensures.bytes text all (location.keeps ∙ known) (c.in_ok-location.ensures.keeps text all known pages),
+        ),
+      );
       keeps = frames.keeps;
       counts = frames.counts;
     }

@@ -3,8 +3,10 @@ use Rattle.table_checked_pages.specs.Pages.{AreStored}
 use Rattle.table_checked_pages.specs.Views.{claim_view}
 use Rattle.table_checked_pages.proofs.ReadLemmas.{after_ok, passed_on}
 use Rattle.table_source_frames.specs.LineText.{parts_of}
+use Rattle.table_source_frames.specs.OfBytes.{AreStoredFrames}
 use Rattle.table_source_frames.proofs.OpenedLemmas.{kept}
 use Rattle.table_source_frames.proofs.SearchLemmas.{all_told, maybe_cons, maybe_nil, none_yet, pushed, too_long}
+use Rattle.table_source_frames.proofs.ByteLemmas.{frame_before, frames_end}
 use Rattle.table_source_frames.proofs.table.LineTable.frames_from.Goals as goal
 
 pub callers-init : goal.callers-init
@@ -14,6 +16,8 @@ callers-init g c = record {
   unfailed = refl;
   keeps = λ text all known pages. pages;
   told = λ text all steps chain known opened is few. (chain, is, none_yet c.new-frames.result.items chain c.new-frames.ensures.items);
+  bytes = λ text all known pages rest after.
+      subst (AreStoredFrames c.args.self.now all c.args.location) (sym (none_yet c.new-frames.result.items rest c.new-frames.ensures.items)) after;
 }
 
 pub returns-then-len-eq-MOST_FRAMES-clause-read : goal.returns-then-len-eq-MOST_FRAMES-clause-read
@@ -87,6 +91,14 @@ callers-preserved g c =
             pushed c.callers.frames.items _ c.in_ok-frame.frame next.0 next.1 told.0 chain
                 c.in_ok-push.ensures.pushed view next.2 told.2,
           );
+      bytes = λ text all known pages rest after.
+          let mid = c.callers.invariant.keeps text all known pages in
+          let is = c.in_ok-row.ensures.bytes text all (c.callers.invariant.whole ∙ known) mid in
+          let has = c.in_ok-frame.ensures.bytes text all (row.keeps ∙ known)
+          (c.in_ok-row.ensures.keeps text all (c.callers.invariant.whole ∙ known) mid) in
+          frame_before c.args.self.now all c.callers.frames.items _ c.args.location c.callers.number c.in_ok-row.row
+          c.in_ok-frame.frame rest (c.callers.invariant.bytes text all known pages) is
+          (omega (arith, c.if-row-number.false)) has c.in_ok-push.ensures.pushed after;
     }
 
 pub returns-clause-read : goal.returns-clause-read
@@ -97,3 +109,8 @@ returns-clause-read g c = record {
   keeps = c.callers.invariant.whole;
   counts = c.callers.invariant.unfailed;
 }
+
+pub returns-clause-bytes : goal.returns-clause-bytes
+returns-clause-bytes g c = λ text all known pages.
+    frames_end c.args.self.now all c.callers.frames.items c.args.location c.callers.number c.callers-test.false
+    (c.callers.invariant.bytes text all known pages)

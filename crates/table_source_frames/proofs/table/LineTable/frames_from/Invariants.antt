@@ -4,6 +4,7 @@ use Rattle.dwarf_source_frames.specs.Frames.{FrameRecord}
 use Rattle.table_source_frames.specs.FrameViews.{owned_frames}
 use Rattle.table_source_frames.specs.Inner.{IsMaybeChain}
 use Rattle.table_source_frames.specs.LineText.{parts_of}
+use Rattle.table_source_frames.specs.OfBytes.{AreStoredFrames}
 use Rattle.table_source_frames.specs.Opened.{IsOpened}
 use Rattle.table_source_frames.specs.Steps.{StepRecord}
 use Rattle.table_source_frames.proofs.table.LineTable.frames_from.Given as goal
@@ -18,6 +19,9 @@ invariant-callers g l = record {
       ≡ Some text → IsOpened l.self l.initial.pages text all steps
       → IsMaybeChain (parts_of steps) l.location chain → length chain ≤ 256 → (rest : List FrameRecord)
       × IsMaybeChain (parts_of steps) l.number rest × (owned_frames l.frames.items ++ rest ≡ chain);
+  bytes : (text all : List ℕ) → g.P.Placed.whole l.initial.device ≡ Some text → ArePagesOf l.initial.pages text all
+      → (rest : List FrameRecord) → AreStoredFrames l.self all l.number rest
+      → AreStoredFrames l.self all l.location (owned_frames l.frames.items ++ rest);
 }
 
 abbrev pub decreases-callers : goal.decreases-callers

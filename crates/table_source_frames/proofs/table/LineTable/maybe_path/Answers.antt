@@ -4,6 +4,7 @@ use Rattle.table_checked_pages.specs.Views.{claim_view}
 use Rattle.table_checked_pages.proofs.ReadLemmas.{after_ok, passed_on}
 use Rattle.table_source_frames.proofs.OpenedLemmas.{kept, no_file, some_file}
 use Rattle.table_source_frames.specs.LineText.{parts_of}
+use Rattle.table_source_frames.proofs.ByteLemmas.{stored_path}
 use Rattle.table_source_frames.proofs.table.LineTable.maybe_path.Goals as goal
 
 pub returns-then-number-eq0-clause-read : goal.returns-then-number-eq0-clause-read
@@ -44,3 +45,12 @@ returns-clause-read g c =
       keeps = path.keeps;
       counts = path.counts;
     }
+
+pub returns-clause-bytes : goal.returns-clause-bytes
+returns-clause-bytes g c = λ text all known pages.
+    stored_path c.args.self.now all c.args.number c.in_ok-row.row _ (c.in_ok-row.ensures.bytes text all known pages)
+    (c.in_ok-path.ensures.bytes text all (c.in_ok-row.ensures.read.keeps ∙ known)
+    (c.in_ok-row.ensures.keeps text all known pages))
+
+pub returns-then-number-eq0-clause-bytes : goal.returns-then-number-eq0-clause-bytes
+returns-then-number-eq0-clause-bytes g c = λ text all known pages. c.if-number-eq0.true

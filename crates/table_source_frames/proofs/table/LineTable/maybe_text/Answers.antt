@@ -27,3 +27,9 @@ returns-clause-read g c = record {
   keeps = c.in_ok-text.ensures.read.keeps;
   counts = c.in_ok-text.ensures.read.counts;
 }
+
+pub returns-clause-bytes : goal.returns-clause-bytes
+returns-clause-bytes g c = λ text all known pages. c.in_ok-text.ensures.bytes text all known pages
+
+pub returns-then-number-eq0-clause-bytes : goal.returns-then-number-eq0-clause-bytes
+returns-then-number-eq0-clause-bytes g c = λ text all known pages. c.if-number-eq0.true

@@ -1,6 +1,7 @@
 use Rattle.std.proofs.Common.{length, ap, sym, ◌∙◌, arith, length-drop}
 use Rattle.table_checked_pages.proofs.ReadLemmas.{passed_on}
 use Rattle.table_source_frames.proofs.OpeningLemmas.{head_read, opens_none, opens_not, opens_some, table_long}
+use Rattle.table_source_frames.proofs.ByteLemmas.{found_in, found_no}
 use Rattle.table_source_frames.proofs.table.LineTable.open.Goals as goal
 
 pub returns-in_err-read-clause-read : goal.returns-in_err-read-clause-read
@@ -58,3 +59,31 @@ returns-clause-read g c = record {
   keeps = c.in_ok-read.ensures.read.keeps;
   counts = c.in_ok-read.ensures.read.counts;
 }
+
+pub returns-then-head-eq0-clause-bytes : goal.returns-then-head-eq0-clause-bytes
+returns-then-head-eq0-clause-bytes g c = λ text all known pages.
+    let e = c.head_of-head.ensures in
+    found_no all c.read.new.buf _ c.args.offset c.args.pages.now.claim.size c.head_of-head.result c.read.auto.buf
+    (omega (arith, c.read.auto.buf, c.in_ok-read.ensures.within (omega (arith, c.read.auto.buf))))
+    (c.in_ok-read.ensures.read.says text known all pages)
+    (record { lines = e.lines; runs = e.runs; steps = e.steps; locations = e.locations; files = e.files; texts = e.texts; bytes_of = e.bytes })
+    pages.stored.size c.if-head-eq0.true
+
+pub returns-clause-bytes : goal.returns-clause-bytes
+returns-clause-bytes g c = λ text all known pages.
+    let e = c.head_of-head.ensures in
+    let made = c.in-Some.ensures in
+    found_in all c.read.new.buf _ c.args.offset c.args.pages.now.claim.size c.head_of-head.result c.in-Some.table c.read.auto.buf
+    (omega (arith, c.read.auto.buf, c.in_ok-read.ensures.within (omega (arith, c.read.auto.buf))))
+    (c.in_ok-read.ensures.read.says text known all pages)
+    (record { lines = e.lines; runs = e.runs; steps = e.steps; locations = e.locations; files = e.files; texts = e.texts; bytes_of = e.bytes })
+    pages.stored.size (made.adds ∙ c.size.ensures ∙ ap (λ claim. claim.size) c.in_ok-read.ensures.claim) c.if-head-eq0.false
+    (record {
+      offset_is = made.offset;
+      runs = made.runs;
+      steps = made.steps;
+      locations = made.locations;
+      files = made.files;
+      texts = made.texts;
+      bytes = made.bytes;
+    })

@@ -47,3 +47,14 @@ returns-clause-read g c =
       keeps = name.keeps;
       counts = name.counts;
     }
+
+pub returns-clause-bytes : goal.returns-clause-bytes
+returns-clause-bytes g c = λ text all known pages.
+    let second = c.in_ok-base.ensures.keeps text all known pages in
+    let first_kept = c.in_ok-base.ensures.read.keeps in
+    let third = c.in_ok-directory.ensures.keeps text all (first_kept ∙ known) second in
+    record {
+      base = c.in_ok-base.ensures.bytes text all known pages;
+      directory = c.in_ok-directory.ensures.bytes text all (first_kept ∙ known) second;
+      name = c.in_ok-name.ensures.bytes text all (c.in_ok-directory.ensures.read.keeps ∙ first_kept ∙ known) third;
+    }

@@ -7,6 +7,7 @@ use Rattle.table_source_frames.proofs.SameLemmas.{text_decides}
 use Rattle.table_source_frames.specs.LineText.{parts_of}
 use Rattle.table_source_frames.specs.Numbering.{same_text}
 use Rattle.table_source_frames.proofs.OpenedLemmas.{kept, stands_at, text_number}
+use Rattle.table_source_frames.proofs.ByteLemmas.{stored_text}
 use Rattle.table_source_frames.proofs.table.LineTable.text.Goals as goal
 
 pub returns-in_default-clause-read : goal.returns-in_default-clause-read
@@ -46,3 +47,11 @@ returns-clause-read g c =
       keeps = bytes.keeps;
       counts = bytes.counts;
     }
+
+pub returns-clause-bytes : goal.returns-clause-bytes
+returns-clause-bytes g c = λ text all known pages.
+    stored_text c.args.self.now all c.args.number c.in-Some.index c.in_ok-row.row c.in_ok-bytes.bytes.items
+    c.in-Some.ensures.is c.in-Some.ensures.inside (c.in_ok-row.ensures.bytes text all known pages)
+    c.in_ok-bytes.ensures.inside
+    (c.in_ok-bytes.ensures.bytes text all (c.in_ok-row.ensures.read.keeps ∙ known)
+    (c.in_ok-row.ensures.keeps text all known pages))

@@ -2,6 +2,7 @@ use Rattle.std.proofs.Common.{length, Some, refl, ap, sym, ◌∙◌, arith}
 use Rattle.table_checked_pages.proofs.ReadLemmas.{passed_on}
 use Rattle.std.proofs.lemmas.List.{take_at}
 use Rattle.table_source_frames.proofs.OpenedLemmas.{opened_long, text_ends, text_read}
+use Rattle.table_source_frames.proofs.ByteLemmas.{bytes_in}
 use Rattle.table_source_frames.proofs.table.LineTable.text_of.Goals as goal
 
 pub returns-then-end-self-clause-read : goal.returns-then-end-self-clause-read
@@ -39,3 +40,12 @@ returns-clause-read g c = record {
   keeps = c.in_ok-read.ensures.read.keeps;
   counts = c.in_ok-read.ensures.read.counts;
 }
+
+pub returns-clause-bytes : goal.returns-clause-bytes
+returns-clause-bytes g c = λ text all known pages.
+    let long = ap length c.deref_mut.ensures.value in
+    bytes_in all c.read.new.buf _ c.args.row.length _ _
+    (take_at c.read.new.buf _ c.in_ok-bytes.bytes.len (omega (arith, c.read.auto.buf, long, c.in_ok-bytes.bytes.ok.0)))
+    (c.in_ok-read.ensures.read.says text known all pages)
+    (omega (arith, c.read.auto.buf, long, c.in_ok-bytes.ensures.long))
+    (omega (arith, c.texts_offset.ensures, c.from-3.ensures))

@@ -1,6 +1,7 @@
 use Rattle.std.proofs.Common.{length, arith}
 use Rattle.table_checked_pages.proofs.ReadLemmas.{passed_on}
 use Rattle.table_source_frames.proofs.OpenedLemmas.{opened_long, text_row_read}
+use Rattle.table_source_frames.proofs.ByteLemmas.{text_in}
 use Rattle.table_source_frames.proofs.table.LineTable.text_row.Goals as goal
 
 pub returns-in_err-read-clause-read : goal.returns-in_err-read-clause-read
@@ -18,3 +19,9 @@ returns-clause-read g c = record {
   keeps = c.in_ok-read.ensures.read.keeps;
   counts = c.in_ok-read.ensures.read.counts;
 }
+
+pub returns-clause-bytes : goal.returns-clause-bytes
+returns-clause-bytes g c = λ text all known pages.
+    text_in c.args.self.now all c.read.new.buf c.args.index (length c.read.new.buf) _ _ c.read.auto.buf
+    (omega (arith, c.first_text.ensures)) (c.in_ok-read.ensures.read.says text known all pages) c.u32_be_at.ensures
+    c.u32_be_at-2.ensures
