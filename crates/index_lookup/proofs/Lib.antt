@@ -10,3 +10,4 @@ pub mod EachTold
 pub mod RunLemmas
 pub mod NamedSlices
 pub mod OpenedLines
+mod HeadedEntries

@@ -1,8 +1,14 @@
-//! What entries tell of several places they tell of each. The law is the contract of a function that does nothing.
+//! What entries tell of several places they tell of each, and what is stored for entries that answer. Each law is the
+//! contract of a function that does nothing.
 
-ghost use Rattle.std.specs.Prelude.{◌<◌, ℕ, Bool, List, length, map, slice_index_or};
+ghost use Rattle.std.specs.Prelude.{◌≡◌, ◌<◌, ℕ, Bool, Contains, List, [], Some, length, map, slice_get, slice_index_or};
 ghost use Rattle.std.specs.List.{AllZip};
+ghost use Rattle.table_checked_pages.specs.Pages.{AreStored};
+ghost use Rattle.dwarf_source_frames.specs.Frames.{FrameRecord};
+ghost use Rattle.table_symbols.specs.Opened.{AreHeaded};
+ghost use Rattle.archive_core.specs.Lookup.{AnswerRecord};
 ghost use Rattle.archive_core.specs.declared.lookup.Where.{Where};
+ghost use Rattle.index_format.specs.Entry.{claim_in};
 ghost use Rattle.index_lookup.specs.Among.{AreAnsweringAmong, EntryAt};
 ghost use Rattle.index_lookup.specs.AmongTold.{IsAnswerAmong, IsToldOfAmong};
 ghost use Rattle.index_lookup.specs.Views.{IsColumnAt, answer_of, row_at, shown_of};
@@ -21,4 +27,17 @@ pub fn each_told()
         → AllZip (IsColumnAt texts lines asked) answering columns → number < length asked
         → IsAnswerAmong texts indexes prefix lines (slice_index_or asked number none)
         (answer_of (map (row_at number) columns)) (shown_of lines number columns) }
+{}
+
+/// Where bytes are stored for an entry that answers, they begin with the head of a table of their size. So none answers
+/// for which no bytes are, as `symarch-keep` stores them for a slice that changed: it is damaged.
+pub fn headed_among()
+    ensures headed { (texts : List (List ℕ)) (indexes : List (List (List ℕ))) (prefix : List ℕ) (lines : Bool)
+        (asked : Where) (answer : AnswerRecord) (frames : List (List FrameRecord)) (x : EntryAt) (text all : List ℕ)
+        (is : IsAnswerAmong texts indexes prefix lines asked answer frames) → Contains is.answering x
+        → slice_get texts x.input ≡ Some text → AreStored text (claim_in x.entry) all → AreHeaded all }
+    ensures empty { (texts : List (List ℕ)) (indexes : List (List (List ℕ))) (prefix : List ℕ) (lines : Bool)
+        (asked : Where) (answer : AnswerRecord) (frames : List (List FrameRecord)) (x : EntryAt) (text : List ℕ)
+        (is : IsAnswerAmong texts indexes prefix lines asked answer frames) → Contains is.answering x
+        → slice_get texts x.input ≡ Some text → AreStored text (claim_in x.entry) [] → ⊥ }
 {}
