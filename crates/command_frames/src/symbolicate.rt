@@ -1,6 +1,7 @@
 //! `symbolicate ARCHIVE UUID ARCH [--load HEX] [--lines] [--slices] ADDRESS... [--with OTHER]... [--index INDEX]...`:
 //! `frames` for the addresses under one key.
 ghost use Rattle.std.specs.Prelude.{◌≡◌, IfOk};
+ghost use Rattle.archive_core.specs.Key.{IsKey};
 ghost use Rattle.command_common.specs.Ends.{EndsReport};
 ghost use Rattle.command_common.specs.Outputs.{writer};
 ghost use Rattle.command_queries.specs.Frames.{frames_under_key, prints_addresses};
@@ -53,13 +54,14 @@ pub fn run_symbolicate<A: Archive + Drop, E: FrameEvidence, P: Sink>(
     report: &mut P,
 ) -> Result<Status, CommandFault>
     requires { E.can_find evidence.old }
+    ensures keyed { IsKey key.now }
     ensures keeps { E.keeps evidence.old evidence.new }
     ensures ends { EndsReport
         (prints_addresses (E.answered evidence.old evidence.new lines slices) key.now load addresses.now)
         (writer P.held P.failures report.old report.new) result }
 {
-    let frames = frames_under_key(heap.share(), *key, load, addresses)?;
     let keys = [whole_key(*key)];
+    let frames = frames_under_key(heap.share(), *key, load, addresses)?;
     let (status, text) = evidence.answer::<A>(&heap, lines, slices, &keys, &frames)?;
     write_report_bytes(status, &text, report)
 }
