@@ -634,6 +634,33 @@ class Changing(RoomCase):
             told = [f"many/0000: {reason}", f"made {self.room.archive}"]
             same("errors", errors[:-1], [f"symarch-keep: {one}" for one in told])
 
+    def test_written(self) -> None:
+        """A byte that changes in the new file, before the program reads that back, keeps its slice out. The others go
+        in: as the archive is made, and next to slices that ARCHIVE.today has."""
+        large, more = image(100, more=bytes(200_000)), bytes(1000)
+        self.room.file("large", large)
+        for before, first in ((0, 0), (1, 0), (1, 1)):
+            self.room.begin_anew()
+            if before:
+                self.room.add("large")
+                self.room.call("fold", self.room.archive)
+            made = self.room.make_many(3, first=10, more=more)
+            had = [image(one, more=more) for one in range(first)]
+            for one in had:
+                self.room.file("had", one)
+                self.room.add("had")
+            at = archive([*had, *made]).index(made[0]) + len(made[0]) - 1
+            changing = f'printf x | dd of="$it" bs=1 seek={at} conv=notrunc status=none'
+            once = f'rm "$0.next"; for it in new grown; do [ ! -e "$it" ] || {changing}; done'
+            merged = f'[ "$1" != merge ] || [ ! -e "$0.next" ] || {{ {once}; }}'
+            script = f'"$symarch" "$@"\nstatus=$?\n{merged}\nexit $status'
+            self.room.file("program.next", b"")
+            said, errors = self.room.add("many", status=2, environment=self.room.program(script))
+            same("lines", said, [line("added", made[one], f"many/{one:04}") for one in (1, 2)])
+            same("errors", errors[:-1], ["symarch-keep: many/0000: changed while it was read"])
+            self.room.has(archive([*had, *made[1:], *[large] * before]))
+            self.room.call("check", self.room.archive)
+
 
 def close_all(descriptors: Tuple[int, ...]) -> None:
     for descriptor in descriptors:

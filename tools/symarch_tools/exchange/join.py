@@ -28,7 +28,7 @@ class Retirement(Slice):
     def of(cls, entry: bytes) -> "Retirement":
         return cls(b"", None, 0, 0, 0, RETIREMENT + entry, b"")
 
-    def chunks(self) -> Iterator[bytes]:
+    def pieces(self) -> Iterator[bytes]:
         return iter(())
 
 

@@ -4,12 +4,13 @@ before it, so its own records do not make it slower. The programs of a fold read
 `merge` of several FILEs has them in memory."""
 import os
 from dataclasses import dataclass, field
-from typing import List, Optional, Sequence
+from typing import List, Optional, Sequence, Tuple
 
 from ..console.escapes import shown
-from ..console.faults import Failed
+from ..console.faults import Failed, SliceRefused
 from ..console.screen import Screen
-from ..formats.contents import Content, archive_of_retirements, heads_in, join_of
+from ..formats.contents import ADMISSION, Content, archive_of_retirements, heads_in, join_of, record_size
+from ..formats.contents import records_in
 from ..formats.files import linked, size_of, write_synced
 from ..formats.indexes import Index, index_at, index_by
 from ..formats.tables import Tables, write_index
@@ -18,7 +19,7 @@ from .archive_file import ArchiveFile
 from .folder import watched
 from .levels import joined_by_fold
 from .program import Merge, Program, Run
-from .slices import Slice
+from .slices import CHANGED, Slice
 
 
 # ARCHIVE.today has grown if it has more than one of so many parts of ARCHIVE.
@@ -38,16 +39,45 @@ class News:
     def paths(self) -> List[bytes]:
         return [self.path] if self.path else []
 
-    def index(self, room: bytes, program: Program, screen: Screen) -> None:
-        """Has the program make the tables of its slices, unless an index has them."""
+    def index(self, written: bytes, program: Program, screen: Screen) -> None:
+        """Has the program make the tables of its slices, unless an index has them: of its archive, or of the slices as
+        a file of a room has them, where they were written."""
         if self.indexes or not self.content.held:
             return
-        if self.path:
-            self.indexes.append(index_made(self.path, room, b"came.idx", program, screen))
-            return
-        screen.begin("indexing: {} slices", sum(one.length for one in self.slices))
-        program.run(Run(["index", "/dev/stdin", "came.idx"], self.slices, room, moved=screen.progress))
-        self.indexes.append(index_at(os.path.join(room, b"came.idx")))
+        room = os.path.dirname(written)
+        slices, has_others = ([], False) if self.path else self.written_in(written)
+        if has_others:
+            index = index_of_some(slices, room, program, screen)
+        else:
+            index = index_made(self.path or written, room, b"came.idx", program, screen)
+        self.test(index)
+        self.indexes.append(index)
+
+    def written_in(self, path: bytes) -> Tuple[List[Slice], bool]:
+        """The slices in a file, with others that have their heads; and whether it has other records."""
+        heads = {one.head for one in self.slices}
+        with open(path, "rb") as file:
+            size, every = os.fstat(file.fileno()).st_size, list(records_in(file))
+        its = [it for it in every if it[0] in heads]
+        found = [Slice(path, None, at, record_size(head) - len(head), size, head, path) for head, at in its]
+        return found, len(found) < len(every)
+
+    def test(self, index: Index) -> None:
+        """Fails if a slice has other bytes in the file that was indexed than those that were read first."""
+        entries = {row.entry for row in index.rows()}
+        for one in self.slices:
+            if one.head[:1] == ADMISSION and ADMISSION + one.entry() not in entries:
+                raise SliceRefused(CHANGED, one)
+
+
+def index_of_some(slices: Sequence[Slice], room: bytes, program: Program, screen: Screen) -> Index:
+    """The index of some slices of a file of a room, by the program."""
+    screen.begin("indexing: {} slices", sum(one.length for one in slices))
+    try:
+        program.run(Run(["index", "/dev/stdin", "came.idx"], slices, room, moved=screen.progress, is_read_back=True))
+    except SliceRefused as refused:
+        raise Failed(f"{shown(refused.one.path)}: {refused}") from None
+    return index_at(os.path.join(room, b"came.idx"))
 
 
 @dataclass
@@ -65,14 +95,14 @@ class Draft:
         today = self.archive.files.today
         if not self.is_to_be_folded():
             self.merge([today], b"new", news.slices, news.paths())
-            news.index(self.room, self.program, self.screen)
+            news.index(os.path.join(self.room, b"new"), self.program, self.screen)
             index = self.new_index(today, today.content.joined(news.content), [today.index, *news.indexes])
             self.archive.folder.replace(self.room, today, index, self.lines, self.screen)
             return
         if news.path is None or len(today.content):
             self.merge([today], b"grown", news.slices, news.paths())
-            news.index(self.room, self.program, self.screen)
             grown = os.path.join(self.room, b"grown")
+            news.index(grown, self.program, self.screen)
             news = News(today.content.joined(news.content), (), grown, [today.index, *news.indexes])
         self.join_by_fold(news)
 
@@ -115,7 +145,7 @@ class Draft:
         is_alone = len(paths) == 1 and not any(it.exists() for it in files)
         if not is_alone or not linked(paths[0], os.path.join(self.room, b"new")):
             self.merge([file, *reversed(others)], b"new", more=paths)
-        news.index(self.room, self.program, self.screen)
+        news.index(os.path.join(self.room, b"new"), self.program, self.screen)
         indexes = [*(it.index for it in files), *news.indexes]
         index = self.new_index(file, content.joined(Content(retired)), indexes)
         self.archive.folder.replace(self.room, file, index, self.lines, self.screen)

@@ -32,7 +32,8 @@ PASSED_OVER, IN_PART = re.compile(r"file ([0-9]+) refused (.*)"), 2
 class Run:
     """A call of the program: its arguments, the slices whose archive is on its standard input, the folder in which it
     runs, the open files that it gets, and what is called as it moves on. A fault names a path of `names` by what that
-    has for it. `goes_on` is said of a command that may report what it refuses, and carry out the rest."""
+    has for it. `goes_on` is said of a command that may report what it refuses, and carry out the rest. The bytes of
+    slices are not compared with their digests here if those of its result are (`is_read_back`)."""
 
     arguments: Sequence[Argument]
     slices: Sequence[Slice] = ()
@@ -41,6 +42,7 @@ class Run:
     moved: Moved = unmoved
     names: Mapping[str, str] = field(default_factory=dict)
     goes_on: bool = False
+    is_read_back: bool = False
 
     def all_names(self) -> Dict[str, str]:
         """How paths are shown, also the arguments of a command if they name files of the folder."""
@@ -51,8 +53,8 @@ class Run:
 
 @dataclass(frozen=True)
 class Merge:
-    """Archives of which the program writes the join as a new file, the largest one first; slices that it has too; and
-    open files that the program holds."""
+    """Archives of which the program writes the join as a new file, the largest one first; slices that it has too, whose
+    bytes are tested in that file; and open files that the program holds."""
 
     paths: Sequence[bytes]
     new: bytes
@@ -84,7 +86,7 @@ class Program:
             process = begun(ends, command, bufsize=0, cwd=run.folder, pass_fds=files, **pipes)
             assert process.stdin
             with contextlib.suppress(BrokenPipeError):
-                give(process.stdin.fileno(), run.slices, run.moved)
+                give(process.stdin.fileno(), run)
             printed, said = None, b""
             while printed is None:
                 # What is raised within would leave its lock.
@@ -120,7 +122,8 @@ class Program:
             arguments = ["merge", first, os.fsdecode(name), *(others or ["/dev/stdin"])]
             names[arguments[2]] = shown(asked.new)
             try:
-                self.run(Run(arguments, asked.slices, folder, [*read, *asked.held], asked.moved, names))
+                held = [*read, *asked.held]
+                self.run(Run(arguments, asked.slices, folder, held, asked.moved, names, is_read_back=True))
             except Failed as failed:
                 raise pipes.fault(names) or failed from None
             finally:
@@ -193,15 +196,15 @@ def answering_program() -> str:
     raise Failed(f"{which} program symarch; `./symarch --version` in its sources builds one", 126)
 
 
-def give(descriptor: int, slices: Sequence[Slice], moved: Moved) -> None:
+def give(descriptor: int, run: Run) -> None:
     """Writes the archive of slices, which are in the order of their records."""
     write(descriptor, MAGICS[0])
-    for done, one in enumerate(slices):
+    for done, one in enumerate(run.slices):
         write(descriptor, one.head)
-        for chunk in one.chunks():
+        for chunk in one.pieces() if run.is_read_back else one.chunks():
             write(descriptor, chunk)
-            moved(done)
-    write(descriptor, END + len(slices).to_bytes(LENGTH, "big"))
+            run.moved(done)
+    write(descriptor, END + len(run.slices).to_bytes(LENGTH, "big"))
 
 
 def inner(reason: str, begins: str) -> str:
@@ -217,7 +220,7 @@ def fault(run: Run, said: bytes, status: int) -> Exception:
         at, reason = MAGIC, found.reason
         for one in run.slices:
             if at == found.byte:
-                return SliceRefused(inner(reason, BAD_SLICE), one, True)
+                return one.refused(inner(reason, BAD_SLICE))
             at += len(one.head) + one.length
     where, _, path = more.partition(" is ")
     names = run.all_names()

@@ -69,16 +69,15 @@ class Slice:
     def open(self) -> BinaryIO:
         return self.opens() if self.opens else open(self.path, "rb", buffering=0)
 
-    def chunks(self) -> Iterator[bytes]:
-        """The bytes, which have to be those of the first time."""
-        left, digest = self.length, hashlib.sha256()
+    def pieces(self) -> Iterator[bytes]:
+        """The bytes, of a file that is as long as it was."""
+        left = self.length
         try:
             with self.open() as file:
                 file.seek(self.offset)
                 while left > 0:
                     chunk = file.read(min(left, CHUNK))
                     left -= len(chunk)
-                    digest.update(chunk)
                     if not chunk or left == 0 and os.fstat(file.fileno()).st_size != self.size:
                         raise SliceRefused(CHANGED, self)
                     yield chunk
@@ -86,6 +85,13 @@ class Slice:
             raise SliceRefused(str(error.strerror), self) from None
         except Damaged:
             raise SliceRefused(CHANGED, self) from None
+
+    def chunks(self) -> Iterator[bytes]:
+        """The bytes, which have to be those of the first time."""
+        digest = hashlib.sha256()
+        for piece in self.pieces():
+            digest.update(piece)
+            yield piece
         if self.digest not in (None, digest.digest()):
             raise SliceRefused(CHANGED, self)
         self.digest = digest.digest()
@@ -93,6 +99,15 @@ class Slice:
     def write_to(self, file: BinaryIO) -> None:
         """Writes a file of the bytes."""
         file.writelines(self.chunks())
+
+    def refused(self, reason: str) -> SliceRefused:
+        """Why the program refuses its bytes, unless they changed."""
+        try:
+            for _ in self.chunks():
+                pass
+        except SliceRefused as changed:
+            return changed
+        return SliceRefused(reason, self, True)
 
     def entry(self) -> bytes:
         """The key and the digest, which is known once its bytes were read."""
