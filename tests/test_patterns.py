@@ -53,7 +53,9 @@ SAMPLES: Dict[str, Samples] = {
     "console.program_faults.FAULT": ("fullmatch", [
         text_run("archive 0: ", " at 1"), text_run("index ", "1"), text_run("file 0: Stale at entry ", "1"),
     ]),
-    "formats.builds.LINE": ("fullmatch", [run("0" * 16 + " 2000-01-01 " + UUID + " arm64 " + DIGEST + " ", "\\x20")]),
+    "formats.build_lines.LINE": ("fullmatch", [
+        run("0" * 16 + " 2000-01-01 " + UUID + " arm64 " + DIGEST + " ", "\\x20"),
+    ]),
     "store.bundles.folder.UNPRINTABLE": ("sub", [text_run("", "\1"), text_run("", "a")]),
     "formats.contents.NUMBERED": ("fullmatch", [text_run("cpu:", "0")]),
     "commands.arguments.DIGEST": ("fullmatch", [text_run("", "a")]),

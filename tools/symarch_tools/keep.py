@@ -5,7 +5,6 @@ import os
 import sys
 from typing import Any, Dict, List, NoReturn, Optional, Sequence, Set
 
-from .commands.arguments import seconds_in
 from .commands.order import refuse_order
 from .console.escapes import shown
 from .console.faults import CutShort, Failed, system_text
@@ -172,7 +171,11 @@ def carry_out(arguments: argparse.Namespace) -> int:
     failed = Failed("out of memory")
     try:
         wait = vars(arguments).get("wait")
-        arguments.wait = None if wait is None else seconds_in(wait)
+        if wait is not None:
+            from .commands.arguments import seconds_in
+
+            wait = seconds_in(wait)
+        arguments.wait = wait
         arguments.refuse_order()
         status: int = arguments.carry_out(arguments)
         return status

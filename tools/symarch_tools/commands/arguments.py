@@ -6,8 +6,7 @@ from typing import TYPE_CHECKING
 
 from ..console.escapes import shown
 from ..console.faults import Failed
-from ..formats.builds import MOST_OF_FIELD, field, is_day
-from ..formats.contents import numbers_of
+from ..formats.contents import MOST_OF_FIELD, numbers_of
 
 if TYPE_CHECKING:
     import uuid
@@ -108,6 +107,8 @@ def part_of(argument: str) -> str:
 
 def app_of(argument: str) -> str:
     """An identifier of a bundle, as it stands in a line of ARCHIVE.builds."""
+    from ..formats.builds import field
+
     text = os.fsencode(argument)
     if not 0 < len(text) <= MOST_OF_FIELD:
         raise other_form("ID", argument, f"1 to {MOST_OF_FIELD} bytes")
@@ -116,6 +117,8 @@ def app_of(argument: str) -> str:
 
 def day_of(argument: str) -> str:
     """A day of UTC, as it is kept."""
+    from ..formats.build_lines import is_day
+
     if not is_day(os.fsencode(argument)):
         raise other_form("DATE", argument, "a day as YYYY-MM-DD")
     return argument

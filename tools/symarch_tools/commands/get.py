@@ -11,11 +11,12 @@ from ..console.escapes import shown
 from ..console.faults import Failed
 from ..console.json_lines import NO_PATH, line_of, path_members
 from ..console.screen import Screen, screen_of
+from ..formats.contents import uuid_text
 from ..formats.files import size_of
 from ..formats.indexes import IndexRow
 from ..store.asking import Asked, AskedCommand, held_by, opened_archive
 from ..store.bundles.folder import Target, part_of, remove_left, room_in
-from ..store.bundles.plan import Undecided, Wishes, near, text_of
+from ..store.bundles.plan import Undecided, Wishes, near
 from ..store.losses import record_members
 from .arguments import define_archive, digest_of, uuid_of
 
@@ -124,9 +125,9 @@ def got_line(outcome: str, row: IndexRow, path: Optional[bytes] = None) -> str:
 def say_rest(wishes: Wishes, screen: Screen) -> List[str]:
     """Says what is not got, and returns the lines of conflicts."""
     for one in wishes.absent():
-        screen.fault(f"nothing is held of {text_of(one)}")
+        screen.fault(f"nothing is held of {uuid_text(one)}")
     for one in wishes.without_dsym():
-        screen.line(f"{text_of(one)} has no dSYM")
+        screen.line(f"{uuid_text(one)} has no dSYM")
     for digest in sorted(wishes.unused()):
         screen.fault(f"no slice of these UUIDs has the DIGEST {digest.hex()}")
     for undecided in wishes.undecided:

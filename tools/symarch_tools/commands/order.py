@@ -1,6 +1,5 @@
 """What to type if ARCHIVE does not stand first among the arguments of a call."""
 import os
-import shlex
 from typing import List, NoReturn, Optional, Sequence
 
 from ..console.escapes import shown
@@ -54,6 +53,8 @@ def refuse_order(command: str, options: Sequence[str], names: Sequence[str]) -> 
 
 
 def refuse(why: str, command: str, options: Sequence[str], names: Sequence[str], archive: str) -> NoReturn:
+    import shlex
+
     typed = " ".join(shown(shlex.quote(one)) for one in ordered(command, options, names, archive))
     raise Failed(f"{why}: symarch-keep {command} {typed}", 3)
 

@@ -10,7 +10,8 @@ OF_TERMINAL = re.compile("[\x7f-\x9f\u061c\u200e\u200f\u2028-\u202e\u2066-\u2069
 
 def shown(path: Union[bytes, str]) -> str:
     """The text of a path in a line, which keeps its bytes."""
-    return "".join(map(shown_character, os.fsencode(path).decode(errors="surrogateescape")))
+    text = os.fsencode(path).decode(errors="surrogateescape")
+    return text if text.isprintable() and "\\" not in text else "".join(map(shown_character, text))
 
 
 def shown_character(character: str) -> str:

@@ -5,7 +5,8 @@ from typing import List
 
 from ..console.json_lines import line_of
 from ..console.screen import Screen
-from ..formats.builds import MOST_OF_LINE, Days, add_line, earliest, is_framed, line_in, lines_of
+from ..formats.build_lines import line_in
+from ..formats.builds import MOST_OF_LINE, Days, add_line, earliest, is_framed, lines_of
 from ..store.archive import Archive
 from .memory import Exchanged
 from .shared_folder import SharedFolder, TimedFile, digest_of, latest_first, timed_name

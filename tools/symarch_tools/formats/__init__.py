@@ -5,6 +5,7 @@
 - indexes           the index of an archive
 - tables            the tables of slices that an index has
 - builds            the names of builds: ARCHIVE.builds
+- build_lines       what a line of it has to be
 - universal_files   universal files
 - mach_images       what the commands of an image say: its sections and symbols
 - packed_files      zip files and gzipped tar files

@@ -9,12 +9,11 @@ import functools
 import hashlib
 import io
 import os
-import re
 import time
 from typing import Dict, Iterable, Iterator, List, Mapping, NamedTuple, Optional, Tuple
 
 from ..console.escapes import shown
-from .contents import FIRST, KEY, LAST, Content, arch_in, entry_in, kept_text, numbers_of, words_of
+from .contents import FIRST, KEY, LAST, MOST_OF_FIELD, SUM, Content, entry_in, kept_text, sum_of, words_of
 from .files import remove
 
 BUILDS, NEXT_BUILDS = b".builds", b".builds.next"
@@ -22,12 +21,9 @@ UNKNOWN = "?"
 # The name of a line that says in which app a slice came in, whose digest it has with each bit inverted. No file has
 # this name and no slice this digest, so to one who does not know such lines they are of a slice that is not there.
 WITHIN = "\\x00within"
-# How long what a field says may be, and a line with its newline.
-MOST_OF_FIELD, MOST_OF_LINE = 255, 4236
-FIELD = rb"(?:[!-\[\]-~]|\\x(?:[0189a-f][0-9a-f]|20|5c|7f)){1,%d}" % MOST_OF_FIELD
-UUID, ARCH, DIGEST = rb"[0-9a-f]{8}(?:-[0-9a-f]{4}){3}-[0-9a-f]{12}", rb"[a-z0-9_:/]{1,21}", rb"[0-9a-f]{64}"
-LINE = re.compile(rb"([0-9a-f]{16}) (([0-9-]{10}) (%b (%b) %b(?: %b){4}))" % (UUID, ARCH, DIGEST, FIELD))
-SUM, DAY, UUID_SIZE = 16, 10, 36
+# How long a line may be with its newline.
+MOST_OF_LINE = 4236
+DAY, UUID_SIZE = 10, 36
 # Where in a line the day stands, and what follows it.
 DAY_AT, REST_AT = SUM + 1, SUM + DAY + 2
 FRAME = FIRST.encode(), LAST.encode()
@@ -116,36 +112,6 @@ def today() -> bytes:
     return time.strftime("%Y-%m-%d", time.gmtime()).encode()
 
 
-@functools.lru_cache(maxsize=4096)
-def is_day(text: bytes) -> bool:
-    import datetime
-
-    with contextlib.suppress(ValueError):
-        return datetime.date.fromisoformat(text.decode()).isoformat() == text.decode()
-    return False
-
-
-@functools.lru_cache(maxsize=4096)
-def is_arch(text: bytes) -> bool:
-    """Whether it is an architecture as it is printed, and of a slice."""
-    with contextlib.suppress(ValueError):
-        numbers = numbers_of(text.decode())
-        return arch_in(numbers) == text.decode() and not numbers[4]
-    return False
-
-
-def sum_of(text: bytes) -> bytes:
-    return hashlib.sha256(text).hexdigest()[:SUM].encode()
-
-
-def line_in(line: bytes) -> Optional[Tuple[bytes, bytes]]:
-    """What follows the day in a line, and the day; None if it is no line, or a byte of it changed."""
-    found = LINE.fullmatch(line)
-    if not found or sum_of(found[2]) != found[1] or not is_day(found[3]) or not is_arch(found[5]):
-        return None
-    return found[4], found[3]
-
-
 def text_of(days: Mapping[bytes, bytes]) -> bytes:
     """The file of these lines; one without a line is not there."""
     texts = sorted(day + b" " + rest for rest, day in days.items())
@@ -212,6 +178,8 @@ class Builds:
         """The lines of the file that are as they were written."""
         if self.is_whole:
             return {line[REST_AT:]: line[DAY_AT : REST_AT - 1] for _, line in lines_of(self.text)}
+        from .build_lines import line_in
+
         days: Days = {}
         for line in filter(None, (line_in(line) for _, line in lines_of(self.text))):
             add_line(days, line)
@@ -219,10 +187,14 @@ class Builds:
 
     def fault(self) -> str:
         """What is damaged of the file; nothing if it is whole or not there."""
-        bad = [] if self.is_whole else [number for number, line in lines_of(self.text) if not line_in(line)]
+        if self.is_whole:
+            return ""
+        from .build_lines import line_in
+
+        bad = [number for number, line in lines_of(self.text) if not line_in(line)]
         if len(bad) > 1:
             return f"line {bad[0]} and {len(bad) - 1} others are damaged, and passed over"
-        return f"line {bad[0]} is damaged, and passed over" if bad else "" if self.is_whole else "lines of it are lost"
+        return f"line {bad[0]} is damaged, and passed over" if bad else "lines of it are lost"
 
     def is_changed(self) -> bool:
         """Whether the file has to be written."""

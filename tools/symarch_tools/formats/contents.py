@@ -22,6 +22,8 @@ NUMBERS = {name: numbers for numbers, name in NAMES.items()}
 NUMBERED = re.compile("cpu:([0-9a-fA-F]{8})/([0-9a-fA-F]{8})")
 # The first line of a file that is kept next to an archive, and how the last one begins.
 FIRST, LAST = "symarch-keep 1\n", "sha256 "
+# How many digits the sum of a line of ARCHIVE.builds has, and how long a field of it may be.
+SUM, MOST_OF_FIELD = 16, 255
 
 
 # What is called for each piece of a file that is read, with its length.
@@ -216,9 +218,8 @@ def arch_of(numbers: Tuple[int, int]) -> str:
 
 def uuid_text(number: bytes) -> str:
     """A UUID as it is printed."""
-    import uuid
-
-    return str(uuid.UUID(bytes=number))
+    digits = number.hex()
+    return f"{digits[:8]}-{digits[8:12]}-{digits[12:16]}-{digits[16:20]}-{digits[20:]}"
 
 
 def words_of(entry: bytes) -> str:
@@ -249,6 +250,11 @@ def entry_in(name: str, arch: str, digest: str) -> bytes:
 
 
 # ---- files that are kept next to an archive
+
+
+def sum_of(text: bytes) -> bytes:
+    """The sum before a line of ARCHIVE.builds."""
+    return hashlib.sha256(text).hexdigest()[:SUM].encode()
 
 
 def kept_text(content: Content, notes: Iterable[str] = ()) -> bytes:

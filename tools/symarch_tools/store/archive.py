@@ -12,7 +12,6 @@ from ..console.screen import Screen
 from ..console.signals import signals
 from ..formats.builds import Builds
 from ..formats.contents import EMPTY, MAGICS, Content
-from ..formats.file_kinds import MOST_LOOKED_AT, look_of
 from ..formats.files import remove, size_of, write_synced
 from ..formats.indexes import Index, held_against, index_at, index_by, index_of
 from ..formats.tables import Tables, write_index
@@ -45,6 +44,8 @@ class Archive:
             named = path + file.path[len(self.path) :]
             refuse_other(named, file.path, is_made=True)
             if not may_be_damaged and not file.begins_as_archive():
+                from ..formats.file_kinds import MOST_LOOKED_AT, look_of
+
                 with open(file.path, "rb") as opened:
                     front = opened.read(MOST_LOOKED_AT)
                 if front and any(magic.startswith(front) for magic in MAGICS):

@@ -7,7 +7,6 @@ becomes FILE.idx. FILE.idx.next has the time of the new archive. So whoever come
 these were done, and does the others."""
 import contextlib
 import os
-import shutil
 import stat
 from dataclasses import dataclass
 from typing import Callable, Iterator, List, Sequence
@@ -45,6 +44,8 @@ class ArchiveFolder:
         return sorted(name for name in os.listdir(self.parent) if name.startswith(self.name + ROOM))
 
     def remove_rooms(self) -> None:
+        import shutil
+
         for name in self.rooms():
             shutil.rmtree(os.path.join(self.parent, name), ignore_errors=True)
 

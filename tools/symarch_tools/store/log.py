@@ -4,7 +4,6 @@ the date of the file that still has the slice counts."""
 import contextlib
 import functools
 import os
-import shutil
 import time
 from dataclasses import dataclass
 from typing import Callable, Collection, ContextManager, Dict, Iterable, List, Sequence
@@ -67,6 +66,8 @@ class Log:
             append_synced(self.path, text)
         except PermissionError:
             # Another user made it: it is replaced, as the archive is.
+            import shutil
+
             with self.room() as room:
                 copy = os.path.join(room, b"log")
                 shutil.copyfile(self.path, copy)

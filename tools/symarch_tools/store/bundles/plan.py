@@ -4,7 +4,7 @@ import uuid
 from typing import Dict, Iterable, List, Mapping, NamedTuple, Optional, Sequence, Set, Tuple
 
 from ...formats.builds import UNKNOWN, UUID_SIZE, Build, BuildLines, Builds, Named, bytes_of, with_app
-from ...formats.contents import DIGEST, KEY
+from ...formats.contents import DIGEST, KEY, uuid_text
 from ...formats.indexes import IndexRow
 from ..file_names import is_archive
 
@@ -37,14 +37,10 @@ def near(
     uuids: Iterable[bytes], held: Mapping[bytes, IndexRow], builds: Builds
 ) -> Tuple[Dict[bytes, IndexRow], BuildLines]:
     """Of what is held the slices of UUIDs and of their builds, with their lines."""
-    days = builds.near(text_of(one).encode() for one in uuids)
+    days = builds.near(uuid_text(one).encode() for one in uuids)
     found = {uuid.UUID(rest[:UUID_SIZE].decode()).bytes for rest in days}.union(uuids)
     rows = {entry: row for entry, row in held.items() if entry[:UUID] in found}
     return rows, BuildLines(builds.of_slices(days), rows)
-
-
-def text_of(one: bytes) -> str:
-    return str(uuid.UUID(bytes=one))
 
 
 class Wishes:
@@ -130,7 +126,7 @@ class Wishes:
         asked = sorted(rows, key=lambda row: row.entry[1:][:UUID] not in self.uuids)
         lines = [it for row in asked for it in self.lines_of(row)]
         build = next((it.build for it in lines if self.has_name(it)), Build())
-        name = bytes_of(build.name) if build != Build() else text_of(asked[0].entry[1:][:UUID]).encode()
+        name = bytes_of(build.name) if build != Build() else uuid_text(asked[0].entry[1:][:UUID]).encode()
         return PlannedFile(kind == COMPANION, tuple(rows), name, build)
 
     def lines_of(self, row: IndexRow) -> List[Named]:
