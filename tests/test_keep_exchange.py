@@ -180,6 +180,29 @@ class TwoSites(RoomCase):
         same("archive", self.east.has(), archive(made))
         same("answers", self.west.answers(self.east), [])
 
+    def test_a_byte_that_changes_as_an_answer_is_joined(self) -> None:
+        """In the copy of the answer after it was read, or in the new file before that is read back: the archive is as
+        it was, and the next exchange joins the answer."""
+        old, new = image(1), image(2, more=bytes(100))
+        at = archive([new]).index(new) + len(new) - 1
+        for command in ("find", "merge"):
+            east, west = (Site(self.room, f"{name}{command}", f"shared-{command}") for name in ("east", "west"))
+            east.add(old)
+            west.add(new)
+            east.exchange()
+            west.exchange()
+            (answer,) = west.answers(east)
+            names = "answer-1" if command == "find" else "new grown"
+            changing = f'printf x | dd of="$it" bs=1 seek={at} conv=notrunc status=none'
+            change = f'for it in {names}; do [ ! -e "$it" ] || {changing}; done'
+            script = f'"$symarch" "$@"\nstatus=$?\n[ "$1" != {command} ] || {{ {change}; }}\nexit $status'
+            _, errors = east.exchange(status=4, environment=self.room.program(script))
+            told = f"{east.folder}: {answer}: changed while it was read; the archive is as it was"
+            same("errors", errors, [f"symarch-keep: {told}"])
+            same("archive", east.has(), archive([old]))
+            east.exchange()
+            same("archive after the next exchange", east.has(), archive([old, new]))
+
     def test_half_an_answer_to_a_question_that_nobody_knows_is_removed(self) -> None:
         self.east.add(image(1))
         self.east.exchange()
