@@ -6,7 +6,7 @@ import re
 import subprocess
 import sys
 from dataclasses import dataclass
-from typing import Dict, Iterable, List, NamedTuple, Optional
+from typing import Dict, Iterable, List, NamedTuple, Optional, Tuple
 
 TOP = pathlib.Path(__file__).resolve().parents[1]
 sys.path.insert(0, str(TOP / "packaging"))
@@ -15,8 +15,8 @@ from crate_list import CrateList  # noqa: E402
 # What a crate is proved of.
 FOLDERS = ("src", "specs", "proofs")
 NAMED = re.compile(r"^# (\w+)\n", re.M)
-FUNCTION = re.compile(r"( *)(?:pub(?:\([a-z]+\))? )?(?:const |unsafe )*fn (\w+)")
-OWNER = re.compile(r"impl(?:<.*?>)? (?:.* for )?(\w+)")
+FUNCTION = re.compile(r"( *)(?:pub(?:\([a-z]+\))? )?((?:const |unsafe )*)fn (\w+)")
+OWNER = re.compile(r"(?:unsafe )?impl(?:<.*?>)? (?:(?:\w+::)*(\w+)(?:<.*>)? for )?(\w+)")
 TRAIT = re.compile(r"(?:pub )?trait (\w+)")
 
 
@@ -76,10 +76,21 @@ class Edit:
         except BadEdit:
             return False
 
-    def functions(self) -> Optional[List[str]]:
-        """The functions whose bodies or contracts it changes, by their paths; none if it changes something else."""
+    def functions(self) -> Optional[List["Function"]]:
+        """The functions whose bodies or contracts it changes; none if it changes something else."""
         found = [function_at(source(self.crate, path), path, old) for path, old, _ in self.changes()]
-        return sorted({name for name in found if name}) if all(found) else None
+        return sorted({it for it in found if it}) if all(found) else None
+
+    def body(self) -> Optional["Function"]:
+        """The one function of which it changes nothing but lines of the body, if there is one."""
+        found = self.functions() or []
+        if len(found) != 1 or not self.stands():
+            return None
+        (text,) = self.applied().values()
+        before, lines = source(self.crate, found[0].path).splitlines(), text.splitlines()
+        changed = [at for at, (old, new) in enumerate(zip(before, lines)) if old != new]
+        inside = all(found[0].body < at < found[0].end for at in changed)
+        return found[0] if inside and len(before) == len(lines) else None
 
 
 @functools.lru_cache(maxsize=None)
@@ -88,27 +99,83 @@ def source(crate: str, path: str) -> str:
     return file.read_text(encoding="utf-8") if file.is_file() else ""
 
 
-def function_at(text: str, path: str, old: str) -> Optional[str]:
-    """The function that has a text of a source, by its path below the crate."""
+class Function(NamedTuple):
+    """A function of a source of a crate."""
+
+    path: str
+    modules: Tuple[str, ...]
+    # The type that it is of, and the trait, if it is a method.
+    owner: str
+    trait: str
+    name: str
+    # Its lines, counted from 0: the first, of its attributes, that with the bracket before its body, and that after it.
+    first: int
+    body: int
+    end: int
+
+    def among(self, names: Iterable[str]) -> List[str]:
+        """Which of the names that a check of a crate prints may be its own: `crate::module::OwnerTrait::name`."""
+        found = []
+        for name in names:
+            crate, *others = name.split("::")
+            owner = "::".join(others[len(self.modules) : -1])
+            if others[-1:] == [self.name] and (*others[: len(self.modules)],) == self.modules:
+                more = owner[len(self.owner) :] if owner.startswith(self.owner) else None
+                if more is not None and (more.startswith(self.trait) if self.trait else more[:1] in ("", "+")):
+                    found.append(name)
+        return found
+
+    def has(self, path: str, line: int) -> bool:
+        """Whether a line of a file, counted from 1, is its own."""
+        return path == self.path and self.first < line <= self.end + 1
+
+
+def function_at(text: str, path: str, old: str) -> Optional[Function]:
+    """The function that has a text of a source."""
     module = pathlib.PurePath(path)
     before = text[: text.find(old) + len(old) - len(old.lstrip())]
-    lines = before.splitlines()
-    at = len(lines) - 1
+    lines, at = text.splitlines(), len(before.splitlines()) - 1
     starts = [(number, found) for number in range(at, -1, -1) if (found := FUNCTION.match(lines[number]))]
     if module.parts[:1] != ("src",) or not starts:
         return None
     number, found = starts[0]
-    if any(line.startswith(found[1] + "}") for line in lines[number:at]):
+    ends = (it for it in range(number, len(lines)) if lines[it].startswith(found[1] + "}"))
+    end = number if lines[number].endswith("}") else next(ends, number)
+    if end < at:
         return None
-    owner = next((it for it in map(of_block, reversed(lines[:number])) if it), None) if found[1] else None
-    modules = [] if module.stem == "lib" else [*module.parts[1:-1], module.stem]
-    return "::".join([*modules, *([owner] if owner else []), found[2]])
+    trait, owner = next(filter(None, map(of_block, reversed(lines[:number]))), ("", "")) if found[1] else ("", "")
+    modules = () if module.stem in ("lib", "main") else (*module.parts[1:-1], module.stem)
+    # What a constant is computed by has no body that only its clauses show.
+    body = end if "const" in found[2] else body_of(lines, number, found[1], end)
+    return Function(path, modules, owner, trait, found[3], with_attributes(lines, number), body, end)
 
 
-def of_block(line: str) -> Optional[str]:
-    """The type or the trait whose functions stand below a line."""
-    found = OWNER.match(line) or TRAIT.match(line)
-    return found[1] if found else None
+def with_attributes(lines: List[str], number: int) -> int:
+    """The line from which on attributes stand above a function, or its own."""
+    above = 0
+    while number > above and (line := lines[number - above - 1].strip()) and not line.startswith(("//", "}")):
+        if line.endswith("{"):
+            break
+        above += 1
+    return number - above
+
+
+def body_of(lines: List[str], first: int, margin: str, end: int) -> int:
+    """The line whose bracket begins the body of the function that begins at a line."""
+    for at in range(first, end):
+        is_of_signature = at == first or lines[at].startswith(margin + ")")
+        if lines[at] == margin + "{" or (is_of_signature and lines[at].endswith(" {")):
+            return at
+    return end
+
+
+def of_block(line: str) -> Optional[Tuple[str, str]]:
+    """The trait, if there is one, and the type whose functions stand below a line."""
+    found = OWNER.match(line)
+    if found:
+        return found[1] or "", found[2]
+    named = TRAIT.match(line)
+    return ("", named[1]) if named else None
 
 
 def crates() -> List[str]:

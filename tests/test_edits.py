@@ -1,17 +1,19 @@
 """The edits: that each fits the sources, that the tables have them, and that a test has to catch each wrong body that
 the prover accepts. `bench/edits` and `bench/allowed` try them."""
+import pathlib
 import re
 import shutil
 import sys
 import unittest
-from typing import Dict, List
+from typing import Dict, List, Tuple
 
 from .support.cases import FolderCase
 from .support.named import cases, methods
 from .support.program import TOP, call
 
 sys.path.insert(0, str(TOP / "bench"))
-from edit_texts import BadEdit, Edit, crates, edits_in, in_gate  # noqa: E402
+from edit_rooms import Room, Tried, batches  # noqa: E402
+from edit_texts import BadEdit, Edit, Function, crates, edits_in, function_at, in_gate  # noqa: E402
 
 TABLE, ALLOWED = TOP / "bench" / "edits.tsv", TOP / "bench" / "allowed.tsv"
 DIGEST = re.compile("[0-9a-f]{8}")
@@ -86,6 +88,81 @@ class Edits(unittest.TestCase):
         self.assertEqual([it.key for it in every("allowed").values() if it.crate + it.digest() in digests], [])
 
 
+SOURCE = """impl<'a> Shown<u8> for Row<'a> {
+    // Its attribute belongs to it.
+    #[tactic(auto)]
+    fn first(&self) -> u8
+        ensures { result ≡ 1 }
+    {
+        1
+    }
+
+    fn second(&self) -> u8 {
+        2
+    }
+}
+
+const fn third() -> u8 {
+    3
+}
+"""
+
+
+class Batches(unittest.TestCase):
+    """Edits of different functions in one check: what of its lines is whose."""
+
+    is_side_by_side = True
+    seconds = 1
+
+    def function(self, old: str) -> Function:
+        found = function_at(SOURCE, "src/rows.rt", old)
+        assert found is not None
+        return found
+
+    def tried(self, name: str, old: str) -> Tried:
+        edit = Edit("low", name, f"file: src/rows.rt\nold: {old}\nnew: 0\n")
+        return Tried(edit, self.function(old), f"low::rows::RowShown::{name}")
+
+    def shared(self, *lines: str) -> Tuple[Dict[str, str], List[str]]:
+        room = Room(pathlib.Path(), "low", 1, [], {"note: src/other.rt:1:1: as it is"})
+        return room.shared([self.tried("first", "        1"), self.tried("second", "        2")], [*lines])
+
+    def test_functions(self) -> None:
+        """The lines of a function, from its attributes, and where its body begins, if clauses alone show this."""
+        places = [(it.first, it.body, it.end) for it in map(self.function, ("        1", "        2", "    3"))]
+        self.assertEqual(places, [(2, 5, 7), (9, 9, 11), (14, 16, 16)])
+
+    def test_names(self) -> None:
+        """A check names a method after its type and its trait."""
+        names = ["low::rows::RowShown::first", "low::rows::Row::first", "low::Row+u8::first", "low::rows::third"]
+        self.assertEqual(self.function("        1").among(names), names[:1])
+        self.assertEqual(self.function("    3").among(names), names[3:])
+        inherent = self.function("        1")._replace(trait="", modules=())
+        self.assertEqual(inherent.among(names), names[2:3])
+
+    def test_batches(self) -> None:
+        """A batch has no function twice."""
+        first, second = self.tried("first", "        1"), self.tried("second", "        2")
+        other = first._replace(edit=Edit("low", "other", "file: src/rows.rt\n"))
+        self.assertEqual([*batches([first, other, second])], [[first, second], [other]])
+
+    def test_goals(self) -> None:
+        """An edit is refused by a goal where its function stands, or in its proof, and by no other."""
+        goal = "note: src/rows.rt:3:1: it is not proved"
+        self.assertEqual(self.shared(goal), ({"low/first": f"refused: {goal}"}, []))
+        proof = "./proofs/rows/RowShown/second/Answers.antt:1:1: error: "
+        self.assertEqual(self.shared(f"{proof}it differs"), ({"low/second": f"refused: {proof}it differs"}, []))
+        self.assertEqual(self.shared(f"{proof}c has no field x"), ({"low/second": "refused by shape"}, []))
+        self.assertEqual(self.shared(goal, "fn low::rows::RowShown::first: proved"), ({}, []))
+
+    def test_goals_of_none(self) -> None:
+        """What only rests on another proof refuses nothing, nor does what the sources as they are say too."""
+        proof = "./proofs/rows/RowShown/second/Answers.antt:1:1: error: "
+        self.assertEqual(self.shared(f"{proof}1 declaration that depends on `met`, which was not admitted"), ({}, []))
+        self.assertEqual(self.shared("note: src/other.rt:1:1: as it is"), ({}, []))
+        self.assertEqual(self.shared("note: src/rows.rt:15:1: not"), ({}, ["note: src/rows.rt:15:1: not"]))
+
+
 class Touched(FolderCase):
     """`bench/edits` in a repository of two small crates, where no edit is tried."""
 
@@ -94,7 +171,7 @@ class Touched(FolderCase):
 
     def setUp(self) -> None:
         super().setUp()
-        for path in ("bench/edits", "bench/edit_texts.py", "packaging/crate_list.py"):
+        for path in ("bench/edits", "bench/edit_rooms.py", "bench/edit_texts.py", "packaging/crate_list.py"):
             shutil.copymode(TOP / path, self.file(path, (TOP / path).read_bytes()))
         self.file("crates.txt", "low:\nhigh: low\n")
         for crate in ("low", "high"):
