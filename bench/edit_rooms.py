@@ -12,14 +12,15 @@ from edit_texts import TOP, BadEdit, CrateList, Edit, Function, source
 MOST = 24
 SAID = re.compile(r"rt: must-fail ([^/:\s]+)/([^:\s]+)\.edit: (.*)")
 PROVED = re.compile(r"fn (\S+): proved$")
-# A goal that is open, or a line that says why; and a proof that names what an edit took away.
+# A goal that is open, or an error; what is neither; and a proof that names what an edit took away.
 GOAL = re.compile(r"(?:note: )?(?:\./)?(\S+?):([0-9]+):[0-9]+: .*")
+REMARK = re.compile(r"\S+:[0-9]+:[0-9]+: (note|help|warning): ")
 OF_SHAPE = re.compile(r"(note: )?(\./)?proofs/.*(has no field|is not in scope|has no `|was not admitted)")
 # A proof that only rests on one that was refused.
 RESTS = re.compile(r"not admitted|which was rejected|depends? on a hole")
 # What is said of sources that cannot be read.
-UNREAD = re.compile(r"\berror\[[\w-]+\]")
-ENDED = re.compile(r"only=[0-9]+ proved=[0-9]+")
+UNREAD = re.compile(r"\berror\[[\w-]+\]|^(\./)?(src|specs)/\S+: error: ")
+ENDED = re.compile(r"only=[0-9]+ proved=[0-9]+|logic=not-proved.*")
 
 
 class Tried(NamedTuple):
@@ -74,7 +75,7 @@ def results_in(lines: Iterable[str]) -> Dict[str, str]:
 
 
 def is_judged(status: int, lines: List[str]) -> bool:
-    """Whether a check of some functions says of each whether it is proved, and not all are."""
+    """Whether a check says of each function whether it is proved, and not all are."""
     return status == 1 and any(map(ENDED.fullmatch, lines)) and not any(map(UNREAD.search, lines))
 
 
@@ -177,9 +178,8 @@ class Room:
         return found, [goal for goal in goals if not any(it.has(goal) for it in batch)]
 
     def goals(self, lines: Iterable[str]) -> List[str]:
-        """The open goals and the errors of a check, or if there is none the lines that say why."""
-        told = [it for it in lines if GOAL.match(it) and it not in self.lines]
-        return [it for it in told if ": error" in it or it.startswith("note: ")] or told
+        """The open goals and the errors of a check that the sources as they are have not."""
+        return [it for it in lines if GOAL.match(it) and not REMARK.match(it) and it not in self.lines]
 
     def alone(self, edit: Edit) -> Optional[str]:
         """What comes of an edit: first of its functions alone, and then of the whole crate."""
@@ -188,11 +188,15 @@ class Room:
         except BadEdit as bad:
             return f"BAD EDIT: {bad}"
         names = [name for it in edit.functions() or [] for name in it.among(self.names)]
-        status, lines = self.checked(texts, *names) if names else (0, [])
-        result = result_by(self.goals(lines)) if is_judged(status, lines) else None
-        return result or self.of_crate(edit)
+        for some in [names, []] if names else [[]]:
+            status, lines = self.checked(texts, *some)
+            result = result_by(self.goals(lines)) if is_judged(status, lines) else None
+            if result:
+                return result
+        return self.by_must_fail(edit)
 
-    def of_crate(self, edit: Edit) -> Optional[str]:
+    def by_must_fail(self, edit: Edit) -> Optional[str]:
+        """What `rt must-fail` says of an edit that a check does not refuse."""
         folder = self.top / "crates" / edit.crate / "must-fail"
         folder.mkdir(exist_ok=True)
         path = folder / f"{edit.name}.edit"
