@@ -8,7 +8,7 @@ use Rattle.std.proofs.lemmas.List.{drop-append-le}
 use Rattle.std.proofs.lemmas.Option.{same_Some}
 use Rattle.join_core.specs.Listing.{listing}
 use Rattle.archive_core.specs.Content.{Operations, IsLive}
-use Rattle.archive_core.specs.Find.{AreAnswering}
+use Rattle.archive_core.specs.Find.{AreAnswering, state_of}
 use Rattle.archive_core.specs.Key.{IsKey, key_bytes}
 use Rattle.archive_core.specs.Record.{admission_record}
 use Rattle.archive_core.specs.Valid.{IsValid, key_of}
@@ -45,7 +45,7 @@ use Rattle.archive_core.specs.declared.find.FindState.TheVariants.{Dsym, Image}
 use Rattle.text_reports.specs.Finds.{find_lines}
 use Rattle.laws_index.proofs.OfContent.{key_in}
 use Rattle.index_lookup.specs.Named.{IsRowAt, LivesAmong}
-use Rattle.laws_index.specs.Undecided.{IsRowOfSlice, TellsUndecided}
+use Rattle.laws_index.specs.Undecided.{TellsUndecided}
 
 -- ---- a slice in the text of its content
 
@@ -189,18 +189,44 @@ extracted_alone input archive o key digest slice told own is_key makes =
 
 -- ---- rows
 
+-- the row says of the slice what is so
+record IsRowOfSlice (slice : List ℕ) (row : FindRow) : Type 0 where
+  is_key : IsKey row.key
+  key_is : key_bytes row.key ≡ key_bytes (key_of slice)
+  digest_is : row.digest.0 ≡ sha256 slice
+  state_is : row.state ≡ state_of slice
+
 row_so : (os : List Operations) (texts : List (List ℕ)) (all : List (List (List ℕ))) (key : SliceKey) (x : EntryAt) (slice : List ℕ) (row : FindRow)
     → IsAnsweringSlice os texts all key x slice → IsRowAt x row → IsRowOfSlice slice row
 row_so os texts all key x slice row is told = record {
+  is_key = told.is_key;
   key_is = told.key_is ∙ key_in x.entry (key_bytes (key_of slice)) (sha256 slice) (length-key_of slice is.of.is.valid) is.of.is.prefix;
   digest_is = told.digest_is ∙ is.of.is.is.digest_is;
   state_is = told.state_is ∙ ap (λ (b : Bool). if b then Dsym else Image) is.of.is.kind;
 }
 
--- the rows of slices say of them what is so
-rows_of_slices : (ss : List (List ℕ)) → AllZip IsRowOfSlice ss (map slice_row ss)
-rows_of_slices [] = tt
-rows_of_slices (s ∷ ss) = (record { key_is = refl; digest_is = refl; state_is = refl }, rows_of_slices ss)
+row_is : (slice : List ℕ) (row : FindRow) → IsRowOfSlice slice row → IsKey (key_of slice) → row ≡ slice_row slice
+row_is slice row is slice_key =
+    let key : row.key ≡ key_of slice = same_key row.key (key_of slice) is.is_key slice_key is.key_is in
+    let digest = is.digest_is in
+    let state = is.state_is in
+    λ i. record { key = key i; digest = record { 0 = digest i }; state = state i }
+
+rows_same : (ss : List (List ℕ)) (rows : List FindRow) → AllZip IsRowOfSlice ss rows
+    → ((s : List ℕ) → Contains ss s → IsKey (key_of s)) → rows ≡ map slice_row ss
+rows_same [] [] all keys = refl
+rows_same (s ∷ ss) (row ∷ rows) all keys =
+    let first : row ≡ slice_row s = row_is s row all.0 (keys s (in_front s ss)) in
+    let more : rows ≡ map slice_row ss = rows_same ss rows all.1 (λ t there. keys t (in_rest s ss t there)) in
+    λ i. first i ∷ more i
+rows_same ss rows all keys = absurd all
+
+-- slices of which none is wanted, and that answer, are under the key
+keys_so : (o : Operations) (key : SliceKey) (digest : Option Digest) (slices : List (List ℕ)) → IsKey key
+    → AreUndecided o key digest slices → (s : List ℕ) → Contains slices s → IsKey (key_of s)
+keys_so o key None slices is_key are s there = subst IsKey (sym ((are.0.exactly s).0 there).live.under) is_key
+keys_so o key (Some digest) [] is_key are s there = absurd (omega (arith, there.1))
+keys_so o key (Some digest) (t ∷ ts) is_key are s there = cc (are.0)
 
 -- ---- no slice is wanted
 
@@ -217,18 +243,18 @@ undecided_of : (os : List Operations) (texts : List (List ℕ)) (all : List (Lis
     → AreUnchosen key digest all xs → AllZip IsRowAt xs rows → told ≡ find_lines rows → TellsUndecided (all_joined os) key digest told
 undecided_of os texts all key None xs rows told files is_key tell are rows_are told_is =
     let right = slices_right os texts all files key is_key xs tell are.0 in
+    let undecided : AreUndecided (all_joined os) key None right.0 =
+    (right.2, λ one. are.1 (omega (arith, one, AllZip-long (IsAnsweringSlice os texts all key) xs right.0 right.1))) in
     record {
       slices = right.0;
-      undecided = (right.2, λ one. are.1 (omega (arith, one, AllZip-long (IsAnsweringSlice os texts all key) xs right.0 right.1)));
-      rows = rows;
-      rows_are = zip_through (IsAnsweringSlice os texts all key) IsRowAt IsRowOfSlice xs right.0 rows (row_so os texts all key) right.1 rows_are;
-      told_is = told_is;
+      undecided = undecided;
+      told_is = told_is ∙ ap find_lines (rows_same right.0 rows
+          (zip_through (IsAnsweringSlice os texts all key) IsRowAt IsRowOfSlice xs right.0 rows (row_so os texts all key) right.1 rows_are)
+          (keys_so (all_joined os) key None right.0 is_key undecided));
     }
 undecided_of os texts all key (Some digest) xs rows told files is_key tell are rows_are told_is = record {
   slices = [];
   undecided = (refl, none_live os texts all key digest files is_key are.1);
-  rows = [];
-  rows_are = tt;
   told_is = told_is ∙ ap find_lines (zip_empty IsRowAt xs rows are.0 rows_are);
 }
 
@@ -264,8 +290,6 @@ undecided_either inputs archives os key digest draft told own tell is_key (inr (
       slices = slices;
       undecided = subst (λ (d : Option Digest). AreUndecided (all_joined os) key d slices) (sym none)
           (undecided_alike held.0 (all_joined os) key alike None slices held.3);
-      rows = map slice_row slices;
-      rows_are = rows_of_slices slices;
       told_is = told_is;
     }
 
@@ -277,35 +301,3 @@ pub undecided_alone : {I P : Type 0} (input : Reader I) (archive : Reader P) (o 
 undecided_alone input archive o key digest told given is_key lacks =
     subst (λ (made : Operations). TellsUndecided made key digest told) (joined_alone o given.2.content.itself)
     (undecided_by_entries (input ∷ []) (archive ∷ []) (o ∷ []) (given, tt) key digest told (tells_alone o) is_key lacks)
-
--- ---- the lines
-
-row_is : (slice : List ℕ) (row : FindRow) → IsRowOfSlice slice row → IsKey row.key → IsKey (key_of slice) → row ≡ slice_row slice
-row_is slice row is row_key slice_key =
-    let key : row.key ≡ key_of slice = same_key row.key (key_of slice) row_key slice_key is.key_is in
-    let digest = is.digest_is in
-    let state = is.state_is in
-    λ i. record { key = key i; digest = record { 0 = digest i }; state = state i }
-
-rows_same : (ss : List (List ℕ)) (rows : List FindRow) → AllZip IsRowOfSlice ss rows
-    → ((row : FindRow) → Contains rows row → IsKey row.key) → ((s : List ℕ) → Contains ss s → IsKey (key_of s)) → rows
-    ≡ map slice_row ss
-rows_same [] [] all keyed keys = refl
-rows_same (s ∷ ss) (row ∷ rows) all keyed keys =
-    let first : row ≡ slice_row s = row_is s row all.0 (keyed row (in_front row rows)) (keys s (in_front s ss)) in
-    let more : rows ≡ map slice_row ss = rows_same ss rows all.1 (λ r there. keyed r (in_rest row rows r there)) (λ t there. keys t (in_rest s ss t there)) in
-    λ i. first i ∷ more i
-rows_same ss rows all keyed keys = absurd all
-
--- slices of which none is wanted, and that answer, are under the key
-keys_so : (o : Operations) (key : SliceKey) (digest : Option Digest) (slices : List (List ℕ)) → IsKey key
-    → AreUndecided o key digest slices → (s : List ℕ) → Contains slices s → IsKey (key_of s)
-keys_so o key None slices is_key are s there = subst IsKey (sym ((are.0.exactly s).0 there).live.under) is_key
-keys_so o key (Some digest) [] is_key are s there = absurd (omega (arith, there.1))
-keys_so o key (Some digest) (t ∷ ts) is_key are s there = cc (are.0)
-
-pub lines_of : (o : Operations) (key : SliceKey) (digest : Option Digest) (told : List ℕ)
-    (tells : TellsUndecided o key digest told) → IsKey key → ((row : FindRow) → Contains tells.rows row → IsKey row.key)
-    → told ≡ slices_text tells.slices
-lines_of o key digest told tells is_key keyed =
-    tells.told_is ∙ ap find_lines (rows_same tells.slices tells.rows tells.rows_are keyed (keys_so o key digest tells.slices is_key tells.undecided))

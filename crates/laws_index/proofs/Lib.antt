@@ -2,6 +2,7 @@ pub mod OfContent
 pub mod Joined
 pub mod Among
 pub mod Right
+pub mod OtherBytes
 pub mod Ascent
 pub mod IndexRows
 pub mod Accepted

@@ -43,7 +43,7 @@ use Rattle.laws_index.proofs.OfContent.{IsAt, in_turn, one_place, shorter_first}
 
 -- ---- lists place by place
 
-pub zip_left : {X Y : Type 0} (R : X → Y → Type 0) (xs : List X) (ys : List Y) (x : X) → AllZip R xs ys → Contains xs x → (y : Y) × Contains ys y × R x y
+zip_left : {X Y : Type 0} (R : X → Y → Type 0) (xs : List X) (ys : List Y) (x : X) → AllZip R xs ys → Contains xs x → (y : Y) × Contains ys y × R x y
 zip_left R [] ys x all c = absurd (omega (arith, c.1))
 zip_left R (z ∷ xs) [] x all c = absurd all
 zip_left R (z ∷ xs) (y ∷ ys) x all c = elim (in_cons z xs x c) [

@@ -181,8 +181,8 @@ pub fn extracted_by_indexes<I: Placed, P: Placed>()
 
 /// If no entry is wanted by the indexes of contents, whatever bytes the archives have, no slice of the join of the
 /// contents is. With a digest no slice that is held has it, nothing is told, and nothing is supposed of SHA-256.
-/// Without one the rows that are told are those of the slices that answer, in their order, if no two different slices
-/// of several contents have one SHA-256. Their lines are pinned where the keys of the rows have their widths.
+/// Without one the lines are those of the slices that answer, in their order, if no two different slices of several
+/// contents have one SHA-256.
 pub fn undecided_by_indexes<I: Placed, P: Placed>()
     ensures digest { (inputs : List (Reader I)) (archives : List (Reader P)) (os : List Operations) (key : SliceKey)
         (digest : Digest) (told : List ℕ) → AreIndexesGiven inputs os → IsKey key
@@ -198,9 +198,6 @@ pub fn undecided_by_indexes<I: Placed, P: Placed>()
         (digest : Option Digest) (draft : Writer) (told : List ℕ) → AreOwnIndexes inputs archives os → DigestsTell os
         → IsKey key → (extract_at inputs archives key digest draft).Lacks told
         → TellsUndecided (all_joined os) key digest told }
-    ensures lines { (o : Operations) (key : SliceKey) (digest : Option Digest) (told : List ℕ)
-        (tells : TellsUndecided o key digest told) → IsKey key
-        → ((row : FindRow) → Contains tells.rows row → IsKey row.key) → told ≡ slices_text tells.slices }
 {}
 
 /// By the indexes of contents a table is refused for a device alone, or if lines are wanted for a slice that answers

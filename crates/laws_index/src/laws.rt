@@ -1,14 +1,20 @@
 //! What indexes tell together is what the contents tell as one that they were made of. Each law is the contract of a
 //! function that does nothing.
 
-ghost use Rattle.std.specs.Prelude.{◌≡◌, ℕ, Bool, List, [], ◌∷◌, Some, slice_get, true};
+ghost use Rattle.std.specs.Prelude.{◌≡◌, ℕ, Bool, List, Option, [], ◌∷◌, Some, drop, slice_get, true};
 ghost use Rattle.archive_core.specs.Content.{Operations};
 ghost use Rattle.archive_core.specs.Key.{IsKey, key_bytes};
-ghost use Rattle.archive_core.specs.Lookup.{AnswerRecord};
+ghost use Rattle.archive_core.specs.Lookup.{AnswerRecord, IsOwn};
 ghost use Rattle.archive_core.specs.declared.keys.SliceKey.{SliceKey};
 ghost use Rattle.archive_core.specs.declared.lookup.Where.{Where};
 ghost use Rattle.dwarf_source_frames.specs.Frames.{FrameRecord};
+ghost use Rattle.macho_symbols.specs.Found.{FoundRecord};
 ghost use Rattle.table_source_frames.specs.SliceTable.{HasNoLines};
+ghost use Rattle.table_symbols.specs.Steps.{AreBytes};
+ghost use Rattle.index_build.specs.Asked.{DigestsTell as TableDigestsTell};
+ghost use Rattle.index_build.specs.Content.{HasTable};
+ghost use Rattle.index_format.specs.Entry.{claim_in};
+ghost use Rattle.index_lookup.specs.Told.{AreFramesOfPlace, AreFramesToldBy, HasNoLinesBy, IsToldBy};
 ghost use Rattle.index_format.specs.Text.{IsIndexText};
 ghost use Rattle.command_queries.specs.Sources.{IsSourced};
 ghost use Rattle.index_lookup.specs.Among.{AreAnsweringAmong, AreTied, EntryAt, IsAmong, all_of, answers_among};
@@ -55,4 +61,19 @@ pub fn undamaged_among()
 pub fn tied_among()
     ensures { (os : List Operations) (texts : List (List ℕ)) (indexes : List (List (List ℕ))) (key : SliceKey)
         → AreIndexes os texts indexes → IsKey key → AreTied (key_bytes key) indexes → AreTiedSlices os key }
+{}
+
+/// Over any bytes of an index, an entry of the index of a content tells what its slice has: symbols, frames, or a lack
+/// of lines; unless what stands where the table is stored has a digest of that table, or of a page, and is another.
+pub fn right_over_any_bytes()
+    ensures symbols { (index text r : List ℕ) (entries : List (List ℕ)) (asked : Where) (own : Option FoundRecord)
+        → (table : HasTable index entries r) → TableDigestsTell text (claim_in table.e) table.table
+        → AreBytes (drop 33 r) → IsToldBy text (claim_in table.e) asked own → IsOwn (drop 33 r) asked own }
+    ensures frames { (index text r : List ℕ) (entries : List (List ℕ)) (asked : Where) (frames : List FrameRecord)
+        → (table : HasTable index entries r) → TableDigestsTell text (claim_in table.e) table.table
+        → AreBytes (drop 33 r) → AreFramesToldBy text (claim_in table.e) asked frames
+        → AreFramesOfPlace asked (drop 33 r) frames }
+    ensures lines { (index text r : List ℕ) (entries : List (List ℕ)) → (table : HasTable index entries r)
+        → TableDigestsTell text (claim_in table.e) table.table → AreBytes (drop 33 r)
+        → HasNoLinesBy text (claim_in table.e) → HasNoLines (drop 33 r) }
 {}
