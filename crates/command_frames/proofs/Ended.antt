@@ -27,11 +27,11 @@ use Rattle.command_frames.specs.Asking.{AreGiven, AreRefusedAsking, AreUnread, A
 use Rattle.command_frames.specs.Asking.{IsChanged, IsLineless, IsTableRefused, IsUntoldUnder, IsUnreadTable}
 use Rattle.command_frames.specs.Frames.{AreToldAt}
 use Rattle.command_frames.specs.InnerAsking.{IsKeyFault, IsOfKey, IsUnreadBy, IsUntoldBy, NoneFailed, RefusesAll, command_fault}
-use Rattle.command_frames.specs.InnerPlaces.{AreAskedOf}
+use Rattle.command_frames.specs.InnerPlaces.{AreKeysOf}
 use Rattle.command_frames.specs.InnerReplies.{PrintsFrames}
 use Rattle.command_frames.specs.InnerTold.{AreTold, IsRefusedAt}
 use Rattle.command_frames.specs.Refusals.{IsKeyRefused, IsRefusedBySlice, IsRefusedByTable, KeyRefusal}
-use Rattle.command_frames.specs.declared.places.AskedPlace.{AskedPlace}
+use Rattle.command_frames.specs.declared.places.AskedKey.{AskedKey}
 use Rattle.command_frames.specs.declared.told.KeyAnswers.{KeyAnswers}
 use Rattle.command_frames.proofs.Archives.{HaveBytesOf, bytes_kept, kept_then, same_bytes, slices_same, stale_same}
 use Rattle.command_frames.proofs.Followed.{followed}
@@ -196,7 +196,7 @@ module _ {I P : Type 0} (left : I → Option (List ℕ)) (failures : I → ℕ) 
       } in
       inr by
 
-  pub frames_told : (keys : List SliceKey) (frames : List Frame) (asked : List AskedPlace) (told : List KeyAnswers) → AreAskedOf frames asked
+  pub frames_told : (keys : List SliceKey) (frames : List Frame) (asked : List AskedKey) (told : List KeyAnswers) → AreKeysOf frames asked
       → AreRead (AreTold (IsAnsweredAt (HaveTexts left mid) (readers whole failures_at seen seen) all lines)
       (IsRefusedAt (HaveTexts left mid) (readers whole failures_at seen seen) all lines) slices asked told
       × (each_known left new ≡ each_known left mid) × AreAllKept whole failures_at seen after)
@@ -210,7 +210,7 @@ module _ {I P : Type 0} (left : I → Option (List ℕ)) (failures : I → ℕ) 
       (IsAnsweredAt (AreGiven named) known all lines) (IsRefusedAt (HaveTexts left mid) (readers whole failures_at seen seen) all lines)
       IsOneRefused said_given (refused_given unfailed.0 unfailed.1) slices) told are.are_true in
       let now : AreTold (IsAnsweredAt (AreGiven named) known all lines) IsOneRefused slices asked told =
-      record { order = are.order; of_asked = are.of_asked; whole = are.whole; are_true = true_now } in
+      record { asked_is = are.asked_is; are_true = true_now } in
       let part = part_told slices now frames of status prints.answers prints.refused prints.shown prints.refused_is in
       record {
         is = record {

@@ -6,7 +6,8 @@ use Rattle.archive_core.specs.declared.lookup.Where.{Where}
 use Rattle.dwarf_source_frames.specs.Frames.{FrameRecord}
 use Rattle.text_inputs.specs.declared.frame.Frame.{Frame}
 use Rattle.command_common.specs.declared.faults.Status.{Status}
-use Rattle.command_frames.specs.Frames.{TellFrames, TellFramesWith}
+use Rattle.command_queries.specs.Frames.{TellFrames}
+use Rattle.command_frames.specs.Frames.{TellFramesWith}
 use Rattle.command_frames.specs.InnerReplies.{TellFramesPart}
 use Rattle.command_frames.specs.InnerSlices.{AreFollowed}
 use Rattle.command_frames.specs.Refusals.{KeyRefusal}

@@ -8,7 +8,7 @@ use Rattle.std.specs.Option.{option_to_list}
 use Rattle.std.specs.declared.cmp.Ordering.TheVariants.{Less}
 use Rattle.std.proofs.lemmas.Grind.{flat_map-append}
 use Rattle.std.proofs.lemmas.List.{flat_map_more, take_more}
-use Rattle.std.proofs.lemmas.List.Elements.{filter_map-append}
+use Rattle.std.proofs.lemmas.List.Elements.{All-weaker, filter_map-append}
 use Rattle.std.proofs.lemmas.List.Sums.{fold-append}
 use Rattle.std.proofs.lemmas.Option.{get_or_from_slice_get, slice_get_within}
 use Rattle.std.proofs.lemmas.Slice.Zip.{AllZip-long}
@@ -16,7 +16,7 @@ use Rattle.archive_core.specs.Key.{key_bytes}
 use Rattle.archive_core.specs.Lookup.{AnswerRecord}
 use Rattle.archive_core.specs.declared.keys.SliceKey.{SliceKey}
 use Rattle.archive_core.specs.declared.lookup.Where.{Where}
-use Rattle.archive_core.proofs.Members.{in_cons, in_front, in_map, in_rest, to_map}
+use Rattle.archive_core.proofs.Members.{in_cons, in_front, in_rest}
 use Rattle.dwarf_source_frames.specs.Frames.{FrameRecord}
 use Rattle.text_inputs.specs.declared.frame.Frame.{Frame}
 use Rattle.command_common.specs.declared.faults.InputName.{InputName}
@@ -40,14 +40,13 @@ use Rattle.index_lookup.specs.declared.answers.EntryAnswers.{EntryAnswers}
 use Rattle.index_lookup.specs.declared.fault.AnswerFault.{AnswerFault}
 use Rattle.index_lookup.specs.declared.fault.AnswerFault.TheVariants as faults
 use Rattle.command_frames.specs.Asking.{IsAnsweredByTables}
-use Rattle.command_frames.specs.Frames.{keys_of}
 use Rattle.command_frames.specs.InnerAsking.{IsKeyFault, IsOfKey, IsUntoldBy, NoneFailed, RefusesAll, command_fault}
-use Rattle.command_frames.specs.InnerPlaces.{AreAskedOf, key_cmp}
-use Rattle.command_frames.specs.InnerTold.{AreTold, AreToldOf, HasNumber, HasTold, HaveEach, HaveToldEach, IsAnswerIn, IsFrameTold, IsKeyTold, IsPrinted}
+use Rattle.command_frames.specs.InnerPlaces.{key_cmp}
+use Rattle.command_frames.specs.InnerTold.{AreTold, AreToldOf, HasNumber, HaveEach, HaveEachTold, IsAnswerIn, IsFrameTold, IsKeyTold, IsPrinted}
 use Rattle.command_frames.specs.InnerTold.{IsToldUnder, Printed, ShowsFrames, StandsAt, answer_at, refusal_in, refusals_in}
 use Rattle.command_frames.specs.InnerTold.{shown_at, status_with, told_fault}
 use Rattle.command_frames.specs.Refusals.{KeyRefusal, refusal_lines}
-use Rattle.command_frames.specs.declared.places.AskedPlace.{AskedPlace}
+use Rattle.command_frames.specs.declared.places.AskedKey.{AskedKey}
 use Rattle.command_frames.specs.declared.tables.KeyTold.{KeyTold}
 use Rattle.command_frames.specs.declared.tables.KeyTold.TheVariants.{Told, Refused}
 use Rattle.command_frames.specs.declared.told.KeyAnswers.{KeyAnswers}
@@ -92,7 +91,8 @@ pub under_as : (IsSaid IsMore : SliceKey → Where → AnswerRecord → List (Li
     → ((key : SliceKey) (at : InputName) (why : Why) → IsRefused key at why → IsNot key at why)
     → (slices : Bool) (one : KeyAnswers) → IsToldUnder IsSaid IsRefused slices one → IsToldUnder IsMore IsNot slices one
 under_as IsSaid IsMore IsRefused IsNot more also slices one is =
-    key_as (IsSaid one.key) (IsMore one.key) (IsRefused one.key) (IsNot one.key) (more one.key) (also one.key) slices one.places.items one.told is
+    let key : SliceKey = one.asked.now.key in
+    key_as (IsSaid key) (IsMore key) (IsRefused key) (IsNot key) (more key) (also key) slices one.asked.now.places.items one.told is
 
 -- there are as many answers as places
 pub even_of : (IsSaid : Where → AnswerRecord → List (List FrameRecord) → Type 0) (IsRefused : InputName → Why → Type 0)
@@ -225,24 +225,14 @@ module _ {D : Type 0} (whole : D → Option (List ℕ)) (failures : D → ℕ) (
     counts = subst (λ (olds : List ℕ). BlamesAmong lines r.answering olds (each_known failures new) r.fault) counts_kept r.counts;
   }
 
--- the keys that are asked are those of frames
-pub among_frames : (frames : List Frame) (asked : List AskedPlace) → AreAskedOf frames asked → (key : List ℕ)
-    → Contains (map (λ (one : AskedPlace). key_bytes one.key) asked) key → Contains (keys_of frames) key
-among_frames frames asked of key there =
-    let one = in_map (λ (a : AskedPlace). key_bytes a.key) asked key there in
-    let frame = of.of_frames one.0 one.1 in
-    let same : key ≡ key_bytes frame.0.key = one.2 ∙ ap (λ (a : AskedPlace). key_bytes a.key) frame.2 in
-    subst (Contains (keys_of frames)) (sym same) (to_map (λ (f : Frame). key_bytes f.key) frames frame.0 frame.1)
-
 -- ---- frames
 
--- something is told of each
-pub told_each : {IsSaid : SliceKey → Where → AnswerRecord → List (List FrameRecord) → Type 0} {IsRefused : SliceKey → InputName → Why → Type 0}
-    {slices : Bool} {asked : List AskedPlace} {told : List KeyAnswers} → AreTold IsSaid IsRefused slices asked told
-    → (frames : List Frame) → AreAskedOf frames asked → HaveToldEach told frames
-told_each {told = told} are frames of frame there =
-    let one = of.whole frame there in
-    subst (λ (p : Where). HasTold told (key_bytes frame.key) p) one.3 (subst (λ (b : List ℕ). HasTold told b one.0.place) one.2 (are.whole one.0 one.1))
+-- there is an answer for each place of a key that is told
+pub even_told : (IsSaid : SliceKey → Where → AnswerRecord → List (List FrameRecord) → Type 0) (IsRefused : SliceKey → InputName → Why → Type 0)
+    (slices : Bool) (asked : List AskedKey) (told : List KeyAnswers) → AreTold IsSaid IsRefused slices asked told → HaveEachTold told
+even_told IsSaid IsRefused slices asked told are =
+    All-weaker (IsToldUnder IsSaid IsRefused slices) (λ (one : KeyAnswers). HaveEach one.told one.asked.now.places.items)
+    (λ one is. even_of (IsSaid one.asked.now.key) (IsRefused one.asked.now.key) slices one.asked.now.places.items one.told is) told are.are_true
 
 pub more_frames : (told : List KeyAnswers) (frames : List Frame) (i : ℕ) (frame : Frame)
     (status next : Status) (text printed : List ℕ) (one : KeyAnswers) (number : ℕ) → i < length frames → frame
@@ -268,32 +258,32 @@ more_frames told frames i frame status next text printed one number lt is shown 
 
 -- the refusals ascend as what is told does
 refused_after : (key : SliceKey) (told : List KeyAnswers)
-    → AllByRecursion (λ (one : KeyAnswers). key_cmp key one.key ≡ Less) told
+    → AllByRecursion (λ (one : KeyAnswers). key_cmp key one.asked.now.key ≡ Less) told
     → AllByRecursion (λ (refusal : KeyRefusal). key_cmp key refusal.key ≡ Less) (refusals_in told)
 refused_after key [] all = tt
 refused_after key (one ∷ told) all = by one.told (refused_after key told all.1)
   where
     by : (t : KeyTold) → AllByRecursion (λ (refusal : KeyRefusal). key_cmp key refusal.key ≡ Less) (refusals_in told)
-        → AllByRecursion (λ (refusal : KeyRefusal). key_cmp key refusal.key ≡ Less) (cons_option (refusal_in one.key t) (refusals_in told))
+        → AllByRecursion (λ (refusal : KeyRefusal). key_cmp key refusal.key ≡ Less) (cons_option (refusal_in one.asked.now.key t) (refusals_in told))
     by (Told answers) more = more
     by (Refused at why) more = (all.0, more)
 
-pub refusals_ascend : (told : List KeyAnswers) → IsStrictlySortedBy (λ a b. key_cmp a.key b.key) told
+pub refusals_ascend : (told : List KeyAnswers) → IsStrictlySortedBy (λ a b. key_cmp a.asked.now.key b.asked.now.key) told
     → IsStrictlySortedBy (λ a b. key_cmp a.key b.key) (refusals_in told)
 unfolding IsStrictlySortedBy
 refusals_ascend [] up = tt
 refusals_ascend (one ∷ told) up = by one.told (refusals_ascend told up.1)
   where
     by : (t : KeyTold) → IsStrictlySortedBy (λ a b. key_cmp a.key b.key) (refusals_in told)
-        → IsStrictlySortedBy (λ a b. key_cmp a.key b.key) (cons_option (refusal_in one.key t) (refusals_in told))
+        → IsStrictlySortedBy (λ a b. key_cmp a.key b.key) (cons_option (refusal_in one.asked.now.key t) (refusals_in told))
     by (Told answers) more = more
-    by (Refused at why) more = (refused_after one.key told up.0, more)
+    by (Refused at why) more = (refused_after one.asked.now.key told up.0, more)
 
 -- each refusal is of something that is told, and each of these a refusal
 pub record IsRefusedIn (told : List KeyAnswers) (refusal : KeyRefusal) : Type 0 where
   pub one : KeyAnswers
   pub is_one : Contains told one
-  pub key_is : one.key ≡ refusal.key
+  pub key_is : one.asked.now.key ≡ refusal.key
   pub told_is : one.told ≡ Refused refusal.at refusal.why
 
 pub of_told : (told : List KeyAnswers) (refusal : KeyRefusal) → Contains (refusals_in told) refusal → IsRefusedIn told refusal
@@ -304,9 +294,9 @@ of_told (one ∷ told) refusal there = by one.told refl (λ more. of_told told r
     later r = record { one = r.one; is_one = in_rest one told r.one r.is_one; key_is = r.key_is; told_is = r.told_is }
 
     by : (t : KeyTold) → one.told ≡ t → (Contains (refusals_in told) refusal → IsRefusedIn told refusal)
-        → Contains (cons_option (refusal_in one.key t) (refusals_in told)) refusal → IsRefusedIn (one ∷ told) refusal
+        → Contains (cons_option (refusal_in one.asked.now.key t) (refusals_in told)) refusal → IsRefusedIn (one ∷ told) refusal
     by (Told answers) is rest more = later (rest more)
-    by (Refused at why) is rest more = elim (in_cons (record { key = one.key; at = at; why = why }) (refusals_in told) refusal more) [
+    by (Refused at why) is rest more = elim (in_cons (record { key = one.asked.now.key; at = at; why = why }) (refusals_in told) refusal more) [
       | inl same ↦ record {
         one = one;
         is_one = in_front one told;
@@ -317,33 +307,33 @@ of_told (one ∷ told) refusal there = by one.told refl (λ more. of_told told r
     ]
 
 pub to_refusals : (told : List KeyAnswers) (one : KeyAnswers) (at : InputName) (why : Why) → Contains told one
-    → one.told ≡ Refused at why → Contains (refusals_in told) (record { key = one.key; at = at; why = why })
+    → one.told ≡ Refused at why → Contains (refusals_in told) (record { key = one.asked.now.key; at = at; why = why })
 to_refusals [] one at why there is = absurd (omega (arith, there.1))
 to_refusals (first ∷ told) one at why there is = elim (in_cons first told one there) [
   | inl same ↦
       let own : first.told ≡ Refused at why = ap (λ (k : KeyAnswers). k.told) same ∙ is in
-      rw own (subst (λ (k : SliceKey). Contains (record { key = first.key; at = at; why = why } ∷ refusals_in told)
-      (record { key = k; at = at; why = why })) (ap (λ (k : KeyAnswers). k.key) same)
-      (in_front (record { key = first.key; at = at; why = why }) (refusals_in told)))
+      rw own (subst (λ (k : SliceKey). Contains (record { key = first.asked.now.key; at = at; why = why } ∷ refusals_in told)
+      (record { key = k; at = at; why = why })) (ap (λ (k : KeyAnswers). k.asked.now.key) same)
+      (in_front (record { key = first.asked.now.key; at = at; why = why }) (refusals_in told)))
   | inr later ↦ by first.told (to_refusals told one at why later is)
 ]
   where
-    by : (t : KeyTold) → Contains (refusals_in told) (record { key = one.key; at = at; why = why })
-        → Contains (cons_option (refusal_in first.key t) (refusals_in told))
-        (record { key = one.key; at = at; why = why })
+    by : (t : KeyTold) → Contains (refusals_in told) (record { key = one.asked.now.key; at = at; why = why })
+        → Contains (cons_option (refusal_in first.asked.now.key t) (refusals_in told))
+        (record { key = one.asked.now.key; at = at; why = why })
     by (Told answers) more = more
-    by (Refused a w) more = in_rest (record { key = first.key; at = a; why = w }) (refusals_in told) (record { key = one.key; at = at; why = why }) more
+    by (Refused a w) more = in_rest (record { key = first.asked.now.key; at = a; why = w }) (refusals_in told) (record { key = one.asked.now.key; at = at; why = why }) more
 
 -- the lines of the refusals of one more
 pub refusals_more : (told : List KeyAnswers) (i : ℕ) (one : KeyAnswers) → i < length told → one ≡ get_or told i one
     → refusal_lines (refusals_in (take (i + 1) told)) ≡ refusal_lines (refusals_in (take i told))
-    ++ refusal_lines (option_to_list (refusal_in one.key one.told))
+    ++ refusal_lines (option_to_list (refusal_in one.asked.now.key one.told))
 refusals_more told i one lt is =
     let seen : take (i + 1) told ≡ take i told ++ one ∷ [] = take_more told i one lt ∙ ap (λ (k : KeyAnswers). take i told ++ k ∷ []) (sym is) in
     ap (λ (l : List KeyAnswers). refusal_lines (refusals_in l)) seen
-    ∙ ap refusal_lines (filter_map-append (λ (k : KeyAnswers). refusal_in k.key k.told) (take i told) (one ∷ []))
-    ∙ ap (λ (l : List KeyRefusal). refusal_lines (refusals_in (take i told) ++ l)) (last (refusal_in one.key one.told))
-    ∙ flat_map-append _ (refusals_in (take i told)) (option_to_list (refusal_in one.key one.told))
+    ∙ ap refusal_lines (filter_map-append (λ (k : KeyAnswers). refusal_in k.asked.now.key k.told) (take i told) (one ∷ []))
+    ∙ ap (λ (l : List KeyRefusal). refusal_lines (refusals_in (take i told) ++ l)) (last (refusal_in one.asked.now.key one.told))
+    ∙ flat_map-append _ (refusals_in (take i told)) (option_to_list (refusal_in one.asked.now.key one.told))
   where
     last : (r : Option KeyRefusal) → cons_option r [] ≡ option_to_list r
     last None = refl

@@ -4,12 +4,12 @@ use Rattle.std.specs.Prelude.{Contains, map}
 use Rattle.std.specs.List.{AllZip}
 use Rattle.std.specs.List.Sorted.{IsStrictlySortedBy}
 use Rattle.archive_core.specs.Key.{key_bytes}
-use Rattle.archive_core.specs.Lookup.{AnswerRecord, answer_view}
+use Rattle.archive_core.specs.Lookup.{AnswerRecord}
 use Rattle.archive_core.specs.declared.keys.SliceKey.{SliceKey}
 use Rattle.archive_core.specs.declared.lookup.Where.{Where}
 use Rattle.dwarf_source_frames.specs.Frames.{FrameRecord}
-use Rattle.command_queries.specs.Frames.{AskedOfFrames, prints_addresses, prints_frames}
-use Rattle.command_queries.specs.Symbolicate.{Answered, answers_status, answers_text, asked_of}
+use Rattle.command_queries.specs.Frames.{AskedOfFrames, IsFrameSaid, TellFrames, prints_addresses, prints_frames}
+use Rattle.command_queries.specs.Symbolicate.{Answered}
 use Rattle.text_inputs.specs.declared.frame.Frame.{Frame}
 use Rattle.text_reports.specs.Slices.{TellsSlices, slice_key_cmp}
 use Rattle.command_common.specs.Ends.{Query}
@@ -26,21 +26,6 @@ use Rattle.command_frames.specs.Slices.{IsAnsweringEntryRow}
 -- the keys of frames
 abbrev pub keys_of : List Frame → List (List ℕ)
 keys_of frames = map (λ frame. key_bytes frame.key) frames
-
--- the row is that of the frame's address, and this is true of its answer
-abbrev pub IsFrameSaid : (SliceKey → Where → AnswerRecord → List (List FrameRecord) → Type 0)
-    → Frame → Answered → Type 0
-IsFrameSaid IsSaid frame row =
-    (row.address ≡ frame.address)
-    × IsSaid frame.key (asked_of frame.load frame.address) (answer_view row.answer) row.frames
-
--- Frames are answered, one answer a frame and in their order, and this is true of each.
-pub record TellFrames (IsSaid : SliceKey → Where → AnswerRecord → List (List FrameRecord) → Type 0)
-    (frames : List Frame) (status : Status) (text : List ℕ) : Type 0 where
-  pub rows : List Answered
-  pub answered : AllZip (IsFrameSaid IsSaid) frames rows
-  pub status_is : status ≡ answers_status rows
-  pub text_is : text ≡ answers_text rows
 
 -- a frame of a key that is not refused has an answer, of which this is true, and else none
 abbrev pub IsAnsweredOrRefused : (SliceKey → Where → AnswerRecord → List (List FrameRecord) → Type 0)

@@ -8,7 +8,8 @@ use Rattle.dwarf_source_frames.specs.Frames.{FrameRecord}
 use Rattle.text_inputs.specs.declared.frame.Frame.{Frame}
 use Rattle.command_common.specs.declared.faults.Status.{Status}
 use Rattle.command_frames.specs.declared.told.KeyAnswers.{KeyAnswers}
-use Rattle.command_frames.specs.Frames.{TellFrames, TellFramesBesides}
+use Rattle.command_queries.specs.Frames.{TellFrames}
+use Rattle.command_frames.specs.Frames.{TellFramesBesides}
 use Rattle.command_frames.specs.InnerSlices.{AreFollowed}
 use Rattle.command_frames.specs.InnerTold.{ShowsFrames, refusals_in}
 use Rattle.command_frames.specs.Refusals.{KeyRefusal, refusal_lines}

@@ -109,14 +109,6 @@ frames_more place found new it slice grown same are is =
 
 -- ---- answers of one archive, with what was found in its slices
 
--- what was found of places is there for each of what has them
-pub sources_there : {X : Type 0} (o : Operations) (key : SliceKey) (lines : Bool) (place_of : X → Where) (xs : List X)
-    (places : List Where) (found : List SlicedFrames) → places ≡ map place_of xs
-    → ((place : Where) → Contains places place → AreSourcesOf o key lines place found) → (x : X) → Contains xs x
-    → AreSourcesOf o key lines (place_of x) found
-sources_there o key lines place_of xs places found are all x there =
-    all (place_of x) (subst (λ (ps : List Where). Contains ps (place_of x)) (sym are) (to_map place_of xs x there))
-
 pub answered_by : (o : Operations) (key : SliceKey) (lines : Bool) (place at : Where) (answer : AnswerRecord)
     (found : List SlicedFrames) (frames : List (List FrameRecord)) → at ≡ place → IsAnswer o key at answer
     → AreSourcesOf o key lines place found → frames ≡ map (frames_in at) found → IsSourced o key lines place answer frames

@@ -13,7 +13,7 @@ use Rattle.archive_core.specs.declared.lookup.Where.{Where}
 use Rattle.archive_core.proofs.Compare.{length_key_bytes}
 use Rattle.archive_core.proofs.Members.{in_cons, in_front, in_map, in_rest}
 use Rattle.dwarf_source_frames.specs.Frames.{FrameRecord}
-use Rattle.command_queries.specs.Frames.{IsFrameAnswered, TellsFrames, TellsFramesWith, frame_keys, frames_under_key}
+use Rattle.command_queries.specs.Frames.{IsFrameAnswered, IsFrameSaid, TellFrames, TellsFrames, TellsFramesWith, frame_keys, frames_under_key}
 use Rattle.command_queries.specs.Slices.{IsAnsweringRow, WithSlices}
 use Rattle.command_queries.specs.Sources.{IsSourced}
 use Rattle.command_queries.specs.Symbolicate.{Answered, TellsAddressesWith, asked_of}
@@ -37,8 +37,8 @@ use Rattle.command_index_queries.specs.Several.{HoldTogether}
 use Rattle.command_index_queries.specs.Together.{AreLater, AreReadWith, IsReadWith}
 use Rattle.command_frames.specs.Asking.{AreGiven, AreRefusedAsking, AreUntold, IsAnsweredAt, IsAnsweredBySlices, IsAnsweredByTables}
 use Rattle.command_frames.specs.Asking.{IsTableRefused, IsUnreadTable, is_stale_entry}
-use Rattle.command_frames.specs.Frames.{AreToldAt, IsAnsweredOrRefused, IsFrameReplied, IsFrameSaid}
-use Rattle.command_frames.specs.Frames.{TellFrames, TellFramesBesides, TellFramesWith, keys_of, symbolicate_at}
+use Rattle.command_frames.specs.Frames.{AreToldAt, IsAnsweredOrRefused, IsFrameReplied}
+use Rattle.command_frames.specs.Frames.{TellFramesBesides, TellFramesWith, keys_of, symbolicate_at}
 use Rattle.command_frames.specs.Refusals.{IsKeyRefused, IsRefusedBySlice, IsRefusedByTable, KeyRefusal, Reply, refusal_lines}
 use Rattle.command_frames.specs.Slices.{IsAnsweringEntryRow}
 use Rattle.command_frames.proofs.Refused.{answers_alone}
@@ -228,7 +228,8 @@ module _ {I P : Type 0} (inputs : List (Reader I)) (archives : List (Reader P)) 
   row_told frame row there (address_is, is) = (
     address_is,
     subst (λ (a : ℕ). IsSourced o frame.key lines (asked_of frame.load a) (answer_view row.answer) row.frames) (sym address_is)
-        (said frame there (answer_view row.answer) row.frames is),
+        (said frame there (answer_view row.answer) row.frames
+        (subst (λ (a : ℕ). Entries frame.key (asked_of frame.load a) (answer_view row.answer) row.frames) address_is is)),
   )
 
   rows_told : (few : List Frame) (rows : List Answered) → ((frame : Frame) → Contains few frame → Contains listed frame)
@@ -255,7 +256,7 @@ module _ {I P : Type 0} (inputs : List (Reader I)) (archives : List (Reader P)) 
     where
       by : (r : Option Answered) → IsAnsweredOrRefused Entries refusals frame r → IsAnsweredOrRefused Sourced refusals frame r
       by None h = h
-      by (Some row) h = ((h.0.0, said frame there (answer_view row.answer) row.frames h.0.1), h.1)
+      by (Some row) h = (row_told frame row there h.0, h.1)
 
   replies_told : (refusals : List KeyRefusal) (few : List Frame) (replies : List Reply)
       → ((frame : Frame) → Contains few frame → Contains listed frame)
