@@ -182,7 +182,8 @@ class Contents(PackageCase):
         self.assertEqual(sha256(tree["bin/symarch"]), sha256(Path(symarch).read_bytes()))
         self.assertEqual(tree[f"{DOC}/KIT"].decode(), f"{KIT}\n")
         for it in TOOLS:
-            self.assertEqual(tree[f"lib/symarch/{it}"], (TOP / "tools" / it).read_bytes(), it)
+            tool = (TOP / "tools" / it).read_bytes().replace(b"python3 -IS", b"python3 -BIS", 1)
+            self.assertEqual(tree[f"lib/symarch/{it}"], tool, it)
         modules = {f"lib/symarch/{it.relative_to(TOP / 'tools')}": it for it in TOP.glob("tools/symarch_tools/**/*.py")}
         self.assertEqual({it for it in tree if it.endswith(".py")}, set(modules))
         for it, module in modules.items():
@@ -296,6 +297,15 @@ class Unpacked(PackageCase):
         other.write_text("no archive")
         done = ran(self.home / "bin/symbolicate-report", CRASHES / "arm64.crash", other, env=named)
         self.assertEqual((done.returncode, "gone" in done.stderr), (126, True), done.stderr)
+
+    def test_compiled_modules(self) -> None:
+        """A clone keeps them, a package writes none: postinst makes those of the `.deb`."""
+        clone = self.room / "clone"
+        shutil.copytree(TOP / "tools", clone, ignore=shutil.ignore_patterns("__pycache__"))
+        for folder, is_kept in ((clone, True), (self.home / "lib/symarch", False)):
+            for name in TOOLS:
+                self.assertEqual(ran(folder / name, "--version").returncode, 0)
+            self.assertEqual(any(folder.rglob("*.pyc")), is_kept, folder)
 
     def test_version(self) -> None:
         """The tools print the version of their package, also without a repository around them."""
