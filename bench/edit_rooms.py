@@ -6,7 +6,8 @@ import subprocess
 from dataclasses import dataclass
 from typing import Dict, Iterable, Iterator, List, NamedTuple, Optional, Set, Tuple
 
-from edit_texts import TOP, BadEdit, CrateList, Edit, Function, source
+from edit_texts import TOP, BadEdit, Edit, Function, source
+from crate_list import CrateList
 
 # The most edits of a batch, all of which are lost if its check is cut off.
 MOST = 24
@@ -114,7 +115,7 @@ class Room:
         room = cls(top, crate, jobs, [], set())
         status, lines = room.checked({})
         if status:
-            print(f"{crate}: rt check of its sources ended with status {status}; its last lines:", *lines[-5:], sep="\n")
+            print(f"{crate}: rt check of its sources ended with status {status} and:", *lines[-5:], sep="\n")
             return None
         room.names, room.lines = [it[1] for it in map(PROVED.match, lines) if it], {*lines}
         return room
@@ -188,7 +189,8 @@ class Room:
         except BadEdit as bad:
             return f"BAD EDIT: {bad}"
         names = [name for it in edit.functions() or [] for name in it.among(self.names)]
-        for some in [names, []] if names else [[]]:
+        choices: List[List[str]] = [names, []] if names else [[]]
+        for some in choices:
             status, lines = self.checked(texts, *some)
             result = result_by(self.goals(lines)) if is_judged(status, lines) else None
             if result:

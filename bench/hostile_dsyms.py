@@ -89,7 +89,7 @@ def pairs(count):
 
 
 def long_ways(count):
-    """Frames in each other, whose names stand at the end of 15 entries, which have nearly 16,384 bytes together with the
+    """Frames in each other, whose names are at the end of 15 entries, which have nearly 16,384 bytes together with the
     first entry of the unit, read for each."""
     way = b"".join(b"\x05" + struct.pack("<I", 24 + 1076 * at) + b"n" * 1070 + b"\0" for at in range(1, 16))
     frame = b"\x04" + struct.pack("<QII", TEXT, CODE, 24)

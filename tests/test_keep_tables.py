@@ -208,7 +208,7 @@ class OtherKinds(TableCase):
 
     def reported(self) -> str:
         """A report with names, and what was named."""
-        words = [REPORT, "--text", CRASH / "arm64.crash", self.room.archive]
+        words = [REPORT, "--text", str(CRASH / "arm64.crash"), str(self.room.archive)]
         environment = {**os.environ, "SYMARCH": symarch}
         ended = subprocess.run(words, env=environment, capture_output=True, text=True, check=False)
         self.assertEqual(ended.returncode, 0, ended.stderr)

@@ -1,5 +1,5 @@
-"""DWARF 4 that is made by hand, of which llvm-symbolizer prints other frames: a companion for each rule of docs/TESTS.md
-that compilers do not write, an address, and the lines here and by llvm-symbolizer."""
+"""DWARF 4 made by hand, of which llvm-symbolizer prints other frames: a companion for each rule of docs/TESTS.md that
+compilers do not write, an address, and the lines here and by llvm-symbolizer."""
 import struct
 from typing import List, NamedTuple, Sequence
 
@@ -74,8 +74,8 @@ def others() -> List[Other]:
         Other("a function out of the one around it", made(beside, ONE_ROW), 8, ["    call at a:1:0"],
               ["    call at a:1:0", "    f at a:7:0"]),
         Other("sequences that overlap", made(FUNCTION, apart), 6, ["    f at a:9:0"], ["    f at a:1:0"]),
-        Other("(0, 0) among the tuples of a set", made(FUNCTION, ONE_ROW, [(LOWEST, 4), (0, 0), (LOWEST + 8, 4)]), 8, [],
-              ["    f at a:1:0"]),
+        Other("(0, 0) among the tuples of a set",
+              made(FUNCTION, ONE_ROW, [(LOWEST, 4), (0, 0), (LOWEST + 8, 4)]), 8, [], ["    f at a:1:0"]),
         Other("both links", made(both, ONE_ROW), 0, ["    origin at a:1:0"], ["    link at a:1:0"]),
         Other("DW_LNE_define_file", made(FUNCTION, defined), 0, ["    f at ?:1:0"], ["    f at b:1:0"]),
         Other("DW_AT_entry_pc", made(bytes(4) + b"\x06" + bytes(4) + b"f\0", ONE_ROW, [], relative, ENTERED), 0, [],
