@@ -5,10 +5,9 @@ use Rattle.std.specs.Prelude.{IfSome, slice_get}
 use Rattle.std.specs.List.{AllZip}
 use Rattle.archive_core.specs.Content.{Operations}
 use Rattle.archive_core.specs.Key.{key_bytes}
-use Rattle.archive_core.specs.Lookup.{AnswerRecord}
 use Rattle.archive_core.specs.declared.keys.SliceKey.{SliceKey}
 use Rattle.archive_core.specs.declared.lookup.Where.{Where}
-use Rattle.dwarf_source_frames.specs.Frames.{FrameRecord}
+use Rattle.text_reports.specs.Answers.{SourcedAnswerRecord}
 use Rattle.index_format.specs.Places.{HasIndexedLength}
 use Rattle.index_format.specs.Text.{placed_of}
 use Rattle.command_common.specs.Inputs.{EachUnfailed, EachUntouched, Reader, Unfailed, readers}
@@ -63,9 +62,9 @@ module _ {P : Type 0} where
       record { groups = held.groups; named = named_same prefixes xs ys all held.groups same held.named; content_is = held.content_is }
 
   pub slices_same : (xs ys : List (Reader P)) (all : List (List (List ℕ))) (lines : Bool) (key : SliceKey) (asked : Where)
-      (answer : AnswerRecord) (frames : List (List FrameRecord)) → HaveBytesOf xs ys
-      → IsAnsweredBySlices xs all lines key asked answer frames → IsAnsweredBySlices ys all lines key asked answer frames
-  slices_same xs ys all lines key asked answer frames same is = record {
+      (answer : SourcedAnswerRecord) → HaveBytesOf xs ys
+      → IsAnsweredBySlices xs all lines key asked answer → IsAnsweredBySlices ys all lines key asked answer
+  slices_same xs ys all lines key asked answer same is = record {
     tied = is.tied;
     content = is.content;
     held = held_same _ xs ys all is.content same is.held;

@@ -5,10 +5,8 @@ use Rattle.std.specs.List.{AllZip, Contains}
 use Rattle.std.proofs.lemmas.List.Elements.{All-weaker}
 use Rattle.std.proofs.lemmas.Slice.Zip.{AllZip-long}
 use Rattle.archive_core.specs.Key.{key_bytes}
-use Rattle.archive_core.specs.Lookup.{AnswerRecord}
 use Rattle.archive_core.specs.declared.keys.SliceKey.{SliceKey}
 use Rattle.archive_core.specs.declared.lookup.Where.{Where}
-use Rattle.dwarf_source_frames.specs.Frames.{FrameRecord}
 use Rattle.text_inputs.specs.declared.frame.Frame.{Frame}
 use Rattle.command_common.specs.Inputs.{AreRead, Reader, readers, EachUnfailed, IsRefusal}
 use Rattle.command_common.specs.declared.faults.CommandFault.{CommandFault}
@@ -27,11 +25,11 @@ use Rattle.command_frames.specs.Asking.{AreGiven, AreRefusedAsking, AreUnread, A
 use Rattle.command_frames.specs.Asking.{IsChanged, IsLineless, IsTableRefused, IsUntoldUnder, IsUnreadTable}
 use Rattle.command_frames.specs.Frames.{AreToldAt}
 use Rattle.command_frames.specs.InnerAsking.{IsKeyFault, IsOfKey, IsUnreadBy, IsUntoldBy, NoneFailed, RefusesAll, command_fault}
-use Rattle.command_frames.specs.InnerPlaces.{AreAskedOf}
+use Rattle.command_frames.specs.InnerPlaces.{AreKeysOf}
 use Rattle.command_frames.specs.InnerReplies.{PrintsFrames}
 use Rattle.command_frames.specs.InnerTold.{AreTold, IsRefusedAt}
 use Rattle.command_frames.specs.Refusals.{IsKeyRefused, IsRefusedBySlice, IsRefusedByTable, KeyRefusal}
-use Rattle.command_frames.specs.declared.places.AskedPlace.{AskedPlace}
+use Rattle.command_frames.specs.declared.places.AskedKey.{AskedKey}
 use Rattle.command_frames.specs.declared.told.KeyAnswers.{KeyAnswers}
 use Rattle.command_frames.proofs.Archives.{HaveBytesOf, bytes_kept, kept_then, same_bytes, slices_same, stale_same}
 use Rattle.command_frames.proofs.Followed.{followed}
@@ -172,15 +170,15 @@ module _ {I P : Type 0} (left : I → Option (List ℕ)) (failures : I → ℕ) 
   same_known : HaveBytesOf (readers whole failures_at seen seen) known
   same_known = same_bytes whole failures_at seen seen before after refl (more_at ∙ long_at) (sym (bytes_kept whole failures_at before seen kept.1))
 
-  said_given : (key : SliceKey) (place : Where) (told : AnswerRecord) (frames : List (List FrameRecord))
-      → IsAnsweredAt (HaveTexts left mid) (readers whole failures_at seen seen) all lines key place told frames
-      → IsAnsweredAt (AreGiven named) known all lines key place told frames
-  said_given key place told frames (inl is) =
-      let by : IsAnsweredByTables (AreGiven named) all lines key place told frames =
+  said_given : (key : SliceKey) (place : Where) (told : SourcedAnswerRecord)
+      → IsAnsweredAt (HaveTexts left mid) (readers whole failures_at seen seen) all lines key place told
+      → IsAnsweredAt (AreGiven named) known all lines key place told
+  said_given key place told (inl is) =
+      let by : IsAnsweredByTables (AreGiven named) all lines key place told =
       record { answer_is = λ texts given. is.answer_is texts (given_texts texts given); none_shown = is.none_shown } in
       inl by
-  said_given key place told frames (inr is) =
-      inr (slices_same (readers whole failures_at seen seen) known all lines key place told frames same_known is)
+  said_given key place told (inr is) =
+      inr (slices_same (readers whole failures_at seen seen) known all lines key place told same_known is)
 
   abbrev IsOneRefused : SliceKey → InputName → Why → Type 0
   IsOneRefused key at why = IsKeyRefused lines named known all (record { key = key; at = at; why = why })
@@ -196,7 +194,7 @@ module _ {I P : Type 0} (left : I → Option (List ℕ)) (failures : I → ℕ) 
       } in
       inr by
 
-  pub frames_told : (keys : List SliceKey) (frames : List Frame) (asked : List AskedPlace) (told : List KeyAnswers) → AreAskedOf frames asked
+  pub frames_told : (keys : List SliceKey) (frames : List Frame) (asked : List AskedKey) (told : List KeyAnswers) → AreKeysOf frames asked
       → AreRead (AreTold (IsAnsweredAt (HaveTexts left mid) (readers whole failures_at seen seen) all lines)
       (IsRefusedAt (HaveTexts left mid) (readers whole failures_at seen seen) all lines) slices asked told
       × (each_known left new ≡ each_known left mid) × AreAllKept whole failures_at seen after)
@@ -210,7 +208,7 @@ module _ {I P : Type 0} (left : I → Option (List ℕ)) (failures : I → ℕ) 
       (IsAnsweredAt (AreGiven named) known all lines) (IsRefusedAt (HaveTexts left mid) (readers whole failures_at seen seen) all lines)
       IsOneRefused said_given (refused_given unfailed.0 unfailed.1) slices) told are.are_true in
       let now : AreTold (IsAnsweredAt (AreGiven named) known all lines) IsOneRefused slices asked told =
-      record { order = are.order; of_asked = are.of_asked; whole = are.whole; are_true = true_now } in
+      record { asked_is = are.asked_is; are_true = true_now } in
       let part = part_told slices now frames of status prints.answers prints.refused prints.shown prints.refused_is in
       record {
         is = record {

@@ -1,17 +1,17 @@
 -- Replies, and what is printed after them.
 use Rattle.std.proofs.Common.{ℕ, Bool, true, false, List, ◌++◌, sym, ap, ◌∙◌, subst}
-use Rattle.archive_core.specs.Lookup.{AnswerRecord}
 use Rattle.archive_core.specs.declared.keys.SliceKey.{SliceKey}
 use Rattle.archive_core.specs.declared.lookup.Where.{Where}
-use Rattle.dwarf_source_frames.specs.Frames.{FrameRecord}
+use Rattle.text_reports.specs.Answers.{SourcedAnswerRecord}
 use Rattle.text_inputs.specs.declared.frame.Frame.{Frame}
 use Rattle.command_common.specs.declared.faults.Status.{Status}
-use Rattle.command_frames.specs.Frames.{TellFrames, TellFramesWith}
+use Rattle.command_queries.specs.Frames.{TellFrames}
+use Rattle.command_frames.specs.Frames.{TellFramesWith}
 use Rattle.command_frames.specs.InnerReplies.{TellFramesPart}
 use Rattle.command_frames.specs.InnerSlices.{AreFollowed}
 use Rattle.command_frames.specs.Refusals.{KeyRefusal}
 
-pub followed : (slices : Bool) (IsSaid : SliceKey → Where → AnswerRecord → List (List FrameRecord) → Type 0) (IsRefused : KeyRefusal → Type 0)
+pub followed : (slices : Bool) (IsSaid : SliceKey → Where → SourcedAnswerRecord → Type 0) (IsRefused : KeyRefusal → Type 0)
     (all : List (List (List ℕ))) (keys : List SliceKey) (frames : List Frame) (status : Status) (answers refused text : List ℕ)
     → TellFramesPart slices IsSaid IsRefused frames status answers refused → AreFollowed slices all keys answers refused text
     → TellFramesWith slices IsSaid IsRefused all keys frames status text

@@ -3,10 +3,8 @@ use Rattle.std.proofs.Common.{◌≡◌, ℕ, ◌⊎◌, Bool, List, [], ◌∷�
 use Rattle.std.proofs.Common.{Result, Ok, Err}
 use Rattle.std.proofs.lemmas.Slice.Zip.{AllZip-long}
 use Rattle.archive_core.specs.Key.{key_bytes}
-use Rattle.archive_core.specs.Lookup.{AnswerRecord}
 use Rattle.archive_core.specs.declared.keys.SliceKey.{SliceKey}
 use Rattle.archive_core.specs.declared.lookup.Where.{Where}
-use Rattle.dwarf_source_frames.specs.Frames.{FrameRecord}
 use Rattle.command_common.specs.Inputs.{EachUnfailed, IsRefusal, Reader, readers}
 use Rattle.command_common.specs.declared.faults.CommandFault.{CommandFault}
 use Rattle.command_common.specs.declared.faults.CommandFault.TheVariants.{Input, Output, OutOfMemory, Report}
@@ -34,12 +32,12 @@ module _ {D P : Type 0} (whole : D → Option (List ℕ)) (failures : D → ℕ)
   same_first : HaveBytesOf (readers whole_at failures_at mid_at mid_at) (readers whole_at failures_at first_at first_at)
   same_first = same_bytes whole_at failures_at mid_at mid_at first_at first_at refl refl (sym (bytes_kept whole_at failures_at first_at mid_at kept))
 
-  said_first : (key : SliceKey) (place : Where) (told : AnswerRecord) (frames : List (List FrameRecord))
-      → IsAnsweredAt (HaveTexts whole mid) (readers whole_at failures_at mid_at mid_at) all lines key place told frames
-      → IsAnsweredAt (HaveTexts whole first) (readers whole_at failures_at first_at first_at) all lines key place told frames
-  said_first key place told frames (inl is) = inl (tables_first whole failures lines all first mid texts_kept key place told frames is)
-  said_first key place told frames (inr is) =
-      inr (slices_same (readers whole_at failures_at mid_at mid_at) (readers whole_at failures_at first_at first_at) all lines key place told frames same_first is)
+  said_first : (key : SliceKey) (place : Where) (told : SourcedAnswerRecord)
+      → IsAnsweredAt (HaveTexts whole mid) (readers whole_at failures_at mid_at mid_at) all lines key place told
+      → IsAnsweredAt (HaveTexts whole first) (readers whole_at failures_at first_at first_at) all lines key place told
+  said_first key place told (inl is) = inl (tables_first whole failures lines all first mid texts_kept key place told is)
+  said_first key place told (inr is) =
+      inr (slices_same (readers whole_at failures_at mid_at mid_at) (readers whole_at failures_at first_at first_at) all lines key place told same_first is)
 
   refused_first : (key : SliceKey) (at : InputName) (why : Why)
       → IsRefusedAt (HaveTexts whole mid) (readers whole_at failures_at mid_at mid_at) all lines key at why
@@ -103,12 +101,12 @@ module _ {D P : Type 0} (whole : D → Option (List ℕ)) (failures : D → ℕ)
       (IsKeyFault (HaveTexts whole old) all lines (key_bytes key)) slices places told → IsTold told
   by_tables told is = key_as (IsAnsweredByTables (HaveTexts whole old) all lines key) (IsAnsweredAt (HaveTexts whole old) known all lines key)
       (IsKeyFault (HaveTexts whole old) all lines (key_bytes key)) (IsRefusedAt (HaveTexts whole old) known all lines key)
-      (λ place answer frames is. inl is) (λ at why is. inl is) slices places told is
+      (λ place answer is. inl is) (λ at why is. inl is) slices places told is
 
   by_slices : (told : KeyTold) → IsKeyTold (IsAnsweredBySlices known all lines key) (IsKeyStale known all key) slices places told → IsTold told
   by_slices told is = key_as (IsAnsweredBySlices known all lines key) (IsAnsweredAt (HaveTexts whole old) known all lines key)
       (IsKeyStale known all key) (IsRefusedAt (HaveTexts whole old) known all lines key)
-      (λ place answer frames is. inr is) (λ at why is. inr is) slices places told is
+      (λ place answer is. inr is) (λ at why is. inr is) slices places told is
 
   pub slices_asked : (result : Result KeyTold CommandFault) → each_known whole new ≡ each_known whole old → NoneFailed failures old new
       → AsksSlices whole_at failures_at slices (key_bytes key ∷ []) all old_at new_at result

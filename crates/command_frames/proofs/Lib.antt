@@ -8,3 +8,7 @@ pub mod SliceRows
 pub mod Followed
 pub mod Refused
 pub mod Ended
+pub mod Questioned
+pub mod RowsAnswering
+pub mod SlicesTold
+pub mod Halved

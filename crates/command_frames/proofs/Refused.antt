@@ -5,17 +5,14 @@ use Rattle.std.proofs.Common.{inr, arith, fold}
 use Rattle.std.specs.Prelude.{slice_get}
 use Rattle.std.specs.List.{AllZip, flat_map, list_all, list_any}
 use Rattle.std.specs.List.Sorted.{IsStrictlySortedBy}
-use Rattle.std.specs.declared.cmp.Ordering.TheVariants.{Less}
-use Rattle.std.proofs.lemmas.Bool.{cases_lt, or_right, true≢false}
-use Rattle.std.proofs.lemmas.List.{get_or_default}
+use Rattle.std.proofs.lemmas.Bool.{or_right, true≢false}
 use Rattle.std.proofs.lemmas.List.Elements.{All-contains, Contains-get_or}
-use Rattle.std.proofs.lemmas.Map.Keys.{Less-from_sorted}
+use Rattle.archive_core.specs.Content.{Operations}
 use Rattle.archive_core.specs.Key.{key_bytes}
-use Rattle.archive_core.specs.Lookup.{AnswerRecord, answer_view}
+use Rattle.archive_core.specs.Lookup.{answer_view}
 use Rattle.archive_core.specs.declared.keys.SliceKey.{SliceKey}
 use Rattle.archive_core.specs.declared.lookup.Where.{Where}
 use Rattle.archive_core.proofs.Members.{in_cons, in_front, in_map, to_map}
-use Rattle.dwarf_source_frames.specs.Frames.{FrameRecord}
 use Rattle.command_queries.specs.Places.{IsPlaceTold, address_in}
 use Rattle.command_queries.specs.Symbolicate.{Answered, answers_text, asked_of, is_symbol}
 use Rattle.text_inputs.specs.declared.frame.Frame.{Frame}
@@ -23,38 +20,27 @@ use Rattle.command_common.specs.declared.faults.InputName.{InputName}
 use Rattle.command_common.specs.declared.faults.Status.{Status}
 use Rattle.command_common.specs.declared.faults.Status.TheVariants.{Done, Partial, Refused as RefusedStatus}
 use Rattle.command_common.specs.declared.faults.Why.{Why}
-use Rattle.command_frames.specs.Frames.{IsAnsweredOrRefused, IsFrameReplied, IsFrameSaid, TellFrames, TellFramesBesides, keys_of}
-use Rattle.command_frames.specs.InnerPlaces.{AreAskedOf, key_cmp}
+use Rattle.command_queries.specs.Frames.{IsFrameSaid, TellFrames, TellsFrames}
+use Rattle.command_queries.specs.Sources.{IsSourced}
+use Rattle.command_frames.specs.Frames.{IsAnsweredOrRefused, IsFrameReplied, TellFramesBesides, keys_of}
+use Rattle.command_frames.specs.InnerPlaces.{AreKeysOf, key_cmp}
 use Rattle.command_frames.specs.InnerTold.{AreTold, IsFrameTold, IsKeyTold, IsPrintedOf, IsToldUnder, Printed, ShowsFrames, StandsAt}
-use Rattle.command_frames.specs.InnerTold.{refusals_in, status_with}
+use Rattle.command_frames.specs.InnerTold.{NoneRefused, asked_in, refusals_in, status_with}
 use Rattle.command_frames.specs.InnerReplies.{TellFramesPart}
 use Rattle.command_frames.specs.Refusals.{AreRefusing, KeyRefusal, Reply, is_found, is_refused, refusal_lines, replies_text, replies_status, reply_text}
-use Rattle.command_frames.specs.declared.places.AskedPlace.{AskedPlace}
+use Rattle.command_frames.specs.declared.places.AskedKey.{AskedKey}
 use Rattle.command_frames.specs.declared.tables.KeyTold.{KeyTold}
 use Rattle.command_frames.specs.declared.tables.KeyTold.TheVariants.{Told, Refused}
 use Rattle.command_frames.specs.declared.told.KeyAnswers.{KeyAnswers}
-use Rattle.command_frames.proofs.Runs.{not_same}
-use Rattle.command_frames.proofs.Shown.{among_frames, of_told, refusals_ascend, to_refusals}
+use Rattle.command_frames.proofs.Runs.{keys_total, not_same, once, told_ascend}
+use Rattle.command_frames.proofs.Shown.{of_told, refusals_ascend, to_refusals}
 
 -- what is told under a key is told once
-once_told : (told : List KeyAnswers) (a b : KeyAnswers) → IsStrictlySortedBy (λ x y. key_cmp x.key y.key) told
-    → Contains told a → Contains told b → key_bytes a.key ≡ key_bytes b.key → a ≡ b
-once_told told a b up (i, lt_i, at_i) (j, lt_j, at_j) same =
-    let there : get_or told j a ≡ b = get_or_default told j a b lt_j ∙ at_j in
-    let here : get_or told i b ≡ a = get_or_default told i b a lt_i ∙ at_i in
-    elim (cases_lt i j) [
-      | inl below ↦ absurd (not_same (key_bytes a.key) (key_bytes b.key)
-          (subst (λ (x : KeyAnswers). key_cmp x.key b.key ≡ Less) at_i
-          (subst (λ (y : KeyAnswers). key_cmp (get_or told i a).key y.key ≡ Less) there
-          (Less-from_sorted (λ x y. key_cmp x.key y.key) told i j a up below lt_j))) same)
-      | inr from ↦ elim (cases_lt j i) [
-        | inl above ↦ absurd (not_same (key_bytes b.key) (key_bytes a.key)
-            (subst (λ (x : KeyAnswers). key_cmp x.key a.key ≡ Less) at_j
-            (subst (λ (y : KeyAnswers). key_cmp (get_or told j b).key y.key ≡ Less) here
-            (Less-from_sorted (λ x y. key_cmp x.key y.key) told j i b up above lt_i))) (sym same))
-        | inr upto ↦ let at : i ≡ j = omega (arith, from, upto) in sym at_i ∙ ap (λ (n : ℕ). get_or told n a) at ∙ there
-      ]
-    ]
+once_told : (told : List KeyAnswers) (a b : KeyAnswers) → IsStrictlySortedBy (λ x y. key_cmp x.asked.now.key y.asked.now.key) told
+    → Contains told a → Contains told b → key_bytes a.asked.now.key ≡ key_bytes b.asked.now.key → a ≡ b
+once_told told a b up there also same = once keys_total (λ (one : KeyAnswers). one.asked.now.key) told a b up there also
+    (λ less. not_same (key_bytes a.asked.now.key) (key_bytes b.asked.now.key) less same)
+    (λ less. not_same (key_bytes b.asked.now.key) (key_bytes a.asked.now.key) less (sym same))
 
 -- ---- how a command ends
 
@@ -108,7 +94,7 @@ address_asked (Some load) address = refl
 
 -- ---- replies of which none is refused
 
-module _ (IsSaid : SliceKey → Where → AnswerRecord → List (List FrameRecord) → Type 0) (refusals : List KeyRefusal) where
+module _ (IsSaid : SliceKey → Where → SourcedAnswerRecord → Type 0) (refusals : List KeyRefusal) where
   record AreRows (few : List Frame) (replies : List Reply) : Type 0 where
     rows : List Answered
     answered : AllZip (IsFrameSaid IsSaid) few rows
@@ -155,9 +141,9 @@ module _ (IsSaid : SliceKey → Where → AnswerRecord → List (List FrameRecor
 
 -- ---- of what is told
 
-module _ {IsSaid : SliceKey → Where → AnswerRecord → List (List FrameRecord) → Type 0} {IsRefused : SliceKey → InputName → Why → Type 0}
-    {slices : Bool} {asked : List AskedPlace} {told : List KeyAnswers}
-    (are : AreTold IsSaid IsRefused slices asked told) (frames : List Frame) (of : AreAskedOf frames asked) where
+module _ {IsSaid : SliceKey → Where → SourcedAnswerRecord → Type 0} {IsRefused : SliceKey → InputName → Why → Type 0}
+    {slices : Bool} {asked : List AskedKey} {told : List KeyAnswers}
+    (are : AreTold IsSaid IsRefused slices asked told) (frames : List Frame) (of : AreKeysOf frames asked) where
   abbrev refusals : List KeyRefusal
   refusals = refusals_in told
 
@@ -167,6 +153,12 @@ module _ {IsSaid : SliceKey → Where → AnswerRecord → List (List FrameRecor
   abbrev IsOne : KeyRefusal → Type 0
   IsOne refusal = IsRefused refusal.key refusal.at refusal.why
 
+  keys : AreKeysOf frames (asked_in told)
+  keys = subst (AreKeysOf frames) (sym are.asked_is) of
+
+  up : IsStrictlySortedBy (λ x y. key_cmp x.asked.now.key y.asked.now.key) told
+  up = told_ascend told keys.order
+
   own : (one : KeyAnswers) → Contains told one → IsToldUnder IsSaid IsRefused slices one
   own one there = All-contains (IsToldUnder IsSaid IsRefused slices) told one are.are_true there
 
@@ -175,17 +167,17 @@ module _ {IsSaid : SliceKey → Where → AnswerRecord → List (List FrameRecor
   refusal_so : (refusal : KeyRefusal) → Contains refusals refusal → (slices ≡ true) × IsOne refusal
   refusal_so refusal there =
       let r = of_told told refusal there in
-      let is : IsKeyTold (IsSaid r.one.key) (IsRefused r.one.key) slices r.one.places.items (Refused refusal.at refusal.why) =
-      subst (IsKeyTold (IsSaid r.one.key) (IsRefused r.one.key) slices r.one.places.items) r.told_is (own r.one r.is_one) in
+      let one : AskedKey = r.one.asked.now in
+      let is : IsKeyTold (IsSaid one.key) (IsRefused one.key) slices one.places.items (Refused refusal.at refusal.why) =
+      subst (IsKeyTold (IsSaid one.key) (IsRefused one.key) slices one.places.items) r.told_is (own r.one r.is_one) in
       (is.0, subst (λ (key : SliceKey). IsRefused key refusal.at refusal.why) r.key_is is.1)
 
   refusal_of_frame : (refusal : KeyRefusal) → Contains refusals refusal → Contains (keys_of frames) (key_bytes refusal.key)
   refusal_of_frame refusal there =
       let r = of_told told refusal there in
-      let asked_for = All-contains (λ (one : KeyAnswers). Contains
-      (map (λ (place : AskedPlace). key_bytes place.key) asked) (key_bytes one.key)) told r.one are.of_asked
-      r.is_one in
-      subst (λ (key : SliceKey). Contains (keys_of frames) (key_bytes key)) r.key_is (among_frames frames asked of (key_bytes r.one.key) asked_for)
+      let asked_for = All-contains (λ (one : AskedKey). Contains (keys_of frames) (key_bytes one.key)) (asked_in told) r.one.asked.now
+      keys.of_frames (to_map (λ (one : KeyAnswers). one.asked.now) told r.one r.is_one) in
+      subst (λ (key : SliceKey). Contains (keys_of frames) (key_bytes key)) r.key_is asked_for
 
   -- none is, if slices are not wanted
   none_refused : slices ≡ false → refusals ≡ []
@@ -213,18 +205,20 @@ module _ {IsSaid : SliceKey → Where → AnswerRecord → List (List FrameRecor
     not_refused never refusing =
         let found = in_map bytes_of refusals (key_bytes frame.key) refusing in
         let r = of_told told found.0 found.1 in
-        let same : r.one ≡ one = once_told told r.one one are.order.keys r.is_one stands.is_one
+        let same : r.one ≡ one = once_told told r.one one up r.is_one stands.is_one
         (ap key_bytes r.key_is ∙ sym found.2 ∙ sym (ap key_bytes stands.key_is)) in
         never found.0.at found.0.why (sym (ap (λ (k : KeyAnswers). k.told) same) ∙ r.told_is)
 
     reply_so : (t : KeyTold) → one.told ≡ t → IsPrintedOf t frame.address number printed → HasReply frame printed
     reply_so (Told answers) is h =
-        let it : IsKeyTold (IsSaid one.key) (IsRefused one.key) slices one.places.items (Told answers) =
-        subst (IsKeyTold (IsSaid one.key) (IsRefused one.key) slices one.places.items) is (own one stands.is_one) in
+        let key : AskedKey = one.asked.now in
+        let it : IsKeyTold (IsSaid key.key) (IsRefused key.key) slices key.places.items (Told answers) =
+        subst (IsKeyTold (IsSaid key.key) (IsRefused key.key) slices key.places.items) is (own one stands.is_one) in
         let place : Where = asked_of frame.load frame.address in
-        let p = zip_get (IsPlaceTold (IsSaid one.key)) one.places.items answers.items number place h.0 it stands.place_is h.1 in
+        let p = zip_get (IsPlaceTold (IsSaid key.key)) key.places.items answers.items number place h.0 it stands.place_is h.1 in
         let address_is : p.row.address ≡ frame.address = p.address_is ∙ address_asked frame.load frame.address in
-        let said = subst (λ (key : SliceKey). IsSaid key place (answer_view p.row.answer) p.row.frames) stands.key_is p.is_said in
+        let said = subst (λ (address : ℕ). IsSaid frame.key (asked_of frame.load address) (answer_view p.row.answer) p.row.frames) (sym address_is)
+        (subst (λ (key : SliceKey). IsSaid key place (answer_view p.row.answer) p.row.frames) stands.key_is p.is_said) in
         record {
           reply = Some p.row;
           replied = ((address_is, said), not_refused (λ at why refused. absurd (cc (is, refused))));
@@ -234,7 +228,7 @@ module _ {IsSaid : SliceKey → Where → AnswerRecord → List (List FrameRecor
     reply_so (Refused at why) is h = record {
       reply = None;
       replied = subst (λ (key : SliceKey). AreRefusing refusals (key_bytes key)) stands.key_is (to_map bytes_of refusals
-          (record { key = one.key; at = at; why = why }) (to_refusals told one at why stands.is_one is));
+          (record { key = one.asked.now.key; at = at; why = why }) (to_refusals told one at why stands.is_one is));
       status_is = h.0;
       text_is = h.1;
     }
@@ -336,7 +330,7 @@ module _ {IsSaid : SliceKey → Where → AnswerRecord → List (List FrameRecor
       record {
         replies = are_replies.replies;
         replied = are_replies.replied;
-        ascending = refusals_ascend told are.order.keys;
+        ascending = refusals_ascend told up;
         of_frames = λ k d lt. refusal_of_frame (get_or refusals k d) (Contains-get_or refusals k d lt);
         refused = λ k d lt. (refusal_so (get_or refusals k d) (Contains-get_or refusals k d lt)).1;
         status_is = status_is;
@@ -345,11 +339,17 @@ module _ {IsSaid : SliceKey → Where → AnswerRecord → List (List FrameRecor
       }
 
 -- what is shown of frames is true of them
-pub part_told : {IsSaid : SliceKey → Where → AnswerRecord → List (List FrameRecord) → Type 0} {IsRefused : SliceKey → InputName → Why → Type 0}
-    (slices : Bool) {asked : List AskedPlace} {told : List KeyAnswers} → AreTold IsSaid IsRefused slices asked told
-    → (frames : List Frame) → AreAskedOf frames asked → (status : Status) (text refused : List ℕ)
+pub part_told : {IsSaid : SliceKey → Where → SourcedAnswerRecord → Type 0} {IsRefused : SliceKey → InputName → Why → Type 0}
+    (slices : Bool) {asked : List AskedKey} {told : List KeyAnswers} → AreTold IsSaid IsRefused slices asked told
+    → (frames : List Frame) → AreKeysOf frames asked → (status : Status) (text refused : List ℕ)
     → ShowsFrames told frames status text → refused ≡ refusal_lines (refusals_in told)
     → TellFramesPart slices IsSaid (λ refusal. IsRefused refusal.key refusal.at refusal.why) frames status text refused
 part_told {IsSaid} {IsRefused} false {told = told} are frames of status text refused shown is =
     answers_alone IsSaid (refusals_in told) _ frames status text (none_refused are frames of refl) (besides are frames of status text shown)
 part_told true {told = told} are frames of status text refused shown is = (refusals_in told, besides are frames of status text shown, is)
+
+-- and so it is of what records tell, by which no key is refused
+pub records_tell : (lines : Bool) (o : Operations) (frames : List Frame) (asked : List AskedKey) (told : List KeyAnswers) (status : Status) (text : List ℕ)
+    → AreKeysOf frames asked → AreTold (λ key. IsSourced o key lines) NoneRefused false asked told
+    → ShowsFrames told frames status text → TellsFrames lines o frames status text
+records_tell lines o frames asked told status text of are shown = part_told false are frames of status text (refusal_lines (refusals_in told)) shown refl

@@ -8,16 +8,14 @@ use Rattle.std.specs.Option.{option_to_list}
 use Rattle.std.specs.declared.cmp.Ordering.TheVariants.{Less}
 use Rattle.std.proofs.lemmas.Grind.{flat_map-append}
 use Rattle.std.proofs.lemmas.List.{flat_map_more, take_more}
-use Rattle.std.proofs.lemmas.List.Elements.{filter_map-append}
+use Rattle.std.proofs.lemmas.List.Elements.{All-weaker, filter_map-append}
 use Rattle.std.proofs.lemmas.List.Sums.{fold-append}
 use Rattle.std.proofs.lemmas.Option.{get_or_from_slice_get, slice_get_within}
 use Rattle.std.proofs.lemmas.Slice.Zip.{AllZip-long}
 use Rattle.archive_core.specs.Key.{key_bytes}
-use Rattle.archive_core.specs.Lookup.{AnswerRecord}
 use Rattle.archive_core.specs.declared.keys.SliceKey.{SliceKey}
 use Rattle.archive_core.specs.declared.lookup.Where.{Where}
-use Rattle.archive_core.proofs.Members.{in_cons, in_front, in_map, in_rest, to_map}
-use Rattle.dwarf_source_frames.specs.Frames.{FrameRecord}
+use Rattle.archive_core.proofs.Members.{in_cons, in_front, in_rest}
 use Rattle.text_inputs.specs.declared.frame.Frame.{Frame}
 use Rattle.command_common.specs.declared.faults.InputName.{InputName}
 use Rattle.command_common.specs.declared.faults.InputName.TheVariants.{Index}
@@ -35,19 +33,18 @@ use Rattle.index_lookup.specs.declared.answers.Answers.{Answers}
 use Rattle.index_lookup.specs.Among.{AreAnsweringAmong, AreTied, EntryAt}
 use Rattle.index_lookup.specs.AmongAsked.{AsksAmong, BlamesAmong, HasText, HaveTexts, each_known}
 use Rattle.index_lookup.specs.AmongTold.{IsAnswerAmong}
-use Rattle.index_lookup.specs.Views.{IsColumnAt, answer_of, row_at, shown_of}
+use Rattle.index_lookup.specs.Views.{IsColumnAt, answer_of, row_at}
 use Rattle.index_lookup.specs.declared.answers.EntryAnswers.{EntryAnswers}
 use Rattle.index_lookup.specs.declared.fault.AnswerFault.{AnswerFault}
 use Rattle.index_lookup.specs.declared.fault.AnswerFault.TheVariants as faults
-use Rattle.command_frames.specs.Asking.{IsAnsweredByTables}
-use Rattle.command_frames.specs.Frames.{keys_of}
+use Rattle.command_frames.specs.Asking.{AreNoneShown, IsAnsweredByTables}
 use Rattle.command_frames.specs.InnerAsking.{IsKeyFault, IsOfKey, IsUntoldBy, NoneFailed, RefusesAll, command_fault}
-use Rattle.command_frames.specs.InnerPlaces.{AreAskedOf, key_cmp}
-use Rattle.command_frames.specs.InnerTold.{AreTold, AreToldOf, HasNumber, HasTold, HaveEach, HaveToldEach, IsAnswerIn, IsFrameTold, IsKeyTold, IsPrinted}
+use Rattle.command_frames.specs.InnerPlaces.{key_cmp}
+use Rattle.command_frames.specs.InnerTold.{AreTold, AreToldOf, HasNumber, HaveEach, HaveEachTold, IsAnswerIn, IsFrameTold, IsKeyTold, IsPrinted}
 use Rattle.command_frames.specs.InnerTold.{IsToldUnder, Printed, ShowsFrames, StandsAt, answer_at, refusal_in, refusals_in}
-use Rattle.command_frames.specs.InnerTold.{shown_at, status_with, told_fault}
+use Rattle.command_frames.specs.InnerTold.{status_with, told_fault}
 use Rattle.command_frames.specs.Refusals.{KeyRefusal, refusal_lines}
-use Rattle.command_frames.specs.declared.places.AskedPlace.{AskedPlace}
+use Rattle.command_frames.specs.declared.places.AskedKey.{AskedKey}
 use Rattle.command_frames.specs.declared.tables.KeyTold.{KeyTold}
 use Rattle.command_frames.specs.declared.tables.KeyTold.TheVariants.{Told, Refused}
 use Rattle.command_frames.specs.declared.told.KeyAnswers.{KeyAnswers}
@@ -63,39 +60,40 @@ only_key key other (suc n, lt, e) = absurd (omega (arith, lt))
 -- ---- what is true of answers
 
 -- what is true of an answer, and more so
-pub place_as : (IsSaid IsMore : Where → AnswerRecord → List (List FrameRecord) → Type 0)
-    → ((place : Where) (answer : AnswerRecord) (frames : List (List FrameRecord)) → IsSaid place answer frames → IsMore place answer frames)
+pub place_as : (IsSaid IsMore : Where → SourcedAnswerRecord → Type 0)
+    → ((place : Where) (answer : SourcedAnswerRecord) → IsSaid place answer → IsMore place answer)
     → (place : Where) (told : PlaceAnswer) → IsPlaceTold IsSaid place told → IsPlaceTold IsMore place told
 place_as IsSaid IsMore more place told is = record {
   row = is.row;
   address_is = is.address_is;
-  is_said = more place _ is.row.frames is.is_said;
+  is_said = more place _ is.is_said;
   status_is = is.status_is;
   text_is = is.text_is;
 }
 
-pub places_as : (IsSaid IsMore : Where → AnswerRecord → List (List FrameRecord) → Type 0)
-    → ((place : Where) (answer : AnswerRecord) (frames : List (List FrameRecord)) → IsSaid place answer frames → IsMore place answer frames)
+pub places_as : (IsSaid IsMore : Where → SourcedAnswerRecord → Type 0)
+    → ((place : Where) (answer : SourcedAnswerRecord) → IsSaid place answer → IsMore place answer)
     → (places : List Where) (answers : List PlaceAnswer) → AllZip (IsPlaceTold IsSaid) places answers → AllZip (IsPlaceTold IsMore) places answers
 places_as IsSaid IsMore more places answers zip =
     zip_as (IsPlaceTold IsSaid) (IsPlaceTold IsMore) places answers (place_as IsSaid IsMore more) zip
 
-pub key_as : (IsSaid IsMore : Where → AnswerRecord → List (List FrameRecord) → Type 0) (IsRefused IsNot : InputName → Why → Type 0)
-    → ((place : Where) (answer : AnswerRecord) (frames : List (List FrameRecord)) → IsSaid place answer frames → IsMore place answer frames)
+pub key_as : (IsSaid IsMore : Where → SourcedAnswerRecord → Type 0) (IsRefused IsNot : InputName → Why → Type 0)
+    → ((place : Where) (answer : SourcedAnswerRecord) → IsSaid place answer → IsMore place answer)
     → ((at : InputName) (why : Why) → IsRefused at why → IsNot at why)
     → (slices : Bool) (places : List Where) (told : KeyTold) → IsKeyTold IsSaid IsRefused slices places told → IsKeyTold IsMore IsNot slices places told
 key_as IsSaid IsMore IsRefused IsNot more also slices places (Told answers) is = places_as IsSaid IsMore more places answers.items is
 key_as IsSaid IsMore IsRefused IsNot more also slices places (Refused at why) (wanted, is) = (wanted, also at why is)
 
-pub under_as : (IsSaid IsMore : SliceKey → Where → AnswerRecord → List (List FrameRecord) → Type 0) (IsRefused IsNot : SliceKey → InputName → Why → Type 0)
-    → ((key : SliceKey) (place : Where) (answer : AnswerRecord) (frames : List (List FrameRecord)) → IsSaid key place answer frames → IsMore key place answer frames)
+pub under_as : (IsSaid IsMore : SliceKey → Where → SourcedAnswerRecord → Type 0) (IsRefused IsNot : SliceKey → InputName → Why → Type 0)
+    → ((key : SliceKey) (place : Where) (answer : SourcedAnswerRecord) → IsSaid key place answer → IsMore key place answer)
     → ((key : SliceKey) (at : InputName) (why : Why) → IsRefused key at why → IsNot key at why)
     → (slices : Bool) (one : KeyAnswers) → IsToldUnder IsSaid IsRefused slices one → IsToldUnder IsMore IsNot slices one
 under_as IsSaid IsMore IsRefused IsNot more also slices one is =
-    key_as (IsSaid one.key) (IsMore one.key) (IsRefused one.key) (IsNot one.key) (more one.key) (also one.key) slices one.places.items one.told is
+    let key : SliceKey = one.asked.now.key in
+    key_as (IsSaid key) (IsMore key) (IsRefused key) (IsNot key) (more key) (also key) slices one.asked.now.places.items one.told is
 
 -- there are as many answers as places
-pub even_of : (IsSaid : Where → AnswerRecord → List (List FrameRecord) → Type 0) (IsRefused : InputName → Why → Type 0)
+pub even_of : (IsSaid : Where → SourcedAnswerRecord → Type 0) (IsRefused : InputName → Why → Type 0)
     (slices : Bool) (places : List Where) (told : KeyTold) → IsKeyTold IsSaid IsRefused slices places told → HaveEach told places
 even_of IsSaid IsRefused slices places (Told answers) is = AllZip-long (IsPlaceTold IsSaid) places answers.items is
 even_of IsSaid IsRefused slices places (Refused at why) is = tt
@@ -107,8 +105,16 @@ numbered_there (Told answers) places number place even at = omega (arith, even, 
 numbered_there (Refused at why) places number place even there = tt
 
 -- no frames are shown if no lines are wanted
-none_shown : (lines : Bool) (answers : Answers) (number : ℕ) → lines ≡ false → shown_at lines answers number ≡ []
-none_shown lines answers number none = subst (λ (l : Bool). shown_at l answers number ≡ []) (sym none) refl
+none_shown : (lines : Bool) (answers : Answers) (number : ℕ) → lines ≡ false → AreNoneShown (answer_at answers lines number)
+none_shown lines answers number none = subst (λ (l : Bool). AreNoneShown (answer_at answers l number)) (sym none) (of answers.columns.items)
+  where
+    rows : (columns : List EntryAnswers) → AllByRecursion (λ row. row.1.frames ≡ []) (map (row_at false number) columns)
+    rows [] = tt
+    rows (column ∷ columns) = (refl, rows columns)
+    of : (columns : List EntryAnswers) → AreNoneShown (answer_of false number columns)
+    of [] = tt
+    of (column ∷ []) = refl
+    of (column ∷ (other ∷ columns)) = rows (column ∷ (other ∷ columns))
 
 -- the answers in their places are what tables tell of these
 pub tables_tell : (AreTexts : List (List ℕ) → Type 0) (all : List (List (List ℕ))) (key : SliceKey) (lines : Bool)
@@ -116,9 +122,9 @@ pub tables_tell : (AreTexts : List (List ℕ) → Type 0) (all : List (List (Lis
     → AllZip (IsPlaceTold (IsAnswerIn answers lines places)) places told
     → AllZip (IsPlaceTold (IsAnsweredByTables AreTexts all lines key)) places told
 tables_tell AreTexts all key lines places answers told are zip =
-    places_as (IsAnswerIn answers lines places) (IsAnsweredByTables AreTexts all lines key) (λ place answer frames is. record {
-      answer_is = λ texts given. rw (is.2.0, is.2.1) (are texts given is.0 place is.1);
-      none_shown = λ none. is.2.1 ∙ none_shown lines answers is.0 none;
+    places_as (IsAnswerIn answers lines places) (IsAnsweredByTables AreTexts all lines key) (λ place answer is. record {
+      answer_is = λ texts given. rw is.2 (are texts given is.0 place is.1);
+      none_shown = λ none. rw is.2 (none_shown lines answers is.0 none);
     }) places told zip
 
 -- ---- under one key
@@ -134,11 +140,11 @@ module _ {D : Type 0} (whole : D → Option (List ℕ)) (failures : D → ℕ) (
       → ((texts : List (List ℕ)) (indexes : List (List (List ℕ))) (prefix : List ℕ) (answering : List EntryAt)
       (lines : Bool) (asked : List Where) (columns : List EntryAnswers) (number : ℕ) (none : Where)
       → AreAnsweringAmong prefix indexes answering → AllZip (IsColumnAt texts lines asked) answering columns → number < length asked
-      → IsAnswerAmong texts indexes prefix lines (get_or asked number none) (answer_of (map (row_at number) columns)) (shown_of lines number columns))
+      → IsAnswerAmong texts indexes prefix lines (get_or asked number none) (answer_of lines number columns))
       → AreToldOf (HaveTexts whole old) all key lines places answers
   told_of answers asks law = λ texts have number place at.
       let is : get_or places number place ≡ place = get_or_from_slice_get places number place place at in
-      subst (λ (p : Where). IsAnswerAmong texts all (key_bytes key) lines p (answer_at answers number) (shown_at lines answers number)) is
+      subst (λ (p : Where). IsAnswerAmong texts all (key_bytes key) lines p (answer_at answers lines number)) is
       (law texts all (key_bytes key) answering lines places answers.columns.items number place are
       (asks.says texts have) (slice_get_within places number place at))
 
@@ -193,10 +199,10 @@ module _ {D : Type 0} (whole : D → Option (List ℕ)) (failures : D → ℕ) (
   texts_first texts have = subst (λ (ds : List (Option (List ℕ))). AllZip HasText ds texts) (sym texts_kept) have
 
   -- what is true of later states is true of the first
-  pub tables_first : (key : SliceKey) (place : Where) (answer : AnswerRecord) (frames : List (List FrameRecord))
-      → IsAnsweredByTables (HaveTexts whole mid) all lines key place answer frames
-      → IsAnsweredByTables (HaveTexts whole first) all lines key place answer frames
-  tables_first key place answer frames is = record { answer_is = λ texts have. is.answer_is texts (texts_first texts have); none_shown = is.none_shown }
+  pub tables_first : (key : SliceKey) (place : Where) (answer : SourcedAnswerRecord)
+      → IsAnsweredByTables (HaveTexts whole mid) all lines key place answer
+      → IsAnsweredByTables (HaveTexts whole first) all lines key place answer
+  tables_first key place answer is = record { answer_is = λ texts have. is.answer_is texts (texts_first texts have); none_shown = is.none_shown }
 
   pub fault_first : (key : List ℕ) (at : InputName) (why : Why) → IsKeyFault (HaveTexts whole mid) all lines key at why
       → IsKeyFault (HaveTexts whole first) all lines key at why
@@ -225,24 +231,14 @@ module _ {D : Type 0} (whole : D → Option (List ℕ)) (failures : D → ℕ) (
     counts = subst (λ (olds : List ℕ). BlamesAmong lines r.answering olds (each_known failures new) r.fault) counts_kept r.counts;
   }
 
--- the keys that are asked are those of frames
-pub among_frames : (frames : List Frame) (asked : List AskedPlace) → AreAskedOf frames asked → (key : List ℕ)
-    → Contains (map (λ (one : AskedPlace). key_bytes one.key) asked) key → Contains (keys_of frames) key
-among_frames frames asked of key there =
-    let one = in_map (λ (a : AskedPlace). key_bytes a.key) asked key there in
-    let frame = of.of_frames one.0 one.1 in
-    let same : key ≡ key_bytes frame.0.key = one.2 ∙ ap (λ (a : AskedPlace). key_bytes a.key) frame.2 in
-    subst (Contains (keys_of frames)) (sym same) (to_map (λ (f : Frame). key_bytes f.key) frames frame.0 frame.1)
-
 -- ---- frames
 
--- something is told of each
-pub told_each : {IsSaid : SliceKey → Where → AnswerRecord → List (List FrameRecord) → Type 0} {IsRefused : SliceKey → InputName → Why → Type 0}
-    {slices : Bool} {asked : List AskedPlace} {told : List KeyAnswers} → AreTold IsSaid IsRefused slices asked told
-    → (frames : List Frame) → AreAskedOf frames asked → HaveToldEach told frames
-told_each {told = told} are frames of frame there =
-    let one = of.whole frame there in
-    subst (λ (p : Where). HasTold told (key_bytes frame.key) p) one.3 (subst (λ (b : List ℕ). HasTold told b one.0.place) one.2 (are.whole one.0 one.1))
+-- there is an answer for each place of a key that is told
+pub even_told : (IsSaid : SliceKey → Where → SourcedAnswerRecord → Type 0) (IsRefused : SliceKey → InputName → Why → Type 0)
+    (slices : Bool) (asked : List AskedKey) (told : List KeyAnswers) → AreTold IsSaid IsRefused slices asked told → HaveEachTold told
+even_told IsSaid IsRefused slices asked told are =
+    All-weaker (IsToldUnder IsSaid IsRefused slices) (λ (one : KeyAnswers). HaveEach one.told one.asked.now.places.items)
+    (λ one is. even_of (IsSaid one.asked.now.key) (IsRefused one.asked.now.key) slices one.asked.now.places.items one.told is) told are.are_true
 
 pub more_frames : (told : List KeyAnswers) (frames : List Frame) (i : ℕ) (frame : Frame)
     (status next : Status) (text printed : List ℕ) (one : KeyAnswers) (number : ℕ) → i < length frames → frame
@@ -268,32 +264,32 @@ more_frames told frames i frame status next text printed one number lt is shown 
 
 -- the refusals ascend as what is told does
 refused_after : (key : SliceKey) (told : List KeyAnswers)
-    → AllByRecursion (λ (one : KeyAnswers). key_cmp key one.key ≡ Less) told
+    → AllByRecursion (λ (one : KeyAnswers). key_cmp key one.asked.now.key ≡ Less) told
     → AllByRecursion (λ (refusal : KeyRefusal). key_cmp key refusal.key ≡ Less) (refusals_in told)
 refused_after key [] all = tt
 refused_after key (one ∷ told) all = by one.told (refused_after key told all.1)
   where
     by : (t : KeyTold) → AllByRecursion (λ (refusal : KeyRefusal). key_cmp key refusal.key ≡ Less) (refusals_in told)
-        → AllByRecursion (λ (refusal : KeyRefusal). key_cmp key refusal.key ≡ Less) (cons_option (refusal_in one.key t) (refusals_in told))
+        → AllByRecursion (λ (refusal : KeyRefusal). key_cmp key refusal.key ≡ Less) (cons_option (refusal_in one.asked.now.key t) (refusals_in told))
     by (Told answers) more = more
     by (Refused at why) more = (all.0, more)
 
-pub refusals_ascend : (told : List KeyAnswers) → IsStrictlySortedBy (λ a b. key_cmp a.key b.key) told
+pub refusals_ascend : (told : List KeyAnswers) → IsStrictlySortedBy (λ a b. key_cmp a.asked.now.key b.asked.now.key) told
     → IsStrictlySortedBy (λ a b. key_cmp a.key b.key) (refusals_in told)
 unfolding IsStrictlySortedBy
 refusals_ascend [] up = tt
 refusals_ascend (one ∷ told) up = by one.told (refusals_ascend told up.1)
   where
     by : (t : KeyTold) → IsStrictlySortedBy (λ a b. key_cmp a.key b.key) (refusals_in told)
-        → IsStrictlySortedBy (λ a b. key_cmp a.key b.key) (cons_option (refusal_in one.key t) (refusals_in told))
+        → IsStrictlySortedBy (λ a b. key_cmp a.key b.key) (cons_option (refusal_in one.asked.now.key t) (refusals_in told))
     by (Told answers) more = more
-    by (Refused at why) more = (refused_after one.key told up.0, more)
+    by (Refused at why) more = (refused_after one.asked.now.key told up.0, more)
 
 -- each refusal is of something that is told, and each of these a refusal
 pub record IsRefusedIn (told : List KeyAnswers) (refusal : KeyRefusal) : Type 0 where
   pub one : KeyAnswers
   pub is_one : Contains told one
-  pub key_is : one.key ≡ refusal.key
+  pub key_is : one.asked.now.key ≡ refusal.key
   pub told_is : one.told ≡ Refused refusal.at refusal.why
 
 pub of_told : (told : List KeyAnswers) (refusal : KeyRefusal) → Contains (refusals_in told) refusal → IsRefusedIn told refusal
@@ -304,9 +300,9 @@ of_told (one ∷ told) refusal there = by one.told refl (λ more. of_told told r
     later r = record { one = r.one; is_one = in_rest one told r.one r.is_one; key_is = r.key_is; told_is = r.told_is }
 
     by : (t : KeyTold) → one.told ≡ t → (Contains (refusals_in told) refusal → IsRefusedIn told refusal)
-        → Contains (cons_option (refusal_in one.key t) (refusals_in told)) refusal → IsRefusedIn (one ∷ told) refusal
+        → Contains (cons_option (refusal_in one.asked.now.key t) (refusals_in told)) refusal → IsRefusedIn (one ∷ told) refusal
     by (Told answers) is rest more = later (rest more)
-    by (Refused at why) is rest more = elim (in_cons (record { key = one.key; at = at; why = why }) (refusals_in told) refusal more) [
+    by (Refused at why) is rest more = elim (in_cons (record { key = one.asked.now.key; at = at; why = why }) (refusals_in told) refusal more) [
       | inl same ↦ record {
         one = one;
         is_one = in_front one told;
@@ -317,33 +313,33 @@ of_told (one ∷ told) refusal there = by one.told refl (λ more. of_told told r
     ]
 
 pub to_refusals : (told : List KeyAnswers) (one : KeyAnswers) (at : InputName) (why : Why) → Contains told one
-    → one.told ≡ Refused at why → Contains (refusals_in told) (record { key = one.key; at = at; why = why })
+    → one.told ≡ Refused at why → Contains (refusals_in told) (record { key = one.asked.now.key; at = at; why = why })
 to_refusals [] one at why there is = absurd (omega (arith, there.1))
 to_refusals (first ∷ told) one at why there is = elim (in_cons first told one there) [
   | inl same ↦
       let own : first.told ≡ Refused at why = ap (λ (k : KeyAnswers). k.told) same ∙ is in
-      rw own (subst (λ (k : SliceKey). Contains (record { key = first.key; at = at; why = why } ∷ refusals_in told)
-      (record { key = k; at = at; why = why })) (ap (λ (k : KeyAnswers). k.key) same)
-      (in_front (record { key = first.key; at = at; why = why }) (refusals_in told)))
+      rw own (subst (λ (k : SliceKey). Contains (record { key = first.asked.now.key; at = at; why = why } ∷ refusals_in told)
+      (record { key = k; at = at; why = why })) (ap (λ (k : KeyAnswers). k.asked.now.key) same)
+      (in_front (record { key = first.asked.now.key; at = at; why = why }) (refusals_in told)))
   | inr later ↦ by first.told (to_refusals told one at why later is)
 ]
   where
-    by : (t : KeyTold) → Contains (refusals_in told) (record { key = one.key; at = at; why = why })
-        → Contains (cons_option (refusal_in first.key t) (refusals_in told))
-        (record { key = one.key; at = at; why = why })
+    by : (t : KeyTold) → Contains (refusals_in told) (record { key = one.asked.now.key; at = at; why = why })
+        → Contains (cons_option (refusal_in first.asked.now.key t) (refusals_in told))
+        (record { key = one.asked.now.key; at = at; why = why })
     by (Told answers) more = more
-    by (Refused a w) more = in_rest (record { key = first.key; at = a; why = w }) (refusals_in told) (record { key = one.key; at = at; why = why }) more
+    by (Refused a w) more = in_rest (record { key = first.asked.now.key; at = a; why = w }) (refusals_in told) (record { key = one.asked.now.key; at = at; why = why }) more
 
 -- the lines of the refusals of one more
 pub refusals_more : (told : List KeyAnswers) (i : ℕ) (one : KeyAnswers) → i < length told → one ≡ get_or told i one
     → refusal_lines (refusals_in (take (i + 1) told)) ≡ refusal_lines (refusals_in (take i told))
-    ++ refusal_lines (option_to_list (refusal_in one.key one.told))
+    ++ refusal_lines (option_to_list (refusal_in one.asked.now.key one.told))
 refusals_more told i one lt is =
     let seen : take (i + 1) told ≡ take i told ++ one ∷ [] = take_more told i one lt ∙ ap (λ (k : KeyAnswers). take i told ++ k ∷ []) (sym is) in
     ap (λ (l : List KeyAnswers). refusal_lines (refusals_in l)) seen
-    ∙ ap refusal_lines (filter_map-append (λ (k : KeyAnswers). refusal_in k.key k.told) (take i told) (one ∷ []))
-    ∙ ap (λ (l : List KeyRefusal). refusal_lines (refusals_in (take i told) ++ l)) (last (refusal_in one.key one.told))
-    ∙ flat_map-append _ (refusals_in (take i told)) (option_to_list (refusal_in one.key one.told))
+    ∙ ap refusal_lines (filter_map-append (λ (k : KeyAnswers). refusal_in k.asked.now.key k.told) (take i told) (one ∷ []))
+    ∙ ap (λ (l : List KeyRefusal). refusal_lines (refusals_in (take i told) ++ l)) (last (refusal_in one.asked.now.key one.told))
+    ∙ flat_map-append _ (refusals_in (take i told)) (option_to_list (refusal_in one.asked.now.key one.told))
   where
     last : (r : Option KeyRefusal) → cons_option r [] ≡ option_to_list r
     last None = refl

@@ -38,7 +38,7 @@ module _ {P : Type 0} (whole : P → Option (List ℕ)) (failures : P → ℕ) (
       → AllZip (IsPlaceTold (IsAnsweredBySlices (readers whole failures old old) all lines key)) places told × AreAllKept whole failures old new
   slices_tell content told read zip = (
     places_as (IsSourced content key lines) (IsAnsweredBySlices (readers whole failures old old) all lines key)
-        (λ place answer frames is. slices_same (readers whole failures old new) (readers whole failures old old) all lines key place answer frames
+        (λ place answer is. slices_same (readers whole failures old new) (readers whole failures old old) all lines key place answer
         (same_bytes whole failures old new old old long refl refl)
         (record { tied = tied; content = content; held = read.is; answered = is })) places told zip,
     all_kept_of whole failures old new long same read.unfailed,

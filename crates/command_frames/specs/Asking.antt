@@ -6,10 +6,9 @@ use Rattle.std.specs.Option.{is_some}
 use Rattle.byte_device.specs.Devices.{FailedIn}
 use Rattle.archive_core.specs.Content.{Operations}
 use Rattle.archive_core.specs.Key.{key_bytes}
-use Rattle.archive_core.specs.Lookup.{AnswerRecord}
 use Rattle.archive_core.specs.declared.keys.SliceKey.{SliceKey}
 use Rattle.archive_core.specs.declared.lookup.Where.{Where}
-use Rattle.dwarf_source_frames.specs.Frames.{FrameRecord}
+use Rattle.text_reports.specs.Answers.{SourcedAnswerRecord}
 use Rattle.command_queries.specs.Sources.{IsSourced}
 use Rattle.index_format.specs.declared.index_fault.IndexFaultKind.TheVariants.{Device}
 use Rattle.index_lookup.specs.Among.{AreAnsweringAmong, AreTied, EntryAt}
@@ -31,31 +30,37 @@ use Rattle.command_index_queries.specs.Together.{AreReadWith, HoldNamed, IsFirst
 abbrev pub AreGiven : {I : Type 0} → List (Reader I) → List (List ℕ) → Type 0
 AreGiven indexes texts = AllZip IsGiven indexes texts
 
+-- no frames are shown of an answer
+abbrev pub AreNoneShown : SourcedAnswerRecord → Type 0
+AreNoneShown Unsourced = Unit {0}
+AreNoneShown (SourcedAlone sourced) = sourced.frames ≡ []
+AreNoneShown (SourcedEach rows) = AllByRecursion (λ row. row.1.frames ≡ []) rows
+
 -- The answer is what the tables of the entries tell under the key, whatever bytes the indexes have of which this is
--- true, and so are the frames that are shown; none are if no lines are wanted.
+-- true; no frames are shown if no lines are wanted.
 pub record IsAnsweredByTables (AreTexts : List (List ℕ) → Type 0) (all : List (List (List ℕ))) (lines : Bool)
-    (key : SliceKey) (asked : Where) (answer : AnswerRecord) (frames : List (List FrameRecord)) : Type 0 where
+    (key : SliceKey) (asked : Where) (answer : SourcedAnswerRecord) : Type 0 where
   pub answer_is : (texts : List (List ℕ)) → AreTexts texts
-      → IsAnswerAmong texts all (key_bytes key) lines asked answer frames
-  pub none_shown : lines ≡ false → frames ≡ []
+      → IsAnswerAmong texts all (key_bytes key) lines asked answer
+  pub none_shown : lines ≡ false → AreNoneShown answer
 
 -- ---- by slices
 
 -- Of two slices of one length under the key, in two archives, no entry says which comes first: so the slices that the
 -- indexes name under this key are read, and tell the answer, and the frames that are shown.
 pub record IsAnsweredBySlices {P : Type 0} (archives : List (Reader P)) (all : List (List (List ℕ))) (lines : Bool)
-    (key : SliceKey) (asked : Where) (answer : AnswerRecord) (frames : List (List FrameRecord)) : Type 0 where
+    (key : SliceKey) (asked : Where) (answer : SourcedAnswerRecord) : Type 0 where
   pub tied : AreTied (key_bytes key) all
   pub content : Operations
   pub held : HoldNamed (key_bytes key ∷ []) archives all content
-  pub answered : IsSourced content key lines asked answer frames
+  pub answered : IsSourced content key lines asked answer
 
 -- tables tell the answer, or slices do, if two are tied
 abbrev pub IsAnsweredAt : {P : Type 0} → (List (List ℕ) → Type 0) → List (Reader P) → List (List (List ℕ)) → Bool
-    → SliceKey → Where → AnswerRecord → List (List FrameRecord) → Type 0
-IsAnsweredAt AreTexts archives all lines key asked answer frames =
-    IsAnsweredByTables AreTexts all lines key asked answer frames
-    ⊎ IsAnsweredBySlices archives all lines key asked answer frames
+    → SliceKey → Where → SourcedAnswerRecord → Type 0
+IsAnsweredAt AreTexts archives all lines key asked answer =
+    IsAnsweredByTables AreTexts all lines key asked answer
+    ⊎ IsAnsweredBySlices archives all lines key asked answer
 
 -- ---- refused
 

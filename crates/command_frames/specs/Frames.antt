@@ -4,12 +4,11 @@ use Rattle.std.specs.Prelude.{Contains, map}
 use Rattle.std.specs.List.{AllZip}
 use Rattle.std.specs.List.Sorted.{IsStrictlySortedBy}
 use Rattle.archive_core.specs.Key.{key_bytes}
-use Rattle.archive_core.specs.Lookup.{AnswerRecord, answer_view}
 use Rattle.archive_core.specs.declared.keys.SliceKey.{SliceKey}
 use Rattle.archive_core.specs.declared.lookup.Where.{Where}
-use Rattle.dwarf_source_frames.specs.Frames.{FrameRecord}
-use Rattle.command_queries.specs.Frames.{AskedOfFrames, prints_addresses, prints_frames}
-use Rattle.command_queries.specs.Symbolicate.{Answered, answers_status, answers_text, asked_of}
+use Rattle.text_reports.specs.Answers.{SourcedAnswerRecord}
+use Rattle.command_queries.specs.Frames.{AskedOfFrames, IsFrameSaid, TellFrames, prints_addresses, prints_frames}
+use Rattle.command_queries.specs.Symbolicate.{Answered}
 use Rattle.text_inputs.specs.declared.frame.Frame.{Frame}
 use Rattle.text_reports.specs.Slices.{TellsSlices, slice_key_cmp}
 use Rattle.command_common.specs.Ends.{Query}
@@ -27,37 +26,22 @@ use Rattle.command_frames.specs.Slices.{IsAnsweringEntryRow}
 abbrev pub keys_of : List Frame → List (List ℕ)
 keys_of frames = map (λ frame. key_bytes frame.key) frames
 
--- the row is that of the frame's address, and this is true of its answer
-abbrev pub IsFrameSaid : (SliceKey → Where → AnswerRecord → List (List FrameRecord) → Type 0)
-    → Frame → Answered → Type 0
-IsFrameSaid IsSaid frame row =
-    (row.address ≡ frame.address)
-    × IsSaid frame.key (asked_of frame.load frame.address) (answer_view row.answer) row.frames
-
--- Frames are answered, one answer a frame and in their order, and this is true of each.
-pub record TellFrames (IsSaid : SliceKey → Where → AnswerRecord → List (List FrameRecord) → Type 0)
-    (frames : List Frame) (status : Status) (text : List ℕ) : Type 0 where
-  pub rows : List Answered
-  pub answered : AllZip (IsFrameSaid IsSaid) frames rows
-  pub status_is : status ≡ answers_status rows
-  pub text_is : text ≡ answers_text rows
-
 -- a frame of a key that is not refused has an answer, of which this is true, and else none
-abbrev pub IsAnsweredOrRefused : (SliceKey → Where → AnswerRecord → List (List FrameRecord) → Type 0)
+abbrev pub IsAnsweredOrRefused : (SliceKey → Where → SourcedAnswerRecord → Type 0)
     → List KeyRefusal → Frame → Option Answered → Type 0
 IsAnsweredOrRefused IsSaid refusals frame None = AreRefusing refusals (key_bytes frame.key)
 IsAnsweredOrRefused IsSaid refusals frame (Some row) =
     IsFrameSaid IsSaid frame row × (AreRefusing refusals (key_bytes frame.key) → ⊥)
 
 -- the reply is to the address of the frame
-abbrev pub IsFrameReplied : (SliceKey → Where → AnswerRecord → List (List FrameRecord) → Type 0) → List KeyRefusal
+abbrev pub IsFrameReplied : (SliceKey → Where → SourcedAnswerRecord → Type 0) → List KeyRefusal
     → Frame → Reply → Type 0
 IsFrameReplied IsSaid refusals frame reply =
     (reply.address ≡ frame.address) × IsAnsweredOrRefused IsSaid refusals frame reply.answered
 
 -- Frames have replies, one a frame and in their order, and these keys of theirs are refused, by the bytes of the keys
 -- and each once, of each of which this is true. The status is `Refused` exactly if a key is.
-pub record TellFramesBesides (IsSaid : SliceKey → Where → AnswerRecord → List (List FrameRecord) → Type 0)
+pub record TellFramesBesides (IsSaid : SliceKey → Where → SourcedAnswerRecord → Type 0)
     (IsRefused : KeyRefusal → Type 0) (frames : List Frame) (refusals : List KeyRefusal) (status : Status)
     (text : List ℕ) : Type 0 where
   pub replies : List Reply
@@ -71,7 +55,7 @@ pub record TellFramesBesides (IsSaid : SliceKey → Where → AnswerRecord → L
 
 -- The same, and after it the lines of the slices that answer under these keys, as entries have them, and of the keys
 -- that are refused.
-pub record TellFramesAndSlices (IsSaid : SliceKey → Where → AnswerRecord → List (List FrameRecord) → Type 0)
+pub record TellFramesAndSlices (IsSaid : SliceKey → Where → SourcedAnswerRecord → Type 0)
     (IsRefused : KeyRefusal → Type 0) (all : List (List (List ℕ))) (keys : List SliceKey) (frames : List Frame)
     (status : Status) (text : List ℕ) : Type 0 where
   pub refusals : List KeyRefusal
@@ -82,7 +66,7 @@ pub record TellFramesAndSlices (IsSaid : SliceKey → Where → AnswerRecord →
   pub text_is : text ≡ answers ++ (slices ++ refusal_lines refusals)
 
 -- frames are answered, and if slices are wanted also these and the keys that are refused
-abbrev pub TellFramesWith : Bool → (SliceKey → Where → AnswerRecord → List (List FrameRecord) → Type 0)
+abbrev pub TellFramesWith : Bool → (SliceKey → Where → SourcedAnswerRecord → Type 0)
     → (KeyRefusal → Type 0) → List (List (List ℕ)) → List SliceKey → List Frame → Status → List ℕ → Type 0
 TellFramesWith false IsSaid IsRefused all keys frames status text = TellFrames IsSaid frames status text
 TellFramesWith true IsSaid IsRefused all keys frames status text =

@@ -1,13 +1,10 @@
--- What is told of places key by key, and where it stands: the words of inner functions. No contract of a public one has
--- them.
+-- What is told of places under their keys, and where it stands: the words of inner functions. No contract of a public
+-- one has them.
 use Rattle.std.specs.Prelude.{◌≡◌, ◌<◌, ◌⊎◌, ◌&&◌, ◌++◌, ℕ, Bool, true, false, List, Contains, All, Option, Some, None}
 use Rattle.std.specs.Prelude.{Result, Ok, Err, if◌then◌else◌, fold, length, map, slice_get, string_bytes}
 use Rattle.std.specs.List.{AllZip, filter_map, flat_map}
-use Rattle.std.specs.List.Sorted.{IsStrictlySortedBy}
-use Rattle.std.specs.declared.cmp.Ordering.TheVariants.{Less}
 use Rattle.dwarf_source_frames.specs.Frames.{FrameRecord}
 use Rattle.archive_core.specs.Key.{key_bytes}
-use Rattle.archive_core.specs.Lookup.{AnswerRecord}
 use Rattle.archive_core.specs.declared.keys.SliceKey.{SliceKey}
 use Rattle.archive_core.specs.declared.lookup.Where.{Where}
 use Rattle.command_queries.specs.Places.{IsPlaceTold}
@@ -25,48 +22,38 @@ use Rattle.command_common.specs.declared.faults.Why.{Why}
 use Rattle.command_common.specs.declared.faults.Why.TheVariants as why
 use Rattle.index_lookup.specs.Among.{AreTied}
 use Rattle.index_lookup.specs.AmongTold.{IsAnswerAmong}
-use Rattle.index_lookup.specs.Views.{answer_of, row_at, shown_of}
+use Rattle.index_lookup.specs.Views.{answer_of}
 use Rattle.index_lookup.specs.declared.answers.Answers.{Answers}
 use Rattle.index_lookup.specs.declared.fault.AnswerFault.{AnswerFault}
 use Rattle.index_lookup.specs.declared.fault.AnswerFault.TheVariants as answer
-use Rattle.command_frames.specs.declared.places.AskedPlace.{AskedPlace}
+use Rattle.command_frames.specs.declared.places.AskedKey.{AskedKey}
 use Rattle.command_frames.specs.declared.tables.KeyTold.{KeyTold}
 use Rattle.command_frames.specs.declared.tables.KeyTold.TheVariants.{Told, Refused}
 use Rattle.command_frames.specs.declared.told.KeyAnswers.{KeyAnswers}
 use Rattle.command_frames.specs.Asking.{is_stale_entry}
 use Rattle.command_frames.specs.InnerAsking.{IsKeyFault, command_fault}
-use Rattle.command_frames.specs.InnerPlaces.{asked_cmp, key_cmp, place_cmp}
 use Rattle.command_frames.specs.Refusals.{IsStaleAt, KeyRefusal, reply_text}
 
 -- ---- under a key
 
 -- the answer for the place of this number
-abbrev pub answer_at : Answers → ℕ → AnswerRecord
-answer_at answers number = answer_of (map (row_at number) answers.columns.items)
-
--- the frames that are shown of it
-abbrev pub shown_at : Bool → Answers → ℕ → List (List FrameRecord)
-shown_at lines answers number = shown_of lines number answers.columns.items
+abbrev pub answer_at : Answers → Bool → ℕ → SourcedAnswerRecord
+answer_at answers lines number = answer_of lines number answers.columns.items
 
 -- the answers are what tables tell under the key of these places, whatever bytes the indexes have of which this is true
 abbrev pub AreToldOf : (List (List ℕ) → Type 0) → List (List (List ℕ)) → SliceKey → Bool → List Where → Answers → Type 0
 AreToldOf AreTexts all key lines places answers =
     (texts : List (List ℕ)) → AreTexts texts → (number : ℕ) (place : Where) → slice_get places number ≡ Some place
-    → IsAnswerAmong texts all (key_bytes key) lines place (answer_at answers number) (shown_at lines answers number)
+    → IsAnswerAmong texts all (key_bytes key) lines place (answer_at answers lines number)
 
--- it is the answer of a number, with the frames that are shown of it
-abbrev pub IsAnswerAt : Answers → Bool → ℕ → Where → AnswerRecord → List (List FrameRecord) → Type 0
-IsAnswerAt answers lines number place record_is frames =
-    (record_is ≡ answer_at answers number) × (frames ≡ shown_at lines answers number)
-
--- it is that of the number that the place has among these
-abbrev pub IsAnswerIn : Answers → Bool → List Where → Where → AnswerRecord → List (List FrameRecord) → Type 0
-IsAnswerIn answers lines places place record_is frames =
-    (number : ℕ) × (slice_get places number ≡ Some place) × IsAnswerAt answers lines number place record_is frames
+-- it is the answer of the number that the place has among these
+abbrev pub IsAnswerIn : Answers → Bool → List Where → Where → SourcedAnswerRecord → Type 0
+IsAnswerIn answers lines places place told =
+    (number : ℕ) × (slice_get places number ≡ Some place) × (told ≡ answer_at answers lines number)
 
 -- of each place an answer is told, of which this is true; or the key is refused, which it is only if slices are wanted,
 -- and this is true of that
-abbrev pub IsKeyTold : (Where → AnswerRecord → List (List FrameRecord) → Type 0) → (InputName → Why → Type 0) → Bool
+abbrev pub IsKeyTold : (Where → SourcedAnswerRecord → Type 0) → (InputName → Why → Type 0) → Bool
     → List Where → KeyTold → Type 0
 IsKeyTold IsSaid IsRefused slices places (Told answers) = AllZip (IsPlaceTold IsSaid) places answers.items
 IsKeyTold IsSaid IsRefused slices places (Refused at why) = (slices ≡ true) × IsRefused at why
@@ -99,58 +86,41 @@ told_unread slices OutOfMemory = Err OutOfMemory
 
 -- ---- under several keys
 
+-- the keys that were asked for
+abbrev pub asked_in : List KeyAnswers → List AskedKey
+asked_in told = map (λ one. one.asked.now) told
+
 -- the same of what is told under a key
-abbrev pub IsToldUnder : (SliceKey → Where → AnswerRecord → List (List FrameRecord) → Type 0)
+abbrev pub IsToldUnder : (SliceKey → Where → SourcedAnswerRecord → Type 0)
     → (SliceKey → InputName → Why → Type 0) → Bool → KeyAnswers → Type 0
 IsToldUnder IsSaid IsRefused slices one =
-    IsKeyTold (IsSaid one.key) (IsRefused one.key) slices one.places.items one.told
+    IsKeyTold (IsSaid one.asked.now.key) (IsRefused one.asked.now.key) slices one.asked.now.places.items one.told
+
+-- Under each of these keys something is told, and this is true of it.
+pub record AreTold (IsSaid : SliceKey → Where → SourcedAnswerRecord → Type 0)
+    (IsRefused : SliceKey → InputName → Why → Type 0) (slices : Bool) (asked : List AskedKey) (told : List KeyAnswers)
+    : Type 0 where
+  pub asked_is : asked_in told ≡ asked
+  pub are_true : All (IsToldUnder IsSaid IsRefused slices) told
+
+-- no key is refused
+abbrev pub NoneRefused : SliceKey → InputName → Why → Type 0
+NoneRefused key at why = ⊥
+
+-- Of these keys some are left. Under each of those before them something is told, and this is true of it.
+pub record AreToldSoFar (IsSaid : SliceKey → Where → SourcedAnswerRecord → Type 0)
+    (asked left : List AskedKey) (told : List KeyAnswers) : Type 0 where
+  pub asked_is : asked_in told ++ left ≡ asked
+  pub are_true : All (IsToldUnder IsSaid NoneRefused false) told
 
 -- there is an answer for each place, if the key is not refused
 abbrev pub HaveEach : KeyTold → List Where → Type 0
 HaveEach (Told answers) places = length answers.items ≡ length places
 HaveEach (Refused at why) places = Unit {0}
 
--- what is told stands in the order of keys, each once, and under each its places in their order
-pub record AreInOrder (told : List KeyAnswers) : Type 0 where
-  pub keys : IsStrictlySortedBy (λ a b. key_cmp a.key b.key) told
-  pub places : All (λ one. IsStrictlySortedBy place_cmp one.places.items) told
-  pub even : All (λ one. HaveEach one.told one.places.items) told
-
--- Something is told under a key with these bytes, and what is told under it is told of this place too.
-pub record HasTold (told : List KeyAnswers) (bytes : List ℕ) (place : Where) : Type 0 where
-  pub one : KeyAnswers
-  pub is_one : Contains told one
-  pub key_is : key_bytes one.key ≡ bytes
-  pub each : (other : KeyAnswers) → Contains told other → key_bytes other.key ≡ bytes
-      → Contains other.places.items place
-
--- Of the places that were asked for, each is left, or something is told of it. Those that are left stand in their order
--- under higher keys.
-pub record IsToldSoFar (asked left : List AskedPlace) (told : List KeyAnswers) : Type 0 where
-  pub up : IsStrictlySortedBy asked_cmp left
-  pub of_asked : (one : AskedPlace) → Contains left one → Contains asked one
-  pub order : AreInOrder told
-  pub below : (one : KeyAnswers) (next : AskedPlace) → Contains told one → Contains left next
-      → key_cmp one.key next.key ≡ Less
-  pub each : (one : AskedPlace) → Contains asked one → Contains left one ⊎ HasTold told (key_bytes one.key) one.place
-
--- something is told under keys that were asked for alone
-abbrev pub AreOfAsked : List AskedPlace → List KeyAnswers → Type 0
-AreOfAsked asked told = All (λ one. Contains (map (λ place. key_bytes place.key) asked) (key_bytes one.key)) told
-
--- Of each of these places something is told, and this is true of it.
-pub record AreTold (IsSaid : SliceKey → Where → AnswerRecord → List (List FrameRecord) → Type 0)
-    (IsRefused : SliceKey → InputName → Why → Type 0) (slices : Bool) (asked : List AskedPlace)
-    (told : List KeyAnswers) : Type 0 where
-  pub order : AreInOrder told
-  pub of_asked : AreOfAsked asked told
-  pub whole : (one : AskedPlace) → Contains asked one → HasTold told (key_bytes one.key) one.place
-  pub are_true : All (IsToldUnder IsSaid IsRefused slices) told
-
--- of each frame something is told
-abbrev pub HaveToldEach : List KeyAnswers → List Frame → Type 0
-HaveToldEach told frames =
-    (frame : Frame) → Contains frames frame → HasTold told (key_bytes frame.key) (asked_of frame.load frame.address)
+-- and so it is under each key
+abbrev pub HaveEachTold : List KeyAnswers → Type 0
+HaveEachTold told = All (λ one. HaveEach one.told one.asked.now.places.items) told
 
 -- ---- printed
 
@@ -158,8 +128,8 @@ HaveToldEach told frames =
 pub record StandsAt (told : List KeyAnswers) (key : SliceKey) (place : Where) (one : KeyAnswers) (number : ℕ)
     : Type 0 where
   pub is_one : Contains told one
-  pub key_is : one.key ≡ key
-  pub place_is : slice_get one.places.items number ≡ Some place
+  pub key_is : one.asked.now.key ≡ key
+  pub place_is : slice_get one.asked.now.places.items number ≡ Some place
 
 -- there is an answer of this number, if the key is not refused
 abbrev pub HasNumber : KeyTold → ℕ → Type 0
@@ -224,4 +194,4 @@ refusal_in key (Refused at why) = Some (record { key = key; at = at; why = why }
 
 -- the refusals of keys, in their order
 abbrev pub refusals_in : List KeyAnswers → List KeyRefusal
-refusals_in told = filter_map (λ one. refusal_in one.key one.told) told
+refusals_in told = filter_map (λ one. refusal_in one.asked.now.key one.told) told

@@ -8,11 +8,11 @@ ghost use Rattle.command_queries.specs.Frames.{AskedOfFrames, frames_by_records}
 ghost use Rattle.command_frames.specs.Frames.{frames_by_indexes};
 
 use crate::frames::tell_frames;
+use crate::records::answer_by_records;
 use archive_core::{Archive, SliceKey};
 use byte_device::{Placed, Source};
 use command_common::{CommandFault, Evidence, Records, Status};
 use command_index_queries::Indexes;
-use command_queries::answer_by_records;
 use memory::Heap;
 use text_inputs::Frame;
 

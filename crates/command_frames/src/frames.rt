@@ -9,10 +9,12 @@ ghost use Rattle.command_index_queries.specs.Several.{AreUnfailedTogether};
 ghost use Rattle.command_frames.specs.Asking.{AreRefusedAsking};
 ghost use Rattle.command_frames.specs.Frames.{AreToldAt, keys_of};
 ghost use Rattle.command_frames.specs.InnerReplies.{PrintsFrames};
-ghost use Rattle.command_frames.specs.InnerTold.{AreInOrder, HaveToldEach};
+ghost use Rattle.command_frames.specs.InnerPlaces.{AreKeysOf};
+ghost use Rattle.command_frames.specs.InnerTold.{HaveEachTold, asked_in};
 
 use crate::evidence::FrameEvidence;
-use crate::places::asked_places;
+use crate::named::frame_keys;
+use crate::places::asked_keys;
 use crate::replies::{answer_frames_by_keys, refused_lines};
 use crate::slices::with_slices;
 use crate::told::{KeyAnswers, tell_keys};
@@ -20,7 +22,6 @@ use archive_core::{Archive, SliceKey};
 use byte_device::{Placed, Sink, Source};
 use command_common::{CommandFault, Status, read_frames_input, write_report_bytes};
 use command_index_queries::read_indexes;
-use command_queries::frame_keys;
 use index_format::Index;
 use memory::{Heap, NoMemory};
 use text_inputs::Frame;
@@ -32,17 +33,17 @@ fn print_frames(
     slices: bool,
     keys: &[SliceKey],
     read: &[Index],
-    told: &[KeyAnswers],
+    told: &[KeyAnswers<'_>],
     frames: &[Frame],
 ) -> Result<(Status, Vec<u8, Heap>), NoMemory>
-    requires order { AreInOrder told.now }
-    requires there { HaveToldEach told.now frames.now }
+    requires asked { AreKeysOf frames.now (asked_in told.now) }
+    requires even { HaveEachTold told.now }
     ensures { IfOk result (λ shown.
         PrintsFrames told.now slices read.now keys.now frames.now shown.0 shown.1.items) }
 {
     let (status, answers) = answer_frames_by_keys(heap.share(), told, frames)?;
     let refused = refused_lines(heap.share(), told)?;
-    let text = with_slices(heap, slices, keys, read, answers.into_bytes(), &refused)?;
+    let text = with_slices(heap, slices, keys, read, answers, &refused)?;
     Ok((status, text))
 }
 
@@ -74,7 +75,7 @@ pub(crate) fn tell_frames<A: Archive + Drop, I: Placed, P: Placed>(
         (AreRefusedAsking lines slices (keys_of frames.now) named known) (AreUnfailedTogether named known) }
 {
     let read = read_indexes(heap, indexes, archives)?;
-    let asked = asked_places(heap.share(), frames)?;
+    let asked = asked_keys(heap, frames)?;
     let told = tell_keys::<A, I, P>(heap, &read, indexes, archives, lines, slices, &asked)?;
     let shown = print_frames(heap, slices, keys, &read, &told, frames)?;
     Ok(shown)

@@ -1,15 +1,17 @@
 //! The commands that answer addresses, over any evidence, of which indexes have their answers here.
 //!
-//! - `places`: the places that frames mean, each once;
+//! - `named`, `places`: the keys that frames name, and the places that they mean under these, each once;
 //! - `tables`, `tied`: what the tables of indexes tell under a key, or the slices that these name under it;
-//! - `told`: what is told of places, key by key; `replies`: the lines of it;
-//! - `slices`: the lines of the slices that answer under keys;
+//! - `told`: what is told of keys, one after another; `replies`: the lines of it, for records too;
+//! - `slices`: the lines of the slices that answer under keys, by entries; `record_slices`: by records;
+//! - `questions`: keys, as questions to records; `records`: the answers of records to frames;
 //! - `frames`: the command that answers frames, and the answers of indexes to them; `symbolicate`: the command that
 //!   answers addresses under one key, which are its frames;
 //! - `evidence`: [`FrameEvidence`], by which both answer, so that they are written once: `Records` or `Indexes`.
 //!
 //! # Why it is so
 //!
+//! - Records are read in one pass, in which the slices under one key are held at a time, and answer all its places.
 //! - Tables answer, with lines too, and no slice is read, but where of two slices of one key and one length in two
 //!   archives no entry says which comes first. Then the slices of this key are read, and of no other: so a key whose
 //!   slice changed refuses itself alone, as one whose table changed does.
@@ -21,7 +23,11 @@
 
 mod evidence;
 mod frames;
+mod named;
 mod places;
+mod questions;
+mod record_slices;
+mod records;
 mod replies;
 mod slices;
 mod symbolicate;

@@ -1,9 +1,15 @@
-//! The places that frames mean, under their keys.
-ghost use Rattle.std.specs.Prelude.{◌≡◌, IfOk, map};
-ghost use Rattle.std.specs.List.Sorted.{IsStrictlySortedBy};
-ghost use Rattle.command_frames.specs.InnerPlaces.{AreAskedOf, asked_cmp, numbers_of, place_cmp, place_of};
+//! The keys that frames name, and the places that they mean under these.
+ghost use Rattle.std.specs.Prelude.{◌≡◌, ◌≤◌, IfOk, length, map};
+ghost use Rattle.std.specs.List.{prefix_len};
+ghost use Rattle.std.specs.List.Sorted.{IsSortedByKey, IsStrictlySortedBy};
+ghost use Rattle.std.specs.Ordering.{nat_cmp};
+ghost use Rattle.std.specs.Cmp.Lexicographic.{slice_cmp};
+ghost use Rattle.archive_core.specs.Key.{key_bytes};
+ghost use Rattle.archive_read.specs.Keys.{AreInOrder as AreKeysInOrder};
+ghost use Rattle.command_frames.specs.InnerPlaces.{AreAskedOf, AreGrouped, AreKeysOf};
+ghost use Rattle.command_frames.specs.InnerPlaces.{asked_cmp, has_key, numbers_of, place_cmp, place_of};
 
-use archive_core::{SliceKey, Where, compare_keys};
+use archive_core::{SliceKey, Where, compare_keys, is_key};
 use command_queries::asked_of;
 use memory::{Heap, NoMemory};
 use std::cmp::Ordering;
@@ -14,6 +20,13 @@ use text_inputs::Frame;
 pub(crate) struct AskedPlace {
     pub(crate) key: SliceKey,
     pub(crate) place: Where,
+}
+
+/// A key that is asked for, and the places under it, each once. They ascend.
+#[derive(Drop)]
+pub(crate) struct AskedKey {
+    pub(crate) key: SliceKey,
+    pub(crate) places: Vec<Where, Heap>,
 }
 
 /// A place as numbers, which no other place has.
@@ -44,10 +57,14 @@ impl AskedPlace {
         }
     }
 
-    /// Compares two by their keys, and under one key by their places.
+    /// Compares two by their keys, and under one key by their places. Most of those that are asked have one key, which
+    /// is found out in fewer steps than an order of keys.
     fn compare(&self, other: &AskedPlace) -> Ordering
         ensures { result ≡ asked_cmp self.now other.now }
     {
+        if is_key(&self.key, &other.key) {
+            return compare_places(self.place, other.place);
+        }
         compare_keys(&self.key, &other.key).then(compare_places(self.place, other.place))
     }
 }
@@ -63,7 +80,7 @@ fn places_of_each(heap: Heap, frames: &[Frame]) -> Result<Vec<AskedPlace, Heap>,
 }
 
 /// The places that frames mean, each once, in the order of their keys.
-pub(crate) fn asked_places(heap: Heap, frames: &[Frame]) -> Result<Vec<AskedPlace, Heap>, NoMemory>
+fn asked_places(heap: Heap, frames: &[Frame]) -> Result<Vec<AskedPlace, Heap>, NoMemory>
     ensures are { IfOk result (λ asked. AreAskedOf frames.now asked.items) }
     ensures sorted { IfOk result (λ asked. IsStrictlySortedBy asked_cmp asked.items) }
 {
@@ -71,4 +88,51 @@ pub(crate) fn asked_places(heap: Heap, frames: &[Frame]) -> Result<Vec<AskedPlac
     asked.sort_unstable_by(|a, b| a.compare(b));
     asked.dedup_by(|a, b| a.compare(b).is_eq());
     Ok(asked)
+}
+
+/// How many of the first places are of a key.
+fn run_len(asked: &[AskedPlace], key: &SliceKey) -> usize
+    ensures len { result ≡ prefix_len (has_key key.now) asked.now }
+    ensures within { result ≤ length asked.now }
+{
+    asked
+        .iter()
+        .take_while(|one| compare_keys(&one.key, key).is_eq())
+        .count()
+}
+
+/// The places alone.
+fn places_in(heap: Heap, asked: &[AskedPlace]) -> Result<Vec<Where, Heap>, NoMemory>
+    ensures { IfOk result (λ places. places.items ≡ map (λ one. one.place) asked.now) }
+{
+    asked.iter().map(|one| one.place).collect(heap)
+}
+
+/// Places, which stand in the order of their keys, each once, under these.
+fn under_keys(heap: &Heap, asked: &[AskedPlace]) -> Result<Vec<AskedKey, Heap>, NoMemory>
+    requires { IsStrictlySortedBy asked_cmp asked.now }
+    ensures { IfOk result (λ keys. AreGrouped asked.now keys.items) }
+{
+    let mut keys = Vec::new(heap.share());
+    let mut left = asked;
+    'places: while let Some(first) = left.first() {
+        let key = first.key;
+        let (run, rest) = left.split_at(run_len(left, &key));
+        let places = places_in(heap.share(), run)?;
+        keys.push(AskedKey { key, places })?;
+        left = rest;
+    }
+    Ok(keys)
+}
+
+/// The keys that frames name, each once and in their order, with the places that the frames mean under them.
+pub(crate) fn asked_keys(heap: &Heap, frames: &[Frame]) -> Result<Vec<AskedKey, Heap>, NoMemory>
+    ensures are { IfOk result (λ keys. AreKeysOf frames.now keys.items) }
+    ensures order { IfOk result (λ keys. AreKeysInOrder (map (λ one. one.key) keys.items)) }
+    ensures sorted { IfOk result (λ keys.
+        IsSortedByKey (λ one. key_bytes one.key) (slice_cmp nat_cmp) keys.items) }
+{
+    let asked = asked_places(heap.share(), frames)?;
+    let keys = under_keys(heap, &asked)?;
+    Ok(keys)
 }

@@ -4,40 +4,43 @@ ghost use Rattle.std.specs.Prelude.{◌≡◌, ◌++◌, IfOk, OnOk, string_byte
 ghost use Rattle.std.specs.Option.{option_to_list};
 ghost use Rattle.archive_core.specs.Key.{key_bytes};
 ghost use Rattle.command_queries.specs.Symbolicate.{asked_of};
-ghost use Rattle.command_frames.specs.InnerTold.{AreInOrder, HasNumber, HasTold, HaveToldEach, IsPrinted};
-ghost use Rattle.command_frames.specs.InnerTold.{ShowsFrames, StandsAt, refusal_in, refusals_in, status_with};
+ghost use Rattle.command_frames.specs.InnerPlaces.{AreInOrder, AreKeysOf, HasAsked};
+ghost use Rattle.command_frames.specs.InnerTold.{HasNumber, HaveEachTold, IsPrinted, ShowsFrames, StandsAt};
+ghost use Rattle.command_frames.specs.InnerTold.{asked_in, refusal_in, refusals_in, status_with};
 ghost use Rattle.command_frames.specs.Refusals.{refusal_lines};
 
+use crate::named::whole_key;
 use crate::places::{AskedPlace, compare_places};
 use crate::tables::KeyTold;
 use crate::told::KeyAnswers;
 use archive_core::{SliceKey, compare_keys};
 use command_common::{CommandFault, Status};
-use command_queries::whole_key;
 use memory::{Heap, NoMemory};
 use text_inputs::Frame;
 use text_reports::Text;
 use text_values::Address;
 
 /// Where what is told of a frame stands: under its key, and the number of its place there.
-fn told_at<'t>(told: &'t [KeyAnswers], frame: &Frame) -> (&'t KeyAnswers, usize)
-    requires order { AreInOrder told.now }
-    requires there { HasTold told.now (key_bytes frame.now.key) (asked_of frame.now.load frame.now.address) }
+fn told_at<'t, 'k>(told: &'t [KeyAnswers<'k>], frame: &Frame) -> (&'t KeyAnswers<'k>, usize)
+    requires order { AreInOrder (asked_in told.now) }
+    requires there { HasAsked (asked_in told.now) (key_bytes frame.now.key)
+        (asked_of frame.now.load frame.now.address) }
     ensures { StandsAt told.now frame.now.key (asked_of frame.now.load frame.now.address) result.0.now result.1 }
 {
     let asked = AskedPlace::of(frame);
     let _own = whole_key(frame.key);
-    let Ok(key) = told.binary_search_by(|one| compare_keys(&one.key, &asked.key)) else {
+    let Ok(key) = told.binary_search_by(|one| compare_keys(&one.asked.key, &asked.key)) else {
         unreachable!()
     };
-    let Ok(number) = told[key]
+    let under = told[key].asked;
+    let Ok(number) = under
         .places
         .binary_search_by(|place| compare_places(*place, asked.place))
     else {
         unreachable!()
     };
     let one = &told[key];
-    let _other = whole_key(one.key);
+    let _other = whole_key(one.asked.key);
     (one, number)
 }
 
@@ -86,12 +89,12 @@ fn push_reply(
 /// The lines of the replies to frames, in their order, with how a command ends that prints them.
 pub(crate) fn answer_frames_by_keys(
     heap: Heap,
-    told: &[KeyAnswers],
+    told: &[KeyAnswers<'_>],
     frames: &[Frame],
-) -> Result<(Status, String<Heap>), NoMemory>
-    requires order { AreInOrder told.now }
-    requires there { HaveToldEach told.now frames.now }
-    ensures { IfOk result (λ shown. ShowsFrames told.now frames.now shown.0 (string_bytes shown.1)) }
+) -> Result<(Status, Vec<u8, Heap>), NoMemory>
+    requires asked { AreKeysOf frames.now (asked_in told.now) }
+    requires even { HaveEachTold told.now }
+    ensures { IfOk result (λ shown. ShowsFrames told.now frames.now shown.0 shown.1.items) }
 {
     let mut status = Status::Done;
     let mut text = String::new(heap);
@@ -99,7 +102,7 @@ pub(crate) fn answer_frames_by_keys(
         let (one, number) = told_at(told, frame);
         status = push_reply(&mut text, status, frame.address, &one.told, number)?;
     }
-    Ok((status, text))
+    Ok((status, text.into_bytes()))
 }
 
 /// Writes the line of a key that is refused.
@@ -119,12 +122,12 @@ fn push_refusal(text: &mut String<Heap>, key: SliceKey, told: &KeyTold) -> Resul
 }
 
 /// The lines of the keys that are refused, in their order.
-pub(crate) fn refused_lines(heap: Heap, told: &[KeyAnswers]) -> Result<String<Heap>, NoMemory>
+pub(crate) fn refused_lines(heap: Heap, told: &[KeyAnswers<'_>]) -> Result<String<Heap>, NoMemory>
     ensures { IfOk result (λ text. string_bytes text ≡ refusal_lines (refusals_in told.now)) }
 {
     let mut text = String::new(heap);
     'keys: for one in told {
-        push_refusal(&mut text, one.key, &one.told)?;
+        push_refusal(&mut text, one.asked.key, &one.told)?;
     }
     Ok(text)
 }

@@ -8,10 +8,10 @@ ghost use Rattle.command_index_queries.specs.Rows.{AreRowsAmong, is_under_one};
 ghost use Rattle.command_frames.specs.InnerSlices.{AreFollowed};
 ghost use Rattle.command_frames.specs.Slices.{IsAnsweringEntryRow};
 
+use crate::named::uuids_of;
 use archive_core::{FindRow, SliceKey};
 use command_common::uuid_bytes;
 use command_index_queries::rows_with_uuid;
-use command_queries::uuids_of;
 use index_format::Index;
 use memory::{Heap, NoMemory};
 use text_reports::slices_lines;

@@ -6,10 +6,10 @@ ghost use Rattle.command_common.specs.Outputs.{writer};
 ghost use Rattle.command_queries.specs.Frames.{frames_under_key, prints_addresses};
 
 use crate::evidence::FrameEvidence;
+use crate::named::whole_key;
 use archive_core::{Archive, SliceKey};
 use byte_device::Sink;
 use command_common::{CommandFault, Status, write_report_bytes};
-use command_queries::whole_key;
 use memory::{Heap, NoMemory};
 use text_inputs::Frame;
 

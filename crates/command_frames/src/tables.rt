@@ -1,23 +1,19 @@
 //! The answers of the tables of indexes under a key, each with its lines.
 
-ghost use Rattle.std.specs.Prelude.{◌≡◌, ◌∷◌, ◌++◌, [], IfOk, MatchOption, OnOk, length, map, string_bytes};
+ghost use Rattle.std.specs.Prelude.{◌≡◌, ◌∷◌, [], IfOk, MatchOption, length};
 ghost use Rattle.std.specs.List.{AllZip};
 ghost use Rattle.archive_core.specs.Key.{key_bytes};
-ghost use Rattle.text_reports.specs.Answers.{answer_lines};
-ghost use Rattle.text_reports.specs.FrameLists.{lists_view};
 ghost use Rattle.command_queries.specs.Places.{IsPlaceTold};
 ghost use Rattle.index_lookup.specs.Among.{AreTied};
 ghost use Rattle.index_lookup.specs.AmongAsked.{HaveTexts};
-ghost use Rattle.index_lookup.specs.Views.{borrowed_in};
 ghost use Rattle.command_frames.specs.Asking.{IsAnsweredByTables};
 ghost use Rattle.command_frames.specs.InnerAsking.{AsksTables, IsKeyFault, command_fault};
-ghost use Rattle.command_frames.specs.InnerTold.{IsAnswerAt, IsAnswerIn, IsKeyTold, shown_at, told_fault};
+ghost use Rattle.command_frames.specs.InnerTold.{IsAnswerIn, IsKeyTold, answer_at, told_fault};
 
-use archive_core::{Answer, SliceKey, Where};
+use archive_core::{SliceKey, Where};
 use byte_device::Placed;
 use command_common::{CommandFault, InputName, Status, Why};
 use command_queries::{PlaceAnswer, address_in, status_after};
-use dwarf_source_frames::Frame;
 use index_format::{Index, IndexFault, IndexFaultKind};
 use index_lookup::laws::each_told;
 use index_lookup::{AnswerFault, Answers, answer_among, answering_among};
@@ -79,38 +75,6 @@ fn told_fault(slices: bool, fault: AnswerFault) -> Result<Option<KeyTold>, Comma
     }
 }
 
-/// Lists of frames, borrowed.
-fn borrowed_lists<'l, 'f>(
-    heap: Heap,
-    lists: &'l [Vec<Frame<'f>, Heap>],
-) -> Result<Vec<&'l [Frame<'f>], Heap>, NoMemory>
-    ensures { IfOk result (λ borrowed. lists_view borrowed.items ≡ map borrowed_in lists.now) }
-{
-    let mut borrowed = Vec::with_capacity(heap, lists.len())?;
-    'lists: for list in lists {
-        borrowed.push(list.as_slice())?;
-    }
-    Ok(borrowed)
-}
-
-/// Writes an answer to an address, which stands at this number of what is told, and if lines are wanted its frames.
-fn push_told(
-    heap: &Heap,
-    text: &mut String<Heap>,
-    address: u64,
-    answer: &Answer<'_>,
-    answers: &Answers,
-    lines: bool,
-    number: usize,
-) -> Result<(), NoMemory>
-    ensures { OnOk result (string_bytes text.new ≡ string_bytes text.old
-        ++ answer_lines address answer.now (shown_at lines answers.now number)) }
-{
-    let lists = answers.frames(heap, lines, number)?;
-    let borrowed = borrowed_lists(heap.share(), &lists)?;
-    push_answer(heap, text, address, answer, &borrowed)
-}
-
 /// The answer of this number to a place, with its lines.
 fn table_answer(
     heap: &Heap,
@@ -119,19 +83,11 @@ fn table_answer(
     place: Where,
     number: usize,
 ) -> Result<PlaceAnswer, NoMemory>
-    ensures { IfOk result (λ told. IsPlaceTold (IsAnswerAt answers.now lines number) place told) }
+    ensures { IfOk result (λ told. IsPlaceTold (λ _ answer. answer ≡ answer_at answers.now lines number) place told) }
 {
-    let answer = answers.answer(heap.share(), number)?;
+    let answer = answers.answer(heap, lines, number)?;
     let mut text = String::new(heap.share());
-    push_told(
-        heap,
-        &mut text,
-        address_in(place),
-        &answer,
-        answers,
-        lines,
-        number,
-    )?;
+    push_answer(heap, &mut text, address_in(place), &answer)?;
     let status = status_after(Status::Done, &answer);
     Ok(PlaceAnswer { status, text })
 }

@@ -4,6 +4,3 @@ pub mod Placed
 pub mod Sourced
 pub mod Answered
 pub mod Unread
-pub mod Framed
-pub mod RowsAnswering
-pub mod SlicesTold

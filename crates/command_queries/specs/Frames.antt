@@ -3,8 +3,10 @@ use Rattle.std.specs.Prelude.{◌≡◌, ℕ, List, [], ◌∷◌, Bool, true, f
 use Rattle.std.specs.List.{AllZip, flat_map, list_all}
 use Rattle.archive_core.specs.Content.{Operations}
 use Rattle.archive_core.specs.declared.keys.SliceKey.{SliceKey}
+use Rattle.archive_core.specs.declared.lookup.Where.{Where}
 use Rattle.text_inputs.specs.Frames.{frames_of}
 use Rattle.text_inputs.specs.declared.frame.Frame.{Frame}
+use Rattle.text_reports.specs.Answers.{SourcedAnswerRecord}
 use Rattle.command_common.specs.declared.faults.InputName.{InputName}
 use Rattle.command_common.specs.declared.faults.Status.{Status}
 use Rattle.command_common.specs.declared.faults.Status.TheVariants.{Done, Partial, Refused}
@@ -13,21 +15,29 @@ use Rattle.command_common.specs.Archives.{AreRefused, AreUnfailed, HoldTogether}
 use Rattle.command_common.specs.Ends.{Query}
 use Rattle.command_common.specs.Inputs.{Reader, Gives, Unfailed, IsUntouched, EachUntouched, IsFrames, IsRefusedFrames}
 use Rattle.command_queries.specs.Slices.{IsAnsweringRow, WithSlices}
-use Rattle.command_queries.specs.Symbolicate.{Answered, IsAnswered, answers_status, answers_text}
-use Rattle.command_queries.specs.Symbolicate.{MakesAnswered}
+use Rattle.command_queries.specs.Sources.{IsSourced}
+use Rattle.command_queries.specs.Symbolicate.{Answered, MakesAnswered, answers_status, answers_text, asked_of}
 
--- the row is that of the frame's address, and its answer is what the content tells of it under the frame's key
-abbrev pub IsFrameAnswered : Bool → Operations → Frame → Answered → Type 0
-IsFrameAnswered lines content frame row =
-    (row.address ≡ frame.address) × IsAnswered content frame.key frame.load lines row
+-- the row is that of the frame's address, and this is true of its answer
+abbrev pub IsFrameSaid : (SliceKey → Where → SourcedAnswerRecord → Type 0) → Frame → Answered → Type 0
+IsFrameSaid IsSaid frame row =
+    (row.address ≡ frame.address) × IsSaid frame.key (asked_of frame.load row.address) row.answer
 
--- what a content tells of frames, one answer a frame and in their order: the status, and the lines
-pub record TellsFrames (lines : Bool) (content : Operations) (frames : List Frame) (status : Status)
-    (text : List ℕ) : Type 0 where
+-- Frames are answered, one answer a frame and in their order, and this is true of each.
+pub record TellFrames (IsSaid : SliceKey → Where → SourcedAnswerRecord → Type 0) (frames : List Frame)
+    (status : Status) (text : List ℕ) : Type 0 where
   pub rows : List Answered
-  pub answered : AllZip (IsFrameAnswered lines content) frames rows
+  pub answered : AllZip (IsFrameSaid IsSaid) frames rows
   pub status_is : status ≡ answers_status rows
   pub text_is : text ≡ answers_text rows
+
+-- the row has what the content tells of the frame's address under its key
+abbrev pub IsFrameAnswered : Bool → Operations → Frame → Answered → Type 0
+IsFrameAnswered lines content frame row = IsFrameSaid (λ key. IsSourced content key lines) frame row
+
+-- what a content tells of frames: the status, and the lines
+abbrev pub TellsFrames : Bool → Operations → List Frame → Status → List ℕ → Type 0
+TellsFrames lines content frames status text = TellFrames (λ key. IsSourced content key lines) frames status text
 
 -- the key of each frame
 abbrev pub frame_keys : List Frame → List SliceKey

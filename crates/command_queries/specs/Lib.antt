@@ -4,9 +4,7 @@ pub mod Name
 pub mod InnerNames
 pub mod Sources
 pub mod Slices
-pub mod InnerSlices
 pub mod Symbolicate
 pub mod Places
 pub mod Frames
 pub mod InnerSources
-pub mod InnerFrames

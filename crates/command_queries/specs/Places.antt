@@ -1,11 +1,8 @@
 -- The answers to places under a key, each with its lines.
-use Rattle.std.specs.Prelude.{◌≡◌, ◌++◌, ℕ, List, [], if◌then◌else◌, string_bytes}
-use Rattle.archive_core.specs.Lookup.{AnswerRecord, answer_view}
+use Rattle.std.specs.Prelude.{◌≡◌, ℕ, if◌then◌else◌, string_bytes}
 use Rattle.archive_core.specs.declared.lookup.Where.{Where}
 use Rattle.archive_core.specs.declared.lookup.Where.TheVariants.{File, Loaded}
-use Rattle.dwarf_source_frames.specs.Frames.{FrameRecord}
-use Rattle.text_reports.specs.Answers.{answer_lines}
-use Rattle.command_common.specs.declared.faults.Status.{Status}
+use Rattle.text_reports.specs.Answers.{SourcedAnswerRecord, answer_lines}
 use Rattle.command_common.specs.declared.faults.Status.TheVariants.{Done, Partial}
 use Rattle.command_queries.specs.Symbolicate.{Answered, is_symbol}
 use Rattle.command_queries.specs.declared.places.PlaceAnswer.{PlaceAnswer}
@@ -15,16 +12,10 @@ abbrev pub address_in : Where → ℕ
 address_in (File address) = address
 address_in (Loaded load address) = address
 
--- A text has got the lines of the answer to a place, of which this is true; and how a command ends that prints them
--- alone.
-pub record IsPlaceAdded (IsSaid : Where → AnswerRecord → List (List FrameRecord) → Type 0) (place : Where)
-    (before after : List ℕ) (status : Status) : Type 0 where
+-- This is the answer to a place: how a command ends that prints it alone, and its lines. Of the answer this is true.
+pub record IsPlaceTold (IsSaid : Where → SourcedAnswerRecord → Type 0) (place : Where) (told : PlaceAnswer) : Type 0 where
   pub row : Answered
   pub address_is : row.address ≡ address_in place
-  pub is_said : IsSaid place (answer_view row.answer) row.frames
-  pub status_is : status ≡ if is_symbol row.answer then Done else Partial
-  pub text_is : after ≡ before ++ answer_lines row.address row.answer row.frames
-
--- this is the answer to a place
-abbrev pub IsPlaceTold : (Where → AnswerRecord → List (List FrameRecord) → Type 0) → Where → PlaceAnswer → Type 0
-IsPlaceTold IsSaid place told = IsPlaceAdded IsSaid place [] (string_bytes told.text) told.status
+  pub is_said : IsSaid place row.answer
+  pub status_is : told.status ≡ if is_symbol row.answer then Done else Partial
+  pub text_is : string_bytes told.text ≡ answer_lines row.address row.answer

@@ -1,15 +1,11 @@
 -- The report of `symbolicate` over archives.
-use Rattle.std.specs.Prelude.{◌≡◌, ℕ, List, [], ◌∷◌, Bool, true, false, Option, Some, None, map, if◌then◌else◌}
+use Rattle.std.specs.Prelude.{◌≡◌, ℕ, List, [], ◌∷◌, Bool, true, false, Option, Some, None, is_some, map, if◌then◌else◌}
 use Rattle.std.specs.List.{AllByRecursion, flat_map, list_all}
 use Rattle.archive_core.specs.Content.{Operations}
-use Rattle.archive_core.specs.Lookup.{answer_view}
 use Rattle.archive_core.specs.declared.keys.SliceKey.{SliceKey}
-use Rattle.archive_core.specs.declared.lookup.Answer.{Answer}
-use Rattle.archive_core.specs.declared.lookup.Answer.TheVariants.{Unknown, NoSymbol, Symbol, Conflict}
 use Rattle.archive_core.specs.declared.lookup.Where.{Where}
 use Rattle.archive_core.specs.declared.lookup.Where.TheVariants.{File, Loaded}
-use Rattle.dwarf_source_frames.specs.Frames.{FrameRecord}
-use Rattle.text_reports.specs.Answers.{answer_lines}
+use Rattle.text_reports.specs.Answers.{SourcedAnswerRecord, SourcedAlone, SourcedEach, Unsourced, answer_lines}
 use Rattle.command_common.specs.declared.faults.Status.{Status}
 use Rattle.command_common.specs.declared.faults.Status.TheVariants.{Done, Partial}
 use Rattle.command_common.specs.Archives.{AreRefused, AreUnfailed, HoldTogether}
@@ -25,22 +21,19 @@ asked_of None address = File address
 asked_of (Some load) address = Loaded load address
 
 -- the answer is one symbol
-abbrev pub is_symbol : Answer → Bool
-is_symbol Unknown = false
-is_symbol NoSymbol = false
-is_symbol (Symbol _) = true
-is_symbol (Conflict _) = false
+abbrev pub is_symbol : SourcedAnswerRecord → Bool
+is_symbol Unsourced = false
+is_symbol (SourcedAlone sourced) = is_some sourced.own
+is_symbol (SourcedEach rows) = false
 
--- an address argument, its answer, and the frames of the slices that answer
+-- an address argument, and its answer
 pub record Answered : Type 0 where
   pub address : ℕ
-  pub answer : Answer
-  pub frames : List (List FrameRecord)
+  pub answer : SourcedAnswerRecord
 
--- the answer is what the content tells of the address, and so are the frames, if lines are wanted
+-- the answer is what the content tells of the address
 abbrev pub IsAnswered : Operations → SliceKey → Option ℕ → Bool → Answered → Type 0
-IsAnswered content key load lines row =
-    IsSourced content key lines (asked_of load row.address) (answer_view row.answer) row.frames
+IsAnswered content key load lines row = IsSourced content key lines (asked_of load row.address) row.answer
 
 -- done where each answer is one symbol
 abbrev pub answers_status : List Answered → Status
@@ -48,7 +41,7 @@ answers_status rows = if list_all (λ row. is_symbol row.answer) rows then Done 
 
 -- the lines of the answers
 abbrev pub answers_text : List Answered → List ℕ
-answers_text rows = flat_map (λ row. answer_lines row.address row.answer row.frames) rows
+answers_text rows = flat_map (λ row. answer_lines row.address row.answer) rows
 
 -- what a content tells of addresses, one answer an address and in their order: the status, and the lines
 pub record TellsAddresses (content : Operations) (key : SliceKey) (load : Option ℕ) (lines : Bool)

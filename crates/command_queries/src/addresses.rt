@@ -2,8 +2,10 @@
 ghost use Rattle.std.specs.Prelude.{◌≡◌, if◌then◌else◌};
 ghost use Rattle.command_common.specs.declared.faults.Status.TheVariants.{Partial};
 ghost use Rattle.command_queries.specs.Symbolicate.{asked_of, is_symbol};
+ghost use Rattle.text_reports.specs.SourcedViews.{answer_view};
 
-use archive_core::{Answer, Where};
+use text_reports::SourcedAnswer;
+use archive_core::{Own, Where};
 use command_common::Status;
 
 /// The address that an address argument means, in the file or in the loaded image.
@@ -17,11 +19,14 @@ pub fn asked_of(load: Option<u64>, address: u64) -> Where
 }
 
 /// The status after one more answer: unchanged if it is a single symbol, else `Partial`.
-pub fn status_after(status: Status, answer: &Answer<'_>) -> Status
-    ensures { result ≡ if is_symbol answer.now then status else Partial }
+pub fn status_after(status: Status, answer: &SourcedAnswer<'_>) -> Status
+    ensures { result ≡ if is_symbol (answer_view answer.now) then status else Partial }
 {
     match answer {
-        Answer::Symbol(_) => status,
-        Answer::Unknown | Answer::NoSymbol | Answer::Conflict(_) => Status::Partial,
+        SourcedAnswer::One(sourced) => match sourced.own {
+            Own::Symbol(_) => status,
+            Own::NoSymbol => Status::Partial,
+        },
+        SourcedAnswer::Unknown | SourcedAnswer::Conflict(_) => Status::Partial,
     }
 }

@@ -1,16 +1,16 @@
 //! The answers of an archive to places under a key, each with its lines.
-ghost use Rattle.std.specs.Prelude.{◌≡◌, Bool, IfOk, string_bytes};
+ghost use Rattle.std.specs.Prelude.{◌≡◌, Bool, IfOk};
 ghost use Rattle.std.specs.List.{AllZip};
 ghost use Rattle.command_queries.specs.InnerSources.{AreSourcesOf};
-ghost use Rattle.command_queries.specs.Places.{IsPlaceAdded, IsPlaceTold, address_in};
+ghost use Rattle.command_queries.specs.Places.{IsPlaceTold, address_in};
 ghost use Rattle.command_queries.specs.Sources.{IsSourced};
 
 use crate::addresses::status_after;
+use text_reports::push_answer;
 use crate::sources::Sources;
 use archive_core::{Archive, SliceKey, Where};
 use command_common::Status;
 use memory::{Heap, NoMemory};
-use text_reports::push_answer;
 
 /// The answer to a place: how a command ends that prints it alone, and its lines.
 #[derive(Drop)]
@@ -29,27 +29,6 @@ pub fn address_in(place: Where) -> u64
     }
 }
 
-/// Writes the answer of an archive to a place, whose source frames were found, and returns how a command ends that
-/// prints it alone.
-pub(crate) fn push_place<A: Archive>(
-    heap: &Heap,
-    text: &mut String<Heap>,
-    archive: &A,
-    key: &SliceKey,
-    sources: &Sources<'_>,
-    place: Where,
-) -> Result<Status, NoMemory>
-    ensures { IfOk result (λ status. (lines : Bool)
-        → AreSourcesOf (A.content archive.now) key.now lines place sources.now.found.items
-        → IsPlaceAdded (IsSourced (A.content archive.now) key.now lines) place (string_bytes text.old)
-        (string_bytes text.new) status) }
-{
-    let answer = archive.lookup(key, place)?;
-    let frames = sources.at(heap.share(), place)?;
-    push_answer(heap, text, address_in(place), &answer, &frames)?;
-    Ok(status_after(Status::Done, &answer))
-}
-
 /// The answer of an archive to a place, whose source frames were found.
 fn answer_place<A: Archive>(
     heap: &Heap,
@@ -62,8 +41,11 @@ fn answer_place<A: Archive>(
         → AreSourcesOf (A.content archive.now) key.now lines place sources.now.found.items
         → IsPlaceTold (IsSourced (A.content archive.now) key.now lines) place told) }
 {
+    let answer = archive.lookup(key, place)?;
+    let answer = sources.answer(heap, place, answer)?;
     let mut text = String::new(heap.share());
-    let status = push_place(heap, &mut text, archive, key, sources, place)?;
+    push_answer(heap, &mut text, address_in(place), &answer)?;
+    let status = status_after(Status::Done, &answer);
     Ok(PlaceAnswer { status, text })
 }
 
@@ -79,7 +61,7 @@ pub fn answer_places<A: Archive>(
     ensures { IfOk result (λ told.
         AllZip (IsPlaceTold (IsSourced (A.content archive.now) key.now lines)) places.now told.items) }
 {
-    let sources = Sources::wanted(heap, archive, key, lines, places)?;
+    let sources = Sources::of(heap, archive, key, lines, places)?;
     let mut told = Vec::with_capacity(heap.share(), places.len())?;
     'places: for place in places {
         told.push(answer_place(heap, archive, key, &sources, *place)?)?;

@@ -5,15 +5,14 @@ use Rattle.std.specs.List.{AllZip}
 use Rattle.std.specs.Option.{option_map}
 use Rattle.macho_symbols.specs.Found.{FoundRecord}
 use Rattle.dwarf_source_frames.specs.Frames.{FrameRecord}
-use Rattle.dwarf_source_frames.specs.FrameViews.{frame_view}
-use Rattle.dwarf_source_frames.specs.declared.frame.Frame.{Frame}
 use Rattle.table_symbols.specs.Found.{owned_view}
 use Rattle.table_symbols.specs.declared.found.OwnedFound.{OwnedFound}
 use Rattle.table_source_frames.specs.FrameViews.{owned_frames}
 use Rattle.table_source_frames.specs.declared.frame.OwnedFrame.{OwnedFrame}
-use Rattle.archive_core.specs.Lookup.{AnswerRecord, OwnRow, Unanswered, Alone, Disputed}
+use Rattle.archive_core.specs.declared.keys.Digest.{Digest}
 use Rattle.archive_core.specs.declared.lookup.Where.{Where}
 use Rattle.index_format.specs.Entry.{claim_in}
+use Rattle.text_reports.specs.Answers.{SourcedAnswerRecord, SourcedRecord, SourcedAlone, SourcedEach, Unsourced}
 use Rattle.index_lookup.specs.Among.{EntryAt}
 use Rattle.index_lookup.specs.Told.{AreFramesToldBy, IsToldBy}
 use Rattle.index_lookup.specs.declared.answers.EntryAnswers.{EntryAnswers}
@@ -25,10 +24,6 @@ told_view own = option_map owned_view own
 -- the frames of a place
 abbrev pub list_in : {A : Type 0} → Vec OwnedFrame A → List FrameRecord
 list_in list = owned_frames list.items
-
--- the same, borrowed
-abbrev pub borrowed_in : {A : Type 0} → Vec Frame A → List FrameRecord
-borrowed_in list = map (λ frame. frame_view frame) list.items
 
 -- the frames of places
 abbrev pub frame_lists : EntryAnswers → List (List FrameRecord)
@@ -43,24 +38,26 @@ pub record IsColumnAt (texts : List (List ℕ)) (lines : Bool) (asked : List Whe
   pub frames : lines ≡ true → (text : List ℕ) → slice_get texts x.input ≡ Some text
       → AllZip (AreFramesToldBy text (claim_in x.entry)) asked (frame_lists column)
 
--- the row of a column
-abbrev pub row_at : ℕ → EntryAnswers → OwnRow
-row_at number column = record {
-  digest = column.digest.0;
-  own = slice_index_or (map told_view column.owns.items) number None;
-}
-
--- what rows are together
-abbrev pub answer_of : List OwnRow → AnswerRecord
-answer_of [] = Unanswered
-answer_of (row ∷ []) = Alone row.own
-answer_of (row ∷ (other ∷ rows)) = Disputed (row ∷ (other ∷ rows))
-
 -- the frames of a column
 abbrev pub frames_at : ℕ → EntryAnswers → List FrameRecord
 frames_at number column = slice_index_or (frame_lists column) number []
 
--- those that are shown of columns, if lines are wanted
-abbrev pub shown_of : Bool → ℕ → List EntryAnswers → List (List FrameRecord)
-shown_of true number columns = map (frames_at number) columns
-shown_of false number columns = []
+-- those that are shown of it, if lines are wanted
+abbrev pub shown_at : Bool → ℕ → EntryAnswers → List FrameRecord
+shown_at true number column = frames_at number column
+shown_at false number column = []
+
+-- what a column tells
+abbrev pub sourced_at : Bool → ℕ → EntryAnswers → SourcedRecord
+sourced_at lines number column =
+    record { own = slice_index_or (map told_view column.owns.items) number None; frames = shown_at lines number column }
+
+-- the row of a column
+abbrev pub row_at : Bool → ℕ → EntryAnswers → Digest × SourcedRecord
+row_at lines number column = (column.digest, sourced_at lines number column)
+
+-- what columns tell together
+abbrev pub answer_of : Bool → ℕ → List EntryAnswers → SourcedAnswerRecord
+answer_of lines number [] = Unsourced
+answer_of lines number (column ∷ []) = SourcedAlone (sourced_at lines number column)
+answer_of lines number (column ∷ (other ∷ columns)) = SourcedEach (map (row_at lines number) (column ∷ (other ∷ columns)))

@@ -1,15 +1,17 @@
 //! What an index tells of several places under a key.
 
 ghost use Rattle.std.specs.Prelude.{◌≡◌, IfOk, map, slice_index_or, None};
-ghost use Rattle.archive_core.specs.Lookup.{Alone, answer_view, own_row, own_view};
+ghost use Rattle.archive_core.specs.Lookup.{own_view};
 ghost use Rattle.table_source_frames.specs.FrameViews.{owned_frames};
-ghost use Rattle.index_lookup.specs.Views.{answer_of, frames_at, borrowed_in, row_at, shown_of, told_view};
+ghost use Rattle.text_reports.specs.SourcedViews.{answer_view, list_view, row_view, sourced_view};
+ghost use Rattle.index_lookup.specs.Views.{answer_of, frames_at, row_at, shown_at, sourced_at, told_view};
 
-use archive_core::{Answer, Digest, Own};
+use archive_core::{Digest, Own};
 use dwarf_source_frames::Frame;
 use memory::{Heap, NoMemory};
 use table_source_frames::OwnedFrame;
 use table_symbols::OwnedFound;
+use text_reports::{Sourced, SourcedAnswer};
 
 /// What the table of an entry tells.
 #[derive(Drop)]
@@ -42,18 +44,43 @@ impl EntryAnswers {
 
     /// The frames of the place of this number, borrowed.
     fn frames(&self, heap: Heap, number: usize) -> Result<Vec<Frame<'_>, Heap>, NoMemory>
-        ensures { IfOk result (λ frames. borrowed_in frames ≡ frames_at number self.now) }
+        ensures { IfOk result (λ frames. list_view frames.items ≡ frames_at number self.now) }
     {
         match self.frames.get(number) {
             Some(frames) => borrowed_each(heap, frames),
             None => Ok(Vec::new(heap)),
         }
     }
+
+    /// The frames that are shown of it: none where no lines are wanted.
+    fn shown(
+        &self,
+        heap: Heap,
+        lines: bool,
+        number: usize,
+    ) -> Result<Vec<Frame<'_>, Heap>, NoMemory>
+        ensures { IfOk result (λ frames. list_view frames.items ≡ shown_at lines number self.now) }
+    {
+        if lines {
+            self.frames(heap, number)
+        } else {
+            Ok(Vec::new(heap))
+        }
+    }
+
+    /// What is told of the place of this number, with the frames that are shown.
+    fn sourced(&self, heap: &Heap, lines: bool, number: usize) -> Result<Sourced<'_>, NoMemory>
+        ensures { IfOk result (λ sourced. sourced_view sourced ≡ sourced_at lines number self.now) }
+    {
+        let own = self.own(number);
+        let frames = self.shown(heap.share(), lines, number)?;
+        Ok(Sourced { own, frames })
+    }
 }
 
 /// Frames, borrowed.
 fn borrowed_each(heap: Heap, frames: &[OwnedFrame]) -> Result<Vec<Frame<'_>, Heap>, NoMemory>
-    ensures { IfOk result (λ borrowed. borrowed_in borrowed ≡ owned_frames frames.now) }
+    ensures { IfOk result (λ borrowed. list_view borrowed.items ≡ owned_frames frames.now) }
 {
     let mut borrowed = Vec::with_capacity(heap, frames.len())?;
     'frames: for frame in frames {
@@ -62,76 +89,44 @@ fn borrowed_each(heap: Heap, frames: &[OwnedFrame]) -> Result<Vec<Frame<'_>, Hea
     Ok(borrowed)
 }
 
-/// The answer where one slice alone answers.
-fn answer_of_one(own: Own<'_>) -> Answer<'_>
-    ensures { answer_view result ≡ Alone (own_view own.entry) }
-{
-    match own {
-        Own::NoSymbol => Answer::NoSymbol,
-        Own::Symbol(found) => Answer::Symbol(found),
-    }
-}
-
 /// What several entries tell of the place of this number.
-fn rows_at(
-    heap: Heap,
-    columns: &[EntryAnswers],
+fn rows_at<'c>(
+    heap: &Heap,
+    columns: &'c [EntryAnswers],
+    lines: bool,
     number: usize,
-) -> Result<Vec<(Digest, Own<'_>), Heap>, NoMemory>
-    ensures { IfOk result (λ rows. map own_row rows.items ≡ map (row_at number) columns.now) }
+) -> Result<Vec<(Digest, Sourced<'c>), Heap>, NoMemory>
+    ensures { IfOk result (λ rows. map row_view rows.items ≡ map (row_at lines number) columns.now) }
 {
-    let mut rows = Vec::new(heap);
+    let mut rows = Vec::new(heap.share());
     'columns: for column in columns {
-        rows.push((column.digest, column.own(number)))?;
+        let sourced = column.sourced(heap, lines, number)?;
+        rows.push((column.digest, sourced))?;
     }
     Ok(rows)
 }
 
-/// The frames of the place of this number in the slice of each entry.
-fn frames_of_each<'c>(
-    heap: &Heap,
-    columns: &'c [EntryAnswers],
-    number: usize,
-) -> Result<Vec<Vec<Frame<'c>, Heap>, Heap>, NoMemory>
-    ensures { IfOk result (λ lists. map borrowed_in lists.items
-        ≡ map (frames_at number) columns.now) }
-{
-    let mut lists = Vec::new(heap.share());
-    'columns: for column in columns {
-        let frames = column.frames(heap.share(), number)?;
-        lists.push(frames)?;
-    }
-    Ok(lists)
-}
-
 impl Answers {
-    /// The answer for the place of this number, from 0 on, among those that were asked for. Refused for want of memory
-    /// alone, which is asked for only where several entries answer.
-    pub fn answer(&self, heap: Heap, number: usize) -> Result<Answer<'_>, NoMemory>
-        ensures { IfOk result (λ answer. answer_view answer ≡ answer_of (map (row_at number) self.now.columns.items)) }
-    {
-        match self.columns.as_slice() {
-            [] => Ok(Answer::Unknown),
-            [column] => Ok(answer_of_one(column.own(number))),
-            columns => Ok(Answer::Conflict(rows_at(heap, columns, number)?)),
-        }
-    }
-
-    /// The frames that are shown of the place of this number: those in the slice of each entry, in the order of the
-    /// answer, or no list where no lines are wanted. Refused for want of memory alone.
-    pub fn frames(
+    /// The answer for the place of this number, from 0 on, among those that were asked for, and if `lines` with its
+    /// frames. Refused for want of memory alone.
+    pub fn answer(
         &self,
         heap: &Heap,
         lines: bool,
         number: usize,
-    ) -> Result<Vec<Vec<Frame<'_>, Heap>, Heap>, NoMemory>
-        ensures { IfOk result (λ lists. map borrowed_in lists.items
-            ≡ shown_of lines number self.now.columns.items) }
+    ) -> Result<SourcedAnswer<'_>, NoMemory>
+        ensures { IfOk result (λ answer. answer_view answer ≡ answer_of lines number self.now.columns.items) }
     {
-        if lines {
-            frames_of_each(heap, &self.columns, number)
-        } else {
-            Ok(Vec::new(heap.share()))
+        match self.columns.as_slice() {
+            [] => Ok(SourcedAnswer::Unknown),
+            [column] => {
+                let sourced = column.sourced(heap, lines, number)?;
+                Ok(SourcedAnswer::One(sourced))
+            }
+            columns => {
+                let rows = rows_at(heap, columns, lines, number)?;
+                Ok(SourcedAnswer::Conflict(rows))
+            }
         }
     }
 }

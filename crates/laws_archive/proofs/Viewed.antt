@@ -29,110 +29,46 @@ use Rattle.command_queries.specs.Sources.{AreFramesAt, AreShown, IsSourced}
 use Rattle.command_queries.specs.Symbolicate.{asked_of, is_symbol, Answered, IsAnswered, answers_status, answers_text, TellsAddresses}
 use Rattle.laws_archive.proofs.Given.{one_zipped}
 
-abbrev seen_found : FoundRecord → List ℕ
-seen_found found =
-    escaped found.name ++ codes " + " ++ decimal found.offset
-    ++ codes " (" ++ escaped found.segment ++ codes "," ++ escaped found.section ++ codes ")"
-
-abbrev seen_own : Option FoundRecord → List ℕ
-seen_own None = codes "-"
-seen_own (Some found) = seen_found found
-
-abbrev seen_row : OwnRow → List ℕ
-seen_row row = line (codes "  " ++ digest_text (record { 0 = row.digest }) ++ codes " " ++ seen_own row.own)
-
-abbrev seen_rows : List OwnRow → List (List FrameRecord) → List ℕ
-seen_rows [] frames = []
-seen_rows (row ∷ rows) [] = seen_row row ++ seen_rows rows []
-seen_rows (row ∷ rows) (its ∷ frames) = seen_row row ++ frame_lines its ++ seen_rows rows frames
-
-abbrev seen_lines : ℕ → AnswerRecord → List (List FrameRecord) → List ℕ
-seen_lines address Unanswered frames = line (address_text address ++ codes " ?") ++ flat_map frame_lines frames
-seen_lines address (Alone None) frames = line (address_text address ++ codes " -") ++ flat_map frame_lines frames
-seen_lines address (Alone (Some found)) frames = line (address_text address ++ codes " " ++ seen_found found) ++ flat_map frame_lines frames
-seen_lines address (Disputed rows) frames = line (address_text address ++ codes " !" ++ decimal (length rows)) ++ seen_rows rows frames
-
-abbrev seen_symbol : AnswerRecord → Bool
-seen_symbol (Alone (Some found)) = true
-seen_symbol _ = false
-
-own_seen : (own : Own) → own_text own ≡ seen_own (own_view own)
-unfolding own_text found_text
-own_seen Own_NoSymbol = refl
-own_seen (Own_Symbol found) = refl
-
-row_seen : (row : Digest × Own) → own_line row ≡ seen_row (own_row row)
-unfolding own_line
-row_seen row = ap (λ text. line (codes "  " ++ digest_text row.0 ++ codes " " ++ text)) (own_seen row.1)
-
-rows_seen : (rows : List (Digest × Own)) (frames : List (List FrameRecord)) → owns_lines rows frames ≡ seen_rows (map own_row rows) frames
-rows_seen [] frames = refl
-rows_seen (row ∷ rows) [] = λ i. row_seen row i ++ rows_seen rows [] i
-rows_seen (row ∷ rows) (its ∷ frames) = λ i. row_seen row i ++ frame_lines its ++ rows_seen rows frames i
-
-lines_seen : (address : ℕ) (answer : Answer) (frames : List (List FrameRecord)) → answer_lines address answer frames
-    ≡ seen_lines address (answer_view answer) frames
-unfolding answer_lines found_text
-lines_seen address (Conflict rows) frames =
-    λ i. line (address_text address ++ codes " !" ++ decimal (sym (length-map rows.items own_row) i)) ++ rows_seen rows.items frames i
-lines_seen address answer frames = refl
-
-symbol_seen : (answer : Answer) → is_symbol answer ≡ seen_symbol (answer_view answer)
-symbol_seen Unknown = refl
-symbol_seen answer = refl
-
-pub record Seen : Type 0 where
-  pub address : ℕ
-  pub answer : AnswerRecord
-  pub frames : List (List FrameRecord)
-
-abbrev pub seen : Answered → Seen
-seen row = record { address = row.address; answer = answer_view row.answer; frames = row.frames }
-
-text_seen : (rows : List Answered) → answers_text rows ≡ flat_map (λ (s : Seen). seen_lines s.address s.answer s.frames) (map seen rows)
-text_seen rows =
-    (λ i. flat_map (λ (row : Answered). lines_seen row.address row.answer row.frames i) rows)
-    ∙ sym (flat_map-map (λ (s : Seen). seen_lines s.address s.answer s.frames) seen rows)
-
-symbols_seen : (rows : List Answered) → list_all (λ row. is_symbol row.answer) rows ≡ list_all (λ (s : Seen). seen_symbol s.answer) (map seen rows)
-symbols_seen rows = (λ i. list_all (λ (row : Answered). symbol_seen row.answer i) rows) ∙ sym (list_all-map (λ (s : Seen). seen_symbol s.answer) seen rows)
-
--- answers that look alike are told alike
-pub alike_told : (rows others : List Answered) → map seen rows ≡ map seen others
-    → (answers_status rows ≡ answers_status others) × (answers_text rows ≡ answers_text others)
-alike_told rows others same =
-    let symbols = symbols_seen rows ∙ ap (list_all (λ (s : Seen). seen_symbol s.answer)) same ∙ sym (symbols_seen others) in
-    let lines = text_seen rows ∙ ap (flat_map (λ (s : Seen). seen_lines s.address s.answer s.frames)) same ∙ sym (text_seen others) in
-    (ap (λ (all : Bool). if all then Done else Partial) symbols, lines)
-
 -- ---- the same answers without their frames
 
-abbrev bare : Answered → Answered
-bare row = record { address = row.address; answer = row.answer; frames = [] }
+bare : Answered → Answered
+bare row = record { address = row.address; answer = without_frames row.answer }
 
 bare_addresses : (rows : List Answered) → map (λ (row : Answered). row.address) (map bare rows) ≡ map (λ (row : Answered). row.address) rows
 bare_addresses [] = refl
 bare_addresses (row ∷ rows) = ap (λ (addresses : List ℕ). row.address ∷ addresses) (bare_addresses rows)
+
+bare_rows : (place : Where) (slices : List (List ℕ)) (rows : List (Digest × SourcedRecord))
+    → AllZip (IsSourcedRow true place) slices rows → AllZip (IsSourcedRow false place) slices (map bare_row rows)
+bare_rows place [] [] are = tt
+bare_rows place (slice ∷ slices) (row ∷ rows) are = ((are.0.0, refl), bare_rows place slices rows are.1)
+bare_rows place slices rows are = absurd are
+
+bare_answer : (place : Where) (slices : List (List ℕ)) (answer : SourcedAnswerRecord)
+    → IsSourcedOf true place slices answer → IsSourcedOf false place slices (without_frames answer)
+bare_answer place slices Unsourced is = is
+bare_answer place slices (SourcedAlone sourced) is = (is.0, is.1, (is.2.0, refl))
+bare_answer place slices (SourcedEach rows) is = (is.0, bare_rows place slices rows is.1)
 
 bare_answered : (content : Operations) (key : SliceKey) (load : Option ℕ) (rows : List Answered)
     → AllByRecursion (IsAnswered content key load true) rows
     → AllByRecursion (IsAnswered content key load false) (map bare rows)
 bare_answered content key load [] are = tt
 bare_answered content key load (row ∷ rows) are = (
-  record { slices = are.0.slices; answering = are.0.answering; answer_is = are.0.answer_is; shown = refl },
+  record { slices = are.0.slices; answering = are.0.answering; answer_is = bare_answer (asked_of load row.address) are.0.slices row.answer are.0.answer_is },
   bare_answered content key load rows are.1,
 )
 
 pub without_lines : (content : Operations) (key : SliceKey) (load : Option ℕ) (addresses : List ℕ) (status : Status)
     (text : List ℕ) → (told : TellsAddresses content key load true addresses status text)
-    → TellsAddresses content key load false addresses status (flat_map (λ (row : Answered). answer_lines row.address row.answer []) told.rows)
+    → TellsAddresses content key load false addresses status (flat_map (λ (row : Answered). answer_lines row.address (without_frames row.answer)) told.rows)
 without_lines content key load addresses status text told = record {
   rows = map bare told.rows;
   addresses_are = bare_addresses told.rows ∙ told.addresses_are;
   answered = bare_answered content key load told.rows told.answered;
   status_is = told.status_is ∙ ap (λ (all : Bool). if all then Done else Partial)
       (sym (list_all-map (λ (row : Answered). is_symbol row.answer) bare told.rows));
-  text_is = sym (flat_map-map (λ (row : Answered). answer_lines row.address row.answer row.frames) bare told.rows);
+  text_is = sym (flat_map-map (λ (row : Answered). answer_lines row.address row.answer) bare told.rows);
 }
 
 -- ---- one telling
@@ -148,30 +84,50 @@ module _ (one : (o : Operations) (key : SliceKey) (place : Where) (answer other 
   one_place slice None frames other a b = a ∙ sym b
   one_place slice (Some address) frames other a b = single slice address frames other a b
 
-  one_shown : (lines : Bool) (place : Where) (slices : List (List ℕ)) (frames others : List (List FrameRecord))
-      → AreShown lines place slices frames → AreShown lines place slices others → frames ≡ others
-  one_shown true place slices frames others a b =
-      one_zipped (AreFramesAt place) (AreFramesAt place) (λ slice. one_place slice (file_address slice place)) slices frames others a b
-  one_shown false place slices frames others a b = a ∙ sym b
+  one_shown : (lines : Bool) (place : Where) (slice : List ℕ) (frames others : List FrameRecord)
+      → AreShown lines place slice frames → AreShown lines place slice others → frames ≡ others
+  one_shown true place slice frames others a b = one_place slice (file_address slice place) frames others a b
+  one_shown false place slice frames others a b = a ∙ sym b
+
+  one_row : (lines : Bool) (place : Where) (slice : List ℕ) (row other : Digest × SourcedRecord)
+      → IsSourcedRow lines place slice row → IsSourcedRow lines place slice other → row ≡ other
+  one_row lines place slice row other a b =
+      let same = own_row slice place _ _ a.0 b.0 in
+      let shown = one_shown lines place slice row.1.frames other.1.frames a.1 b.1 in
+      λ i. (record { 0 = (same i).digest }, record { own = (same i).own; frames = shown i })
+
+  one_of : (lines : Bool) (place : Where) (slices : List (List ℕ)) (answer other : SourcedAnswerRecord)
+      → IsSourcedOf lines place slices answer → IsSourcedOf lines place slices other → answer ≡ other
+  one_of lines place slices Unsourced Unsourced a b = refl
+  one_of lines place slices Unsourced (SourcedAlone s) a b = cc (sym a ∙ b.1)
+  one_of lines place slices Unsourced (SourcedEach rows) a b = absurd (omega (arith, ap length a, b.0))
+  one_of lines place slices (SourcedAlone s) Unsourced a b = cc (sym b ∙ a.1)
+  one_of lines place slices (SourcedAlone s) (SourcedAlone t) a b =
+      let same : a.0 ≡ b.0 = cc (sym a.1 ∙ b.1) in
+      let more = subst (λ slice. IsSourcedBy lines place slice t) (sym same) b.2 in
+      let own = own_one a.0 place s.own t.own a.2.0 more.0 in
+      let shown = one_shown lines place a.0 s.frames t.frames a.2.1 more.1 in
+      λ i. SourcedAlone (record { own = own i; frames = shown i })
+  one_of lines place slices (SourcedAlone s) (SourcedEach rows) a b = absurd (omega (arith, ap length a.1, b.0))
+  one_of lines place slices (SourcedEach rows) Unsourced a b = absurd (omega (arith, ap length b, a.0))
+  one_of lines place slices (SourcedEach rows) (SourcedAlone s) a b = absurd (omega (arith, ap length b.1, a.0))
+  one_of lines place slices (SourcedEach rows) (SourcedEach others) a b =
+      ap SourcedEach (one_zipped (IsSourcedRow lines place) (IsSourcedRow lines place) (one_row lines place) slices rows others a.1 b.1)
 
   pub one_seen : (content : Operations) (key : SliceKey) (load : Option ℕ) (lines : Bool) (row other : Answered)
       → row.address ≡ other.address → IsAnswered content key load lines row → IsAnswered content key load lines other
-      → seen row ≡ seen other
+      → row ≡ other
   one_seen content key load lines row other address a b =
       let place : Where = asked_of load other.address in
-      let moved : IsSourced content key lines place (answer_view row.answer) row.frames =
-      subst (λ n. IsSourced content key lines (asked_of load n) (answer_view row.answer) row.frames) address a in
-      let answer = one content key place (answer_view row.answer) (answer_view other.answer)
-      (answer_of content key lines place (answer_view row.answer) row.frames moved)
-      (answer_of content key lines place (answer_view other.answer) other.frames b) in
+      let moved : IsSourced content key lines place row.answer = subst (λ n. IsSourced content key lines (asked_of load n) row.answer) address a in
       let same = one_answering content key moved.slices b.slices moved.answering b.answering in
-      let frames = one_shown lines place b.slices row.frames other.frames
-      (subst (λ (ss : List (List ℕ)). AreShown lines place ss row.frames) same moved.shown) b.shown in
-      λ i. record { address = address i; answer = answer i; frames = frames i }
+      let answer = one_of lines place b.slices row.answer other.answer
+      (subst (λ (ss : List (List ℕ)). IsSourcedOf lines place ss row.answer) same moved.answer_is) b.answer_is in
+      λ i. record { address = address i; answer = answer i }
 
   all_seen : (content : Operations) (key : SliceKey) (load : Option ℕ) (lines : Bool) (rows others : List Answered)
       → map (λ row. row.address) rows ≡ map (λ row. row.address) others
-      → AllByRecursion (IsAnswered content key load lines) rows → AllByRecursion (IsAnswered content key load lines) others → map seen rows ≡ map seen others
+      → AllByRecursion (IsAnswered content key load lines) rows → AllByRecursion (IsAnswered content key load lines) others → rows ≡ others
   all_seen content key load lines [] [] e a b = refl
   all_seen content key load lines (x ∷ xs) (y ∷ ys) e a b =
       let address : x.address ≡ y.address = cc in
@@ -188,5 +144,4 @@ module _ (one : (o : Operations) (key : SliceKey) (place : Where) (answer other 
       × (text ≡ other_text)
   one_told content key load lines addresses status other_status text other_text a b =
       let same = all_seen content key load lines a.rows b.rows (a.addresses_are ∙ sym b.addresses_are) a.answered b.answered in
-      let told = alike_told a.rows b.rows same in
-      (a.status_is ∙ told.0 ∙ sym b.status_is, a.text_is ∙ told.1 ∙ sym b.text_is)
+            (a.status_is ∙ ap answers_status same ∙ sym b.status_is, a.text_is ∙ ap answers_text same ∙ sym b.text_is)

@@ -7,13 +7,12 @@ use Rattle.std.proofs.lemmas.List.{append-nil}
 use Rattle.std.proofs.lemmas.Option.{slice_get_within}
 use Rattle.archive_core.specs.Content.{Operations}
 use Rattle.archive_core.specs.Key.{IsKey, key_bytes}
-use Rattle.archive_core.specs.Lookup.{AnswerRecord, answer_view}
 use Rattle.archive_core.specs.declared.keys.SliceKey.{SliceKey}
 use Rattle.archive_core.specs.declared.lookup.Where.{Where}
 use Rattle.archive_core.proofs.Compare.{length_key_bytes}
 use Rattle.archive_core.proofs.Members.{in_cons, in_front, in_map, in_rest}
-use Rattle.dwarf_source_frames.specs.Frames.{FrameRecord}
-use Rattle.command_queries.specs.Frames.{IsFrameAnswered, TellsFrames, TellsFramesWith, frame_keys, frames_under_key}
+use Rattle.text_reports.specs.Answers.{SourcedAnswerRecord}
+use Rattle.command_queries.specs.Frames.{IsFrameAnswered, IsFrameSaid, TellFrames, TellsFrames, TellsFramesWith, frame_keys, frames_under_key}
 use Rattle.command_queries.specs.Slices.{IsAnsweringRow, WithSlices}
 use Rattle.command_queries.specs.Sources.{IsSourced}
 use Rattle.command_queries.specs.Symbolicate.{Answered, TellsAddressesWith, asked_of}
@@ -37,8 +36,8 @@ use Rattle.command_index_queries.specs.Several.{HoldTogether}
 use Rattle.command_index_queries.specs.Together.{AreLater, AreReadWith, IsReadWith}
 use Rattle.command_frames.specs.Asking.{AreGiven, AreRefusedAsking, AreUntold, IsAnsweredAt, IsAnsweredBySlices, IsAnsweredByTables}
 use Rattle.command_frames.specs.Asking.{IsTableRefused, IsUnreadTable, is_stale_entry}
-use Rattle.command_frames.specs.Frames.{AreToldAt, IsAnsweredOrRefused, IsFrameReplied, IsFrameSaid}
-use Rattle.command_frames.specs.Frames.{TellFrames, TellFramesBesides, TellFramesWith, keys_of, symbolicate_at}
+use Rattle.command_frames.specs.Frames.{AreToldAt, IsAnsweredOrRefused, IsFrameReplied}
+use Rattle.command_frames.specs.Frames.{TellFramesBesides, TellFramesWith, keys_of, symbolicate_at}
 use Rattle.command_frames.specs.Refusals.{IsKeyRefused, IsRefusedBySlice, IsRefusedByTable, KeyRefusal, Reply, refusal_lines}
 use Rattle.command_frames.specs.Slices.{IsAnsweringEntryRow}
 use Rattle.command_frames.proofs.Refused.{answers_alone}
@@ -85,21 +84,21 @@ module _ {I P : Type 0} (inputs : List (Reader I)) (archives : List (Reader P)) 
   )
 
   pub said_by_tables : (its : AreTextsOf inputs os) → DigestsTell os → (lines : Bool) (key : SliceKey) (asked : Where)
-      (answer : AnswerRecord) (frames : List (List FrameRecord)) → IsKey key
-      → IsAnsweredByTables (AreGiven inputs) all lines key asked answer frames
-      → IsSourced (all_joined os) key lines asked answer frames
-  said_by_tables its tell lines key asked answer frames is_key is =
+      (answer : SourcedAnswerRecord) → IsKey key
+      → IsAnsweredByTables (AreGiven inputs) all lines key asked answer
+      → IsSourced (all_joined os) key lines asked answer
+  said_by_tables its tell lines key asked answer is_key is =
       told.right os its.texts all (indexes_are inputs archives all read os its.texts its.given its.files) key is_key lines
-      asked answer frames tell (is.answer_is its.texts its.given)
+      asked answer tell (is.answer_is its.texts its.given)
 
   pub said_by_slices : AreIndexed inputs archives os → (lines : Bool) (key : SliceKey) (asked : Where)
-      (answer : AnswerRecord) (frames : List (List FrameRecord)) → length (key_bytes key) ≤ 24
-      → IsAnsweredBySlices archives all lines key asked answer frames
-      → IsSourced (all_joined os) key lines asked answer frames
-  said_by_slices are lines key asked answer frames short is =
+      (answer : SourcedAnswerRecord) → length (key_bytes key) ≤ 24
+      → IsAnsweredBySlices archives all lines key asked answer
+      → IsSourced (all_joined os) key lines asked answer
+  said_by_slices are lines key asked answer short is =
       let held : HoldTogether (key_bytes key ∷ []) inputs archives is.content =
       record { all = all; read = read; later = archives; are_later = itself_later archives; named = is.held } in
-      sourced_as is.content (all_joined os) key lines asked answer frames
+      sourced_as is.content (all_joined os) key lines asked answer
       (answers_alike is.content (all_joined os) key (held_alike (key_bytes key ∷ []) inputs archives os is.content
       (short, tt) are held (key_bytes key) (0, omega arith, refl))) is.answered
 
@@ -209,17 +208,17 @@ module _ {I P : Type 0} (inputs : List (Reader I)) (archives : List (Reader P)) 
     (all : List (List (List ℕ))) (read : AreReadWith inputs archives all) (given : AreIndexesGiven inputs os)
     (keys : List SliceKey) (long : (key : SliceKey) → Contains keys key → length key.uuid ≡ 16) (listed : List Frame)
     (keyed : (frame : Frame) → Contains listed frame → IsKey frame.key)
-    (said : (frame : Frame) → Contains listed frame → (answer : AnswerRecord) (frames : List (List FrameRecord))
+    (said : (frame : Frame) → Contains listed frame → (answer : SourcedAnswerRecord)
     → IsAnsweredAt (AreGiven inputs) archives all lines frame.key (asked_of frame.load frame.address) answer frames
     → IsSourced (all_joined os) frame.key lines (asked_of frame.load frame.address) answer frames) where
   abbrev o : Operations
   o = all_joined os
 
-  abbrev Entries : SliceKey → Where → AnswerRecord → List (List FrameRecord) → Type 0
+  abbrev Entries : SliceKey → Where → SourcedAnswerRecord → Type 0
   Entries = IsAnsweredAt (AreGiven inputs) archives all lines
 
-  abbrev Sourced : SliceKey → Where → AnswerRecord → List (List FrameRecord) → Type 0
-  Sourced key asked answer frames = IsSourced o key lines asked answer frames
+  abbrev Sourced : SliceKey → Where → SourcedAnswerRecord → Type 0
+  Sourced key asked answer = IsSourced o key lines asked answer
 
   its : AreTextsOf inputs os
   its = texts_of inputs os given
@@ -227,8 +226,9 @@ module _ {I P : Type 0} (inputs : List (Reader I)) (archives : List (Reader P)) 
   row_told : (frame : Frame) (row : Answered) → Contains listed frame → IsFrameSaid Entries frame row → IsFrameAnswered lines o frame row
   row_told frame row there (address_is, is) = (
     address_is,
-    subst (λ (a : ℕ). IsSourced o frame.key lines (asked_of frame.load a) (answer_view row.answer) row.frames) (sym address_is)
-        (said frame there (answer_view row.answer) row.frames is),
+    subst (λ (a : ℕ). IsSourced o frame.key lines (asked_of frame.load a) row.answer) (sym address_is)
+        (said frame there row.answer
+        (subst (λ (a : ℕ). Entries frame.key (asked_of frame.load a) row.answer) address_is is)),
   )
 
   rows_told : (few : List Frame) (rows : List Answered) → ((frame : Frame) → Contains few frame → Contains listed frame)
@@ -255,7 +255,7 @@ module _ {I P : Type 0} (inputs : List (Reader I)) (archives : List (Reader P)) 
     where
       by : (r : Option Answered) → IsAnsweredOrRefused Entries refusals frame r → IsAnsweredOrRefused Sourced refusals frame r
       by None h = h
-      by (Some row) h = ((h.0.0, said frame there (answer_view row.answer) row.frames h.0.1), h.1)
+      by (Some row) h = (row_told frame row there h.0, h.1)
 
   replies_told : (refusals : List KeyRefusal) (few : List Frame) (replies : List Reply)
       → ((frame : Frame) → Contains few frame → Contains listed frame)
@@ -336,12 +336,11 @@ none_tied key all few tied =
 
 module _ {I P : Type 0} (inputs : List (Reader I)) (archives : List (Reader P)) (os : List Operations) where
   said_untied : (given : AreIndexesGiven inputs os) → DigestsTell os → (all : List (List (List ℕ))) → AreReadWith inputs archives all
-      → (lines : Bool) (key : SliceKey) → IsKey key → (AreTied (key_bytes key) all → ⊥) → (asked : Where) (answer : AnswerRecord)
-      (frames : List (List FrameRecord)) → IsAnsweredAt (AreGiven inputs) archives all lines key asked answer frames
-      → IsSourced (all_joined os) key lines asked answer frames
-  said_untied given tell all read lines key is_key untied asked answer frames (inl is) =
-      said_by_tables inputs archives os all read (texts_of inputs os given) tell lines key asked answer frames is_key is
-  said_untied given tell all read lines key is_key untied asked answer frames (inr is) = absurd (untied is.tied)
+      → (lines : Bool) (key : SliceKey) → IsKey key → (AreTied (key_bytes key) all → ⊥) → (asked : Where) (answer : SourcedAnswerRecord) → IsAnsweredAt (AreGiven inputs) archives all lines key asked answer
+      → IsSourced (all_joined os) key lines asked answer
+  said_untied given tell all read lines key is_key untied asked answer (inl is) =
+      said_by_tables inputs archives os all read (texts_of inputs os given) tell lines key asked answer is_key is
+  said_untied given tell all read lines key is_key untied asked answer (inr is) = absurd (untied is.tied)
 
   untied_by : (given : AreIndexesGiven inputs os) (all : List (List (List ℕ))) → AreReadWith inputs archives all → (key : SliceKey)
       → IsKey key → (AreTiedSlices os key → ⊥) → AreTied (key_bytes key) all → ⊥
@@ -353,13 +352,12 @@ module _ {I P : Type 0} (inputs : List (Reader I)) (archives : List (Reader P)) 
   given_indexes are = first_third IsIndexed IsIndexGiven inputs archives os (λ x y z is. is.0) are
 
   said_either : (are : AreIndexed inputs archives os) → DigestsTell os → (all : List (List (List ℕ))) → AreReadWith inputs archives all
-      → (lines : Bool) (key : SliceKey) → IsKey key → (asked : Where) (answer : AnswerRecord)
-      (frames : List (List FrameRecord)) → IsAnsweredAt (AreGiven inputs) archives all lines key asked answer frames
-      → IsSourced (all_joined os) key lines asked answer frames
-  said_either are tell all read lines key is_key asked answer frames (inl is) =
-      said_by_tables inputs archives os all read (texts_of inputs os (given_indexes are)) tell lines key asked answer frames is_key is
-  said_either are tell all read lines key is_key asked answer frames (inr is) =
-      said_by_slices inputs archives os all read are lines key asked answer frames (short_key key is_key) is
+      → (lines : Bool) (key : SliceKey) → IsKey key → (asked : Where) (answer : SourcedAnswerRecord) → IsAnsweredAt (AreGiven inputs) archives all lines key asked answer
+      → IsSourced (all_joined os) key lines asked answer
+  said_either are tell all read lines key is_key asked answer (inl is) =
+      said_by_tables inputs archives os all read (texts_of inputs os (given_indexes are)) tell lines key asked answer is_key is
+  said_either are tell all read lines key is_key asked answer (inr is) =
+      said_by_slices inputs archives os all read are lines key asked answer (short_key key is_key) is
 
   abbrev Besides : Bool → Bool → List SliceKey → List Frame → Status → List ℕ → Type 0
   Besides lines slices keys listed status text =

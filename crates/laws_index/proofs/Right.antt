@@ -12,7 +12,7 @@ use Rattle.std.proofs.lemmas.Option.{get_or_from_slice_get, slice_get_within}
 use Rattle.std.proofs.lemmas.Slice.Zip.{AllZip-long}
 use Rattle.sha2.specs.Sha256.{sha256}
 use Rattle.macho_symbols.specs.Found.{FoundRecord}
-use Rattle.dwarf_source_frames.specs.Frames.{FrameRecord}
+use Rattle.text_reports.specs.Answers.{SourcedAnswerRecord}
 use Rattle.table_source_frames.specs.SliceTable.{HasNoLines}
 use Rattle.table_checked_pages.proofs.PageLemmas.{may_be}
 use Rattle.join_core.specs.Listing.{listing}
@@ -331,10 +331,10 @@ module _ (os : List Operations) (texts : List (List ℕ)) (indexes : List (List 
           (recursion_from_All (λ x. answers_among (key_bytes key) every x.entry ≡ true) answering are.each) in
           (ss.0, ss.1, are_slices tell answering are ss.0 ss.1)
 
-      pub right : (lines : Bool) (asked : Where) (answer : AnswerRecord) (frames : List (List FrameRecord))
-          → DigestsTell os → IsAnswerAmong texts indexes (key_bytes key) lines asked answer frames
-          → IsSourced (all_joined os) key lines asked answer frames
-      right lines asked answer frames tell is =
+      pub right : (lines : Bool) (asked : Where) (answer : SourcedAnswerRecord)
+          → DigestsTell os → IsAnswerAmong texts indexes (key_bytes key) lines asked answer
+          → IsSourced (all_joined os) key lines asked answer
+      right lines asked answer tell is =
           let ss = slices_right is.answering tell is.are in
           record {
             slices = ss.0;
@@ -346,10 +346,10 @@ module _ (os : List Operations) (texts : List (List ℕ)) (indexes : List (List 
 -- ---- one index
 
 pub right_alone : (o : Operations) (text : List ℕ) (entries : List (List ℕ)) (key : SliceKey) (lines : Bool)
-    (asked : Where) (answer : AnswerRecord) (frames : List (List FrameRecord)) → IsIndexFile o text
+    (asked : Where) (answer : SourcedAnswerRecord) → IsIndexFile o text
     → IsIndexText text entries → IsKey key
-    → IsAnswerAmong (text ∷ []) (entries ∷ []) (key_bytes key) lines asked answer frames → IsSourced o key lines asked answer frames
-right_alone o text entries key lines asked answer frames file read is_key is =
+    → IsAnswerAmong (text ∷ []) (entries ∷ []) (key_bytes key) lines asked answer → IsSourced o key lines asked answer
+right_alone o text entries key lines asked answer file read is_key is =
     let all : AreIndexes (o ∷ []) (text ∷ []) (entries ∷ []) = record { files = (file, tt); read = (read, tt) } in
-    subst (λ made. IsSourced made key lines asked answer frames) (joined_alone o file.content.itself)
-    (right (o ∷ []) (text ∷ []) (entries ∷ []) all key is_key lines asked answer frames (tells_alone o) is)
+    subst (λ made. IsSourced made key lines asked answer) (joined_alone o file.content.itself)
+    (right (o ∷ []) (text ∷ []) (entries ∷ []) all key is_key lines asked answer (tells_alone o) is)

@@ -124,10 +124,9 @@ pub fn answered_by_indexes<I: Placed, P: Placed>()
         ⊎ ((slices ≡ true) × TellsFramesBesides lines (archive ∷ []) (o ∷ []) (key ∷ [])
         (frames_under_key key load addresses) status text) }
     ensures slices { (inputs : List (Reader I)) (archives : List (Reader P)) (os : List Operations)
-        (all : List (List (List ℕ))) (lines : Bool) (key : SliceKey) (asked : Where) (answer : AnswerRecord)
-        (frames : List (List FrameRecord)) → length (key_bytes key) ≤ 24 → AreIndexed inputs archives os
-        → AreReadWith inputs archives all → IsAnsweredBySlices archives all lines key asked answer frames
-        → IsSourced (all_joined os) key lines asked answer frames }
+        (all : List (List (List ℕ))) (lines : Bool) (key : SliceKey) (asked : Where) (answer : SourcedAnswerRecord) → length (key_bytes key) ≤ 24 → AreIndexed inputs archives os
+        → AreReadWith inputs archives all → IsAnsweredBySlices archives all lines key asked answer
+        → IsSourced (all_joined os) key lines asked answer }
     ensures either { (inputs : List (Reader I)) (archives : List (Reader P)) (os : List Operations) (key : SliceKey)
         (load : Option ℕ) (lines slices : Bool) (addresses : List ℕ) (status : Status) (text : List ℕ)
         → AreIndexed inputs archives os → DigestsTell os → IsKey key

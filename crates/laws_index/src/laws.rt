@@ -23,15 +23,15 @@ ghost use Rattle.laws_index.specs.Indexes.{all_joined};
 /// content, and nothing is supposed of SHA-256.
 pub fn right_among()
     ensures several { (os : List Operations) (texts : List (List ℕ)) (indexes : List (List (List ℕ))) (key : SliceKey)
-        (lines : Bool) (asked : Where) (answer : AnswerRecord) (frames : List (List FrameRecord))
+        (lines : Bool) (asked : Where) (answer : SourcedAnswerRecord)
         → AreIndexes os texts indexes → DigestsTell os → IsKey key
-        → IsAnswerAmong texts indexes (key_bytes key) lines asked answer frames
-        → IsSourced (all_joined os) key lines asked answer frames }
+        → IsAnswerAmong texts indexes (key_bytes key) lines asked answer
+        → IsSourced (all_joined os) key lines asked answer }
     ensures alone { (o : Operations) (text : List ℕ) (entries : List (List ℕ)) (key : SliceKey) (lines : Bool)
-        (asked : Where) (answer : AnswerRecord) (frames : List (List FrameRecord)) → IsIndexFile o text
+        (asked : Where) (answer : SourcedAnswerRecord) → IsIndexFile o text
         → IsIndexText text entries → IsKey key
-        → IsAnswerAmong (text ∷ []) (entries ∷ []) (key_bytes key) lines asked answer frames
-        → IsSourced o key lines asked answer frames }
+        → IsAnswerAmong (text ∷ []) (entries ∷ []) (key_bytes key) lines asked answer
+        → IsSourced o key lines asked answer }
 {}
 
 /// No entry that answers is damaged: its table is stored where it says. One whose table has no lines is that of a slice

@@ -6,6 +6,6 @@ pub mod Slices
 pub mod InnerSlices
 pub mod Escapes
 pub mod Frames
-pub mod FrameLists
+pub mod SourcedViews
 pub mod Answers
 pub mod Names

@@ -1,13 +1,13 @@
 //! The lines of `symbolicate`.
-ghost use Rattle.std.specs.Prelude.{◌≡◌, ◌++◌, IfSome, OnOk, string_bytes};
-ghost use Rattle.std.specs.List.{list_any};
-ghost use Rattle.text_reports.specs.Answers.{answer_lines, own_line, owns_lines};
+ghost use Rattle.std.specs.Prelude.{◌≡◌, ◌++◌, IfSome, OnOk, map, string_bytes};
+ghost use Rattle.std.specs.List.{flat_map, list_any};
+ghost use Rattle.text_reports.specs.Answers.{answer_lines, row_lines, sourced_lines};
 ghost use Rattle.text_reports.specs.Escapes.{escaped, is_escaped};
-ghost use Rattle.text_reports.specs.FrameLists.{lists_view};
+ghost use Rattle.text_reports.specs.SourcedViews.{answer_view, row_view, sourced_view};
 
 use crate::Text;
-use crate::frames::{push_at, push_each};
-use archive_core::{Answer, Digest, Own};
+use crate::frames::push_frames;
+use archive_core::{Digest, Own};
 use dwarf_source_frames::Frame;
 use macho_symbols::Found;
 use memory::{Heap, NoMemory};
@@ -18,6 +18,25 @@ use text_values::{Address, Spelled};
 /// character of ASCII, and the backslash, as `\x` and two hex digits.
 #[derive(Clone, Copy, Debug, PartialEq, Eq)]
 pub struct Escaped<'a>(pub &'a [u8]);
+
+/// What one slice answers, with the source frames that are shown of it.
+#[derive(Drop)]
+pub struct Sourced<'a> {
+    pub own: Own<'a>,
+    /// None where no lines are wanted.
+    pub frames: Vec<Frame<'a>, Heap>,
+}
+
+/// What a key answers for an address, with the source frames that are shown.
+#[derive(Drop)]
+pub enum SourcedAnswer<'a> {
+    /// No slice of the key answers.
+    Unknown,
+    /// One slice answers.
+    One(Sourced<'a>),
+    /// Several slices answer: the SHA-256 of each with its answer, in the order of their records.
+    Conflict(Vec<(Digest, Sourced<'a>), Heap>),
+}
 
 // A byte of a name.
 #[derive(Clone, Copy)]
@@ -84,9 +103,10 @@ impl<'a> fmt::Display for Escaped<'a> {
 #[tactic(auto, unfolding(crate::specs::Answers::found_text))]
 impl<'a> fmt::Display for Text<Found<'a>> {
     ghost use Rattle.std.specs.Prelude.{Some};
+    ghost use Rattle.macho_symbols.specs.Views.{found_view};
     ghost use Rattle.text_reports.specs.Answers.{found_text};
 
-    ghost output = { λ text. Some (found_text text.0) };
+    ghost output = { λ text. Some (found_text (found_view text.0)) };
 
     fn fmt<W: fmt::Write>(&self, f: &mut fmt::Formatter<W>) -> fmt::Result {
         let name = Escaped(self.0.name);
@@ -100,9 +120,10 @@ impl<'a> fmt::Display for Text<Found<'a>> {
 #[tactic(auto, unfolding(crate::specs::Answers::own_text))]
 impl<'a> fmt::Display for Text<Own<'a>> {
     ghost use Rattle.std.specs.Prelude.{Some};
+    ghost use Rattle.archive_core.specs.Lookup.{own_view};
     ghost use Rattle.text_reports.specs.Answers.{own_text};
 
-    ghost output = { λ text. Some (own_text text.0) };
+    ghost output = { λ text. Some (own_text (own_view text.0)) };
 
     fn fmt<W: fmt::Write>(&self, f: &mut fmt::Formatter<W>) -> fmt::Result {
         match self.0 {
@@ -115,59 +136,67 @@ impl<'a> fmt::Display for Text<Own<'a>> {
     }
 }
 
-#[tactic(auto, unfolding(crate::specs::Answers::own_line))]
-fn push_own(text: &mut String<Heap>, own: &(Digest, Own<'_>)) -> Result<(), NoMemory>
-    ensures { OnOk result (string_bytes text.new ≡ string_bytes text.old ++ own_line own.now) }
+// Writes, after an address or a digest, what a slice answers, and the lines of its frames.
+#[tactic(auto, unfolding(crate::specs::Answers::sourced_lines))]
+fn push_sourced(heap: &Heap, text: &mut String<Heap>, sourced: &Sourced<'_>) -> Result<(), NoMemory>
+    ensures { OnOk result (string_bytes text.new ≡ string_bytes text.old ++ sourced_lines (sourced_view sourced.now)) }
 {
-    let digest = Spelled(own.0);
-    let own = Text(own.1);
-    writeln!(text, "  {digest} {own}")
+    let own = Text(sourced.own);
+    writeln!(text, " {own}")?;
+    push_frames(heap, text, &sourced.frames)
 }
 
-fn push_owns(
+#[tactic(auto, unfolding(crate::specs::Answers::row_lines))]
+fn push_row(
     heap: &Heap,
     text: &mut String<Heap>,
-    owns: &[(Digest, Own<'_>)],
-    frames: &[&[Frame<'_>]],
+    row: &(Digest, Sourced<'_>),
+) -> Result<(), NoMemory>
+    ensures { OnOk result (string_bytes text.new ≡ string_bytes text.old ++ row_lines (row_view row.now)) }
+{
+    let digest = Spelled(row.0);
+    write!(text, "  {digest}")?;
+    push_sourced(heap, text, &row.1)
+}
+
+fn push_rows(
+    heap: &Heap,
+    text: &mut String<Heap>,
+    rows: &[(Digest, Sourced<'_>)],
 ) -> Result<(), NoMemory>
     ensures { OnOk result (string_bytes text.new
-        ≡ string_bytes text.old ++ owns_lines owns.now (lists_view frames.now)) }
+        ≡ string_bytes text.old ++ flat_map row_lines (map row_view rows.now)) }
 {
-    'owns: for (index, own) in owns.iter().enumerate() {
-        push_own(text, own)?;
-        push_at(heap, text, frames, index)?;
+    'rows: for row in rows {
+        push_row(heap, text, row)?;
     }
     Ok(())
 }
 
 /// Writes what a key answers for an address: a line, and after it those of the frames. The line of a conflict is
-/// followed by one for each slice that answers, and by those of its frames. `frames` has the frames of each slice that
-/// answers, in the order of their records, or is empty where none are wanted. Where memory is refused, a part of the
+/// followed by one for each slice that answers, and by those of its frames. Where memory is refused, a part of the
 /// lines may stand there.
 #[tactic(auto, unfolding(crate::specs::Answers::answer_lines))]
 pub fn push_answer(
     heap: &Heap,
     text: &mut String<Heap>,
     address: u64,
-    answer: &Answer<'_>,
-    frames: &[&[Frame<'_>]],
+    answer: &SourcedAnswer<'_>,
 ) -> Result<(), NoMemory>
-    ensures { OnOk result (string_bytes text.new ≡ string_bytes text.old
-        ++ answer_lines address answer.now (lists_view frames.now)) }
+    ensures { OnOk result (string_bytes text.new
+        ≡ string_bytes text.old ++ answer_lines address (answer_view answer.now)) }
 {
     let address = Address(address);
     match answer {
-        Answer::Unknown => writeln!(text, "{address} ?")?,
-        Answer::NoSymbol => writeln!(text, "{address} -")?,
-        Answer::Symbol(found) => {
-            let found = Text(*found);
-            writeln!(text, "{address} {found}")?;
+        SourcedAnswer::Unknown => writeln!(text, "{address} ?"),
+        SourcedAnswer::One(sourced) => {
+            write!(text, "{address}")?;
+            push_sourced(heap, text, sourced)
         }
-        Answer::Conflict(owns) => {
-            let count = owns.len();
+        SourcedAnswer::Conflict(rows) => {
+            let count = rows.len();
             writeln!(text, "{address} !{count}")?;
-            return push_owns(heap, text, owns, frames);
+            push_rows(heap, text, rows)
         }
     }
-    push_each(heap, text, frames)
 }

@@ -1,9 +1,8 @@
 //! The lines of source frames.
-ghost use Rattle.std.specs.Prelude.{◌≡◌, ◌++◌, [], OnOk, slice_index_or, string_bytes};
-ghost use Rattle.std.specs.List.{flat_map};
+ghost use Rattle.std.specs.Prelude.{◌≡◌, ◌++◌, OnOk, string_bytes};
 ghost use Rattle.std.specs.Option.{option_map};
 ghost use Rattle.dwarf_lines.specs.PathViews.{path_view};
-ghost use Rattle.text_reports.specs.FrameLists.{list_view, lists_view};
+ghost use Rattle.text_reports.specs.SourcedViews.{list_view};
 ghost use Rattle.text_reports.specs.Frames.{frame_line, frame_lines, function_byte, function_or_unknown, function_text};
 ghost use Rattle.text_reports.specs.Frames.{is_at, path_or_unknown};
 ghost use Rattle.dwarf_source_frames.specs.FrameViews.{frame_view};
@@ -103,34 +102,4 @@ pub(crate) fn push_frames(
         push_frame(heap, text, frame)?;
     }
     Ok(())
-}
-
-pub(crate) fn push_each(
-    heap: &Heap,
-    text: &mut String<Heap>,
-    frames: &[&[Frame<'_>]],
-) -> Result<(), NoMemory>
-    ensures { OnOk result (string_bytes text.new ≡ string_bytes text.old
-        ++ flat_map frame_lines (lists_view frames.now)) }
-{
-    'lists: for list in frames {
-        push_frames(heap, text, list)?;
-    }
-    Ok(())
-}
-
-/// Writes the lines of the frames of the list at an index, where there is one.
-pub(crate) fn push_at(
-    heap: &Heap,
-    text: &mut String<Heap>,
-    frames: &[&[Frame<'_>]],
-    index: usize,
-) -> Result<(), NoMemory>
-    ensures { OnOk result (string_bytes text.new ≡ string_bytes text.old
-        ++ frame_lines (slice_index_or (lists_view frames.now) index [])) }
-{
-    let Some(list) = frames.get(index) else {
-        return Ok(());
-    };
-    push_frames(heap, text, list)
 }

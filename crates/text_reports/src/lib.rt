@@ -25,7 +25,7 @@ mod rows;
 mod slices;
 mod texts;
 
-pub use answers::{Escaped, push_answer};
+pub use answers::{Escaped, Sourced, SourcedAnswer, push_answer};
 pub use finds::{find_lines, list_lines};
 pub use names::name_lines;
 pub use report::{admit_lines, apply_line, retire_line, summary_line, with_sizes};

@@ -1,13 +1,15 @@
-use Rattle.std.proofs.Common.{◌∙◌, ap, length, map, sym, inl}
+use Rattle.std.proofs.Common.{◌∙◌, ap, length, map, subst, sym, inl}
 use Rattle.std.proofs.lemmas.Result.{err_from_is_err_and}
 use Rattle.archive_core.specs.Key.{key_bytes}
 use Rattle.command_common.specs.Inputs.{readers}
 use Rattle.command_common.proofs.Parts.{refusal_of}
 use Rattle.command_index_queries.proofs.Groups.{as_many}
 use Rattle.command_frames.specs.Frames.{keys_of}
-use Rattle.command_frames.specs.declared.places.AskedPlace.{AskedPlace}
+use Rattle.command_frames.specs.InnerPlaces.{AreKeysOf}
+use Rattle.command_frames.specs.declared.places.AskedKey.{AskedKey}
 use Rattle.command_frames.proofs.Ended.{frames_refused, frames_told, unfailed_all}
-use Rattle.command_frames.proofs.Shown.{among_frames, told_each}
+use Rattle.command_frames.proofs.Runs.{among_frames}
+use Rattle.command_frames.proofs.Shown.{even_told}
 use Rattle.command_frames.proofs.frames.tell_frames.Goals as goal
 
 pub returns-in_err-read : goal.returns-in_err-read
@@ -42,16 +44,16 @@ returns-in_err-told g c =
     c.args.indexes.now c.read_indexes.new.indexes c.tell_keys.new.indexes c.args.archives.now c.read_indexes.new.archives
     c.tell_keys.new.archives c.deref.result.now c.tell_keys.auto.indexes c.tell_keys.auto.archives read
     c.in_ok-read.ensures.kept c.args.lines c.args.slices
-    (map (λ (one : AskedPlace). key_bytes one.key) c.deref-2.result.now) (keys_of c.args.frames.now)
+    (map (λ (one : AskedKey). key_bytes one.key) c.deref-2.result.now) (keys_of c.args.frames.now)
     (among_frames c.args.frames.now c.deref-2.result.now of) c.in_err-told.field-0.0 c.in_err-told.ensures)
 
-pub print_frames-requires-clause-order : goal.print_frames-requires-clause-order
-print_frames-requires-clause-order g c = rw c.deref-4.ensures.value c.in_ok-told.ensures.is.0.order
-
-pub print_frames-requires-clause-there : goal.print_frames-requires-clause-there
-print_frames-requires-clause-there g c =
+pub print_frames-requires-clause-asked : goal.print_frames-requires-clause-asked
+print_frames-requires-clause-asked g c =
     let of = rw (← c.deref-2.ensures.value) at c.in_ok-asked.ensures.are in
-    rw c.deref-4.ensures.value (told_each c.in_ok-told.ensures.is.0 c.args.frames.now of)
+    rw c.deref-4.ensures.value (subst (AreKeysOf c.args.frames.now) (sym c.in_ok-told.ensures.is.0.asked_is) of)
+
+pub print_frames-requires-clause-even : goal.print_frames-requires-clause-even
+print_frames-requires-clause-even g c = rw c.deref-4.ensures.value (even_told _ _ _ _ _ c.in_ok-told.ensures.is.0)
 
 pub returns-in_err-shown : goal.returns-in_err-shown
 returns-in_err-shown g c =

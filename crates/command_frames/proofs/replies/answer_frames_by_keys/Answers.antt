@@ -7,16 +7,16 @@ use Rattle.command_frames.proofs.replies.answer_frames_by_keys.Goals as goal
 
 pub told_at-number-requires : goal.told_at-number-requires
 told_at-number-requires c = record {
-  order = c.requires.order;
-  there = c.requires.there c.frame-item.result (c.frames.frame-index, omega arith, sym c.frame-item.is);
+  order = c.requires.asked.order;
+  there = c.requires.asked.whole c.frame-item.result (c.frames.frame-index, omega arith, sym c.frame-item.is);
 }
 
 pub push_reply-requires : goal.push_reply-requires
 push_reply-requires c =
     let stands = c.told_at-number.ensures in
     let one = c.told_at-number.result.0.now in
-    numbered_there one.told one.places.items c.told_at-number.result.1 _
-    (All-contains (λ (k : KeyAnswers). HaveEach k.told k.places.items) c.args.told.now one c.requires.order.even stands.is_one) stands.place_is
+    numbered_there one.told one.asked.now.places.items c.told_at-number.result.1 _
+    (All-contains (λ (k : KeyAnswers). HaveEach k.told k.asked.now.places.items) c.args.told.now one c.requires.even stands.is_one) stands.place_is
 
 pub frames-preserved : goal.frames-preserved
 frames-preserved c =

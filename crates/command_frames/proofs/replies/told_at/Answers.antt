@@ -4,16 +4,16 @@ use Rattle.archive_core.specs.Key.{IsKey, key_bytes}
 use Rattle.archive_core.specs.declared.lookup.Where.{Where}
 use Rattle.command_frames.specs.declared.places.AskedPlace.{AskedPlace}
 use Rattle.command_frames.specs.declared.told.KeyAnswers.{KeyAnswers}
-use Rattle.command_frames.specs.InnerPlaces.{key_cmp, place_cmp}
-use Rattle.command_frames.specs.InnerTold.{HasTold, StandsAt}
+use Rattle.command_frames.specs.InnerPlaces.{HasAsked, key_cmp, place_cmp}
+use Rattle.command_frames.specs.InnerTold.{StandsAt, asked_in}
 use Rattle.command_frames.proofs.Runs.{key_found, place_found, told_in}
 use Rattle.command_frames.proofs.replies.told_at.Goals as goal
 
 pub unreachable-requires : goal.unreachable-requires
 unreachable-requires c =
     let asked : AskedPlace = c.of-asked.result in
-    let has = subst (λ (a : AskedPlace). HasTold c.args.told.now (key_bytes a.key) a.place) (sym c.of-asked.ensures) c.requires.there in
-    let by_key = c.binary_search_by.ensures.position (λ (one : KeyAnswers). key_cmp one.key asked.key)
+    let has = subst (λ (a : AskedPlace). HasAsked (asked_in c.args.told.now) (key_bytes a.key) a.place) (sym c.of-asked.ensures) c.requires.there in
+    let by_key = c.binary_search_by.ensures.position (λ (one : KeyAnswers). key_cmp one.asked.now.key asked.key)
     (always_returns_same _ _ _ (λ a r g called. (search rules, search rules))) in
     let f = key_found c.args.told.now asked.key asked.place c.requires.order has c.binary_search_by.result c.binary_search_by.ensures.bound by_key in
     c.in_default.not-Ok f.0 f.1
@@ -21,8 +21,8 @@ unreachable-requires c =
 pub unreachable-requires-in_default-binary_search_by : goal.unreachable-requires-in_default-binary_search_by
 unreachable-requires-in_default-binary_search_by c =
     let asked : AskedPlace = c.of-asked.result in
-    let has = subst (λ (a : AskedPlace). HasTold c.args.told.now (key_bytes a.key) a.place) (sym c.of-asked.ensures) c.requires.there in
-    let at = c.in-Ok.ensures.position (λ (one : KeyAnswers). key_cmp one.key asked.key)
+    let has = subst (λ (a : AskedPlace). HasAsked (asked_in c.args.told.now) (key_bytes a.key) a.place) (sym c.of-asked.ensures) c.requires.there in
+    let at = c.in-Ok.ensures.position (λ (one : KeyAnswers). key_cmp one.asked.now.key asked.key)
     (always_returns_same _ _ _ (λ a r g called. (search rules, search rules))) in
     let by_place = c.binary_search_by-2.ensures.position (λ (p : Where). place_cmp p asked.place)
     (always_returns_same _ _ _ (λ a r g called. (search rules, search rules))) in
@@ -35,7 +35,7 @@ pub returns : goal.returns
 returns c =
     let asked : AskedPlace = c.of-asked.result in
     let told : List KeyAnswers = c.args.told.now in
-    let at = c.in-Ok.ensures.position (λ (one : KeyAnswers). key_cmp one.key asked.key)
+    let at = c.in-Ok.ensures.position (λ (one : KeyAnswers). key_cmp one.asked.now.key asked.key)
     (always_returns_same _ _ _ (λ a r g called. (search rules, search rules))) in
     let at_place = c.in-Ok-binary_search_by.ensures.position (λ (p : Where). place_cmp p asked.place)
     (always_returns_same _ _ _ (λ a r g called. (search rules, search rules))) in

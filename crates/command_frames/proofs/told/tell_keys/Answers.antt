@@ -1,107 +1,88 @@
-use Rattle.std.proofs.Common.{◌≡◌, ℕ, List, [], ◌∷◌, Some, refl, ap, sym, ◌∙◌, subst, map, arith}
-use Rattle.std.specs.Prelude.{slice_get}
-use Rattle.std.specs.List.{Contains}
-use Rattle.std.proofs.lemmas.List.{nil_from_length}
+use Rattle.std.proofs.Common.{◌≡◌, ◌+◌, ◌++◌, ◌<◌, ℕ, List, [], ◌∷◌, get_or, length, take, refl, ap, sym, ◌∙◌, subst, map, arith}
+use Rattle.std.specs.List.{All, Contains}
+use Rattle.std.proofs.lemmas.List.{map-append, take_all, take_more}
 use Rattle.std.proofs.lemmas.List.Elements.{All-push}
 use Rattle.std.proofs.lemmas.Result.{err_from_is_err_and}
 use Rattle.archive_core.proofs.Members.{to_map}
 use Rattle.archive_core.specs.Key.{key_bytes}
-use Rattle.archive_core.specs.declared.keys.SliceKey.{SliceKey}
 use Rattle.command_common.specs.Inputs.{readers}
 use Rattle.command_index_queries.proofs.Groups.{kept_none}
 use Rattle.index_lookup.specs.AmongAsked.{HaveTexts}
 use Rattle.command_frames.specs.Asking.{IsAnsweredAt}
-use Rattle.command_frames.specs.InnerTold.{IsRefusedAt, IsToldSoFar, IsToldUnder}
-use Rattle.command_frames.specs.declared.places.AskedPlace.{AskedPlace}
+use Rattle.command_frames.specs.InnerTold.{IsRefusedAt, IsToldUnder, asked_in}
+use Rattle.command_frames.specs.declared.places.AskedKey.{AskedKey}
 use Rattle.command_frames.specs.declared.told.KeyAnswers.{KeyAnswers}
 use Rattle.command_frames.proofs.Archives.{kept_then, kept_unfailed}
 use Rattle.command_frames.proofs.Keys.{refused_among, true_first}
-use Rattle.command_frames.proofs.Shown.{even_of, only_key}
-use Rattle.command_frames.proofs.Runs.{all_left, fewer_left, first_there, none_left, told_more}
+use Rattle.command_frames.proofs.Shown.{only_key}
 use Rattle.command_frames.proofs.told.tell_keys.Goals as goal
 
 pub keys-init : goal.keys-init
 keys-init g c = record {
-  so = subst (IsToldSoFar c.args.asked.now c.args.asked.now) (sym c.new-told.ensures.items) (all_left c.args.asked.now c.requires.sorted);
-  of_asked = rw c.new-told.ensures.items (λ k d lt. absurd (omega (arith, lt)));
+  asked_is = ap asked_in c.new-told.ensures.items;
   are_true = rw c.new-told.ensures.items (λ k d lt. absurd (omega (arith, lt)));
   texts = refl;
   counts = refl;
   kept = kept_none g.P.Placed.whole g.P.Placed.failures c.args.archives.now;
 }
 
--- the key of the first that is left was asked for
-there : (asked left : List AskedPlace) (told : List KeyAnswers) (first : AskedPlace) → IsToldSoFar asked left told
-    → Some first ≡ slice_get left 0 → Contains (map (λ (one : AskedPlace). key_bytes one.key) asked)
-    (key_bytes first.key)
-there asked left told first so is = to_map (λ (one : AskedPlace). key_bytes one.key) asked first (so.of_asked first (first_there first left is))
-
-pub returns-in_err-one : goal.returns-in_err-one
-returns-in_err-one g c =
+pub returns-in_err-answers : goal.returns-in_err-answers
+returns-in_err-answers g c =
     let p = err_from_is_err_and c.from_residual.result c.from_residual.ensures.1 in
-    let key = there c.args.asked.now c.keys.left.now c.keys.told.items c.in-Some.first.now c.keys.invariant.so c.in-Some.ensures.value in
-    let keys = map (λ (one : AskedPlace). key_bytes one.key) c.args.asked.now in
+    let one : AskedKey = c.one-item.result in
+    let keys = map (λ (a : AskedKey). key_bytes a.key) c.args.asked.now in
+    let there : Contains keys (key_bytes one.key) =
+    to_map (λ (a : AskedKey). key_bytes a.key) c.args.asked.now one (c.keys.one-index, c.keys-test.true, sym c.one-item.is) in
     rw (p.1, p.2) (refused_among g.I.Placed.whole g.I.Placed.failures g.P.Placed.whole g.P.Placed.failures c.args.lines
     c.args.slices c.args.read.now c.args.indexes.now c.keys.indexes c.args.archives.now c.keys.archives
-    c.keys.invariant.texts c.keys.invariant.counts c.keys.invariant.kept c.tell_run.new.indexes c.tell_run.new.archives
-    (key_bytes c.in-Some.first.now.key ∷ []) keys c.in_err-one.field-0.0 c.tell_run.auto.archives
-    (λ other is. subst (Contains keys) (only_key (key_bytes c.in-Some.first.now.key) other is) key) c.in_err-one.ensures)
+    c.keys.invariant.texts c.keys.invariant.counts c.keys.invariant.kept c.tell_key.new.indexes c.tell_key.new.archives
+    (key_bytes one.key ∷ []) keys c.in_err-answers.field-0.0 c.tell_key.auto.archives
+    (λ other is. subst (Contains keys) (only_key (key_bytes one.key) other is) there) c.in_err-answers.ensures)
 
-pub keys-smaller : goal.keys-smaller
-keys-smaller g c = fewer_left c.in-Some.first.now c.keys.left.now c.in-Some.ensures.value _ _ c.run_len.ensures.len c.split_at.ensures.back
+-- one key more
+all_more : (P Q : KeyAnswers → Type 0) → ((k : KeyAnswers) → Q k → P k) → (told next : List KeyAnswers) (one : KeyAnswers)
+    → next ≡ told ++ one ∷ [] → All P told → Q one → All P next
+all_more P Q to told next one more all it = rw more (All-push P told one all (to one it))
+
+asked_more : (asked : List AskedKey) (i : ℕ) (told next : List KeyAnswers) (one : KeyAnswers) → i < length asked
+    → next ≡ told ++ one ∷ [] → one.asked.now ≡ get_or asked i one.asked.now → asked_in told ≡ take i asked
+    → asked_in next ≡ take (i + 1) asked
+asked_more asked i told next one lt more is before =
+    ap asked_in more ∙ map-append (λ (k : KeyAnswers). k.asked.now) told (one ∷ [])
+    ∙ ap (λ (l : List AskedKey). l ++ one.asked.now ∷ []) before
+    ∙ ap (λ (a : AskedKey). take i asked ++ a ∷ []) is ∙ sym (take_more asked i one.asked.now lt)
 
 pub keys-preserved : goal.keys-preserved
 keys-preserved g c =
     let whole = g.P.Placed.whole in
     let failures = g.P.Placed.failures in
     let inv = c.keys.invariant in
-    let first = c.in-Some.first.now in
-    let next = c.in_ok-one.one in
-    let told = c.in_ok-one.ensures.is.0 in
-    let before = readers whole failures c.args.archives.now c.args.archives.now in
-    let mid = readers whole failures c.keys.archives c.keys.archives in
-    let places = told.1 ∙ ap (map (λ (asked : AskedPlace). asked.place)) c.split_at.ensures.front in
-    let even = even_of (IsAnsweredAt (HaveTexts g.I.Placed.whole c.keys.indexes) mid c.args.read.now c.args.lines next.key)
-    (IsRefusedAt (HaveTexts g.I.Placed.whole c.keys.indexes) mid c.args.read.now c.args.lines next.key) c.args.slices
-    next.places.items next.told told.2 in
-    let so = told_more c.args.asked.now c.keys.left.now c.keys.told.items inv.so first c.in-Some.ensures.value
-    c.run_len.result c.run_len.ensures.len next told.0 places even in
-    let one = true_first g.I.Placed.whole g.I.Placed.failures whole failures c.args.lines c.args.slices c.args.read.now
-    c.args.indexes.now c.keys.indexes c.args.archives.now c.keys.archives inv.texts inv.counts inv.kept next told.2 in
-    let all = All-push (IsToldUnder (IsAnsweredAt (HaveTexts g.I.Placed.whole c.args.indexes.now) before c.args.read.now c.args.lines)
-    (IsRefusedAt (HaveTexts g.I.Placed.whole c.args.indexes.now) before c.args.read.now c.args.lines) c.args.slices)
-    c.keys.told.items next inv.are_true one in
-    let key = there c.args.asked.now c.keys.left.now c.keys.told.items first inv.so c.in-Some.ensures.value in
-    let keys : List (List ℕ) = map (λ (one : AskedPlace). key_bytes one.key) c.args.asked.now in
-    let from = All-push (λ (one : KeyAnswers). Contains keys (key_bytes one.key)) c.keys.told.items next
-    inv.of_asked (subst (λ (k : SliceKey). Contains keys (key_bytes k)) (sym told.0) key) in
+    let told = rw c.deref.ensures.value at c.in_ok-answers.ensures.is.0 in
     record {
-      so = rw (c.split_at.ensures.back, c.in_ok-push.ensures.items) so;
-      of_asked = rw c.in_ok-push.ensures.items from;
-      are_true = rw c.in_ok-push.ensures.items all;
-      texts = c.in_ok-one.ensures.is.1 ∙ inv.texts;
-      counts = c.in_ok-one.ensures.unfailed.0 ∙ inv.counts;
-      kept = kept_then whole failures c.args.archives.now c.keys.archives _ inv.kept c.in_ok-one.ensures.is.2;
+      asked_is = asked_more c.args.asked.now c.keys.one-index c.keys.told.items _ _ c.keys-test.true
+          c.in_ok-push.ensures.items c.one-item.is inv.asked_is;
+      are_true = all_more _ _ (true_first g.I.Placed.whole g.I.Placed.failures whole failures c.args.lines c.args.slices
+          c.args.read.now c.args.indexes.now c.keys.indexes c.args.archives.now c.keys.archives inv.texts inv.counts inv.kept)
+          c.keys.told.items _ _ c.in_ok-push.ensures.items inv.are_true told;
+      texts = c.in_ok-answers.ensures.is.1 ∙ inv.texts;
+      counts = c.in_ok-answers.ensures.unfailed.0 ∙ inv.counts;
+      kept = kept_then whole failures c.args.archives.now c.keys.archives _ inv.kept c.in_ok-answers.ensures.is.2;
     }
 
 pub returns-in_err-push : goal.returns-in_err-push
 returns-in_err-push g c =
     let p = err_from_is_err_and c.from_residual-in_err-push.result c.from_residual-in_err-push.ensures.1 in
     rw (p.1, p.2) (
-      c.in_ok-one.ensures.unfailed.0 ∙ c.keys.invariant.counts,
+      c.in_ok-answers.ensures.unfailed.0 ∙ c.keys.invariant.counts,
       kept_unfailed g.P.Placed.whole g.P.Placed.failures c.args.archives.now _
-          (kept_then g.P.Placed.whole g.P.Placed.failures c.args.archives.now c.keys.archives _ c.keys.invariant.kept c.in_ok-one.ensures.is.2),
+          (kept_then g.P.Placed.whole g.P.Placed.failures c.args.archives.now c.keys.archives _ c.keys.invariant.kept c.in_ok-answers.ensures.is.2),
     )
 
 pub returns : goal.returns
 returns g c = record {
   is = (
     record {
-      order = c.keys.invariant.so.order;
-      whole = none_left c.args.asked.now c.keys.told.items
-          (subst (λ (left : List AskedPlace). IsToldSoFar c.args.asked.now left c.keys.told.items)
-          (nil_from_length c.keys.left.now (omega (arith, c.in_default.ensures.item.3))) c.keys.invariant.so);
-      of_asked = c.keys.invariant.of_asked;
+      asked_is = c.keys.invariant.asked_is ∙ take_all c.keys.one-index c.args.asked.now (omega (arith, c.keys-test.false));
       are_true = c.keys.invariant.are_true;
     },
     c.keys.invariant.texts,

@@ -1,16 +1,15 @@
-use Rattle.std.proofs.Common.{◌≡◌, length}
+use Rattle.std.proofs.Common.{◌≡◌, take}
 use Rattle.std.specs.List.{All}
 use Rattle.command_common.specs.Inputs.{readers}
 use Rattle.command_index_queries.specs.Together.{AreAllKept}
 use Rattle.index_lookup.specs.AmongAsked.{HaveTexts, each_known}
 use Rattle.command_frames.specs.Asking.{IsAnsweredAt}
-use Rattle.command_frames.specs.InnerTold.{AreOfAsked, IsRefusedAt, IsToldSoFar, IsToldUnder}
+use Rattle.command_frames.specs.InnerTold.{IsRefusedAt, IsToldUnder, asked_in}
 use Rattle.command_frames.proofs.told.tell_keys.Given as goal
 
 abbrev pub invariant-keys : goal.invariant-keys
 invariant-keys g l = record {
-  so : IsToldSoFar l.asked l.left l.told.items;
-  of_asked : AreOfAsked l.asked l.told.items;
+  asked_is : asked_in l.told.items ≡ take l.one-index l.asked;
   are_true : All (IsToldUnder (IsAnsweredAt (HaveTexts g.I.Placed.whole l.fn.indexes)
       (readers g.P.Placed.whole g.P.Placed.failures l.fn.archives l.fn.archives) l.read l.lines)
       (IsRefusedAt (HaveTexts g.I.Placed.whole l.fn.indexes)
@@ -19,6 +18,3 @@ invariant-keys g l = record {
   counts : each_known g.I.Placed.failures l.indexes ≡ each_known g.I.Placed.failures l.fn.indexes;
   kept : AreAllKept g.P.Placed.whole g.P.Placed.failures l.fn.archives l.archives;
 }
-
-abbrev pub decreases-keys : goal.decreases-keys
-decreases-keys g l = length l.left

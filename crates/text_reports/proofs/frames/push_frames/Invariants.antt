@@ -1,5 +1,5 @@
 use Rattle.std.proofs.Common.{◌≡◌, ◌++◌, take, string_bytes}
-use Rattle.text_reports.specs.FrameLists.{list_view}
+use Rattle.text_reports.specs.SourcedViews.{list_view}
 use Rattle.text_reports.specs.Frames.{frame_lines}
 use Rattle.text_reports.proofs.frames.push_frames.Given as goal
 

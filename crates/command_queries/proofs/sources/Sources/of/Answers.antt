@@ -9,7 +9,7 @@ slices-preserved g c =
       slices = slices_more c.slices.found.items _ c.deref-slice-items.result.now c.slices.slice-index it
           c.slice-item.result (omega arith) c.slice-item.is c.in_ok-push.ensures.items c.in_ok-of.ensures.slice
           c.slices.invariant.slices;
-      frames = λ place there. frames_more place c.slices.found.items _ it c.slice-item.result.now
+      frames = λ place there. frames_more c.args.lines place c.slices.found.items _ it c.slice-item.result.now
           c.in_ok-push.ensures.items c.in_ok-of.ensures.slice (c.slices.invariant.frames place there)
           (c.in_ok-of.ensures.frames place there);
     }
