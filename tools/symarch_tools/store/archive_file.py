@@ -177,8 +177,9 @@ class ArchiveFile:
         return False
 
     def has_earlier_index(self) -> bool:
-        """Whether its index is of an earlier release, so that it is asked as if it had none."""
-        with contextlib.suppress(FileNotFoundError):
+        """Whether its index is of an earlier release, so that it is asked as if it had none. One that cannot be read is
+        not, and the program says why it refuses that."""
+        with contextlib.suppress(OSError):
             return is_of_earlier_release(self.beside(INDEX))
         return False
 
