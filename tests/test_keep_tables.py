@@ -1,5 +1,5 @@
-"""The tables in kept indexes: added, copied, checked and repaired; and sites whose indexes had none, or tables without
-lines. Expected indexes are made by tests.model, from docs/FILES.md."""
+"""The tables in kept indexes: added, copied, checked and repaired; and sites whose indexes had none, or tables in
+wide pages. Expected indexes are made by tests.model, from docs/FILES.md."""
 import hashlib
 import os
 import pathlib
@@ -8,9 +8,10 @@ import subprocess
 from typing import Callable, Dict, List
 
 from .model.indexes import entries_in, table_place
+from .model.pages import Claim
 from .support.cases import same, symarch
 from .support.kills import Left
-from .support.made_images import EMPTY, archive, image, index_before_lines, index_of, index_of_2_3
+from .support.made_images import EMPTY, archive, image, index_of_wide_pages, index_of, index_of_2_3
 from .support.made_images import index_without_tables, slice_words, slices_in
 from .support.program import TOP
 from .support.reports import TOOL as REPORT
@@ -128,7 +129,7 @@ class ChangedTables(TableCase):
         entries = [entry for entry in entries_in(kept_index(self.room.archive)) if entry[:1] == b"\2"]
         for entry in entries:
             size = int.from_bytes(entry[82:90], "big")
-            stored = size + 32 * -(-size // 16384)
+            stored = Claim(0, size, b"").stored
             for at in {0, stored - 1, stored - size, *(dice.randrange(stored) for _ in range(2))}:
                 found[table_place(entry) + at] = entry
         return found
@@ -197,8 +198,8 @@ class ChangedTables(TableCase):
 
 
 class OtherKinds(TableCase):
-    """A site with indexes of an earlier release, or that no release wrote: without tables, or with tables that have no
-    lines. The next command that writes makes them anew, and says so; until then nothing is said by them."""
+    """A site with indexes of an earlier release, or that no release wrote: without tables, or with tables in wide pages.
+    The next command that writes makes them anew, and says so; until then nothing is said by them."""
 
     def setUp(self) -> None:
         super().setUp()
@@ -281,4 +282,4 @@ class OtherKinds(TableCase):
                 self.is_indexed(*self.files)
 
 
-KINDS = index_without_tables, index_before_lines, index_of_2_3
+KINDS = index_without_tables, index_of_wide_pages, index_of_2_3

@@ -222,8 +222,7 @@ class Run:
         try:
             symbols = Table(table.take, claim)
             texts = [table_text(symbols, *where) for where in places]
-            # The pages are read anew for lines, and the page digests are not.
-            symbols.pages.kept.clear()
+            symbols.pages.forget()
             lines = symbols.lines() if with_frames else None
             if with_frames and lines is None:
                 raise KeyFault(f"index {it.input}", f"NoLines at entry {it.number}")

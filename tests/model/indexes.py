@@ -2,7 +2,7 @@
 together."""
 import itertools
 import struct
-from typing import Callable, Dict, Iterable, List, NamedTuple, Optional, Sequence
+from typing import Dict, Iterable, List, NamedTuple, Optional, Sequence
 
 from .contents import ADMISSION, END, RETIREMENT, Content, Fault, Reader, Source, Write, entry_of
 from .images import U32_MAX, Image, image_of, sha, slice_of
@@ -26,7 +26,7 @@ def end_of(entries: Sequence[bytes]) -> bytes:
     return bytes([END]) + struct.pack(">Q", len(entries)) + sha(b"".join(entries))
 
 
-def index_stream(source: Source, write: Write, table_for: Callable[[bytes], bytes] = table_of) -> int:
+def index_stream(source: Source, write: Write) -> int:
     """Writes the index of an archive of version 2 as it comes, and says how many entries it has."""
     reader = Reader(source, "archive")
     reader.magic()
@@ -40,7 +40,7 @@ def index_stream(source: Source, write: Write, table_for: Callable[[bytes], byte
             break
         claim = NO_CLAIM
         if record[0] == ADMISSION:
-            table = table_for(record[33:])
+            table = table_of(record[33:])
             claim = claim_at(done, table)
             write(stored(table))
             done = claim.end
@@ -180,7 +180,7 @@ def are_laid(entries: Sequence[bytes], end: int) -> bool:
         if offset_in(entry) != offset or (entry[0] == ADMISSION and claim.offset != at):
             return False
         offset += length_in(entry)
-        at += claim.digests + claim.size
+        at += claim.stored
     return at == end
 
 

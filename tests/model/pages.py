@@ -1,11 +1,11 @@
-"""Stored bytes, told a second time by docs/FILES.md: the SHA-256 of each of their pages, and then themselves; read page
-by page."""
+"""Stored bytes, told a second time by docs/FILES.md: the digests of their pages, stored in the same way, and then
+themselves; read page by page."""
 import struct
-from typing import Callable, Dict, NamedTuple
+from typing import Callable, Dict, List, NamedTuple, Tuple
 
 from .images import sha
 
-PAGE, DIGEST = 16384, 32
+PAGE, DIGEST = 4096, 32
 MOST_ADDRESSES = 1 << 64
 
 # What gives so many bytes from an offset on, as many as there are.
@@ -13,7 +13,7 @@ Take = Callable[[int, int], bytes]
 
 
 class Claim(NamedTuple):
-    """Where a stored table begins, how many bytes the table has, and the SHA-256 of its page digests."""
+    """Where a stored table begins, how many bytes the table has, and its root."""
 
     offset: int
     size: int
@@ -23,13 +23,21 @@ class Claim(NamedTuple):
         return struct.pack(">QQ", self.offset, self.size) + self.root
 
     @property
-    def digests(self) -> int:
-        """How many bytes the page digests have."""
-        return DIGEST * pages_in(self.size)
+    def levels(self) -> List[Tuple[int, int]]:
+        """The offset and the size of each level: of the table, and of the page digests above each."""
+        sizes = [self.size]
+        while sizes[-1] > PAGE:
+            sizes.append(DIGEST * pages_in(sizes[-1]))
+        return [(self.offset + sum(sizes[level + 1 :]), size) for level, size in enumerate(sizes)]
+
+    @property
+    def stored(self) -> int:
+        """How many bytes are stored."""
+        return sum(size for _, size in self.levels)
 
     @property
     def end(self) -> int:
-        return self.offset + self.digests + self.size
+        return self.offset + self.stored
 
 
 NO_CLAIM = Claim(0, 0, bytes(DIGEST))
@@ -45,11 +53,16 @@ def page_digests(table: bytes) -> bytes:
 
 def stored(table: bytes) -> bytes:
     """A table as it stands in an index."""
-    return page_digests(table) + table
+    return table if len(table) <= PAGE else stored(page_digests(table)) + table
+
+
+def root_of(table: bytes) -> bytes:
+    """The SHA-256 of the first page that is stored."""
+    return sha(table) if len(table) <= PAGE else root_of(page_digests(table))
 
 
 def claim_at(offset: int, table: bytes) -> Claim:
-    return Claim(offset, len(table), sha(page_digests(table)))
+    return Claim(offset, len(table), root_of(table))
 
 
 class Changed(Exception):
@@ -61,10 +74,11 @@ class Pages:
 
     def __init__(self, take: Take, claim: Claim) -> None:
         self.take, self.claim = take, claim
-        self.kept: Dict[int, bytes] = {}
+        # The pages that were read, by their levels and numbers.
+        self.kept: Dict[Tuple[int, int], bytes] = {}
         if claim.end >= MOST_ADDRESSES:
             raise Changed
-        self.digests = self.checked(claim.offset, claim.digests, claim.root)
+        self.levels = claim.levels
 
     def checked(self, offset: int, count: int, digest: bytes) -> bytes:
         found = self.take(offset, count)
@@ -72,13 +86,20 @@ class Pages:
             raise Changed
         return found
 
-    def page(self, number: int) -> bytes:
-        if number not in self.kept:
+    def forget(self) -> None:
+        """Keeps no page of the bytes, but those of digests."""
+        self.kept = {(level, number): page for (level, number), page in self.kept.items() if level}
+
+    def page(self, level: int, number: int) -> bytes:
+        if (level, number) not in self.kept:
+            first, size = self.levels[level]
+            digest = self.claim.root
+            if level + 1 < len(self.levels):
+                at = DIGEST * number
+                digest = self.page(level + 1, at // PAGE)[at % PAGE :][:DIGEST]
             at = PAGE * number
-            digest = self.digests[DIGEST * number :][:DIGEST]
-            first = self.claim.offset + self.claim.digests
-            self.kept[number] = self.checked(first + at, min(PAGE, self.claim.size - at), digest)
-        return self.kept[number]
+            self.kept[level, number] = self.checked(first + at, min(PAGE, size - at), digest)
+        return self.kept[level, number]
 
     def read(self, offset: int, count: int) -> bytes:
         """So many bytes of the table from an offset on."""
@@ -87,5 +108,5 @@ class Pages:
             at = offset + len(found)
             if at >= self.claim.size:
                 raise Changed
-            found += self.page(at // PAGE)[at % PAGE :][: count - len(found)]
+            found += self.page(0, at // PAGE)[at % PAGE :][: count - len(found)]
         return found

@@ -5,9 +5,9 @@ import struct
 import uuid
 from typing import Dict, Iterable, Iterator, List, Optional, Sequence, Tuple
 
-from ..model.contents import Source
-from ..model.indexes import EARLIER_IDX, entries_in, index_of, index_stream
-from ..model.tables import table_of
+from ..model.images import sha
+from ..model.indexes import EARLIER_IDX, entries_in, index_of
+from ..model.pages import Claim
 
 Arch = Tuple[int, int]
 X86_64, X86_64H = (0x01000007, 3), (0x01000007, 8)
@@ -152,18 +152,21 @@ def index_without_tables(text: bytes) -> bytes:
     return b"".join(pieces_of_archive((entry[:74] for entry in entries_in(index_of(text))), b"MSYMIDX2"))
 
 
-def table_before_lines(made: bytes) -> bytes:
-    """The table of a slice as it was before it had lines: its head had no sixth number, and strings were the last."""
-    table = table_of(made)
-    _, _, sections, rows, strings, _ = struct.unpack_from(">6Q", table)
-    return table[:40] + table[48 : 48 + 32 * sections + 21 * rows + strings]
-
-
-def index_before_lines(text: bytes) -> bytes:
-    """The index of an archive as it was before tables had lines."""
-    found = bytearray()
-    index_stream(Source(text), found.extend, table_before_lines)
-    return bytes(found)
+def index_of_wide_pages(text: bytes) -> bytes:
+    """The index of an archive as it was before pages had 4,096 bytes: the SHA-256 of each 16,384 bytes of a table stood
+    before it."""
+    index, tables, made = index_of(text), bytearray(b"MSYMIDX2"), []
+    for entry in sorted(entries_in(index), key=lambda entry: entry[58:66]):
+        if entry[:1] == b"\2":
+            place, size = struct.unpack_from(">2Q", entry, 74)
+            end = Claim(place, size, b"").end
+            table = index[end - size : end]
+            digests = b"".join(sha(table[at : at + 16384]) for at in range(0, size, 16384))
+            entry = entry[:74] + struct.pack(">2Q", len(tables), size) + sha(digests)
+            tables += digests + table
+        made.append(entry)
+    entries = b"".join(sorted(made))
+    return bytes(tables) + entries + b"\3" + struct.pack(">Q", len(made)) + sha(entries)
 
 
 def index_of_2_3(text: bytes) -> bytes:

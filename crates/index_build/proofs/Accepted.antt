@@ -18,7 +18,7 @@ use Rattle.std.proofs.lemmas.Slice.Eq.{bytes_eq-Decides}
 use Rattle.sha2.proofs.Facts256.{length-sha256}
 use Rattle.join_core.specs.Listing.{ascending_of, listing}
 use Rattle.join_core.proofs.Listing.{listed}
-use Rattle.table_checked_pages.specs.Pages.{page_digests, stored}
+use Rattle.table_checked_pages.specs.Pages.{DigestsTellPages, height, level_of, stored}
 use Rattle.index_format.specs.Entry.{zeros, claim_at, claim_bytes, claim_in, has_claim, no_claim, stored_size}
 use Rattle.archive_core.specs.Content.{IsContent, Operations, is_admission}
 use Rattle.archive_core.specs.Record.{IsRecord}
@@ -43,7 +43,7 @@ use Rattle.table_symbols.specs.Steps.{AreBytes}
 use Rattle.table_symbols.specs.declared.nearest.NearestSymbol.{NearestSymbol}
 use Rattle.table_source_frames.proofs.SliceTables.{table_of_symbols}
 use Rattle.archive_core.proofs.Records.{same_parts}
-use Rattle.index_build.specs.Asked.{DigestsTell, IsToldBy}
+use Rattle.index_build.specs.Asked.{IsToldBy}
 use Rattle.index_format.proofs.IndexTexts.{last_is}
 
 -- ---- the claim of a table
@@ -54,7 +54,7 @@ no_root = refl
 
 root_long : (at : ℕ) (r t : List ℕ) → length (claim_of at r t).root ≡ 32
 root_long at r t = elim (cases_Bool (is_admission r)) [
-  | inl h ↦ ap (λ c. length c.root) (claim_admitted at r t h) ∙ length-sha256 (page_digests t)
+  | inl h ↦ ap (λ c. length c.root) (claim_admitted at r t h) ∙ length-sha256 (level_of (height (length t)) t)
   | inr h ↦ ap (λ c. length c.root) (claim_retired at r t h) ∙ no_root
 ]
 
@@ -275,8 +275,8 @@ of_the_content o index text entries is content short fits read alike tell =
     same_list entries others (long_each (8 + length read.tables) [] entries read.pass) (long_each (8 + length made.tables) [] others made.pass) (tell digests)
 
 pub told_over : (index text r : List ℕ) (entries : List (List ℕ)) (address : ℕ) (found : Option NearestSymbol)
-    (table : HasTable index entries r) → DigestsTell text (claim_in table.e) table.table → AreBytes (drop 33 r)
+    (table : HasTable index entries r) → DigestsTellPages text (claim_in table.e) table.table → AreBytes (drop 33 r)
     → IsToldBy text table.e address found → IsSaid (drop 33 r) address found
 told_over index text r entries address found table tell bytes says =
     says (drop 33 r) table.table bytes (table_of_symbols (drop 33 r) table.table table.is_table)
-    (record { size = table.stored.size; root = table.stored.root; digests = tell.digests; pages = tell.pages })
+    (record { size = table.stored.size; root = table.stored.root; tells = tell })

@@ -8,7 +8,7 @@ use Rattle.std.specs.Ordering.{is_eq, match_ordering}
 use Rattle.std.specs.declared.cmp.Ordering.TheVariants.{Less, Equal, Greater}
 use Rattle.std.proofs.lemmas.List.Sorted.{IsPermutation-cons, IsPermutation-middle, IsPermutation-refl, IsPermutation-trans, length_permutation}
 use Rattle.join_core.specs.Listing.{ascending_of, put, listing}
-use Rattle.table_checked_pages.specs.Pages.{stored, AreStored, page_digests, pages_in}
+use Rattle.table_checked_pages.specs.Pages.{stored, AreStored, digests_size}
 use Rattle.archive_core.specs.Record.{IsRecord}
 use Rattle.archive_core.proofs.Taken.{tied_is}
 use Rattle.archive_records.specs.Text.{InOrder}
@@ -27,7 +27,7 @@ use Rattle.std.proofs.lemmas.List.{drop_at, get_or_default, take-append-drop, ta
 use Rattle.std.proofs.lemmas.List.Concat.{flat_map-append}
 use Rattle.std.proofs.lemmas.List.Elements.{AllZip-get_or, Contains-get_or}
 use Rattle.std.proofs.lemmas.Slice.Zip.{AllZip-long}
-use Rattle.table_checked_pages.proofs.PageLemmas.{length-digests, may_be}
+use Rattle.table_checked_pages.proofs.PageLemmas.{length-stored, may_be}
 use Rattle.table_symbols.specs.Found.{IsSaid}
 use Rattle.table_symbols.specs.Steps.{AreBytes}
 use Rattle.table_symbols.specs.Table.{IsTableText}
@@ -166,8 +166,8 @@ pub claim_retired : (at : ℕ) (r t : List ℕ) → is_admission r ≡ false →
 unfolding claim_of
 claim_retired at r t h = ap (λ b. cond b (claim_at at t) no_claim) h
 
-pub stored_long : (t : List ℕ) → length (stored t) ≡ 32 * pages_in (length t) + length t
-stored_long t = omega (arith, length-append (page_digests t) t, length-digests (pages_in (length t)) 0 t)
+pub stored_long : (t : List ℕ) → length (stored t) ≡ digests_size (length t) + length t
+stored_long t = length-stored t
 
 -- ---- where a table is stored
 

@@ -4,7 +4,8 @@ use Rattle.std.specs.Prelude.{Result, Ok, Err, IfOk, IfErr}
 use Rattle.std.specs.Io.KnownBytes.{Appends}
 use Rattle.byte_device.specs.Writes.{IsPut}
 use Rattle.byte_device.proofs.Known.{Appends-none}
-use Rattle.table_checked_pages.specs.Pages.{digests_from, stored}
+use Rattle.table_checked_pages.specs.Pages.{stored}
+use Rattle.table_checked_pages.proofs.PageLemmas.{one_stored}
 use Rattle.table_checked_pages.specs.Views.{claim_view}
 use Rattle.table_checked_pages.specs.declared.claim.Claim.{Claim as ClaimFields}
 use Rattle.table_source_frames.specs.SliceTable.{IsSliceTable}
@@ -57,8 +58,7 @@ module _ {W : Type 0} (held : W → Option (List ℕ)) (failures : W → ℕ) (o
 -- ---- a retirement has none
 
 stored_none : stored [] ≡ []
-unfolding digests_from
-stored_none = refl
+stored_none = one_stored [] (omega arith)
 
 retired_table : (key : SliceKey) (digest : List ℕ) → IsTableOf (retirement_record key digest) []
 retired_table key digest = record { admitted = λ h. absurd (cc); retired = λ _. refl }

@@ -1,7 +1,6 @@
 -- The answers of the table of an entry.
-use Rattle.std.specs.Prelude.{◌≡◌, ◌<◌, ◌*◌, ℕ, List, Option}
-use Rattle.sha2.specs.Sha256.{sha256}
-use Rattle.table_checked_pages.specs.Pages.{Claim, MayBeStored, digests_in, page_digests, page_in, page_of}
+use Rattle.std.specs.Prelude.{ℕ, List, Option}
+use Rattle.table_checked_pages.specs.Pages.{MayBeStored}
 use Rattle.table_symbols.specs.Found.{IsSaid}
 use Rattle.table_symbols.specs.Steps.{AreBytes}
 use Rattle.table_symbols.specs.Table.{IsTableText}
@@ -13,10 +12,3 @@ use Rattle.index_format.specs.Entry.{claim_in}
 abbrev pub IsToldBy : List ℕ → List ℕ → ℕ → Option NearestSymbol → Type 0
 IsToldBy text e address found = (slice table : List ℕ) → AreBytes slice → IsTableText slice table
     → MayBeStored text (claim_in e) table → IsSaid slice address found
-
--- As far as SHA-256 tells, what stands where a claim says and has the digest of these bytes' page digests, or of a page
--- of theirs, is that. Where they do stand there, this supposes nothing.
-pub record DigestsTell (text : List ℕ) (claim : Claim) (all : List ℕ) : Type 0 where
-  pub digests : sha256 (digests_in text claim) ≡ claim.root → digests_in text claim ≡ page_digests all
-  pub pages : (i : ℕ) → 16384 * i < claim.size → sha256 (page_in text claim i) ≡ sha256 (page_of all i)
-      → page_in text claim i ≡ page_of all i

@@ -5,14 +5,14 @@ ghost use Rattle.std.specs.List.{concat};
 ghost use Rattle.sha2.specs.Sha256.{sha256};
 ghost use Rattle.std.specs.FinSet as set;
 ghost use Rattle.join_core.specs.Listing.{listing};
-ghost use Rattle.table_checked_pages.specs.Pages.{AreStored};
+ghost use Rattle.table_checked_pages.specs.Pages.{AreStored, DigestsTellPages};
 ghost use Rattle.table_symbols.specs.Found.{IsSaid};
 ghost use Rattle.table_symbols.specs.Steps.{AreBytes};
 ghost use Rattle.table_symbols.specs.Table.{IsTableText};
 ghost use Rattle.table_symbols.specs.declared.nearest.NearestSymbol.{NearestSymbol};
 ghost use Rattle.archive_core.specs.Content.{Operations, IsContent, is_admission};
 ghost use Rattle.archive_records.specs.Text.{written};
-ghost use Rattle.index_build.specs.Asked.{DigestsTell, IsToldBy};
+ghost use Rattle.index_build.specs.Asked.{IsToldBy};
 ghost use Rattle.index_build.specs.Content.{EndAlike, HasTable, IsIndexOf, entries_of};
 ghost use Rattle.index_build.specs.Making.{IsTooFar};
 ghost use Rattle.index_format.specs.Entry.{claim_in};
@@ -64,6 +64,6 @@ pub fn answers_are_of_the_content()
         → (let others = entries_of (listing o) is.tables in
         (sha256 (concat entries) ≡ sha256 (concat others) → concat entries ≡ concat others) → entries ≡ others) }
     ensures told { (index text r : List ℕ) (entries : List (List ℕ)) (address : ℕ) (found : Option NearestSymbol)
-        → (table : HasTable index entries r) → DigestsTell text (claim_in table.e) table.table
+        → (table : HasTable index entries r) → DigestsTellPages text (claim_in table.e) table.table
         → AreBytes (drop 33 r) → IsToldBy text table.e address found → IsSaid (drop 33 r) address found }
 {}

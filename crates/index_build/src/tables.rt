@@ -1,8 +1,8 @@
 //! The table of a record, made and written.
 
-ghost use Rattle.std.specs.Prelude.{◌≡◌, ◌<◌, ◌^◌, ℕ, List, IfOk, IfErr};
+ghost use Rattle.std.specs.Prelude.{◌≡◌, ◌<◌, ◌^◌, ◌++◌, ℕ, List, IfOk, IfErr};
 ghost use Rattle.byte_device.specs.Writes.{IsPut};
-ghost use Rattle.table_checked_pages.specs.Pages.{page_digests, stored};
+ghost use Rattle.table_checked_pages.specs.Pages.{root_of, stored};
 ghost use Rattle.table_checked_pages.specs.Views.{claim_view};
 ghost use Rattle.table_source_frames.specs.SliceTable.{IsSliceTable};
 ghost use Rattle.archive_core.specs.Record.{IsOperation, borrowed_bytes, operation_borrowed};
@@ -16,24 +16,25 @@ use archive_core::{CheckedSlice, Record};
 use byte_device::Sink;
 use index_format::no_claim;
 use memory::{Heap, NoMemory};
-use table_checked_pages::Claim;
+use table_checked_pages::{Claim, Stored};
 use table_source_frames_build::line_table;
 use table_symbols::TableText;
 
-/// The table of a slice, and its page digests.
+/// The table of a slice, and what stands before it where it is stored.
 fn table_of<'a>(
     heap: &Heap,
     slice: &CheckedSlice<'a>,
-) -> Result<(TableText<'a>, Vec<u8, Heap>), NoMemory>
+) -> Result<(TableText<'a>, Stored), NoMemory>
     requires { IsValid slice.now }
     ensures table { IfOk result (λ made. IsSliceTable slice.now made.0) }
-    ensures digests { IfOk result (λ made. made.1.items ≡ page_digests made.0) }
+    ensures stored { IfOk result (λ made. made.1.bytes.items ++ made.0 ≡ stored made.0) }
+    ensures root { IfOk result (λ made. made.1.root ≡ root_of made.0) }
 {
     let image = slice.image();
     let lines = line_table(heap.share(), &image)?;
     let table = TableText::new(heap.share(), &image, lines)?;
-    let digests = table.page_digests(heap.share())?;
-    Ok((table, digests))
+    let above = table.above(heap)?;
+    Ok((table, above))
 }
 
 /// Writes the table of a slice after the first `done` bytes of an index, as it is stored. It gives its claim, and how
@@ -51,11 +52,16 @@ fn put_slice_table<W: Sink>(
         × IsPut W.held W.failures w.old w.new done (stored table) put.1) }
     ensures stopped { IfErr result (StopsTable W.held W.failures w.old w.new done (IsSliceTable slice.now)) }
 {
-    let Ok((table, digests)) = table_of(heap, slice) else {
+    let Ok((table, above)) = table_of(heap, slice) else {
         return Err(TableFault::OutOfMemory);
     };
-    match table.write(&digests, w, u128::from(done)) {
-        Ok(end) => Ok((Claim::new(done, table.size(), &digests), end)),
+    let claim = Claim {
+        offset: done,
+        size: table.size(),
+        root: above.root,
+    };
+    match table.write(&above.bytes, w, u128::from(done)) {
+        Ok(end) => Ok((claim, end)),
         Err(fault) => Err(TableFault::Write(fault)),
     }
 }

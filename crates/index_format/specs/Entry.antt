@@ -7,7 +7,7 @@ use Rattle.std.specs.Ordering.{nat_cmp}
 use Rattle.std.specs.Cmp.Lexicographic.{slice_cmp}
 use Rattle.std.specs.Str.{bytes_eq}
 use Rattle.sha2.specs.Sha256.{sha256}
-use Rattle.table_checked_pages.specs.Pages.{Claim, page_digests, pages_in}
+use Rattle.table_checked_pages.specs.Pages.{Claim, digests_size, root_of}
 use Rattle.table_checked_pages.specs.Views.{claim_view}
 use Rattle.macho_image.specs.Contents.{is_dsym_image}
 use Rattle.archive_core.specs.Key.{IsKey, key_bytes}
@@ -89,13 +89,13 @@ unfoldable pub zeros : ℕ → List ℕ
 zeros zero = []
 zeros (suc n) = 0 ∷ zeros n
 
--- a claim as it stands in an entry: the offset, the size, and the SHA-256 of the page digests
+-- a claim as it stands in an entry: the offset, the size and the root
 unfoldable pub claim_bytes : Claim → List ℕ
 claim_bytes c = to_be_bytes w64 c.offset ++ (to_be_bytes w64 c.size ++ c.root)
 
 -- the claim of bytes that are stored from this offset on
 abbrev pub claim_at : ℕ → List ℕ → Claim
-claim_at at bytes = record { offset = at; size = length bytes; root = sha256 (page_digests bytes) }
+claim_at at bytes = record { offset = at; size = length bytes; root = root_of bytes }
 
 -- what a retirement has in the place of a claim
 abbrev pub no_claim : Claim
@@ -115,7 +115,7 @@ claim_in e = record {
 
 -- how many bytes are stored where a claim says
 abbrev pub stored_size : Claim → ℕ
-stored_size c = 32 * pages_in c.size + c.size
+stored_size c = digests_size c.size + c.size
 
 -- the claim is zero, or that of an admission whose table ends before this offset
 abbrev pub has_claim : ℕ → List ℕ → Bool

@@ -15,10 +15,7 @@ use archive_records::{
     ADMISSION, ADMISSION_HEAD_LEN, LARGEST_SLICE, RETIREMENT, RETIREMENT_LEN, number_at,
 };
 use memory::Heap;
-use table_checked_pages::{Claim, pages_in};
-
-/// How many bytes a digest has.
-const DIGEST_LEN: u128 = 32;
+use table_checked_pages::{Claim, digests_len};
 
 /// Whether the tag is that of an entry.
 fn has_tag(bytes: &[u8]) -> bool
@@ -56,7 +53,7 @@ pub(crate) fn stored_size(claim: &Claim) -> u128
     ensures fits { result < 2 ^ 70 }
 {
     let size = claim.size;
-    DIGEST_LEN * u128::from(pages_in(size)) + u128::from(size)
+    u128::from(digests_len(size)) + u128::from(size)
 }
 
 /// Whether the claim is zero, or that of an admission whose table ends before this offset.

@@ -1,2 +1,3 @@
+pub mod LevelLemmas
 pub mod PageLemmas
 pub mod ReadLemmas

@@ -1,14 +1,16 @@
 -- Pages of bytes that are stored in a text.
-use Rattle.std.proofs.Common.{◌≡◌, ℕ, ◌+◌, ◌-◌, ◌*◌, ◌<◌, ◌≤◌, List, length, take, drop, ◌++◌, refl, sym, ap, ◌∙◌}
+use Rattle.std.proofs.Common.{◌≡◌, ℕ, ◌+◌, ◌-◌, ◌*◌, ◌/◌, ◌%◌, ◌<◌, ◌≤◌, List, length, take, drop, ◌++◌, refl, sym, ap, ◌∙◌}
 use Rattle.std.proofs.Common.{subst, arith, length-take, length-append, min, inl, inr, zero, suc, [], ◌∷◌, ◌≢◌, set}
 use Rattle.std.specs.Prelude.{slice_index_or}
 use Rattle.std.proofs.lemmas.List.{append-nil, append_assoc, get_or-set_other, get_or-set_same, drop-drop, drop-take, take-take, take_all, take_at, drop_at}
-use Rattle.std.proofs.lemmas.Bool.{cases_lt}
+use Rattle.std.proofs.lemmas.Bool.{cases_eq, cases_lt}
 use Rattle.std.proofs.Math.Seq.{take-add}
 use Rattle.sha2.specs.Sha256.{sha256}
 use Rattle.sha2.proofs.Facts256.{length-sha256}
-use Rattle.table_checked_pages.specs.Pages.{AreKept, AreStored, Claim, MayBeStored, digests_from, digests_in, first_of}
-use Rattle.table_checked_pages.specs.Pages.{page_digests, page_in, page_of, pages_in, stored}
+use Rattle.table_checked_pages.specs.Pages.{AreKept, AreKeptLevels, AreStored, Claim, DigestsTellPages, MayBeStored, digests_from, digests_size}
+use Rattle.table_checked_pages.specs.Pages.{digests_size_in, first_of, height, level_of, level_size, page_digests, page_in}
+use Rattle.table_checked_pages.specs.Pages.{page_of, pages_in, root_of, stored, stored_in}
+use Rattle.table_checked_pages.proofs.LevelLemmas.{height_level, level_last, level_within, more_pages, one_page}
 
 -- ---- page digests
 
@@ -38,10 +40,10 @@ digest_from (suc count) i (suc k) all h =
     ∙ ap (λ b. take 32 (drop (32 * k) b)) (drop_at first rest 32 (length-sha256 (page_of all i)))
     ∙ digest_from count (i + 1) k all (omega arith) ∙ ap (λ n. sha256 (page_of all n)) next
 
-pub digest_of_page : (all : List ℕ) (i : ℕ) → 16384 * i < length all → take 32 (drop (32 * i) (page_digests all)) ≡ sha256 (page_of all i)
+pub digest_of_page : (all : List ℕ) (i : ℕ) → 4096 * i < length all → take 32 (drop (32 * i) (page_digests all)) ≡ sha256 (page_of all i)
 digest_of_page all i h = digest_from (pages_in (length all)) 0 i all (omega (arith, h)) ∙ ap (λ n. sha256 (page_of all n)) (omega arith)
 
--- ---- where the bytes are stored
+-- ---- what stands in a text
 
 take_both : (m n : ℕ) (xs : List ℕ) → take m (take n xs) ≡ take (min m n) xs
 take_both m n xs = elim (cases_lt m n) [
@@ -52,6 +54,10 @@ take_both m n xs = elim (cases_lt m n) [
       let least : min m n ≡ n = omega arith in
       take_all m (take n xs) (omega (arith, length-take n xs)) ∙ ap (λ k. take k xs) (sym least)
 ]
+
+-- no more than there are
+pub take_least : (xs : List ℕ) (n : ℕ) → take (min (length xs) n) xs ≡ take n xs
+take_least xs n = sym (take_both (length xs) n xs) ∙ take_all (length xs) (take n xs) (omega (arith, length-take n xs))
 
 -- a part of bytes that stand in a text
 part_stands : (text all : List ℕ) (at size n long : ℕ) → length all ≡ size → take (length all) (drop at text) ≡ all → n ≤ size
@@ -76,72 +82,139 @@ second_stands text a b at n is stands =
     ap (take (length b)) (sym (drop-drop n at text)) ∙ sym (drop-take n (length b) (drop at text)) ∙ ap (λ k. drop n (take k (drop at text))) (sym long)
     ∙ ap (drop n) stands ∙ drop_at a b n is
 
-pub digests_stand : (text all : List ℕ) (claim : Claim) → AreStored text claim all → digests_in text claim ≡ page_digests all
-digests_stand text all claim are =
-    let pages : ℕ = pages_in claim.size in
-    first_stands text (page_digests all) all claim.offset (32 * pages)
-    (length-digests (pages_in (length all)) 0 all ∙ ap (λ n. 32 * pages_in n) are.size) are.bytes
+-- a part of a page
+pub part_of_page : (all : List ℕ) (i skip n : ℕ) → skip + n ≤ 4096 → take n (drop skip (page_of all i)) ≡ take n (drop (4096 * i + skip) all)
+part_of_page all i skip n within =
+    let rest : ℕ = 4096 - skip in
+    let whole : 4096 ≡ skip + rest = omega arith in
+    let here : drop skip (take 4096 (drop (4096 * i) all)) ≡ take rest (drop (4096 * i + skip) all) =
+    ap (λ k. drop skip (take k (drop (4096 * i) all))) whole ∙ drop-take skip rest (drop (4096 * i) all) ∙ ap (take rest) (drop-drop skip (4096 * i) all) in
+    ap (take n) here ∙ take-take n rest (drop (4096 * i + skip) all) (omega arith)
 
-pub page_stands : (text all : List ℕ) (claim : Claim) → AreStored text claim all → (i : ℕ) → 16384 * i < claim.size → page_in text claim i ≡ page_of all i
-page_stands text all claim are i h =
-    let stands : take (length all) (drop (first_of claim) text) ≡ all =
-    second_stands text (page_digests all) all claim.offset (32 * pages_in claim.size)
-    (length-digests (pages_in (length all)) 0 all ∙ ap (λ n. 32 * pages_in n) are.size) are.bytes in
-    part_stands text all (first_of claim) claim.size (16384 * i) 16384 are.size stands (omega arith)
+-- ---- where a level is stored
+
+pub length-stored_in : (n : ℕ) (all : List ℕ) → length (stored_in n all) ≡ digests_size_in n (length all) + length all
+unfolding stored_in digests_size_in
+length-stored_in zero all = omega arith
+length-stored_in (suc n) all =
+    let long : length (page_digests all) ≡ 32 * pages_in (length all) = length-digests (pages_in (length all)) 0 all in
+    omega (
+      arith,
+      length-append (stored_in n (page_digests all)) all,
+      length-stored_in n (page_digests all),
+      long,
+      ap (λ s. digests_size_in n s) long,
+    )
+
+-- how many bytes are stored
+pub length-stored : (all : List ℕ) → length (stored all) ≡ digests_size (length all) + length all
+length-stored all = length-stored_in (height (length all)) all
+
+pub length-level : (k : ℕ) (all : List ℕ) → length (level_of k all) ≡ level_size k (length all)
+length-level zero all = refl
+length-level (suc k) all = length-digests (pages_in (length (level_of k all))) 0 (level_of k all) ∙ ap (λ n. 32 * pages_in n) (length-level k all)
+
+-- where bytes are stored, a level begins with those above it
+level_begins : (k n h : ℕ) (text all : List ℕ) (at : ℕ) → h ≡ k + n → take (length (stored_in h all)) (drop at text) ≡ stored_in h all
+    → take (length (stored_in n (level_of k all))) (drop at text) ≡ stored_in n (level_of k all)
+unfolding stored_in
+level_begins zero n h text all at is stands =
+    let same : h ≡ n = omega (arith, is) in
+    subst (λ (m : ℕ). take (length (stored_in m all)) (drop at text) ≡ stored_in m all) same stands
+level_begins (suc k) n h text all at is stands =
+    let here : take (length (stored_in (suc n) (level_of k all))) (drop at text) ≡ stored_in (suc n) (level_of k all) =
+    level_begins k (suc n) h text all at (omega (arith, is)) stands in
+    first_stands text (stored_in n (page_digests (level_of k all))) (level_of k all) at
+    (length (stored_in n (page_digests (level_of k all)))) refl here
+
+-- and then it is there itself
+level_after : (n : ℕ) (text here : List ℕ) (at : ℕ) → take (length (stored_in n here)) (drop at text) ≡ stored_in n here
+    → take (length here) (drop (at + digests_size_in n (length here)) text) ≡ here
+unfolding stored_in digests_size_in
+level_after zero text here at stands =
+    let same : at + 0 ≡ at = omega arith in
+    ap (λ o. take (length here) (drop o text)) same ∙ stands
+level_after (suc n) text here at stands =
+    second_stands text (stored_in n (page_digests here)) here at
+    (digests_size_in n (32 * pages_in (length here)) + 32 * pages_in (length here))
+    (length-stored_in n (page_digests here) ∙ ap (λ s. digests_size_in n s + s) (length-digests (pages_in (length here)) 0 here)) stands
+
+pub page_stands : (text all : List ℕ) (claim : Claim) → AreStored text claim all → (k i : ℕ) → k ≤ height claim.size
+    → 4096 * i < level_size k claim.size → page_in text claim k i ≡ page_of (level_of k all) i
+page_stands text all claim are k i low inside =
+    let size : ℕ = level_size k claim.size in
+    let here : List ℕ = level_of k all in
+    let long : length here ≡ size = length-level k all ∙ ap (level_size k) are.size in
+    let above : height (length all) ≡ k + height size = ap height are.size ∙ height_level k claim.size low in
+    let begins = level_begins k (height size) (height (length all)) text all claim.offset above are.bytes in
+    let there : take (length here) (drop (first_of claim k) text) ≡ here =
+    subst (λ (s : ℕ). take (length here) (drop (claim.offset + digests_size_in (height size) s) text) ≡ here) long
+    (level_after (height size) text here claim.offset begins) in
+    part_stands text here (first_of claim k) size (4096 * i) 4096 long there (omega (arith, inside))
 
 pub may_be : (text all : List ℕ) (claim : Claim) → AreStored text claim all → MayBeStored text claim all
+unfolding DigestsTellPages
 may_be text all claim are = record {
   size = are.size;
   root = are.root;
-  digests = λ same. digests_stand text all claim are;
-  pages = λ i h same. page_stands text all claim are i h;
+  tells = λ k i low inside same. page_stands text all claim are k i low inside;
 }
 
 -- what is stored lies within the text
-pub lies_within : (text all : List ℕ) (claim : Claim) → AreStored text claim all → claim.offset + 32 * pages_in claim.size + claim.size ≤ length text
-lies_within text all claim are =
-    let is : length (stored all) ≡ 32 * pages_in claim.size + claim.size =
-    omega (
-      arith,
-      length-append (page_digests all) all,
-      length-digests (pages_in (length all)) 0 all
-          ∙ ap (λ n. 32 * pages_in n) are.size,
-      are.size,
-    ) in
-    omega (arith, is, are.within)
+pub lies_within : (text all : List ℕ) (claim : Claim) → AreStored text claim all → claim.offset + digests_size claim.size + claim.size ≤ length text
+lies_within text all claim are = omega (arith, length-stored all, ap (λ s. digests_size s) are.size, are.size, are.within)
+
+-- ---- the digest of a page
+
+-- that of the highest level is the root
+pub root_is : (all root : List ℕ) (size k i : ℕ) → root_of all ≡ root → length all ≡ size → k ≤ height size
+    → level_size k size ≤ 4096 → 4096 * i < level_size k size → root ≡ sha256 (page_of (level_of k all) i)
+root_is all root size k i is long low small inside =
+    let here : List ℕ = level_of k all in
+    let last : height (length all) ≡ k = ap height long ∙ sym (level_last k size low small) in
+    let first : 4096 * i ≡ 0 = omega (arith, small, inside) in
+    let few : length here ≤ 4096 = omega (arith, small, length-level k all, ap (level_size k) long) in
+    sym is ∙ ap (λ n. sha256 (level_of n all)) last ∙ ap sha256 (sym (take_all 4096 here few))
+    ∙ ap (λ n. sha256 (take 4096 (drop n here))) (sym first)
+
+-- that of another is in the page above it
+pub digest_is : (all : List ℕ) (size k i : ℕ) → length all ≡ size → 4096 * i < level_size k size
+    → take 32 (drop (32 * (i % 128)) (page_of (level_of (k + 1) all) (i / 128))) ≡ sha256 (page_of (level_of k all) i)
+digest_is all size k i long inside =
+    let next : k + 1 ≡ suc k = omega arith in
+    let place : 4096 * (i / 128) + 32 * (i % 128) ≡ 32 * i = omega arith in
+    let within : 4096 * i < length (level_of k all) = omega (arith, inside, length-level k all, ap (level_size k) long) in
+    part_of_page (level_of (k + 1) all) (i / 128) (32 * (i % 128)) 32 (omega arith)
+    ∙ ap (λ n. take 32 (drop (4096 * (i / 128) + 32 * (i % 128)) (level_of n all))) next
+    ∙ ap (λ n. take 32 (drop n (page_digests (level_of k all)))) place
+    ∙ digest_of_page (level_of k all) i within
 
 -- what stands there and has the digest of a page is that page
-pub page_is : (text all digests bytes digest : List ℕ) (claim : Claim) (i offset n : ℕ) → MayBeStored text claim all
-    → digests ≡ page_digests all → 16384 * i < claim.size
-    → offset ≡ first_of claim + 16384 * i → n ≡ min 16384 (claim.size - 16384 * i) → bytes ≡ take n (drop offset text)
-    → sha256 bytes ≡ digest → digest ≡ take 32 (drop (32 * i) digests) → bytes ≡ page_of all i
-page_is text all digests bytes digest claim i offset n may are h at long stands has is =
-    let here : bytes ≡ page_in text claim i = stands ∙ ap (λ k. take k (drop offset text)) long
-    ∙ ap (λ o. take (min 16384 (claim.size - 16384 * i)) (drop o text)) at in
-    let page : digest ≡ sha256 (page_of all i) = is ∙ ap (λ d. take 32 (drop (32 * i) d)) are ∙ digest_of_page all i (omega (arith, h, may.size)) in
-    here ∙ may.pages i h (ap sha256 (sym here) ∙ has ∙ page)
+pub page_is : (text all bytes digest : List ℕ) (claim : Claim) (k i offset n : ℕ) → MayBeStored text claim all
+    → k ≤ height claim.size → 4096 * i < level_size k claim.size
+    → offset ≡ first_of claim k + 4096 * i → n ≡ min 4096 (level_size k claim.size - 4096 * i) → bytes ≡ take n (drop offset text)
+    → sha256 bytes ≡ digest → digest ≡ sha256 (page_of (level_of k all) i) → bytes ≡ page_of (level_of k all) i
+unfolding DigestsTellPages
+page_is text all bytes digest claim k i offset n may low inside at long stands has is =
+    let here : bytes ≡ page_in text claim k i = stands ∙ ap (λ m. take m (drop offset text)) long
+    ∙ ap (λ o. take (min 4096 (level_size k claim.size - 4096 * i)) (drop o text)) at in
+    here ∙ may.tells k i low inside (ap sha256 (sym here) ∙ has ∙ is)
 
 -- a page that is stored is there, and has its digest
-pub page_is_there : (text all digests digest : List ℕ) (claim : Claim) (i offset n : ℕ) → AreStored text claim all
-    → digests ≡ page_digests all → 16384 * i < claim.size
-    → offset ≡ first_of claim + 16384 * i → n ≡ min 16384 (claim.size - 16384 * i) → digest ≡ take 32 (drop (32 * i) digests)
+pub page_is_there : (text all digest : List ℕ) (claim : Claim) (k i offset n : ℕ) → AreStored text claim all
+    → k ≤ height claim.size → 4096 * i < level_size k claim.size
+    → offset ≡ first_of claim k + 4096 * i → n ≡ min 4096 (level_size k claim.size - 4096 * i)
+    → digest ≡ sha256 (page_of (level_of k all) i)
     → (offset + n ≤ length text → sha256 (take n (drop offset text)) ≡ digest → ⊥) → ⊥
-page_is_there text all digests digest claim i offset n is_stored are h at long is absent =
-    let here : take n (drop offset text) ≡ page_in text claim i = ap (λ k. take k (drop offset text)) long
-    ∙ ap (λ o. take (min 16384 (claim.size - 16384 * i)) (drop o text)) at in
-    let page : digest ≡ sha256 (page_of all i) = is ∙ ap (λ d. take 32 (drop (32 * i) d)) are ∙ digest_of_page all i (omega (arith, h, is_stored.size)) in
-    absent (omega (arith, at, long, h, lies_within text all claim is_stored)) (ap sha256 (here ∙ page_stands text all claim is_stored i h) ∙ sym page)
-
--- the page digests that are stored are there, and have their SHA-256
-pub digests_are_there : (text all : List ℕ) (claim : Claim) (n : ℕ) → AreStored text claim all → n ≡ 32 * pages_in claim.size
-    → (claim.offset + n ≤ length text → sha256 (take n (drop claim.offset text)) ≡ claim.root → ⊥) → ⊥
-digests_are_there text all claim n is_stored is absent =
-    let here : take n (drop claim.offset text) ≡ page_digests all = ap (λ k. take k (drop claim.offset text)) is ∙ digests_stand text all claim is_stored in
-    absent (omega (arith, is, lies_within text all claim is_stored)) (ap sha256 here ∙ is_stored.root)
+page_is_there text all digest claim k i offset n are low inside at long is absent =
+    let here : take n (drop offset text) ≡ page_in text claim k i = ap (λ m. take m (drop offset text)) long
+    ∙ ap (λ o. take (min 4096 (level_size k claim.size - 4096 * i)) (drop o text)) at in
+    absent (omega (arith, at, long, inside, level_within k claim.size low, lies_within text all claim are))
+    (ap sha256 (here ∙ page_stands text all claim are k i low inside) ∙ sym is)
 
 -- ---- pages that are kept
 
-one_empty_more : (kept : List (List ℕ)) (i : ℕ) → slice_index_or (kept ++ [] ∷ []) i [] ≡ slice_index_or kept i []
+one_empty_more : {A : Type 0} (kept : List (List A)) (i : ℕ) → slice_index_or (kept ++ [] ∷ []) i [] ≡ slice_index_or kept i []
 one_empty_more [] zero = refl
 one_empty_more [] (suc i) = refl
 one_empty_more (page ∷ kept) zero = refl
@@ -168,14 +241,22 @@ kept_more kept all page i l e are j h = elim (cases_lt i j) [
         let same : slice_index_or (set kept i page) j [] ≡ slice_index_or kept j [] = get_or-set_other kept i j page [] ne in
         same ∙ are j (subst (λ (p : List ℕ). 0 < length p) same h)
 
--- a part of a page
-pub part_of_page : (all : List ℕ) (i skip n : ℕ) → skip + n ≤ 16384 → take n (drop skip (page_of all i)) ≡ take n (drop (16384 * i + skip) all)
-part_of_page all i skip n within =
-    let rest : ℕ = 16384 - skip in
-    let whole : 16384 ≡ skip + rest = omega arith in
-    let here : drop skip (take 16384 (drop (16384 * i) all)) ≡ take rest (drop (16384 * i + skip) all) =
-    ap (λ k. drop skip (take k (drop (16384 * i) all))) whole ∙ drop-take skip rest (drop (16384 * i) all) ∙ ap (take rest) (drop-drop skip (16384 * i) all) in
-    ap (take n) here ∙ take-take n rest (drop (16384 * i + skip) all) (omega arith)
+-- room for one level more
+pub levels_room : (kept : List (List (List ℕ))) (all : List ℕ) → AreKeptLevels kept all → AreKeptLevels (kept ++ [] ∷ []) all
+unfolding AreKeptLevels
+levels_room kept all are k = subst (λ (pages : List (List ℕ)). AreKept pages (level_of k all)) (sym (one_empty_more kept k)) (are k)
+
+-- other pages of one level
+pub levels_more : (kept : List (List (List ℕ))) (all : List ℕ) (pages : List (List ℕ)) (k : ℕ) → k < length kept
+    → AreKept pages (level_of k all) → AreKeptLevels kept all → AreKeptLevels (set kept k pages) all
+unfolding AreKeptLevels
+levels_more kept all pages k l here are j = elim (cases_eq j k) [
+  | inl same ↦
+      let is : slice_index_or (set kept k pages) j [] ≡ pages =
+      ap (λ n. slice_index_or (set kept k pages) n []) same ∙ get_or-set_same kept k pages [] l in
+      subst (λ (p : List (List ℕ)). AreKept p (level_of j all)) (sym is) (subst (λ n. AreKept pages (level_of n all)) (sym same) here)
+  | inr other ↦ subst (λ (p : List (List ℕ)). AreKept p (level_of j all)) (sym (get_or-set_other kept k j pages [] other)) (are j)
+]
 
 -- one part more
 pub more_came : (all before part : List ℕ) (offset next done n : ℕ) → next ≡ offset + done → before
@@ -200,3 +281,27 @@ pub next_page : (count : ℕ) (all : List ℕ) → digests_from (count + 1) 0 al
 next_page count all =
     let next : count + 1 ≡ suc count = omega arith in
     ap (λ n. digests_from n 0 all) next ∙ one_more count 0 all ∙ ap (λ n. digests_from count 0 all ++ sha256 (page_of all n)) (omega arith)
+
+-- ---- the recursion of what is stored
+
+-- the levels of the page digests
+level_above : (k : ℕ) (all : List ℕ) → level_of (suc k) all ≡ level_of k (page_digests all)
+level_above zero all = refl
+level_above (suc k) all = ap (λ (here : List ℕ). page_digests here) (level_above k all)
+
+pub one_stored : (all : List ℕ) → length all ≤ 4096 → stored all ≡ all
+unfolding stored_in
+one_stored all small = ap (λ n. stored_in n all) (one_page (length all) small)
+
+pub one_root : (all : List ℕ) → length all ≤ 4096 → root_of all ≡ sha256 all
+one_root all small = ap (λ n. sha256 (level_of n all)) (one_page (length all) small)
+
+above : (all : List ℕ) → 4096 < length all → height (length all) ≡ suc (height (length (page_digests all)))
+above all large = more_pages (length all) large ∙ ap (λ n. suc (height n)) (sym (length-digests (pages_in (length all)) 0 all))
+
+pub more_stored : (all : List ℕ) → 4096 < length all → stored all ≡ stored (page_digests all) ++ all
+unfolding stored_in
+more_stored all large = ap (λ n. stored_in n all) (above all large)
+
+pub more_root : (all : List ℕ) → 4096 < length all → root_of all ≡ root_of (page_digests all)
+more_root all large = ap (λ n. sha256 (level_of n all)) (above all large) ∙ ap sha256 (level_above (height (length (page_digests all))) all)

@@ -1,5 +1,5 @@
 -- What a call says that reads stored bytes, said otherwise.
-use Rattle.std.proofs.Common.{◌∙◌, ◌≡◌, ℕ, List, IsErrAnd, ap, sym, subst}
+use Rattle.std.proofs.Common.{◌∙◌, ◌≡◌, ℕ, List, IsErrAnd, ap, refl, sym, subst}
 use Rattle.std.proofs.lemmas.Result.{err_from_is_err_and}
 use Rattle.std.specs.Prelude.{Option, Some, Result, Ok, Err, MatchResult}
 use Rattle.table_checked_pages.specs.Reading.{Blames, IsRefused, ReadsStored}
@@ -59,3 +59,12 @@ after_ok whole failures old mid new r A B same unfailed h = record {
   keeps = h.keeps ∙ same;
   counts = subst (λ n. MatchResult r (λ _. failures new ≡ n) (Blames n (failures new))) unfailed h.counts;
 }
+
+-- what is refused before anything is read
+pub unread : {D U : Type 0} (whole : D → Option (List ℕ)) (failures : D → ℕ) (device : D) (f : CheckFault) (s : Result U CheckFault)
+    (A : List ℕ → U → Type 0) (B : List ℕ → Type 0)
+    → IsErrAnd s (λ g. g ≡ f) → f ≡ Changed → ((text : List ℕ) → whole device ≡ Some text → B text) → ReadsStored whole failures device device s A B
+unread whole failures device f s A B is changed absent =
+    let p = err_from_is_err_and s is in
+    subst (λ t. ReadsStored whole failures device device t A B) (sym (p.1 ∙ ap Err (p.2 ∙ changed)))
+    (record { says = absent; keeps = refl; counts = refl })

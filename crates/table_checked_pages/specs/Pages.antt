@@ -1,15 +1,15 @@
 -- Bytes that are stored with the digests of their pages, and the bytes that these digests vouch for.
 use Rattle.std.specs.Prelude.{◌≡◌, ◌<◌, ◌≤◌, ◌+◌, ◌-◌, ◌*◌, ◌/◌, ◌++◌, ℕ, zero, suc, List, [], length, take, drop, min}
-use Rattle.std.specs.Prelude.{slice_index_or}
+use Rattle.std.specs.Prelude.{if◌then◌else◌, nat_le, slice_index_or}
 use Rattle.sha2.specs.Sha256.{sha256}
 
--- a page of some bytes: 16384 of them, the last one what is left
+-- a page of some bytes: 4096 of them, the last one what is left
 abbrev pub page_of : List ℕ → ℕ → List ℕ
-page_of all i = take 16384 (drop (16384 * i) all)
+page_of all i = take 4096 (drop (4096 * i) all)
 
 -- how many pages so many bytes have
 abbrev pub pages_in : ℕ → ℕ
-pages_in size = (size + 16383) / 16384
+pages_in size = (size + 4095) / 4096
 
 -- the digests of so many pages of some bytes, from one of them on
 unfoldable pub digests_from : ℕ → ℕ → List ℕ → List ℕ
@@ -20,45 +20,89 @@ digests_from (suc count) i all = sha256 (page_of all i) ++ digests_from count (i
 abbrev pub page_digests : List ℕ → List ℕ
 page_digests all = digests_from (pages_in (length all)) 0 all
 
--- some bytes as they are stored: their page digests, and then they themselves
-abbrev pub stored : List ℕ → List ℕ
-stored all = page_digests all ++ all
+-- the levels above so many bytes, counted in so many steps: none above one page, otherwise that of their page digests
+-- and the levels above these
+unfoldable pub height_in : ℕ → ℕ → ℕ
+height_in zero size = 0
+height_in (suc steps) size = if nat_le size 4096 then 0 else suc (height_in steps (32 * pages_in size))
 
--- where bytes are said to be stored in a text, how many they are, and the SHA-256 of their page digests
+-- how many levels are above so many bytes
+abbrev pub height : ℕ → ℕ
+height size = height_in size size
+
+-- a level of some bytes: they themselves, and above each level its page digests
+abbrev pub level_of : ℕ → List ℕ → List ℕ
+level_of zero all = all
+level_of (suc k) all = page_digests (level_of k all)
+
+-- some bytes after so many levels above them, the highest first
+unfoldable pub stored_in : ℕ → List ℕ → List ℕ
+stored_in zero all = all
+stored_in (suc n) all = stored_in n (page_digests all) ++ all
+
+-- some bytes as they are stored: at most one page as itself, others after their page digests, which are stored in the
+-- same way (`laws::stored_is`)
+abbrev pub stored : List ℕ → List ℕ
+stored all = stored_in (height (length all)) all
+
+-- the SHA-256 of the highest level, which is one page
+abbrev pub root_of : List ℕ → List ℕ
+root_of all = sha256 (level_of (height (length all)) all)
+
+-- how many bytes a level has, of so many
+abbrev pub level_size : ℕ → ℕ → ℕ
+level_size zero size = size
+level_size (suc k) size = 32 * pages_in (level_size k size)
+
+-- how many bytes so many levels above so many bytes have
+unfoldable pub digests_size_in : ℕ → ℕ → ℕ
+digests_size_in zero size = 0
+digests_size_in (suc n) size = digests_size_in n (32 * pages_in size) + 32 * pages_in size
+
+-- how many bytes are stored before so many
+abbrev pub digests_size : ℕ → ℕ
+digests_size size = digests_size_in (height size) size
+
+-- where bytes are said to be stored in a text, how many they are, and their root
 pub record Claim : Type 0 where
   pub offset : ℕ
   pub size : ℕ
   pub root : List ℕ
 
--- what the text has where the page digests are said to be
-abbrev pub digests_in : List ℕ → Claim → List ℕ
-digests_in text claim = take (32 * pages_in claim.size) (drop claim.offset text)
+-- the offset of the first byte of a level
+abbrev pub first_of : Claim → ℕ → ℕ
+first_of claim k = claim.offset + digests_size (level_size k claim.size)
 
--- the offset of the first of the bytes
-abbrev pub first_of : Claim → ℕ
-first_of claim = claim.offset + 32 * pages_in claim.size
-
--- what the text has where a page is said to be
-abbrev pub page_in : List ℕ → Claim → ℕ → List ℕ
-page_in text claim i = take (min 16384 (claim.size - 16384 * i)) (drop (first_of claim + 16384 * i) text)
+-- what the text has where a page of a level is said to be
+abbrev pub page_in : List ℕ → Claim → ℕ → ℕ → List ℕ
+page_in text claim k i =
+    take (min 4096 (level_size k claim.size - 4096 * i)) (drop (first_of claim k + 4096 * i) text)
 
 -- these bytes are stored where the claim says
 pub record AreStored (text : List ℕ) (claim : Claim) (all : List ℕ) : Type 0 where
   pub size : length all ≡ claim.size
-  pub root : sha256 (page_digests all) ≡ claim.root
+  pub root : root_of all ≡ claim.root
   pub within : claim.offset + length (stored all) ≤ length text
   pub bytes : take (length (stored all)) (drop claim.offset text) ≡ stored all
 
--- As far as SHA-256 tells, these bytes are stored there: what is there and has the digest of their page digests, or of
--- a page, is that. Of bytes that are stored there this supposes nothing (`laws::stored_may_be`); of others it supposes
--- that no two of these have one digest.
+-- as far as SHA-256 tells, what is there and has the digest of a page of a level of these bytes is that page
+unfoldable pub DigestsTellPages : List ℕ → Claim → List ℕ → Type 0
+DigestsTellPages text claim all =
+    (k i : ℕ) → k ≤ height claim.size → 4096 * i < level_size k claim.size
+    → sha256 (page_in text claim k i) ≡ sha256 (page_of (level_of k all) i)
+    → page_in text claim k i ≡ page_of (level_of k all) i
+
+-- As far as SHA-256 tells, these bytes are stored there. Of bytes that are stored there this supposes nothing
+-- (`laws::stored_may_be`); of others it supposes that no two of the pages that it names have one digest.
 pub record MayBeStored (text : List ℕ) (claim : Claim) (all : List ℕ) : Type 0 where
   pub size : length all ≡ claim.size
-  pub root : sha256 (page_digests all) ≡ claim.root
-  pub digests : sha256 (digests_in text claim) ≡ claim.root → digests_in text claim ≡ page_digests all
-  pub pages : (i : ℕ) → 16384 * i < claim.size → sha256 (page_in text claim i) ≡ sha256 (page_of all i)
-      → page_in text claim i ≡ page_of all i
+  pub root : root_of all ≡ claim.root
+  pub tells : DigestsTellPages text claim all
 
 -- each page that is kept is one of these bytes; a list without bytes keeps none
 abbrev pub AreKept : List (List ℕ) → List ℕ → Type 0
 AreKept kept all = (i : ℕ) → 0 < length (slice_index_or kept i []) → slice_index_or kept i [] ≡ page_of all i
+
+-- the pages that are kept, by their levels and numbers, are pages of the levels of these bytes
+unfoldable pub AreKeptLevels : List (List (List ℕ)) → List ℕ → Type 0
+AreKeptLevels kept all = (k : ℕ) → AreKept (slice_index_or kept k []) (level_of k all)

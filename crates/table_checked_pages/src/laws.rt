@@ -1,7 +1,16 @@
-//! What is supposed of SHA-256. Each law is the contract of a function that does nothing.
+//! How bytes are stored, and what is supposed of SHA-256. Each law is the contract of a function that does nothing.
 
-ghost use Rattle.std.specs.Prelude.{ℕ, List};
-ghost use Rattle.table_checked_pages.specs.Pages.{AreStored, Claim, MayBeStored};
+ghost use Rattle.std.specs.Prelude.{◌≡◌, ◌<◌, ◌≤◌, ◌++◌, ℕ, List, length};
+ghost use Rattle.sha2.specs.Sha256.{sha256};
+ghost use Rattle.table_checked_pages.specs.Pages.{AreStored, Claim, MayBeStored, page_digests, root_of, stored};
+
+/// At most one page is stored as it is, and its root is its SHA-256. More bytes are stored after their page digests,
+/// which are stored in the same way, and whose root is theirs.
+pub fn stored_is()
+    ensures page { (all : List ℕ) → length all ≤ 4096 → (stored all ≡ all) × (root_of all ≡ sha256 all) }
+    ensures pages { (all : List ℕ) → 4096 < length all
+        → (stored all ≡ stored (page_digests all) ++ all) × (root_of all ≡ root_of (page_digests all)) }
+{}
 
 /// Of bytes that are stored where a claim says, nothing is supposed of SHA-256: they may be stored there.
 pub fn stored_may_be()

@@ -1,9 +1,10 @@
 //! Stored bytes, and those of their pages that are known.
 
-ghost use Rattle.std.specs.Prelude.{◌≡◌, ◌+◌, ◌*◌, ◌<◌, ◌^◌, length};
-ghost use Rattle.table_checked_pages.specs.Pages.{pages_in};
+ghost use Rattle.std.specs.Prelude.{◌≡◌, ◌+◌, ◌<◌, ◌^◌, ℕ, List, [], OnOk, length};
+ghost use Rattle.table_checked_pages.specs.Pages.{digests_size};
 
 use crate::Claim;
+use crate::level::Level;
 use memory::Heap;
 
 /// Bytes that are stored in a device, read page by page. Each page is compared with its digest once, before a byte of
@@ -11,11 +12,8 @@ use memory::Heap;
 #[derive(Drop)]
 pub struct Pages {
     pub(crate) claim: Claim,
-    // The page digests, compared with the SHA-256 that the claim has of them.
-    pub(crate) digests: Vec<u8, Heap>,
-    // The pages that were read, by their numbers; one without bytes was not.
-    pub(crate) kept: Vec<Vec<u8, Heap>, Heap>,
+    // What is known of each level, from the bytes up; of a level that is not there nothing is.
+    pub(crate) levels: Vec<Level, Heap>,
     pub(crate) heap: Heap,
-    ghost fits: { claim.offset + 32 * pages_in claim.size + claim.size < 2 ^ 64 },
-    ghost whole: { length digests.items ≡ 32 * pages_in claim.size },
+    ghost fits: { claim.offset + digests_size claim.size + claim.size < 2 ^ 64 },
 }

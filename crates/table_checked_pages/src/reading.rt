@@ -1,13 +1,16 @@
 //! Stored bytes, read page by page.
 
-ghost use Rattle.std.specs.Prelude.{◌≡◌, ◌+◌, ◌-◌, ◌*◌, ◌<◌, ◌≤◌, ℕ, List, [], OnOk, IfOk, Some, length, take, drop};
-ghost use Rattle.std.specs.Prelude.{map, min, slice_index_or};
-ghost use Rattle.table_checked_pages.specs.Pages.{AreKept, AreStored, page_of};
-ghost use Rattle.table_checked_pages.specs.Views.{ArePagesOf, KeepsPages, claim_view};
+ghost use Rattle.std.specs.Prelude.{◌≡◌, ◌+◌, ◌-◌, ◌*◌, ◌/◌, ◌%◌, ◌<◌, ◌≤◌, ◌↔◌, ℕ, List, IsTrue, OnOk, IfOk, Some};
+ghost use Rattle.std.specs.Prelude.{length, take, drop, min};
+ghost use Rattle.sha2.specs.Sha256.{sha256};
+ghost use Rattle.table_checked_pages.specs.Pages.{AreKeptLevels, AreStored, digests_size, first_of, height, level_of};
+ghost use Rattle.table_checked_pages.specs.Pages.{level_size, page_of};
+ghost use Rattle.table_checked_pages.specs.Views.{ArePagesOf, KeepsPages, claim_view, kept_view, page_at};
 ghost use Rattle.table_checked_pages.specs.Reading.{ReadsStored};
 
 use crate::checking::read_checked;
-use crate::opening::{DIGEST_LEN, PAGE_LEN};
+use crate::level::Level;
+use crate::sizes::{DIGEST_LEN, FAN_OUT, PAGE_LEN, digests_len, level_size};
 use crate::{CheckFault, Pages};
 use byte_device::Placed;
 use memory::{Heap, NoMemory};
@@ -20,82 +23,134 @@ impl Pages {
         self.claim.size
     }
 
-    /// Drops the pages that were read. One of which bytes are asked for is read anew.
+    /// Drops the pages of the bytes that were read, but no digests. One of which bytes are asked for is read anew.
+    #[tactic(auto, unfolding(crate::specs::Pages::AreKeptLevels))]
     pub fn forget(&mut self)
         ensures claim { self.new.claim ≡ self.old.claim }
         ensures keeps { (text all : List ℕ) → ArePagesOf self.old text all → ArePagesOf self.new text all }
     {
-        self.kept = Vec::new(self.heap.share());
+        if self.levels.len() > 0 {
+            self.levels[0] = Level::new(self.heap.share());
+        }
     }
 
-    /// How many bytes a page has.
-    fn page_len(&self, index: u64) -> u64
-        requires { 16384 * index < self.now.claim.size }
-        ensures { result ≡ min 16384 (self.now.claim.size - 16384 * index) }
+    /// How many bytes a page of a level has.
+    fn page_len(&self, level: usize, index: u64) -> u64
+        requires { 4096 * index < level_size level self.now.claim.size }
+        ensures { result ≡ min 4096 (level_size level self.now.claim.size - 4096 * index) }
     {
-        (self.claim.size - PAGE_LEN * index).min(PAGE_LEN)
+        (level_size(self.claim.size, level) - PAGE_LEN * index).min(PAGE_LEN)
     }
 
     /// The offset of a page in the device.
-    fn page_offset(&self, index: u64) -> u64
-        requires { 16384 * index < self.now.claim.size }
-        ensures { result ≡ self.now.claim.offset + length self.now.digests.items + 16384 * index }
+    fn page_offset(&self, level: usize, index: u64) -> u64
+        requires level { level ≤ height self.now.claim.size }
+        requires page { 4096 * index < level_size level self.now.claim.size }
+        ensures { result ≡ first_of (claim_view self.now.claim) level + 4096 * index }
     {
-        self.claim.offset + self.digests.len() as u64 + PAGE_LEN * index
+        let size = level_size(self.claim.size, level);
+        self.claim.offset + digests_len(size) + PAGE_LEN * index
     }
 
-    /// The digest of a page.
-    fn digest(&self, index: u64) -> &[u8]
-        requires { 16384 * index < self.now.claim.size }
-        ensures { result.now ≡ take 32 (drop (32 * index) self.now.digests.items) }
+    /// A page of a level, without bytes if it is not kept.
+    fn page(&self, level: usize, index: u64) -> &[u8]
+        ensures { result.now ≡ page_at self.now level index }
     {
-        let from = (DIGEST_LEN * index) as usize;
-        &self.digests[from..from + DIGEST_LEN as usize]
+        match self.levels.get(level) {
+            Some(pages) => pages.page(index),
+            None => &[],
+        }
     }
 
-    /// Reads a page, and compares it with its digest.
-    fn page<P: Placed>(
-        &self,
-        heap: Heap,
-        device: &mut P,
-        index: u64,
-    ) -> Result<Vec<u8, Heap>, CheckFault>
-        requires { 16384 * index < self.now.claim.size }
-        ensures long { IfOk result (λ page. length page.items ≡ min 16384 (self.now.claim.size - 16384 * index)) }
-        ensures read { ReadsStored P.whole P.failures device.old device.new result
-            (λ text page. (all : List ℕ) → ArePagesOf self.now text all → page.items ≡ page_of all index)
-            (λ text. (all : List ℕ) → AreStored text (claim_view self.now.claim) all → ArePagesOf self.now text all
-            → ⊥) }
+    /// Whether a page of a level is kept.
+    fn is_kept(&self, level: usize, index: u64) -> bool
+        requires { 4096 * index < level_size level self.now.claim.size }
+        ensures { IsTrue result
+            ↔ (length (page_at self.now level index) ≡ min 4096 (level_size level self.now.claim.size - 4096 * index)) }
     {
-        read_checked(
-            heap,
-            device,
-            self.page_offset(index),
-            self.page_len(index),
-            self.digest(index),
-        )
+        self.page(level, index).len() as u64 == self.page_len(level, index)
     }
 
-    /// Makes room for a page among those that are kept.
-    fn make_room(&mut self, index: u64) -> Result<(), NoMemory>
-        ensures room { OnOk result (index < length self.new.kept.items) }
+    /// The digest of a page of a level, in the page above it, which is kept.
+    fn digest(&self, level: usize, index: u64) -> [u8; 32]
+        requires { 32 * (index % 128) + 32 ≤ length (page_at self.now (level + 1) (index / 128)) }
+        ensures { result ≡ take 32 (drop (32 * (index % 128)) (page_at self.now (level + 1) (index / 128))) }
+    {
+        let from = (DIGEST_LEN * (index % FAN_OUT)) as usize;
+        let page = self.page(level + 1, index / FAN_OUT);
+        let mut digest = [0; 32];
+        digest.copy_from_slice(&page[from..from + DIGEST_LEN as usize]);
+        digest
+    }
+
+    /// Makes room for what is known of a level.
+    fn make_level(&mut self, level: usize) -> Result<(), NoMemory>
+        ensures room { OnOk result (level < length self.new.levels.items) }
         ensures claim { self.new.claim ≡ self.old.claim }
-        ensures digests { self.new.digests ≡ self.old.digests }
-        ensures keeps { (all : List ℕ) → AreKept (map (λ page. page.items) self.old.kept.items) all
-            → AreKept (map (λ page. page.items) self.new.kept.items) all }
+        ensures keeps { (all : List ℕ) → AreKeptLevels (kept_view self.old) all
+            → AreKeptLevels (kept_view self.new) all }
     {
-        'room: while self.kept.len() as u64 <= index {
-            self.kept.push(Vec::new(self.heap.share()))?;
+        'room: while self.levels.len() <= level {
+            self.levels.push(Level::new(self.heap.share()))?;
         }
         Ok(())
     }
 
-    /// Keeps a page, unless it is kept.
-    fn bring<P: Placed>(&mut self, device: &mut P, index: u64) -> Result<(), CheckFault>
-        requires { 16384 * index < self.old.claim.size }
-        ensures room { OnOk result (index < length self.new.kept.items) }
-        ensures long { OnOk result (length (slice_index_or (map (λ page. page.items) self.new.kept.items) index [])
-            ≡ min 16384 (self.old.claim.size - 16384 * index)) }
+    /// Keeps a page of a level.
+    fn keep(&mut self, level: usize, index: u64, page: Vec<u8, Heap>) -> Result<(), NoMemory>
+        ensures kept { OnOk result (page_at self.new level index ≡ page.items) }
+        ensures claim { self.new.claim ≡ self.old.claim }
+        ensures keeps { (all : List ℕ) → page.items ≡ page_of (level_of level all) index
+            → AreKeptLevels (kept_view self.old) all → AreKeptLevels (kept_view self.new) all }
+    {
+        self.make_level(level)?;
+        let heap = self.heap.share();
+        let pages = &mut self.levels[level];
+        pages.keep(&heap, index, page)
+    }
+
+    /// Reads a page of a level, compares it with a digest, and keeps it.
+    fn fetch<P: Placed>(
+        &mut self,
+        device: &mut P,
+        level: usize,
+        index: u64,
+        digest: &[u8],
+    ) -> Result<(), CheckFault>
+        requires level { level ≤ height self.old.claim.size }
+        requires page { 4096 * index < level_size level self.old.claim.size }
+        ensures long { OnOk result (length (page_at self.new level index)
+            ≡ min 4096 (level_size level self.old.claim.size - 4096 * index)) }
+        ensures claim { self.new.claim ≡ self.old.claim }
+        ensures keeps { (text all : List ℕ) → P.whole device.old ≡ Some text
+            → digest.now ≡ sha256 (page_of (level_of level all) index)
+            → ArePagesOf self.old text all → ArePagesOf self.new text all }
+        ensures read { ReadsStored P.whole P.failures device.old device.new result
+            (λ _ _. Unit {0})
+            (λ text. (all : List ℕ) → AreStored text (claim_view self.old.claim) all
+            → digest.now ≡ sha256 (page_of (level_of level all) index) → ⊥) }
+    {
+        let offset = self.page_offset(level, index);
+        let len = self.page_len(level, index);
+        let page = read_checked(self.heap.share(), device, offset, len, digest)?;
+        match self.keep(level, index, page) {
+            Ok(()) => Ok(()),
+            Err(NoMemory) => Err(CheckFault::OutOfMemory),
+        }
+    }
+
+    /// Keeps a page of a level, unless it is kept, after the page above it, which has its digest; that of the highest
+    /// level is the root.
+    fn bring<P: Placed>(
+        &mut self,
+        device: &mut P,
+        level: usize,
+        index: u64,
+    ) -> Result<(), CheckFault>
+        requires level { level ≤ height self.old.claim.size }
+        requires page { 4096 * index < level_size level self.old.claim.size }
+        ensures long { OnOk result (length (page_at self.new level index)
+            ≡ min 4096 (level_size level self.old.claim.size - 4096 * index)) }
         ensures claim { self.new.claim ≡ self.old.claim }
         ensures keeps { KeepsPages P.whole device.old self.old self.new }
         ensures read { ReadsStored P.whole P.failures device.old device.new result
@@ -103,16 +158,16 @@ impl Pages {
             (λ text. (all : List ℕ) → AreStored text (claim_view self.old.claim) all → ArePagesOf self.old text all
             → ⊥) }
     {
-        if let Err(NoMemory) = self.make_room(index) {
-            return Err(CheckFault::OutOfMemory);
-        }
-        let place = index as usize;
-        if self.kept[place].len() as u64 == self.page_len(index) {
+        if self.is_kept(level, index) {
             return Ok(());
         }
-        let page = self.page(self.heap.share(), device, index)?;
-        self.kept[place] = page;
-        Ok(())
+        if level_size(self.claim.size, level) <= PAGE_LEN {
+            let root = self.claim.root;
+            return self.fetch(device, level, index, &root);
+        }
+        self.bring(device, level + 1, index / FAN_OUT)?;
+        let digest = self.digest(level, index);
+        self.fetch(device, level, index, &digest)
     }
 
     /// Fills a buffer with bytes of a page, from one of its bytes on.
@@ -123,18 +178,18 @@ impl Pages {
         skip: usize,
         buf: &mut [u8],
     ) -> Result<(), CheckFault>
-        requires page { 16384 * index < self.old.claim.size }
-        requires inside { skip + length buf.old ≤ min 16384 (self.old.claim.size - 16384 * index) }
+        requires page { 4096 * index < self.old.claim.size }
+        requires inside { skip + length buf.old ≤ min 4096 (self.old.claim.size - 4096 * index) }
         ensures claim { self.new.claim ≡ self.old.claim }
         ensures keeps { KeepsPages P.whole device.old self.old self.new }
         ensures read { ReadsStored P.whole P.failures device.old device.new result
             (λ text _. (all : List ℕ) → ArePagesOf self.old text all
-            → buf.new ≡ take (length buf.new) (drop (16384 * index + skip) all))
+            → buf.new ≡ take (length buf.new) (drop (4096 * index + skip) all))
             (λ text. (all : List ℕ) → AreStored text (claim_view self.old.claim) all → ArePagesOf self.old text all
             → ⊥) }
     {
-        self.bring(device, index)?;
-        let page = &self.kept[index as usize];
+        self.bring(device, 0, index)?;
+        let page = self.page(0, index);
         buf.copy_from_slice(&page[skip..skip + buf.len()]);
         Ok(())
     }
@@ -165,7 +220,7 @@ impl Pages {
             }
             let index = place / PAGE_LEN;
             let skip = (place % PAGE_LEN) as usize;
-            let n = (self.page_len(index) as usize - skip).min(buf.len() - done);
+            let n = (self.page_len(0, index) as usize - skip).min(buf.len() - done);
             self.part(device, index, skip, &mut buf[done..done + n])?;
             done += n;
         }

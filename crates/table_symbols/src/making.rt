@@ -1,9 +1,9 @@
 //! The table of an image, made and written.
 
-ghost use Rattle.std.specs.Prelude.{◌≡◌, ◌<◌, ◌+◌, ◌*◌, ◌^◌, ◌↔◌, IfOk, IsTrue, length, take, drop};
+ghost use Rattle.std.specs.Prelude.{◌≡◌, ◌<◌, ◌+◌, ◌*◌, ◌^◌, ◌++◌, ◌≤◌, ◌↔◌, IfOk, IsTrue, length, take, drop};
 ghost use Rattle.sha2.specs.Sha256.{sha256};
 ghost use Rattle.byte_device.specs.Writes.{Puts};
-ghost use Rattle.table_checked_pages.specs.Pages.{page_digests, page_of, stored};
+ghost use Rattle.table_checked_pages.specs.Pages.{page_digests, page_of, root_of, stored};
 ghost use Rattle.macho_symbols.specs.Fault.{HasSymbols};
 ghost use Rattle.table_symbols.specs.Table.{IsTableWith};
 
@@ -14,7 +14,7 @@ use macho_symbols::{Symbols, collect_sections, steps, strings_of};
 use memory::{Heap, NoMemory};
 use sha2::{Digest, Sha256};
 use std::marker::Model;
-use table_checked_pages::{PAGE_LEN, pages_in};
+use table_checked_pages::{PAGE_LEN, Stored, pages_in, store};
 
 /// The bytes of the table of an image: its head, sections and rows, its strings, which are borrowed from the image, and
 /// its lines. A contract sees all of them, one after another.
@@ -96,8 +96,7 @@ impl<'a> TableText<'a> {
 
     /// The SHA-256 of a page. What it has of the strings and the lines is not copied.
     fn page_digest(&self, index: u64) -> [u8; 32]
-        requires there { 16384 * index < length self.now }
-        requires fits { 16384 * index < 2 ^ 64 }
+        requires { 4096 * index < 2 ^ 64 }
         ensures { result ≡ sha256 (page_of self.now index) }
     {
         let from = PAGE_LEN as usize * index as usize;
@@ -114,8 +113,8 @@ impl<'a> TableText<'a> {
         hasher.finalize()
     }
 
-    /// The SHA-256 of each page, one after another: what stands before the table where it is stored.
-    pub fn page_digests(&self, heap: Heap) -> Result<Vec<u8, Heap>, NoMemory>
+    /// The SHA-256 of each page, one after another.
+    fn page_digests(&self, heap: Heap) -> Result<Vec<u8, Heap>, NoMemory>
         ensures { IfOk result (λ digests. digests.items ≡ page_digests self.now) }
     {
         let mut digests = Vec::new(heap);
@@ -125,14 +124,29 @@ impl<'a> TableText<'a> {
         Ok(digests)
     }
 
-    /// Writes the table as it is stored, after the first `done` bytes of a text, and says how many there are then. The
-    /// digests are those of its pages.
-    pub fn write<W: Sink>(&self, digests: &[u8], w: &mut W, done: u128) -> Result<u128, WriteFault>
-        requires digests { digests.now ≡ page_digests self.now }
+    /// What stands before the table where it is stored, and its root. Each page is hashed once.
+    pub fn above(&self, heap: &Heap) -> Result<Stored, NoMemory>
+        ensures stored { IfOk result (λ above. above.bytes.items ++ self.now ≡ stored self.now) }
+        ensures root { IfOk result (λ above. above.root ≡ root_of self.now) }
+    {
+        if self.size() <= PAGE_LEN {
+            return Ok(Stored {
+                bytes: Vec::new(heap.share()),
+                root: self.page_digest(0),
+            });
+        }
+        let digests = self.page_digests(heap.share())?;
+        store(heap, digests)
+    }
+
+    /// Writes the table as it is stored, after the first `done` bytes of a text, and says how many there are then.
+    /// `above` stands before it.
+    pub fn write<W: Sink>(&self, above: &[u8], w: &mut W, done: u128) -> Result<u128, WriteFault>
+        requires above { above.now ++ self.now ≡ stored self.now }
         requires fits { done < 2 ^ 127 }
         ensures { Puts W.held W.failures (λ n. n) w.old w.new done (stored self.now) result }
     {
-        let between = put(w, done, digests)?;
+        let between = put(w, done, above)?;
         let before = put(w, between, &self.own)?;
         let after = put(w, before, self.strings)?;
         put(w, after, &self.lines)

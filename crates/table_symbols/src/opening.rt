@@ -65,7 +65,7 @@ impl Table {
             (λ text. length text < 2 ^ 64 → (t : TableParts) → FitsTable t
             → AreStored text (claim_view claim) (table_bytes t) → ⊥) }
     {
-        let mut pages = Pages::open(heap, device, claim)?;
+        let mut pages = Pages::open(heap, claim)?;
         let mut bytes = [0; HEAD_LEN];
         pages.read(device, 0, &mut bytes)?;
         let head = head_of(&bytes);

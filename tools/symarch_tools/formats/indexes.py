@@ -1,7 +1,7 @@
 """Indexes of archives: of each record its entry in the summary, whether it is a companion's, where it stands, and
 where the table of its slice is stored in the index. An index is read from its end: its tables are not read for that,
 and are copied from one index into another. docs/FILES.md has the bytes. One of another kind does not count: of a
-release before 2.4, without tables, or whose last table is not as long as its head states."""
+release before 2.4, without tables, or with tables in pages of another length."""
 import hashlib
 import io
 import os
@@ -17,29 +17,26 @@ ROW = struct.Struct(f">{len(ADMISSION) + ENTRY}sBQQQQ{DIGEST}s")
 # How long the end record of an archive is, and that of an index, which has the SHA-256 of the entries.
 TAIL = len(END) + LENGTH
 INDEX_TAIL = TAIL + DIGEST
-# The numbers in the head of a table of sections, rows, and bytes of strings and of lines; and how long a section and a
-# row are.
-TABLE_HEAD, SECTION, TABLE_ROW = struct.Struct(">16x4Q"), 32, 21
 # How many bytes an entry has in an index without tables.
 PLACED = len(ADMISSION) + ENTRY + 1 + 2 * LENGTH
 # How many bytes of an admission stand before its slice.
 HEAD = len(ADMISSION) + KEY + LENGTH
 # mach-o/loader.h: the file type of a companion, and where it stands.
 MH_DSYM, FILETYPE = b"\x0a\0\0\0", 12
-# How many bytes a page of a table has.
-PAGE = 1 << 14
-# The SHA-256 of no page digests, which a slice without a table has; and what a retirement has in its place.
+# How many bytes a page of a table has, and had before 2.4 was released.
+PAGE, EARLIER_PAGE = 1 << 12, 1 << 14
+# The root of no bytes, which a slice without a table has; and what a retirement has in its place.
 NO_TABLE, NO_ROOT = hashlib.sha256().digest(), bytes(DIGEST)
 OTHER_KIND = "is an index of another kind"
 
 
 class OtherKind(Malformed):
-    """An index of a release before 2.4; or without tables, or with tables that have no lines: no release wrote one."""
+    """An index of a release before 2.4; or without tables, or with others' pages: no release wrote one."""
 
 
 class IndexRow(NamedTuple):
     """What an index has of a record: its entry in the summary, whether it is a companion's, its place and length; and
-    of a slice where its table is stored in the index, how many bytes that has, and the SHA-256 of its page digests."""
+    of a slice where its table is stored in the index, how many bytes that has, and its root."""
 
     entry: bytes
     is_companion: int
@@ -66,13 +63,26 @@ class IndexRow(NamedTuple):
         return stored_size(self.size)
 
 
-def pages_in(size: int) -> int:
-    return -(-size // PAGE)
+def pages_in(size: int, page: int = PAGE) -> int:
+    return -(-size // page)
+
+
+def level_sizes(size: int) -> List[int]:
+    """How many bytes a table of so many has, and each level of page digests above it."""
+    sizes = [size]
+    while sizes[-1] > PAGE:
+        sizes.append(pages_in(sizes[-1]) * DIGEST)
+    return sizes
 
 
 def stored_size(size: int) -> int:
     """How many bytes a table of so many takes in an index."""
-    return pages_in(size) * DIGEST + size
+    return sum(level_sizes(size))
+
+
+def earlier_size(size: int) -> int:
+    """How many it took before 2.4 was released."""
+    return pages_in(size, EARLIER_PAGE) * DIGEST + size
 
 
 @dataclass(eq=False)
@@ -162,11 +172,11 @@ def index_in(file: BinaryIO, path: bytes = b"") -> Index:
     if begins != INDEX or end[: len(END)] != END or MAGIC + count * ROW.size + INDEX_TAIL > size:
         raise Malformed("is no index")
     index = Index(last_of(file, size - INDEX_TAIL, count * ROW.size), path)
-    tables = sum(stored_size(table) for *_, table, _ in ROW.iter_unpack(index.entries))
-    if index.end() != end or size != MAGIC + tables + len(index.entries) + len(end):
+    tables, sizes = size - MAGIC - len(index.entries) - len(end), [row.size for row in index.rows()]
+    if index.end() != end:
         raise Malformed("is no index")
-    if index.count() and not has_lines(file, index.row(index.count() - 1)):
-        raise OtherKind(OTHER_KIND)
+    if tables != sum(map(stored_size, sizes)):
+        raise OtherKind(OTHER_KIND) if tables == sum(map(earlier_size, sizes)) else Malformed("is no index")
     return index
 
 
@@ -180,20 +190,6 @@ def is_without_tables(file: BinaryIO, size: int) -> bool:
     """Whether an index ends as one without tables, which has no SHA-256 of its entries."""
     count = max(size - MAGIC - TAIL, 0) // PLACED
     return last_of(file, size, TAIL) == END + count.to_bytes(LENGTH, "big")
-
-
-def has_lines(file: BinaryIO, row: IndexRow) -> bool:
-    """Whether a table is as long as its head says, with lines; or its first page has other bytes than were written."""
-    file.seek(row.table)
-    digest = file.read(DIGEST)
-    file.seek(row.table + pages_in(row.size) * DIGEST)
-    page = file.read(min(PAGE, row.size))
-    if row.size == 0 or hashlib.sha256(page).digest() != digest:
-        return True
-    if len(page) < TABLE_HEAD.size:
-        return False
-    sections, rows, strings, lines = TABLE_HEAD.unpack_from(page)
-    return bool(row.size == TABLE_HEAD.size + SECTION * sections + TABLE_ROW * rows + strings + lines)
 
 
 def index_at(path: bytes) -> Index:

@@ -12,7 +12,7 @@ from ..console.escapes import shown
 from ..console.faults import Failed, about
 from ..console.streams import write
 from .contents import CHUNK, DIGEST, MAGIC, Moved, unmoved
-from .indexes import INDEX, NO_ROOT, NO_TABLE, PAGE, Index, IndexRow, index_of, pages_in
+from .indexes import INDEX, NO_ROOT, NO_TABLE, PAGE, Index, IndexRow, index_of, level_sizes, pages_in
 
 
 class Tables:
@@ -100,18 +100,21 @@ def write_index(path: bytes, index: Index, tables: Tables, moved: Moved = unmove
 
 
 def is_good(file: BinaryIO, row: IndexRow, moved: Moved = unmoved) -> bool:
-    """Whether the table of a slice that an index has is what its entry says: by its page digests, and by each page."""
+    """Whether the table of a slice that an index has is what its entry says: the first page of what is stored by the
+    root, and each other by the page above it."""
     file.seek(row.table)
-    digests = file.read(pages_in(row.size) * DIGEST)
-    is_right = hashlib.sha256(digests).digest() == row.root
-    moved(len(digests))
-    for number in range(pages_in(row.size)):
-        if not is_right:
-            break
-        page = file.read(min(PAGE, row.size - number * PAGE))
-        moved(len(page))
-        is_right = hashlib.sha256(page).digest() == digests[number * DIGEST : (number + 1) * DIGEST]
-    return is_right
+    digests = row.root
+    for level, size in reversed(list(enumerate(level_sizes(row.size)))):
+        pages = bytearray()
+        for number in range(pages_in(size)):
+            page = file.read(min(PAGE, size - number * PAGE))
+            moved(len(page))
+            if hashlib.sha256(page).digest() != digests[number * DIGEST : (number + 1) * DIGEST]:
+                return False
+            if level:
+                pages += page
+        digests = bytes(pages)
+    return True
 
 
 def changed_in(file: BinaryIO, rows: Iterable[IndexRow], moved: Moved = unmoved) -> Iterator[IndexRow]:

@@ -26,6 +26,10 @@ returns-in_err-below-clause-read g c =
     (c.halving.invariant.keeps text all known pages) held)
     (after_ok _ _ _ _ _ _ _ _ c.halving.invariant.whole c.halving.invariant.unfailed c.is_below.ensures.read)
 
+pub returns-in_err-below-clause-keeps : goal.returns-in_err-below-clause-keeps
+returns-in_err-below-clause-keeps g c = λ text all known pages.
+    c.is_below.ensures.keeps text all (c.halving.invariant.whole ∙ known) (c.halving.invariant.keeps text all known pages)
+
 pub halving-preserved-then-below : goal.halving-preserved-then-below
 halving-preserved-then-below g c =
     let middle : ℕ = c.halving.low + (c.halving.high - c.halving.low) / 2 in

@@ -1,18 +1,14 @@
-use Rattle.std.proofs.Common.{refl, arith}
+use Rattle.std.proofs.Common.{arith}
 use Rattle.table_checked_pages.specs.Views.{claim_view}
-use Rattle.table_checked_pages.proofs.PageLemmas.{digests_are_there, lies_within}
-use Rattle.table_checked_pages.proofs.ReadLemmas.{passed_on}
+use Rattle.table_checked_pages.proofs.PageLemmas.{lies_within}
 use Rattle.table_checked_pages.proofs.pages.Pages.open.Goals as goal
 
-pub returns-in_default-clause-read : goal.returns-in_default-clause-read
-returns-in_default-clause-read g c = record {
-  says = λ text is long all are. c.in_default.ensures.none refl (omega (arith, long, lies_within text all (claim_view c.args.claim) are));
-  keeps = refl;
-  counts = refl;
-}
+pub returns-in_default-clause-absent : goal.returns-in_default-clause-absent
+returns-in_default-clause-absent c = λ text long all are.
+    c.in_default.ensures (omega (arith, long, c.digests_len.ensures.is, lies_within text all (claim_view c.args.claim) are))
 
-pub returns-in_err-digests-clause-read : goal.returns-in_err-digests-clause-read
-returns-in_err-digests-clause-read g c =
-    passed_on _ _ _ _ _ _ _ _ _ _ _ c.in_err-digests.was c.from_residual.ensures.1
-    (λ text known absent long all are. digests_are_there text all (claim_view c.args.claim) c.in-Some.len are
-    c.in-Some.ensures.len absent) c.read_checked.ensures.read
+pub returns-in_default-checked_add-clause-absent : goal.returns-in_default-checked_add-clause-absent
+returns-in_default-checked_add-clause-absent c = λ text long all are.
+    let first = c.in-Some.ensures.1 in
+    c.in_default-checked_add.ensures
+    (omega (arith, long, first, c.digests_len.ensures.is, lies_within text all (claim_view c.args.claim) are))

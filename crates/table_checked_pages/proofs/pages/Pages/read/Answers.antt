@@ -1,7 +1,10 @@
-use Rattle.std.proofs.Common.{◌≡◌, ℕ, ◌+◌, ◌*◌, ◌/◌, ◌%◌, length, take, drop, sym, ap, ◌∙◌, arith}
+use Rattle.std.proofs.Common.{◌≡◌, ℕ, ◌+◌, ◌*◌, ◌/◌, ◌%◌, length, take, drop, sym, subst, ap, ◌∙◌, arith}
 use Rattle.std.proofs.lemmas.Slice.{take-put_mid}
 use Rattle.std.proofs.lemmas.List.{take_all}
+use Rattle.table_checked_pages.specs.Pages.{AreStored}
+use Rattle.table_checked_pages.specs.Views.{claim_view}
 use Rattle.table_checked_pages.proofs.PageLemmas.{more_came}
+use Rattle.table_checked_pages.proofs.ReadLemmas.{after_ok, passed_on}
 use Rattle.table_checked_pages.proofs.pages.Pages.read.Goals as goal
 
 pub pages-preserved : goal.pages-preserved
@@ -18,14 +21,26 @@ pages-preserved g c =
       came = λ text all is are.
           let place : ℕ = c.in-Some.place in
           let long : length c.part.new.buf ≡ n = omega (arith, c.part.auto.buf) in
-          let there : 16384 * (place / 16384) + place % 16384 ≡ place = omega arith in
+          let there : 4096 * (place / 4096) + place % 4096 ≡ place = omega arith in
           let part : c.part.new.buf ≡ take n (drop place all) =
           c.in_ok-part.ensures.read.says text (c.pages.invariant.whole ∙ is) all (c.pages.invariant.keeps text all is are)
-          ∙ ap (λ k. take k (drop (16384 * (place / 16384) + place % 16384) all)) long ∙ ap (λ k. take n (drop k all)) there in
+          ∙ ap (λ k. take k (drop (4096 * (place / 4096) + place % 4096) all)) long ∙ ap (λ k. take n (drop k all)) there in
           take-put_mid c.pages.done _ c.pages.buf c.part.new.buf (c.pages.done + n) (omega (arith, long)) (omega (arith, c.pages-test.true))
           ∙ more_came all (take c.pages.done c.pages.buf) c.part.new.buf c.args.offset place c.pages.done n
           c.in-Some.ensures.1 (c.pages.invariant.came text all is are) part;
     }
+
+pub returns-in_err-part-clause-keeps : goal.returns-in_err-part-clause-keeps
+returns-in_err-part-clause-keeps g c = λ text all is are.
+    c.part.ensures.keeps text all (c.pages.invariant.whole ∙ is) (c.pages.invariant.keeps text all is are)
+
+pub returns-in_err-part-clause-read : goal.returns-in_err-part-clause-read
+returns-in_err-part-clause-read g c =
+    passed_on _ _ _ _ _ _ _ _ _ _ _ c.in_err-part.was c.from_residual.ensures.1
+    (λ text known absent all stored are inside.
+    absent all (subst (λ claim. AreStored text (claim_view claim) all) (sym c.pages.invariant.claim) stored)
+    (c.pages.invariant.keeps text all known are))
+    (after_ok _ _ _ _ _ _ _ _ c.pages.invariant.whole c.pages.invariant.unfailed c.part.ensures.read)
 
 pub returns-clause-read : goal.returns-clause-read
 returns-clause-read g c = record {

@@ -1,4 +1,4 @@
-use Rattle.std.proofs.Common.{rules, ℕ, ◌≡◌, ◌∙◌, ◌++◌, Err, subst, sym}
+use Rattle.std.proofs.Common.{rules, ℕ, ◌≡◌, ◌∙◌, ◌++◌, Err, ap, subst, sym}
 use Rattle.byte_device.specs.Writes.{Puts}
 use Rattle.byte_device.proofs.Gains.{puts_along, puts_then, stops_before}
 use Rattle.table_checked_pages.specs.Pages.{stored}
@@ -10,10 +10,10 @@ returns-in_err-before g c =
     let failures = g.W.Sink.failures in
     let same : c.from_residual-in_err-before.result ≡ Err c.in_err-before.field-0.0 = search rules in
     let fault = c.in_err-before.field-0.0 in
-    let d = c.args.digests.now in
+    let d = c.args.above.now in
     let f = c.deref.result.now in
     let rest = c.self.inside.strings.now ++ c.self.inside.lines.items in
-    let text : d ++ (f ++ rest) ≡ stored c.args.self.now = (λ i. c.requires.digests i ++ ((λ j. c.deref.ensures.value j ++ rest) ∙ c.self.view_is) i) in
+    let text : d ++ (f ++ rest) ≡ stored c.args.self.now = ap (λ b. d ++ b) ((λ j. c.deref.ensures.value j ++ rest) ∙ c.self.view_is) ∙ c.requires.above in
     subst (Puts {T = ℕ} held failures (λ n. n) c.args.w.now c.put-2.new.w c.args.done (stored c.args.self.now)) (sym same)
     (puts_along held failures (λ n. n) c.args.w.now c.put-2.new.w c.args.done (d ++ (f ++ rest)) (stored c.args.self.now) (Err fault) text
     (puts_then held failures (λ n. n) c.args.w.now c.put.new.w c.put-2.new.w c.args.done c.in_ok-between.between d
@@ -26,11 +26,11 @@ returns-in_err-after g c =
     let failures = g.W.Sink.failures in
     let same : c.from_residual-in_err-after.result ≡ Err c.in_err-after.field-0.0 = search rules in
     let fault = c.in_err-after.field-0.0 in
-    let d = c.args.digests.now in
+    let d = c.args.above.now in
     let f = c.deref.result.now in
     let s = c.self.inside.strings.now in
     let l = c.self.inside.lines.items in
-    let text : d ++ (f ++ (s ++ l)) ≡ stored c.args.self.now = (λ i. c.requires.digests i ++ ((λ j. c.deref.ensures.value j ++ (s ++ l)) ∙ c.self.view_is) i) in
+    let text : d ++ (f ++ (s ++ l)) ≡ stored c.args.self.now = ap (λ b. d ++ b) ((λ j. c.deref.ensures.value j ++ (s ++ l)) ∙ c.self.view_is) ∙ c.requires.above in
     subst (Puts {T = ℕ} held failures (λ n. n) c.args.w.now c.put-3.new.w c.args.done (stored c.args.self.now)) (sym same)
     (puts_along held failures (λ n. n) c.args.w.now c.put-3.new.w c.args.done (d ++ (f ++ (s ++ l))) (stored c.args.self.now) (Err fault) text
     (puts_then held failures (λ n. n) c.args.w.now c.put.new.w c.put-3.new.w c.args.done c.in_ok-between.between d
@@ -43,12 +43,12 @@ pub returns : goal.returns
 returns g c =
     let held = g.W.Sink.held in
     let failures = g.W.Sink.failures in
-    let d = c.args.digests.now in
+    let d = c.args.above.now in
     let f = c.deref.result.now in
     let s = c.self.inside.strings.now in
     let l = c.deref-2.result.now in
     let text : d ++ (f ++ (s ++ l)) ≡ stored c.args.self.now =
-    (λ i. c.requires.digests i ++ ((λ j. c.deref.ensures.value j ++ (s ++ c.deref-2.ensures.value j)) ∙ c.self.view_is) i) in
+    ap (λ b. d ++ b) ((λ j. c.deref.ensures.value j ++ (s ++ c.deref-2.ensures.value j)) ∙ c.self.view_is) ∙ c.requires.above in
     puts_along held failures (λ n. n) c.args.w.now c.put-4.new.w c.args.done (d ++ (f ++ (s ++ l))) (stored c.args.self.now) c.put-4.result text
     (puts_then held failures (λ n. n) c.args.w.now c.put.new.w c.put-4.new.w c.args.done c.in_ok-between.between d
     (f ++ (s ++ l)) c.put-4.result c.in_ok-between.ensures
