@@ -56,7 +56,7 @@ pub fn right()
 
 /// Over any bytes that end with the end record of the index of a content, the entries that are read are those of that
 /// content, unless others have their SHA-256; and what such an entry tells of an address is the nearest symbol of its
-/// slice, unless what stands where the table is stored has a digest of that table, or of a page, and is another.
+/// slice, unless other bytes at the place of a page of the table, or of its digests, have the digest of that page.
 pub fn answers_are_of_the_content()
     ensures entries { (o : Operations) (index text : List ℕ) (entries : List (List ℕ)) → (is : IsIndexOf o index)
         → IsContent o → length (written o) < 2 ^ 64 → length index < 2 ^ 64 → IsIndexText text entries

@@ -9,9 +9,9 @@ ghost use Rattle.archive_core.specs.declared.keys.SliceKey.{SliceKey};
 ghost use Rattle.archive_core.specs.declared.lookup.Where.{Where};
 ghost use Rattle.dwarf_source_frames.specs.Frames.{FrameRecord};
 ghost use Rattle.macho_symbols.specs.Found.{FoundRecord};
+ghost use Rattle.table_checked_pages.specs.Pages.{DigestsTellPages};
 ghost use Rattle.table_source_frames.specs.SliceTable.{HasNoLines};
 ghost use Rattle.table_symbols.specs.Steps.{AreBytes};
-ghost use Rattle.index_build.specs.Asked.{DigestsTell as TableDigestsTell};
 ghost use Rattle.index_build.specs.Content.{HasTable};
 ghost use Rattle.index_format.specs.Entry.{claim_in};
 ghost use Rattle.index_lookup.specs.Told.{AreFramesOfPlace, AreFramesToldBy, HasNoLinesBy, IsToldBy};
@@ -64,16 +64,16 @@ pub fn tied_among()
 {}
 
 /// Over any bytes of an index, an entry of the index of a content tells what its slice has: symbols, frames, or a lack
-/// of lines; unless what stands where the table is stored has a digest of that table, or of a page, and is another.
+/// of lines; unless other bytes at the place of a page of the table, or of its digests, have the digest of that page.
 pub fn right_over_any_bytes()
     ensures symbols { (index text r : List ℕ) (entries : List (List ℕ)) (asked : Where) (own : Option FoundRecord)
-        → (table : HasTable index entries r) → TableDigestsTell text (claim_in table.e) table.table
+        → (table : HasTable index entries r) → DigestsTellPages text (claim_in table.e) table.table
         → AreBytes (drop 33 r) → IsToldBy text (claim_in table.e) asked own → IsOwn (drop 33 r) asked own }
     ensures frames { (index text r : List ℕ) (entries : List (List ℕ)) (asked : Where) (frames : List FrameRecord)
-        → (table : HasTable index entries r) → TableDigestsTell text (claim_in table.e) table.table
+        → (table : HasTable index entries r) → DigestsTellPages text (claim_in table.e) table.table
         → AreBytes (drop 33 r) → AreFramesToldBy text (claim_in table.e) asked frames
         → AreFramesOfPlace asked (drop 33 r) frames }
     ensures lines { (index text r : List ℕ) (entries : List (List ℕ)) → (table : HasTable index entries r)
-        → TableDigestsTell text (claim_in table.e) table.table → AreBytes (drop 33 r)
+        → DigestsTellPages text (claim_in table.e) table.table → AreBytes (drop 33 r)
         → HasNoLinesBy text (claim_in table.e) → HasNoLines (drop 33 r) }
 {}
