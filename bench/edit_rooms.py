@@ -32,12 +32,12 @@ class Tried(NamedTuple):
     name: str
 
     def has(self, line: str) -> bool:
-        """Whether a goal is of its function: where it stands, or in its proof."""
+        """Whether a goal is of its function: in it, or in its proof, whose folder has a `+` if it calls itself."""
         found = GOAL.match(line)
         if not found:
             return False
         proof = "/".join(["proofs", *self.name.split("::")[1:], ""])
-        return found[1].startswith(proof) or self.function.has(found[1], int(found[2]))
+        return found[1].replace("/+", "/").startswith(proof) or self.function.has(found[1], int(found[2]))
 
 
 def batches(tries: Iterable[Tried]) -> Iterator[List[Tried]]:
