@@ -131,7 +131,10 @@ def size_of(placed: Placed) -> int:
 def read_index(placed: Placed) -> List[bytes]:
     """The entries of an index, which is read from its end: its magic, the end record and the entries."""
     size = size_of(placed)
-    if not IDX.startswith(part(placed, 0, min(8, size))):
+    beginning = part(placed, 0, min(8, size))
+    if beginning == EARLIER_IDX:
+        raise Fault("OldIndex", 0)
+    if not IDX.startswith(beginning):
         raise Fault("BadMagic", 0)
     at = max(0, size - END_LEN)
     if size < len(IDX) + END_LEN:

@@ -6,14 +6,14 @@ use Rattle.std.specs.Int.{w64, to_be_bytes, from_be_bytes}
 use Rattle.std.specs.Str.{bytes_eq}
 use Rattle.std.proofs.lemmas.Bool.{cases_lt, le-ltb, lt-ltb, ne_eqb}
 use Rattle.std.proofs.lemmas.List.{drop-drop, get_or-drop, take_all}
-use Rattle.index_format.specs.Text.{index_magic}
+use Rattle.index_format.specs.Text.{earlier_magic, index_magic}
 use Rattle.index_format.specs.Fault.{IsPartOffset, check_end, check_beginning}
 use Rattle.index_format.specs.InnerReading.{AreEndsOf, IsUnread}
 use Rattle.index_format.specs.Reading.{IsRefused}
 use Rattle.index_format.specs.Text.{count_in, digest_in}
 use Rattle.index_format.specs.declared.ends.Ends.{Ends}
 use Rattle.index_format.specs.declared.index_fault.IndexFault.{IndexFault}
-use Rattle.index_format.specs.declared.index_fault.IndexFaultKind.TheVariants.{BadMagic, Truncated, BadCount}
+use Rattle.index_format.specs.declared.index_fault.IndexFaultKind.TheVariants.{OldIndex, BadMagic, Truncated, BadCount}
 
 -- what is known of the text that a device is known to have
 pub some_is : (known : Option (List ℕ)) (text : List ℕ) (P : List ℕ → Type 0) → known ≡ Some text → IfSome known P → P text
@@ -47,18 +47,26 @@ asked text beginning size same is long =
     ap (λ (n : ℕ). bytes_eq beginning (take n index_magic)) (long ∙ ap (λ (n : ℕ). min n 8) same)
     ∙ ap (λ (t : List ℕ). bytes_eq t (take (min (length text) 8) index_magic)) is
 
-pub magic_fails : (text : List ℕ) → bytes_eq (take 8 text) (take (min (length text) 8) index_magic) ≡ false → check_beginning text ≡ Err BadMagic
+pub old_fails : (text : List ℕ) → bytes_eq (take 8 text) earlier_magic ≡ true → check_beginning text ≡ Err OldIndex
 unfolding check_beginning
-magic_fails text h = rw h refl
+old_fails text old = rw old refl
 
-pub room_fails : (text : List ℕ) → bytes_eq (take 8 text) (take (min (length text) 8) index_magic) ≡ true
+pub magic_fails : (text : List ℕ) → bytes_eq (take 8 text) earlier_magic ≡ false
+    → bytes_eq (take 8 text) (take (min (length text) 8) index_magic) ≡ false → check_beginning text ≡ Err BadMagic
+unfolding check_beginning
+magic_fails text old h = rw (old, h) refl
+
+pub room_fails : (text : List ℕ) → bytes_eq (take 8 text) earlier_magic ≡ false
+    → bytes_eq (take 8 text) (take (min (length text) 8) index_magic) ≡ true
     → length text < 49 → check_beginning text ≡ Err Truncated
 unfolding check_beginning
-room_fails text h short = rw (h, lt-ltb (length text) 49 short) refl
+room_fails text old h short = rw (old, h, lt-ltb (length text) 49 short) refl
 
-pub front_passes : (text : List ℕ) → bytes_eq (take 8 text) (take (min (length text) 8) index_magic) ≡ true → 49 ≤ length text → check_beginning text ≡ Ok tt
+pub front_passes : (text : List ℕ) → bytes_eq (take 8 text) earlier_magic ≡ false
+    → bytes_eq (take 8 text) (take (min (length text) 8) index_magic) ≡ true
+    → 49 ≤ length text → check_beginning text ≡ Ok tt
 unfolding check_beginning
-front_passes text h room = rw (h, le-ltb (length text) 49 room) refl
+front_passes text old h room = rw (old, h, le-ltb (length text) 49 room) refl
 
 -- ---- the end record
 

@@ -2,7 +2,7 @@
 use Rattle.std.proofs.Common.{◌≡◌, ℕ, ◌+◌, ◌-◌, ◌*◌, ◌<◌, ◌≤◌, ◌^◌, suc, Bool, true, false, not, cond, eqb, ltb, List}
 use Rattle.std.proofs.Common.{◌∷◌, ◌++◌, length, min, take, drop, get_or, refl, sym, ap, ◌∙◌, arith, length-append}
 use Rattle.std.proofs.Common.{length-take, length-drop, append_assoc}
-use Rattle.std.specs.Prelude.{Ok}
+use Rattle.std.specs.Prelude.{Result, Ok}
 use Rattle.std.specs.Int.{w64, to_be_bytes, from_be_bytes}
 use Rattle.std.specs.List.{concat}
 use Rattle.std.specs.Str.{bytes_eq}
@@ -13,14 +13,14 @@ use Rattle.std.proofs.lemmas.Nat.{from_be_bytes-to_be_bytes_8}
 use Rattle.std.proofs.lemmas.Slice.Eq.{bytes_eq-Decides}
 use Rattle.sha2.specs.Sha256.{sha256}
 use Rattle.sha2.proofs.Facts256.{length-sha256}
-use Rattle.index_format.specs.Text.{index_magic}
+use Rattle.index_format.specs.Text.{earlier_magic, index_magic}
 use Rattle.index_format.specs.Fault.{HasDigest, HasEnds, check_end, check_beginning}
 use Rattle.index_format.specs.InnerReading.{AreEndsOf}
 use Rattle.index_format.specs.Text.{IsIndexText, count_in, digest_in, end_of, entries_in, index_text, start_in}
 use Rattle.index_format.specs.declared.ends.Ends.{Ends}
 use Rattle.index_format.proofs.Checks.{fine, failed}
 use Rattle.index_format.specs.declared.index_fault.IndexFaultKind.{IndexFaultKind}
-use Rattle.index_format.specs.declared.index_fault.IndexFaultKind.TheVariants.{BadMagic, Truncated, BadCount}
+use Rattle.index_format.specs.declared.index_fault.IndexFaultKind.TheVariants.{OldIndex, BadMagic, Truncated, BadCount}
 
 -- ---- what the text of tables and entries has
 
@@ -102,13 +102,17 @@ module _ (tables : List ℕ) (entries : List (List ℕ)) (few : length entries <
 
 -- ---- what a text with these ends is
 
+not_old : (o : Bool) (k : IndexFaultKind) (r : Result (Unit {0}) IndexFaultKind) → cond o (failed k) r ≡ fine → (o ≡ false) × (r ≡ fine)
+not_old o k r h = grind arith
+
 two_pass : (a b : Bool) (k l : IndexFaultKind) → cond (not a) (failed k) (cond b (failed l) fine) ≡ fine → (a ≡ true) × (b ≡ false)
 two_pass a b k l h = grind arith
 
 pub front_passed : (text : List ℕ) → check_beginning text ≡ Ok tt → (take 8 text ≡ index_magic) × (49 ≤ length text)
 unfolding check_beginning
 front_passed text h =
-    let p = two_pass (bytes_eq (take 8 text) (take (min (length text) 8) index_magic)) (ltb (length text) 49) BadMagic Truncated h in
+    let new = not_old (bytes_eq (take 8 text) earlier_magic) OldIndex _ h in
+    let p = two_pass (bytes_eq (take 8 text) (take (min (length text) 8) index_magic)) (ltb (length text) 49) BadMagic Truncated new.1 in
     let long : 49 ≤ length text = ltb-false (length text) 49 p.1 in
     let least : min (length text) 8 ≡ 8 = omega arith in
     ((bytes_eq-Decides (take 8 text) (take (min (length text) 8) index_magic)).0 p.0 ∙ ap (λ (n : ℕ). take n index_magic) least, long)

@@ -5,16 +5,18 @@ use Rattle.std.specs.List.{concat}
 use Rattle.std.specs.Str.{bytes_eq}
 use Rattle.sha2.specs.Sha256.{sha256}
 use Rattle.archive_records.specs.Text.{last_of}
-use Rattle.index_format.specs.Text.{index_magic}
-use Rattle.index_format.specs.Text.{AreLaid, PassChecks, count_in, digest_in, entries_in, start_in, check_entry}
+use Rattle.index_format.specs.Text.{AreLaid, PassChecks, check_entry, count_in, digest_in, earlier_magic, entries_in}
+use Rattle.index_format.specs.Text.{index_magic, start_in}
 use Rattle.index_format.specs.declared.index_fault.IndexFault.{IndexFault}
 use Rattle.index_format.specs.declared.index_fault.IndexFaultKind.{IndexFaultKind}
-use Rattle.index_format.specs.declared.index_fault.IndexFaultKind.TheVariants.{BadMagic, Truncated, BadCount, BadDigest}
-use Rattle.index_format.specs.declared.index_fault.IndexFaultKind.TheVariants.{BadPlace, Device, OutOfMemory}
+use Rattle.index_format.specs.declared.index_fault.IndexFaultKind.TheVariants.{OldIndex, BadMagic, Truncated, BadCount}
+use Rattle.index_format.specs.declared.index_fault.IndexFaultKind.TheVariants.{BadDigest, BadPlace, Device, OutOfMemory}
 
--- What the beginning of a text must be: the magic, and 41 bytes more for an end record.
+-- What the beginning of a text must be: the magic, which is not that of earlier releases, and 41 bytes more for an end
+-- record.
 unfoldable pub check_beginning : List ℕ → Result (Unit {0}) IndexFaultKind
-check_beginning text = if not (bytes_eq (take 8 text) (take (min (length text) 8) index_magic)) then Err BadMagic
+check_beginning text = if bytes_eq (take 8 text) earlier_magic then Err OldIndex
+    else if not (bytes_eq (take 8 text) (take (min (length text) 8) index_magic)) then Err BadMagic
     else if nat_lt (length text) 49 then Err Truncated
     else Ok tt
 
@@ -26,6 +28,7 @@ check_end text = if not (slice_index text (length text - 41) == 3) then Err Trun
 
 -- where a fault of the beginning is
 abbrev pub beginning_offset : List ℕ → IndexFaultKind → ℕ
+beginning_offset text OldIndex = 0
 beginning_offset text BadMagic = 0
 beginning_offset text _ = length text - 41
 

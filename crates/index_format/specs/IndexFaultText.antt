@@ -3,12 +3,13 @@ use Rattle.std.specs.Prelude.{ℕ, List, ◌++◌, codes}
 use Rattle.std.specs.Fmt.{decimal}
 use Rattle.index_format.specs.declared.index_fault.IndexFault.{IndexFault}
 use Rattle.index_format.specs.declared.index_fault.IndexFaultKind.{IndexFaultKind}
-use Rattle.index_format.specs.declared.index_fault.IndexFaultKind.TheVariants.{BadMagic, Truncated, BadCount, BadDigest}
+use Rattle.index_format.specs.declared.index_fault.IndexFaultKind.TheVariants.{OldIndex, BadMagic, Truncated, BadCount, BadDigest}
 use Rattle.index_format.specs.declared.index_fault.IndexFaultKind.TheVariants.{BadTag, BadKind, BadLength, NotAscending}
 use Rattle.index_format.specs.declared.index_fault.IndexFaultKind.TheVariants.{BadTable, BadPlace, Device, OutOfMemory}
 
 -- the kind of a fault
 unfoldable pub kind_text : IndexFaultKind → List ℕ
+kind_text OldIndex = codes "OldIndex"
 kind_text BadMagic = codes "BadMagic"
 kind_text Truncated = codes "Truncated"
 kind_text BadCount = codes "BadCount"

@@ -3,7 +3,7 @@
 ghost use Rattle.std.specs.Prelude.{◌≡◌, ◌≢◌, ◌↔◌, ◌+◌, ◌-◌, ◌*◌, ◌<◌, ◌≤◌, ◌^◌, ℕ, List, Ok};
 ghost use Rattle.std.specs.Prelude.{IfOk, IfErr, OnOk, MatchResult, IsTrue, length, slice_index, take, drop, min};
 ghost use Rattle.std.specs.Str.{bytes_eq};
-ghost use Rattle.index_format.specs.Text.{index_magic};
+ghost use Rattle.index_format.specs.Text.{earlier_magic, index_magic};
 ghost use Rattle.index_format.specs.Fault.{FailsInBeginning, FailsAtEnd, check_beginning};
 ghost use Rattle.index_format.specs.InnerReading.{AreEndsOf, FailsInEnds, HasBeginning, IsUnread};
 ghost use Rattle.index_format.specs.Reading.{IsRefused, ReadsText};
@@ -90,6 +90,13 @@ fn begins(beginning: &[u8]) -> bool
     beginning == &magic()[..beginning.len()]
 }
 
+/// Whether these bytes are the magic of a release before 2.4.
+fn is_earlier(beginning: &[u8]) -> bool
+    ensures { result ≡ bytes_eq beginning.now earlier_magic }
+{
+    beginning == b"MSYMIDX1".as_slice()
+}
+
 /// Whether so many bytes have room for the magic, an end record and so many entries.
 fn has_room(size: u64, count: u64) -> bool
     ensures { IsTrue result ↔ (49 + 122 * count ≤ size) }
@@ -106,6 +113,12 @@ fn check_beginning(size: u64, beginning: &[u8]) -> Result<(), IndexFault>
     ensures room { OnOk result (49 ≤ size) }
     ensures faulty { IfErr result (λ fault. fault.kind ≢ Device) }
 {
+    if is_earlier(beginning) {
+        return Err(IndexFault {
+            kind: IndexFaultKind::OldIndex,
+            offset: 0,
+        });
+    }
     if !begins(beginning) {
         return Err(IndexFault {
             kind: IndexFaultKind::BadMagic,

@@ -6,6 +6,8 @@ ghost use Rattle.index_format.specs.declared.index_fault.IndexFaultKind.TheVaria
 /// Why bytes are no index, or why they were not read to their end.
 #[derive(Clone, Copy, Debug, PartialEq, Eq)]
 pub enum IndexFaultKind {
+    /// It begins with `MSYMIDX1`, as indexes of releases before 2.4 do.
+    OldIndex,
     /// One of the first eight bytes is not that of `MSYMIDX2`.
     BadMagic,
     /// There is no room for an end record, or none stands at the end.

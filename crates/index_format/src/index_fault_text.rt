@@ -12,6 +12,7 @@ impl fmt::Display for IndexFaultKind {
 
     fn fmt<W: fmt::Write>(&self, f: &mut fmt::Formatter<W>) -> fmt::Result {
         match self {
+            IndexFaultKind::OldIndex => f.write_str("OldIndex"),
             IndexFaultKind::BadMagic => f.write_str("BadMagic"),
             IndexFaultKind::Truncated => f.write_str("Truncated"),
             IndexFaultKind::BadCount => f.write_str("BadCount"),
