@@ -1,7 +1,7 @@
-//! The faulty line of FRAMES or of SCRIPT, as a person is told of it. No contract speaks of its words.
+//! The faulty line of FRAMES or of SCRIPT, as a person is told of it.
 
 ghost use Rattle.std.specs.Prelude.{◌≡◌};
-ghost use Rattle.cli_messages.specs.Hints.{faulty_line};
+ghost use Rattle.cli_messages.specs.Hints.{faulty_line, line_flaw_text};
 
 use cli_arguments::{Form, form_text};
 use command_common::Why;
@@ -42,43 +42,106 @@ impl FaultyLine {
     }
 }
 
+#[tactic(auto, unfolding(crate::specs::Hints::faulty_line_text))]
 impl fmt::Display for FaultyLine {
+    ghost use Rattle.std.specs.Prelude.{Some};
+    ghost use Rattle.cli_messages.specs.Hints.{faulty_line_text};
+
+    ghost output = { λ faulty. Some (faulty_line_text faulty) };
+
     fn fmt<W: fmt::Write>(&self, f: &mut fmt::Formatter<W>) -> fmt::Result {
-        write!(f, "whose line {} ", self.line)?;
+        let line = self.line;
         match self.flaw {
-            Flaw::Frame(flaw) => write_frame_flaw(flaw, f),
-            Flaw::Script(flaw) => write_script_flaw(flaw, f),
+            Flaw::Frame(flaw) => {
+                let flaw = FrameWords(flaw);
+                write!(f, "whose line {line} {flaw}")
+            }
+            Flaw::Script(flaw) => {
+                let flaw = ScriptWords(flaw);
+                write!(f, "whose line {line} {flaw}")
+            }
         }
     }
 }
 
-fn write_frame_flaw<W: fmt::Write>(flaw: FrameFlaw, f: &mut fmt::Formatter<W>) -> fmt::Result {
-    match flaw {
-        FrameFlaw::Line(flaw) => f.write_str(text_of(flaw)),
-        FrameFlaw::FieldCount => f.write_str("has not the four fields UUID ARCH LOAD ADDRESS"),
-        FrameFlaw::Uuid => write_invalid("UUID", form_text(Form::Uuid), f),
-        FrameFlaw::Arch => write_invalid("ARCH", form_text(Form::Arch), f),
-        FrameFlaw::Load => {
-            write_invalid("LOAD", "- or ", f)?;
-            f.write_str(form_text(Form::Number))
+/// What is wrong with a line of FRAMES.
+#[derive(Clone, Copy)]
+struct FrameWords(FrameFlaw);
+
+#[tactic(auto, unfolding(crate::specs::Hints::frame_flaw_text, crate::specs::Hints::invalid_text))]
+impl fmt::Display for FrameWords {
+    ghost use Rattle.std.specs.Prelude.{Some};
+    ghost use Rattle.cli_messages.specs.Hints.{frame_flaw_text};
+
+    ghost output = { λ words. Some (frame_flaw_text words.0) };
+
+    fn fmt<W: fmt::Write>(&self, f: &mut fmt::Formatter<W>) -> fmt::Result {
+        match self.0 {
+            FrameFlaw::Line(flaw) => f.write_str(text_of(flaw)),
+            FrameFlaw::FieldCount => f.write_str("has not the four fields UUID ARCH LOAD ADDRESS"),
+            FrameFlaw::Uuid => {
+                let form = form_text(Form::Uuid);
+                write!(f, "has an invalid UUID: expected {form}")
+            }
+            FrameFlaw::Arch => {
+                let form = form_text(Form::Arch);
+                write!(f, "has an invalid ARCH: expected {form}")
+            }
+            FrameFlaw::Load => {
+                let form = form_text(Form::Number);
+                write!(f, "has an invalid LOAD: expected - or {form}")
+            }
+            FrameFlaw::Address => {
+                let form = form_text(Form::Number);
+                write!(f, "has an invalid ADDRESS: expected {form}")
+            }
         }
-        FrameFlaw::Address => write_invalid("ADDRESS", form_text(Form::Number), f),
     }
 }
 
-fn write_script_flaw<W: fmt::Write>(flaw: ScriptFlaw, f: &mut fmt::Formatter<W>) -> fmt::Result {
-    match flaw {
-        ScriptFlaw::Line(flaw) => f.write_str(text_of(flaw)),
-        ScriptFlaw::Sites => f.write_str("is not `sites N`, N from 1 to 64"),
-        ScriptFlaw::Word => f.write_str("begins with no word of an event"),
-        ScriptFlaw::FieldCount => f.write_str("has fewer or more fields than its event"),
-        ScriptFlaw::SiteCount(flaw) => write_invalid_number("N", flaw, 64, f),
-        ScriptFlaw::Site(flaw) => write_invalid_number("SITE", flaw, u32::MAX, f),
-        ScriptFlaw::Bytes => write_invalid("BYTES", "pairs of hex digits", f),
-        ScriptFlaw::Message(flaw) => write_invalid_number("MESSAGE", flaw, u32::MAX, f),
-        ScriptFlaw::Uuid => write_invalid("UUID", form_text(Form::Uuid), f),
-        ScriptFlaw::Arch => write_invalid("ARCH", form_text(Form::Arch), f),
-        ScriptFlaw::Digest => write_invalid("DIGEST", form_text(Form::Digest), f),
+/// What is wrong with a line of SCRIPT.
+#[derive(Clone, Copy)]
+struct ScriptWords(ScriptFlaw);
+
+#[tactic(auto, unfolding(crate::specs::Hints::script_flaw_text, crate::specs::Hints::invalid_text))]
+impl fmt::Display for ScriptWords {
+    ghost use Rattle.std.specs.Prelude.{Some};
+    ghost use Rattle.cli_messages.specs.Hints.{script_flaw_text};
+
+    ghost output = { λ words. Some (script_flaw_text words.0) };
+
+    fn fmt<W: fmt::Write>(&self, f: &mut fmt::Formatter<W>) -> fmt::Result {
+        match self.0 {
+            ScriptFlaw::Line(flaw) => f.write_str(text_of(flaw)),
+            ScriptFlaw::Sites => f.write_str("is not `sites N`, N from 1 to 64"),
+            ScriptFlaw::Word => f.write_str("begins with no word of an event"),
+            ScriptFlaw::FieldCount => f.write_str("has fewer or more fields than its event"),
+            ScriptFlaw::SiteCount(flaw) => {
+                let number = InvalidNumber { flaw, most: 64 };
+                write!(f, "has an invalid N: {number}")
+            }
+            ScriptFlaw::Site(flaw) => {
+                let number = InvalidNumber { flaw, most: u32::MAX };
+                write!(f, "has an invalid SITE: {number}")
+            }
+            ScriptFlaw::Bytes => f.write_str("has an invalid BYTES: expected pairs of hex digits"),
+            ScriptFlaw::Message(flaw) => {
+                let number = InvalidNumber { flaw, most: u32::MAX };
+                write!(f, "has an invalid MESSAGE: {number}")
+            }
+            ScriptFlaw::Uuid => {
+                let form = form_text(Form::Uuid);
+                write!(f, "has an invalid UUID: expected {form}")
+            }
+            ScriptFlaw::Arch => {
+                let form = form_text(Form::Arch);
+                write!(f, "has an invalid ARCH: expected {form}")
+            }
+            ScriptFlaw::Digest => {
+                let form = form_text(Form::Digest);
+                write!(f, "has an invalid DIGEST: expected {form}")
+            }
+        }
     }
 }
 
@@ -106,24 +169,10 @@ impl fmt::Display for InvalidNumber {
     }
 }
 
-/// A field that is no such number.
-fn write_invalid_number<W: fmt::Write>(
-    field: &str,
-    flaw: NumberFlaw,
-    most: u32,
-    f: &mut fmt::Formatter<W>,
-) -> fmt::Result {
-    let number = InvalidNumber { flaw, most };
-    write!(f, "has an invalid {field}: {number}")
-}
-
-/// A field that has not this form.
-fn write_invalid<W: fmt::Write>(field: &str, form: &str, f: &mut fmt::Formatter<W>) -> fmt::Result {
-    write!(f, "has an invalid {field}: expected {form}")
-}
-
 /// What is wrong with a line, whatever its fields are.
-fn text_of(flaw: LineFlaw) -> &'static str {
+fn text_of(flaw: LineFlaw) -> &'static str
+    ensures { result.now ≡ line_flaw_text flaw }
+{
     match flaw {
         LineFlaw::ByteOrderMark => "begins with a byte-order mark",
         LineFlaw::Tab => "has a tab",

@@ -1,5 +1,5 @@
 //! What helps a person with a failure: which file it was, what the system said, and what a refused file looks like. Of
-//! it contracts say what it is of, the path, the faulty line, and the hint for a stale index.
+//! it contracts say what it is of, the path, the faulty line, the hint for a stale index, and the words of both.
 
 ghost use Rattle.std.specs.Prelude.{◌≡◌, ℕ, codes, IfSome, None, Option, Some};
 ghost use Rattle.command_common.specs.declared.failures.Failure.TheVariants.{Command};
@@ -10,7 +10,7 @@ ghost use Rattle.cli_arguments.specs.LineView.{line_view};
 ghost use Rattle.cli_arguments.specs.Lines.{out_of};
 ghost use Rattle.cli_messages.specs.declared.hints.Hint.TheVariants.{NoSourceLines, DamagedIndex};
 ghost use Rattle.cli_messages.specs.Hints.{IsOfInput, IsOfNoFile, IsOfOut, faulty_line_of, file_of};
-ghost use Rattle.cli_messages.specs.Hints.{stale_hint, subject_of, subject_text};
+ghost use Rattle.cli_messages.specs.Hints.{other_kind_text, records_word, stale_hint, subject_of, subject_text};
 
 use crate::file_kinds::FileKind;
 use crate::flaws::FaultyLine;
@@ -142,7 +142,34 @@ impl Hint {
     }
 }
 
+/// What is said of a file at OUT that is of another kind.
+fn other_kind(kind: Option<FileKind>) -> &'static str
+    ensures { result.now ≡ other_kind_text kind }
+{
+    match kind {
+        Some(FileKind::Archive) => "there, and an archive",
+        Some(FileKind::Operations) => "there, and an operations file",
+        Some(FileKind::Summary) => "there, and a summary",
+        Some(FileKind::Index | FileKind::EarlierIndex) => "there, and an index",
+        _ => "there, and neither empty nor one of symarch's files",
+    }
+}
+
+/// The word for so many records.
+#[tactic(auto, unfolding(crate::specs::Hints::records_word))]
+fn records_word(count: u64) -> &'static str
+    ensures { result.now ≡ records_word count }
+{
+    if count == 1 { "record" } else { "records" }
+}
+
+#[tactic(auto, unfolding(crate::specs::Hints::hint_text))]
 impl Display for Hint {
+    ghost use Rattle.std.specs.Prelude.{Some};
+    ghost use Rattle.cli_messages.specs.Hints.{hint_text};
+
+    ghost output = { λ hint. Some (hint_text hint) };
+
     fn fmt<W: fmt::Write>(&self, f: &mut fmt::Formatter<W>) -> fmt::Result {
         match self {
             Hint::SameFile => f.write_str("the file of an input"),
@@ -159,22 +186,15 @@ impl Display for Hint {
             Hint::StaleEntry => f.write_str(
                 "of an archive in which a slice changed since it came in: run `symarch-keep check` first",
             ),
-            Hint::OtherKind(kind) => f.write_str(match kind {
-                Some(FileKind::Archive) => "there, and an archive",
-                Some(FileKind::Operations) => "there, and an operations file",
-                Some(FileKind::Summary) => "there, and a summary",
-                Some(FileKind::Index | FileKind::EarlierIndex) => "there, and an index",
-                _ => "there, and neither empty nor one of symarch's files",
-            }),
+            Hint::OtherKind(kind) => f.write_str(other_kind(*kind)),
             Hint::DamagedArchive => f.write_str("there, and an archive that is damaged"),
             Hint::Differs => f.write_str("there, and neither empty nor the same slice"),
-            Hint::Loses(1) => {
-                f.write_str("there, and has 1 record that the new archive neither has nor retires")
-            }
             Hint::Loses(lost) => {
+                let lost = *lost;
+                let records = records_word(lost);
                 write!(
                     f,
-                    "there, and has {lost} records that the new archive neither has nor retires"
+                    "there, and has {lost} {records} that the new archive neither has nor retires"
                 )
             }
         }
