@@ -1,5 +1,5 @@
-"""DWARF 4 made by hand, of which llvm-symbolizer prints other frames: a companion for each rule of docs/TESTS.md that
-compilers do not write, an address, and the lines here and by llvm-symbolizer."""
+"""DWARF 4 made by hand, of which llvm-symbolizer prints other frames: a companion for each rule of bench/same-lines
+that compilers do not write, an address, and the lines here and by llvm-symbolizer."""
 import struct
 from typing import List, NamedTuple, Sequence
 
