@@ -28,11 +28,15 @@ Adds the Mach-O images and dSYMs of files and folders to ARCHIVE, and makes ARCH
   symarch-keep add --dsyms-only builds.sym dSYMs.zip
   symarch-keep add builds.sym - < spool.app.dSYM/Contents/Resources/DWARF/spool
 
-It finds each 64-bit slice with a UUID by its first bytes, at any depth of a PATH. A zip file or a gzipped tar file is
-read as a folder if it is a PATH, or if its name ends in .zip, .ipa, .tar.gz or .tgz, to three levels; - is standard
-input. Files that are passed over are counted, and named with --verbose; a PATH that has no image is no fault: the
-status is 1 only if none has one. A file that cannot be read, or that symarch refuses, is reported, and the others are
-added.
+It finds each 64-bit little-endian slice with a UUID by its first bytes, at any depth of a PATH. It follows links to
+files, and adds a file of several names once. It passes over other files, links to folders and broken links: it counts
+them, and names them with --verbose. A PATH without an image is no fault: the status is 1 only if none has one. A file
+that cannot be read, that changes meanwhile or that symarch refuses is reported, and the others are added.
+
+A zip file or a gzipped tar file is read as a folder if it is a PATH, or if its name ends in .zip, .ipa, .tar.gz or
+.tgz, to three levels; - is standard input. It may unpack to a hundred times its length plus 64 MiB; the rest is not
+added. A member that has more than 4294967295 bytes, or is encrypted, cut or damaged, is refused alone, but a fault ends
+a tar file. Packed files in others, and images not in the order of their UUIDs, need temporary files.
 
 Each slice gets a line, in the order in which they were found:
 

@@ -22,12 +22,15 @@ from .arguments import define_archive, digest_of, uuid_of
 
 DESCRIPTION = """\
 Makes dSYM bundles of UUIDs in FOLDER, with the bytes that were added: NAME.dSYM, and next to it NAME, of the slices
-that are no companions. NAME is the first name under which the slice itself was added, or else the UUID.
+that are no companions. NAME is the first name under which the slice itself was added; or the UUID, if there is none,
+or it cannot be that of a file, has a / or more than 250 bytes.
 
   symarch-keep get builds.sym 4c4c4419-5555-3144-a1d2-4341c97782f0 --to debug
   (lldb) target symbols add debug/spool.dSYM
 
-The slices of a build for several architectures become one universal file. Each slice gets a line:
+Slices with one day, app, version, build and name become one universal file, if each architecture has one UUID. If a
+dSYM has several images, none of these is written. FOLDER needs room for each file, and for twice the largest slice, in
+a folder .symarch-keep-*.making. Each slice gets a line:
 
   got UUID ARCH DIGEST PATH
   known UUID ARCH DIGEST PATH    it is there with these bytes

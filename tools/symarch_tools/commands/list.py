@@ -25,8 +25,10 @@ For example:
   symarch-keep list --app com.example.spool --since 2026-11-01 builds.sym
 
 DAY is that on which the Xcode archive was made, or else the first one on which a site added it, in UTC; BYTES counts
-its slices together. APP, VERSION and BUILD are those of Info.plist, and NAME is that of the file; ? means unknown.
-`dsym!N` and `image!N` mean that N slices answer, a conflict. A space in APP, VERSION or BUILD is \\x20."""
+its slices together. APP, VERSION and BUILD are those of Info.plist in the innermost bundle with an identifier, or else
+those of another slice of the UUID and architecture; one that is damaged or above 65536 bytes is ignored. NAME is that
+of the file; ? means unknown. `dsym!N` and `image!N` mean that N slices answer, a conflict. A space in APP, VERSION or
+BUILD is \\x20."""
 USAGE = "symarch-keep list [--json] [--app ID] [--version VERSION] [--build BUILD] [--since DATE] ARCHIVE"
 ABOUT = "print the builds of an archive by name"
 KEYS = ("builds",)
