@@ -215,9 +215,7 @@ class Commands(unittest.TestCase):
         """The files of CONTRIBUTING are there, and as many as it says; and its example is a command."""
         text = text_of("CONTRIBUTING.md").partition("## What a new command touches")[2]
         counts: Dict[str, int] = {}
-        where = ""
-        for crate, files in re.findall(r"^\| (?:`(\w+)`)? ?\| `([^|]*)` \|", text, re.M):
-            where = crate or where
+        for where, files in re.findall(r"^- `(\w+)`: `(.*)`$", text, re.M):
             folder = TOP / where if (TOP / where).is_dir() else TOP / "crates" / where
             for file in files.split("`, `"):
                 counts[where] = counts.get(where, 0) + 1
