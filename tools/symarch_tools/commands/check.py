@@ -28,7 +28,7 @@ archive, and works on a disk that is read-only.
   changed ends FILE                               the first 8 or the last 9 bytes are others
   lost UUID ARCH DIGEST                           the slice was there, and neither it nor its retirement is
   lost retired UUID ARCH DIGEST                   the retirement was there, and is not
-  damaged FILE                                    a file beside ARCHIVE is not as symarch-keep wrote it
+  damaged FILE                                    a file next to ARCHIVE is not as symarch-keep wrote it
   unknown FILE                                    it is not known whether the file is as it was
 
 OFFSET is where in FILE the record or the table begins. `repair` restores changed bytes, and `exchange` brings back lost

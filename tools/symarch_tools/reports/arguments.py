@@ -115,8 +115,8 @@ def parser_of_options() -> ReportParser:
 
 
 REPORTS = """the reports, of which `-` is standard input, or folders of reports, and after them archives"""
-MISSING = """print the UUID and the name of each image with frames that the report does not name, of which the archive
-has no dSYM, whether it has the image or not: a line each, once for all reports, and nothing else"""
+MISSING = """print only the UUID and the name of each image that has frames without names in the report, and no dSYM
+in the archive, even if the archive has the image: a line each, once for all reports"""
 COUNTS = """with --missing, print those of most reports first: the number of reports, the UUID, the architecture, the
 version and the name, between tabs, where `?` means unknown"""
 GROUP = """print in place of the reports a line for each group of them, those of most reports first: their number, the
@@ -131,7 +131,7 @@ PATHS = """print the whole paths of source files, as the compilers wrote them"""
 NO_DEMANGLE = """leave names of C++, Rust and Swift as they are. Otherwise `swift demangle` makes them readable, and the
 first of `llvm-cxxfilt`, `llvm-cxxfilt-N` of the greatest N and `c++filt`: those that are installed, once each for all
 names, if one needs it"""
-DEMANGLE = """report if no demangler is installed"""
+DEMANGLE = """make them readable, which is the default, and report if no demangler is installed"""
 RAW = """keep the underscore that a symbol table puts before each name, and leave names as they are"""
 OUT = """write each report to FOLDER under the name of its own file, in the folders that a REPORT folder has, whole or
 not at all, and make FOLDER if it does not exist. It replaces a file there, but never one that this call reads. Several
