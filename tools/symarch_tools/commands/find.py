@@ -19,7 +19,7 @@ For example:
 
   symarch-keep find builds.sym 4c4c4419-5555-3144-a1d2-4341c97782f0
 
-If a slice that is read has changed since it was added, only that is printed, and the status is 2."""
+If it has to read a slice, and that changed since it was added, it prints only this, and the status is 2."""
 USAGE = "symarch-keep find [--json] ARCHIVE UUID"
 ABOUT = "print the slices of a UUID"
 KEYS = ("found",)
