@@ -1,5 +1,5 @@
 """The edits: that each fits the sources, that the tables have them, and that a test has to catch each wrong body that
-the prover accepts. `bench/edits` and `bench/allowed` try them."""
+the prover accepts. `bench/edits`, `bench/allowed` and the gate try them."""
 import pathlib
 import re
 import shutil
@@ -163,20 +163,83 @@ class Batches(unittest.TestCase):
         self.assertEqual(self.shared("note: src/rows.rt:15:1: not"), ({}, ["note: src/rows.rt:15:1: not"]))
 
 
-class Touched(FolderCase):
-    """`bench/edits` in a repository of two small crates, where no edit is tried."""
+TRIED_TOO = "1 crates changed; edits tried too:"
 
-    is_side_by_side = True
-    seconds = 5
+
+class TwoCrates(FolderCase):
+    """A repository of two small crates, of one edit each."""
+
+    scripts = ("bench/edits", "bench/sampled", "bench/edit_rooms.py", "bench/edit_texts.py", "packaging/crate_list.py")
 
     def setUp(self) -> None:
         super().setUp()
-        for path in ("bench/edits", "bench/edit_rooms.py", "bench/edit_texts.py", "packaging/crate_list.py"):
+        for path in self.scripts:
             shutil.copymode(TOP / path, self.file(path, (TOP / path).read_bytes()))
         self.file("crates.txt", "low:\nhigh: low\n")
         for crate in ("low", "high"):
             self.file(f"crates/{crate}/src/lib.rt", f"pub fn of_{crate}() -> u8 {{\n    1\n}}\n")
             self.file(f"crates/{crate}/edits", "# is_two\nfile: src/lib.rt\nold:     1\nnew:     2\n")
+
+
+@unittest.skipIf(shutil.which("git") is None, "there is no git")
+class Sampled(TwoCrates):
+    """`bench/sampled`: what the command that it runs meets in must-fail/."""
+
+    is_side_by_side = True
+    seconds = 5
+    edit = "crates/low/must-fail/is_two.edit"
+
+    def setUp(self) -> None:
+        super().setUp()
+        self.git("init", "-q")
+        self.commit("Two crates")
+        self.file("crates/low/specs/Lib.antt", "-- More\n")
+        self.file("crates/high/edits", "# is_two\nfile: src/lib.rt\nold:     1\nnew:     2\n# is_three\n")
+        self.commit("One changed, and only edits of the other")
+
+    def git(self, *words: str) -> None:
+        who = ["-c", "user.name=nobody", "-c", "user.email=nobody@localhost"]
+        self.assertEqual(call(["git", *who, *words], cwd=self.folder).status, 0)
+
+    def commit(self, message: str) -> None:
+        self.git("add", "-A")
+        self.git("commit", "-q", "-m", message)
+
+    def says(self, words: str, command: str, status: int, *lines: str) -> None:
+        came = call([self.folder / "bench/sampled", *words.split(), "sh", "-c", command], cwd=self.folder)
+        self.assertEqual((came.errors, came.status, came.lines), (b"", status, [*lines]), words)
+
+    def test_a_crate_that_changed(self) -> None:
+        """The last commit is the change. The edit is there until the command ends, and the status is the command's."""
+        self.says("", "ls crates/*/must-fail/*; cat crates/*/must-fail/*; exit 3", 3, f"{TRIED_TOO} low/is_two",
+                  self.edit, "file: src/lib.rt", "old:     1", "new:     2")  # fmt: skip
+        self.assertFalse((self.folder / self.edit).parent.exists())
+
+    def test_commits_of_a_branch(self) -> None:
+        """All that the main branch has not are the change."""
+        self.git("update-ref", "refs/remotes/origin/main", "HEAD~1")
+        self.file("crates/high/src/more.rt", "// More\n")
+        self.commit("The other changed")
+        came = call([self.folder / "bench/sampled", "true"], cwd=self.folder)
+        self.assertRegex(came.lines[0], "^2 crates changed; .*: (low/is_two high/is_[a-z]+|high/is_[a-z]+ low/is_two)$")
+
+    def test_minutes(self) -> None:
+        """A crate that takes longer than what is left has none."""
+        self.says("--minutes 0", "ls crates/*", 0, f"{TRIED_TOO} none",
+                  "crates/high:", "edits", "src", "", "crates/low:", "edits", "specs", "src")  # fmt: skip
+
+    def test_first_commit(self) -> None:
+        """Nothing changed where no commit is before."""
+        self.git("checkout", "-q", "--orphan", "other")
+        self.commit("Anew")
+        self.says("", "true", 0, "0 crates changed; edits tried too: none")
+
+
+class Touched(TwoCrates):
+    """`bench/edits` in a repository of two small crates, where no edit is tried."""
+
+    is_side_by_side = True
+    seconds = 5
 
     def says(self, words: str, status: int, *lines: str) -> None:
         came = call([self.folder / "bench/edits", *words.split()], cwd=self.folder)
@@ -190,17 +253,17 @@ class Touched(FolderCase):
     def test_a_crate_that_was_never_tried(self) -> None:
         low = ["low: 1 edits, 1 late, of which 1 were never tried", "  low/is_two: never tried"]
         high = [line.replace("low", "high") for line in low]
-        self.says("--list --touched", 1, *high, *low, "0 other crates: 0 edits, 0 late")
+        self.says("--list --touched", 1, *high, *low, "0 other crates: 0 edits, 0 late, 0 of them left")
         self.tried("high")
-        self.says("--list --touched", 1, *low, "1 other crates: 1 edits, 0 late")
+        self.says("--list --touched", 1, *low, "1 other crates: 1 edits, 0 late, 0 of them left")
         self.tried("low")
-        self.says("--list --touched", 0, "2 other crates: 2 edits, 0 late")
+        self.says("--list --touched", 0, "2 other crates: 2 edits, 0 late, 0 of them left")
 
     def test_edits_that_are_left(self) -> None:
-        self.says("--leave", 0, "2 crates: 2 late edits are left")
-        self.says("--list --touched", 0, "2 other crates: 2 edits, 2 late")
+        self.says("--leave --touched", 0, "2 crates: 2 late edits are left")
+        self.says("--list --touched", 0, "2 other crates: 2 edits, 2 late, 2 of them left")
         self.says("--list low", 1, "low: 1 edits, 1 late, of which 1 were never tried", "  low/is_two: never tried",
-                  "1 other crates: 1 edits, 1 late")  # fmt: skip
+                  "1 other crates: 1 edits, 1 late, 1 of them left")  # fmt: skip
 
     def test_a_crate_that_changed(self) -> None:
         """It is touched, and those above it are not, but their edits are late."""
@@ -208,9 +271,9 @@ class Touched(FolderCase):
         self.tried("high")
         self.file("crates/low/specs/Lib.antt", "-- More\n")
         late = ["low: 1 edits, 1 late, of which 0 were never tried", "  low/is_two: refused: the goal"]
-        self.says("--list --touched", 1, *late, "1 other crates: 1 edits, 1 late")
+        self.says("--list --touched", 1, *late, "1 other crates: 1 edits, 1 late, 0 of them left")
         self.tried("low")
-        self.says("--list --touched", 0, "2 other crates: 2 edits, 1 late")
+        self.says("--list --touched", 0, "2 other crates: 2 edits, 1 late, 0 of them left")
 
     def test_an_edit_that_changed(self) -> None:
         """It has to be tried anew, unless edits of its crate were left."""
@@ -220,4 +283,4 @@ class Touched(FolderCase):
         self.tried("low")
         self.file("crates/low/edits", new)
         self.file("crates/high/edits", new)
-        self.says("--list --touched", 1, *late, "1 other crates: 1 edits, 1 late")
+        self.says("--list --touched", 1, *late, "1 other crates: 1 edits, 1 late, 1 of them left")
