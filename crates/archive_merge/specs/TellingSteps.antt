@@ -1,4 +1,4 @@
--- What a merge tells of its sides, turn by turn: the words of the inner functions. No contract of a public one has
+-- The reports of a merge on its sides, turn by turn: the words of the inner functions. No contract of a public one has
 -- them.
 use Rattle.std.specs.Prelude.{◌≡◌, ℕ, List, [], ◌∷◌, ◌++◌, map, Bool, true, false, not, ◌&&◌}
 use Rattle.std.specs.Prelude.{Option, Some, None, Result, MatchResult}

@@ -1,4 +1,4 @@
--- How records lie in a file: a tag, what else its head holds, and an admission's slice. Each number is big-endian.
+-- The layout of records in a file: a tag, the rest of the head, and an admission's slice. Each number is big-endian.
 use Rattle.std.specs.Prelude.{ℕ, ◌+◌, List, length, take, drop, slice_index, nat_lt, ◌==◌}
 use Rattle.std.specs.Prelude.{if◌then◌else◌, Option, Some, None, Result, Ok, Err}
 use Rattle.std.specs.Int.{w64, from_be_bytes}

@@ -1,4 +1,4 @@
--- What is called of the system for an output.
+-- The calls of the system for an output.
 use Rattle.std.specs.Prelude.{ℕ, Bool, true, false, ◌&&◌, ◌==◌, if◌then◌else◌, List, [], ◌∷◌, ◌++◌, map, string_bytes}
 use Rattle.std.specs.Prelude.{Option, Some, None, Result, Ok, Err}
 use Rattle.std.specs.IoError.{error_kind}

@@ -1,4 +1,4 @@
--- Inputs that were not opened, and what is told of them.
+-- Inputs that were not opened, and the reports of that.
 use Rattle.std.specs.Prelude.{◌≡◌, ◌≢◌, ◌⊎◌, ℕ, List, [], ◌∷◌, Some}
 use Rattle.std.specs.IoError.{error_kind}
 use Rattle.std.specs.declared.io.ErrorKind.TheVariants.{OutOfMemory as WantsMemory}

@@ -1,4 +1,4 @@
--- Queries of archives, which are read by their indexes, or whole; and what `name` notes.
+-- Queries of archives, which are read by their indexes, or whole; and the notes of `name`.
 use Rattle.std.specs.Prelude.{◌≡◌, ◌<◌, ◌⊎◌, ℕ, List, [], ◌∷◌, ◌++◌, Bool, true, false, nat_lt, length, Option, Some}
 use Rattle.std.specs.Prelude.{None}
 use Rattle.std.specs.Prelude.{if◌then◌else◌, Result, Ok, Err}

@@ -1,4 +1,4 @@
--- The archives of a command that are one by their join: what they hold together, and which of them is refused.
+-- The archives of a command that are one by their join: their content together, and which of them is refused.
 use Rattle.std.specs.Prelude.{ℕ, ◌+◌, List, Result, fold}
 use Rattle.std.specs.List.{AllByRecursion, AllZip}
 use Rattle.archive_core.specs.Content.{Operations, IsContent, joined}

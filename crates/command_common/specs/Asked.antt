@@ -1,4 +1,4 @@
--- What a command asks of its inputs, and the text that it makes of that.
+-- The question of a command to its inputs, and the text that it makes of the answer.
 use Rattle.std.specs.Prelude.{◌≡◌, ℕ, List, [], ◌∷◌}
 use Rattle.archive_core.specs.Summary.{Entries}
 use Rattle.archive_core.specs.declared.find.FindRow.{FindRow}

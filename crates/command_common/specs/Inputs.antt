@@ -1,4 +1,4 @@
--- The inputs of a command: what they hold, which are refused, and why.
+-- The inputs of a command: their content, which are refused, and why.
 use Rattle.std.specs.Prelude.{◌≡◌, ◌≢◌, ℕ, ◌+◌, Bool, List, map, take, drop, zip, Option, Some}
 use Rattle.std.specs.Prelude.{IfSome, Result, Ok, Err, slice_get, ◌⊎◌}
 use Rattle.std.specs.List.{AllByRecursion}

@@ -1,4 +1,4 @@
--- The steps of a command that writes a slice: what comes of choosing it, and of sending it to the draft of OUT.
+-- The steps of a command that writes a slice: the results of choosing it, and of sending it to the draft of OUT.
 use Rattle.std.specs.Prelude.{◌≡◌, ℕ, List, [], length, Result, Ok, Err, ◌⊎◌}
 use Rattle.archive_core.specs.declared.find.FindRow.{FindRow}
 use Rattle.text_reports.specs.Finds.{find_lines}

@@ -1,4 +1,4 @@
--- What frames have, each thing once and told by number, from 1 on.
+-- The locations, files and texts of frames, each once, with its number from 1 on.
 use Rattle.std.specs.Prelude.{ℕ, zero, suc, List, [], ◌∷◌, ◌++◌, ◌≡◌, ◌<◌, ◌≤◌, ◌^◌, ◌⊎◌, length, slice_index_or}
 use Rattle.std.specs.Prelude.{Option, Some, None}
 use Rattle.dwarf_lines.specs.Paths.{PathRecord}

@@ -1,4 +1,4 @@
--- The numbers of what a table has, in the order of their first use.
+-- The numbers of the parts of a table, in the order of their first use.
 use Rattle.std.specs.Prelude.{ℕ, List, [], ◌∷◌, ◌<◌, flat_map, length, reverse, slice_index}
 use Rattle.table_source_frames_build.specs.FirstUses.{some_number}
 use Rattle.table_source_frames_build.specs.Kept.{KeptRecord, callers_of, file_key_at, location_key_at}

@@ -1,5 +1,5 @@
 -- The table of a slice, and its bytes: a head of 48 bytes, the names of its sections, its rows, its strings, and its
--- lines. What the lines are is for others to say.
+-- lines, which may be any bytes here.
 use Rattle.std.specs.Prelude.{◌≡◌, ◌<◌, ◌≤◌, ◌+◌, ◌*◌, ◌^◌, ◌-◌, ℕ, zero, suc, List, [], ◌∷◌, ◌++◌, length}
 use Rattle.std.specs.Prelude.{map, take, flat_map, All, Option, Some, None}
 use Rattle.std.specs.Int.{w64, to_be_bytes}

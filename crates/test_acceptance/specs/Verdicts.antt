@@ -1,4 +1,4 @@
--- Whether what came is what has to come.
+-- Whether the results are the expected ones.
 use Rattle.std.specs.Prelude.{◌≡◌, ℕ, ◌==◌, List, All, IsOkAnd, string_bytes, take}
 use Rattle.std.specs.List.{common_prefix_len, count_by}
 use Rattle.test_acceptance.specs.declared.verdicts.Step.{Step}
