@@ -200,7 +200,8 @@ sent_so indexes whole failures before seen after more key digest named by draft 
     let known = readers whole failures before after in
     let archive = reader whole failures old new in
     let from = chosen_from indexes whole failures before seen after by.all more by.read by.unfailed by.kept key digest by.x by.chosen old new old_is after_is in
-    let unfailed = unfailed_sent indexes whole failures before seen after by.all more by.read by.unfailed by.kept key digest by.x by.chosen old new old_is after_is one in
+    let unfailed = unfailed_sent indexes whole failures before seen after by.all more by.read by.unfailed by.kept key digest by.x by.chosen old new old_is
+    after_is one in
     let makes : MakesEntry indexes known key digest slice (line_of key named.row.digest named.size) =
     record { x = by.x; archive = archive; from = from; holds = holds; told_is = same_line key named by.x slice by.names holds.of } in
     record {
@@ -211,7 +212,8 @@ sent_so indexes whole failures before seen after more key digest named by draft 
       took = took;
     }
 sent_so indexes whole failures before seen after more key digest named by draft (Err fault) (old, new, old_is, after_is, stops) =
-    inl (stopped_amidst indexes whole failures before seen after by.all more by.read by.unfailed by.kept key digest by.x by.chosen old new old_is after_is draft fault stops)
+    inl (stopped_amidst indexes whole failures before seen after by.all more by.read by.unfailed by.kept key digest by.x by.chosen old new old_is after_is
+    draft fault stops)
 
 -- ---- where entries are tied
 

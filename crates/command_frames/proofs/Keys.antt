@@ -39,14 +39,19 @@ module _ {D P : Type 0} (whole : D → Option (List ℕ)) (failures : D → ℕ)
       → IsAnsweredAt (HaveTexts whole first) (readers whole_at failures_at first_at first_at) all lines key place told frames
   said_first key place told frames (inl is) = inl (tables_first whole failures lines all first mid texts_kept key place told frames is)
   said_first key place told frames (inr is) =
-      inr (slices_same (readers whole_at failures_at mid_at mid_at) (readers whole_at failures_at first_at first_at) all lines key place told frames same_first is)
+      inr (slices_same (readers whole_at failures_at mid_at mid_at)
+      (readers whole_at failures_at first_at first_at) all lines key place told frames same_first is)
 
   refused_first : (key : SliceKey) (at : InputName) (why : Why)
       → IsRefusedAt (HaveTexts whole mid) (readers whole_at failures_at mid_at mid_at) all lines key at why
       → IsRefusedAt (HaveTexts whole first) (readers whole_at failures_at first_at first_at) all lines key at why
   refused_first key at why (inl is) = inl (fault_first whole failures lines all first mid texts_kept (key_bytes key) at why is)
   refused_first key at why (inr (tied, is)) =
-      inr (tied, stale_same (readers whole_at failures_at mid_at mid_at) (readers whole_at failures_at first_at first_at) all (key_bytes key) at why same_first is)
+      inr (
+        tied,
+        stale_same (readers whole_at failures_at mid_at mid_at) (readers whole_at failures_at first_at first_at) all
+            (key_bytes key) at why same_first is,
+      )
 
   -- what is told of the later ones is told of the first
   pub true_first : (one : KeyAnswers)

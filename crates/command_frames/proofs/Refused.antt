@@ -254,7 +254,8 @@ module _ {IsSaid : SliceKey → Where → AnswerRecord → List (List FrameRecor
         status_is = λ before. more.status_is (status_with before p.status)
             ∙ with_twice before p.status (replies_status more.replies)
             ∙ ap (status_with before) (ap (λ (s : Status). status_with s (replies_status more.replies)) one.status_is
-            ∙ status_first one.reply (list_any (λ (r : Reply). is_refused r.answered) more.replies) (list_all (λ (r : Reply). is_found r.answered) more.replies));
+            ∙ status_first one.reply (list_any (λ (r : Reply). is_refused r.answered) more.replies)
+            (list_all (λ (r : Reply). is_found r.answered) more.replies));
         text_is = (λ i. one.text_is i ++ more.text_is i);
       }
 

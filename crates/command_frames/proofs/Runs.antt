@@ -412,7 +412,8 @@ key_told one = one.asked.now.key
 pub told_ascend : (told : List KeyAnswers) → AreInOrder (asked_in told) → IsStrictlySortedBy (λ a b. key_cmp a.asked.now.key b.asked.now.key) told
 told_ascend told order = ascending_by (λ (a b : AskedKey). key_cmp a.key b.key) (λ (one : KeyAnswers). one.asked.now) told order.keys
 
-module _ (told : List KeyAnswers) (key : SliceKey) (place : Where) (order : AreInOrder (asked_in told)) (has : HasAsked (asked_in told) (key_bytes key) place) where
+module _ (told : List KeyAnswers) (key : SliceKey) (place : Where) (order : AreInOrder (asked_in told))
+    (has : HasAsked (asked_in told) (key_bytes key) place) where
   -- its key is there
   pub key_found : (r : Result ℕ ℕ) → IsSearchInRange r (length told)
       → IsBinarySearchResult (λ (one : KeyAnswers). key_cmp one.asked.now.key key) told r → (i : ℕ) × (r ≡ Ok i)

@@ -87,7 +87,8 @@ key_as IsSaid IsMore IsRefused IsNot more also slices places (Told answers) is =
 key_as IsSaid IsMore IsRefused IsNot more also slices places (Refused at why) (wanted, is) = (wanted, also at why is)
 
 pub under_as : (IsSaid IsMore : SliceKey → Where → AnswerRecord → List (List FrameRecord) → Type 0) (IsRefused IsNot : SliceKey → InputName → Why → Type 0)
-    → ((key : SliceKey) (place : Where) (answer : AnswerRecord) (frames : List (List FrameRecord)) → IsSaid key place answer frames → IsMore key place answer frames)
+    → ((key : SliceKey) (place : Where) (answer : AnswerRecord) (frames : List (List FrameRecord)) → IsSaid key place answer frames
+    → IsMore key place answer frames)
     → ((key : SliceKey) (at : InputName) (why : Why) → IsRefused key at why → IsNot key at why)
     → (slices : Bool) (one : KeyAnswers) → IsToldUnder IsSaid IsRefused slices one → IsToldUnder IsMore IsNot slices one
 under_as IsSaid IsMore IsRefused IsNot more also slices one is =
@@ -322,7 +323,8 @@ to_refusals (first ∷ told) one at why there is = elim (in_cons first told one 
         → Contains (cons_option (refusal_in first.asked.now.key t) (refusals_in told))
         (record { key = one.asked.now.key; at = at; why = why })
     by (Told answers) more = more
-    by (Refused a w) more = in_rest (record { key = first.asked.now.key; at = a; why = w }) (refusals_in told) (record { key = one.asked.now.key; at = at; why = why }) more
+    by (Refused a w) more = in_rest (record { key = first.asked.now.key; at = a; why = w }) (refusals_in told)
+        (record { key = one.asked.now.key; at = at; why = why }) more
 
 -- the lines of the refusals of one more
 pub refusals_more : (told : List KeyAnswers) (i : ℕ) (one : KeyAnswers) → i < length told → one ≡ get_or told i one

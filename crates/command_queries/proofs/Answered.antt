@@ -59,7 +59,8 @@ addresses_told_with true o key load lines addresses status text after = record {
 
 -- ---- how `symbolicate` ends over archives by their records
 
-module _ {R S : Type 0} (archive : Reader R) (others : List (Reader S)) (key : SliceKey) (load : Option ℕ) (lines slices : Bool) (addresses : List ℕ) (report : Writer) where
+module _ {R S : Type 0} (archive : Reader R) (others : List (Reader S)) (key : SliceKey) (load : Option ℕ) (lines slices : Bool) (addresses : List ℕ)
+    (report : Writer) where
   abbrev asked : Query
   asked = prints_addresses (frames_held lines slices archive others) key load addresses
 

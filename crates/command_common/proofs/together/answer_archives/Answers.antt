@@ -5,7 +5,8 @@ use Rattle.command_common.proofs.Parts.{alone_told, no_others, together_tells}
 use Rattle.command_common.proofs.together.answer_archives.Goals as goal
 
 pub returns-then-is_empty : goal.returns-then-is_empty
-returns-then-is_empty g c = alone_told _ _ _ _ _ _ (no_others c.args.others.now c.is_empty.result c.is_empty.ensures c.if-is_empty.true) c.answer_from_archive.ensures
+returns-then-is_empty g c =
+    alone_told _ _ _ _ _ _ (no_others c.args.others.now c.is_empty.result c.is_empty.ensures c.if-is_empty.true) c.answer_from_archive.ensures
 
 pub returns : goal.returns
 returns g c =

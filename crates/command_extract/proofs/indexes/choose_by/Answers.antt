@@ -36,7 +36,8 @@ returns-in-One g c =
     let archives = readers g.P.Placed.whole g.P.Placed.failures c.args.archives.now c.read_indexes.new.archives in
     let read = rw (← c.deref.ensures.value) at c.in_ok-read.ensures.read in
     let choice = rw c.in-One.is at c.in_ok-named.ensures in
-    let by : IsNamedBy indexes g.P.Placed.whole g.P.Placed.failures c.args.archives.now c.read_indexes.new.archives c.args.key.now c.args.digest.now c.in-One.named =
+    let by : IsNamedBy indexes g.P.Placed.whole g.P.Placed.failures c.args.archives.now c.read_indexes.new.archives c.args.key.now c.args.digest.now
+    c.in-One.named =
     record {
       all = c.deref.result.now;
       read = read.is;
@@ -48,7 +49,8 @@ returns-in-One g c =
     } in
     record {
       is = rw c.choose_named.ensures.place (by, c.choose_named.ensures.digest, c.choose_named.ensures.size);
-      unfailed = wanting indexes g.P.Placed.whole g.P.Placed.failures c.args.archives.now c.read_indexes.new.archives c.read_indexes.new.archives c.deref.result.now
+      unfailed = wanting indexes g.P.Placed.whole g.P.Placed.failures c.args.archives.now c.read_indexes.new.archives c.read_indexes.new.archives
+          c.deref.result.now
           refl read.is read.unfailed c.in_ok-read.ensures.kept.1 c.args.key.now c.args.digest.now
           (none_failed g.P.Placed.whole g.P.Placed.failures c.read_indexes.new.archives);
     }
@@ -63,7 +65,8 @@ returns-in-Undecided g c =
       is = rows_so indexes g.P.Placed.whole g.P.Placed.failures c.args.archives.now c.read_indexes.new.archives c.read_indexes.new.archives c.deref.result.now
           refl read.is read.unfailed c.in_ok-read.ensures.kept.1 c.args.key.now c.args.digest.now choice.0 c.in-Undecided.rows.items
           choice.1 choice.2 none;
-      unfailed = wanting indexes g.P.Placed.whole g.P.Placed.failures c.args.archives.now c.read_indexes.new.archives c.read_indexes.new.archives c.deref.result.now
+      unfailed = wanting indexes g.P.Placed.whole g.P.Placed.failures c.args.archives.now c.read_indexes.new.archives c.read_indexes.new.archives
+          c.deref.result.now
           refl read.is read.unfailed c.in_ok-read.ensures.kept.1 c.args.key.now c.args.digest.now none;
     }
 
