@@ -8,4 +8,5 @@ pub returns : goal.returns
 returns c = λ none.
     let rows = c.args.rows.now in
     ap (λ (row : FileRow). set rows c.args.number row)
-    (c.updated_row.ensures ∙ ap (updated_row c.args.new) (c.index-rows-number.is ∙ get_or_default rows c.args.number c.index-rows-number.result none c.requires))
+    (c.updated_row.ensures ∙ ap (updated_row c.args.new)
+    (c.index-rows-number.is ∙ get_or_default rows c.args.number c.index-rows-number.result none c.requires))

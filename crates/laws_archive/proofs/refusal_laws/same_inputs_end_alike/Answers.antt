@@ -145,8 +145,10 @@ module _ {O P Q R S T : Type 0} (input : Reader O) (archive : Reader Q) (others 
     (alike : HoldAlike input also) (archives : ArchivesHoldAlike archive others other more) where
   one_of_frames : (lines slices : Bool)
       → RefuseOne (frames lines slices input archive others).Refuses (frames lines slices also other more).Refuses
-  one_of_frames lines slices at name why another (inl a) (inl b) alone alone_too = (a.0.0 ∙ sym b.0.0, one_frames input also why another alike a.0.1 b.0.1 alone alone_too)
-  one_of_frames lines slices at name why another (inl a) (inr b) alone alone_too = absurd (alone (frames_accepted also input why (swapped input also alike) b.0 a.0.1))
+  one_of_frames lines slices at name why another (inl a) (inl b) alone alone_too =
+      (a.0.0 ∙ sym b.0.0, one_frames input also why another alike a.0.1 b.0.1 alone alone_too)
+  one_of_frames lines slices at name why another (inl a) (inr b) alone alone_too =
+      absurd (alone (frames_accepted also input why (swapped input also alike) b.0 a.0.1))
   one_of_frames lines slices at name why another (inr a) (inl b) alone alone_too = absurd (alone_too (frames_accepted input also another alike a.0 b.0.1))
   one_of_frames lines slices at name why another (inr a) (inr b) alone alone_too =
       one_of_archives archive others other more archives at name why another a.2 b.2 alone alone_too

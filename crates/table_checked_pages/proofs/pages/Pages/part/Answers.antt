@@ -14,7 +14,8 @@ returns-clause-read g c = record {
       let page : here ≡ page_of all c.args.index = (c.in_ok-bring.ensures.keeps text all is are).kept 0 c.args.index some in
       let same : c.page-page.result.now ≡ here = c.page-page.ensures in
       let size : c.args.skip + n - c.args.skip ≡ n = omega arith in
-      let copied : c.copy_from_slice.new.self ≡ take (c.args.skip + n - c.args.skip) (drop c.args.skip c.page-page.result.now) = c.copy_from_slice.ensures.after in
+      let copied : c.copy_from_slice.new.self ≡ take (c.args.skip + n - c.args.skip) (drop c.args.skip c.page-page.result.now) =
+      c.copy_from_slice.ensures.after in
       let long : length c.copy_from_slice.new.self ≡ n = c.copy_from_slice.auto.self in
       let inside : c.args.skip + n ≤ 4096 = omega (arith, c.requires.inside) in
       copied ∙ ap (λ k. take k (drop c.args.skip c.page-page.result.now)) size

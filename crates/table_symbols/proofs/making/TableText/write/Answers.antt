@@ -30,7 +30,8 @@ returns-in_err-after g c =
     let f = c.deref.result.now in
     let s = c.self.inside.strings.now in
     let l = c.self.inside.lines.items in
-    let text : d ++ (f ++ (s ++ l)) ≡ stored c.args.self.now = ap (λ b. d ++ b) ((λ j. c.deref.ensures.value j ++ (s ++ l)) ∙ c.self.view_is) ∙ c.requires.above in
+    let text : d ++ (f ++ (s ++ l)) ≡ stored c.args.self.now =
+    ap (λ b. d ++ b) ((λ j. c.deref.ensures.value j ++ (s ++ l)) ∙ c.self.view_is) ∙ c.requires.above in
     subst (Puts {T = ℕ} held failures (λ n. n) c.args.w.now c.put-3.new.w c.args.done (stored c.args.self.now)) (sym same)
     (puts_along held failures (λ n. n) c.args.w.now c.put-3.new.w c.args.done (d ++ (f ++ (s ++ l))) (stored c.args.self.now) (Err fault) text
     (puts_then held failures (λ n. n) c.args.w.now c.put.new.w c.put-3.new.w c.args.done c.in_ok-between.between d
