@@ -198,8 +198,8 @@ class ChangedTables(TableCase):
 
 
 class OtherKinds(TableCase):
-    """A site with indexes of an earlier release, or that no release wrote: without tables, or with tables in wide pages.
-    The next command that writes makes them anew, and says so; until then nothing is said by them."""
+    """A site with indexes of an earlier release, or that no release wrote: without tables, or with tables in wide
+    pages. The next command that writes makes them anew, and says so; until then nothing is said by them."""
 
     def setUp(self) -> None:
         super().setUp()
