@@ -1,5 +1,6 @@
 """The edits: that each fits the sources, that the tables have them, and that a test has to catch each wrong body that
 the prover accepts. `bench/edits`, `bench/allowed` and the gate try them."""
+import hashlib
 import pathlib
 import re
 import shutil
@@ -164,6 +165,7 @@ class Batches(unittest.TestCase):
 
 
 TRIED_TOO = "1 crates changed; edits tried too:"
+IS_TWO = "file: src/lib.rt\nold:     1\nnew:     2\n"
 
 
 class TwoCrates(FolderCase):
@@ -178,7 +180,7 @@ class TwoCrates(FolderCase):
         self.file("crates.txt", "low:\nhigh: low\n")
         for crate in ("low", "high"):
             self.file(f"crates/{crate}/src/lib.rt", f"pub fn of_{crate}() -> u8 {{\n    1\n}}\n")
-            self.file(f"crates/{crate}/edits", "# is_two\nfile: src/lib.rt\nold:     1\nnew:     2\n")
+            self.file(f"crates/{crate}/edits", f"# is_two\n{IS_TWO}")
 
 
 @unittest.skipIf(shutil.which("git") is None, "there is no git")
@@ -192,10 +194,17 @@ class Sampled(TwoCrates):
     def setUp(self) -> None:
         super().setUp()
         self.git("init", "-q")
+        self.refused("is_two", "low", "high")
         self.commit("Two crates")
         self.file("crates/low/specs/Lib.antt", "-- More\n")
-        self.file("crates/high/edits", "# is_two\nfile: src/lib.rt\nold:     1\nnew:     2\n# is_three\n")
+        self.file("crates/high/edits", f"# is_two\n{IS_TWO}# is_three\n{IS_TWO}")
         self.commit("One changed, and only edits of the other")
+
+    def refused(self, name: str, *crates: str) -> None:
+        """As the table says that these edits were, on other sources."""
+        digest = hashlib.sha256(IS_TWO.strip().encode()).hexdigest()[:8]
+        rows = (f"{crate}/{name}\t{digest}\t-\trefused: a goal\n" for crate in crates)
+        self.file("bench/edits.tsv", "edit\ttext\tsources\tresult\n" + "".join(rows))
 
     def git(self, *words: str) -> None:
         who = ["-c", "user.name=nobody", "-c", "user.email=nobody@localhost"]
@@ -221,7 +230,15 @@ class Sampled(TwoCrates):
         self.file("crates/high/src/more.rt", "// More\n")
         self.commit("The other changed")
         came = call([self.folder / "bench/sampled", "true"], cwd=self.folder)
-        self.assertRegex(came.lines[0], "^2 crates changed; .*: (low/is_two high/is_[a-z]+|high/is_[a-z]+ low/is_two)$")
+        self.assertRegex(came.lines[0], "^2 crates changed; .*: (low/is_two high/is_two|high/is_two low/is_two)$")
+
+    def test_an_edit_that_was_never_refused(self) -> None:
+        """It is left to `bench/edits`, as is one whose text is another since."""
+        self.refused("is_three", "low")
+        self.says("", "true", 0, f"{TRIED_TOO} none")
+        self.refused("is_two", "low")
+        self.file("crates/low/edits", f"# is_two\n{IS_TWO.replace('2', '3')}")
+        self.says("", "true", 0, f"{TRIED_TOO} none")
 
     def test_minutes(self) -> None:
         """A crate that takes longer than what is left has none."""
