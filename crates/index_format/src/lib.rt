@@ -5,7 +5,7 @@
 //! entry of 122 bytes for each record, strictly ascending in byte order, and the end record: `03`, the number of
 //! entries and the SHA-256 of their bytes. An entry is that of a summary, whether it is a companion's, the offset and
 //! the length of the record in the archive's text of version 2, and the claim of its table: where it is stored in the
-//! index, its size, and the SHA-256 of its page digests. How an index is made is in `index_build`.
+//! index, its size, and its root. How an index is made is in `index_build`.
 //!
 //! - `entry`: [`IndexEntry`], what a record is, where it stands, and where its table is stored;
 //! - `index`: [`Index`], the entries of an index that was read; `runs`: [`run_under`], those of one tag under a prefix,
