@@ -1,15 +1,17 @@
 -- The index of a content: that there is one, and what stands in it.
-use Rattle.std.proofs.Common.{◌≡◌, ℕ, ◌+◌, ◌<◌, ◌^◌, true, false, ◌||◌, List, [], ◌∷◌, ◌++◌, length, refl, sym, ap, ◌∙◌, arith, length-append, zero, suc, ◌*◌}
+use Rattle.std.proofs.Common.{◌≡◌, ℕ, ◌+◌, ◌<◌, ◌^◌, true, false, ◌||◌, List, [], ◌∷◌, ◌++◌, length, refl, sym, ap, ◌∙◌, arith, length-append, zero, suc}
 use Rattle.std.proofs.Common.{cond, take, drop, get_or, subst, inl, inr, append_assoc}
-use Rattle.std.specs.Int.{from_be_bytes, w64}
-use Rattle.std.specs.List.{AllZip, concat, list_any, Contains}
+use Rattle.std.specs.Int.{from_be_bytes, to_be_bytes, w64}
+use Rattle.std.specs.List.{All, AllZip, concat, list_any, Contains}
 use Rattle.std.specs.List.Sorted.{IsPermutation}
 use Rattle.std.specs.Ordering.{is_eq, match_ordering}
 use Rattle.std.specs.declared.cmp.Ordering.TheVariants.{Less, Equal, Greater}
 use Rattle.std.proofs.lemmas.List.Sorted.{IsPermutation-cons, IsPermutation-middle, IsPermutation-refl, IsPermutation-trans, length_permutation}
 use Rattle.join_core.specs.Listing.{ascending_of, put, listing}
 use Rattle.table_checked_pages.specs.Pages.{stored, AreStored, digests_size}
-use Rattle.archive_core.specs.Record.{IsRecord}
+use Rattle.archive_core.specs.Key.{key_bytes}
+use Rattle.archive_core.specs.Record.{IsRecord, admission, admission_record}
+use Rattle.archive_core.specs.Valid.{key_of}
 use Rattle.archive_core.proofs.Taken.{tied_is}
 use Rattle.archive_records.specs.Text.{InOrder}
 use Rattle.archive_records.specs.declared.format.Format.TheVariants.{Archive}
@@ -18,14 +20,14 @@ use Rattle.index_format.specs.Entry.{length_in, offset_in, placed_entry}
 use Rattle.index_format.proofs.Placed.{entry_long, length_is, offset_is, entry_front}
 use Rattle.index_format.proofs.Sums.{AreApart as AreDistinct, any_ascending_of, is_same, listing_of, nonempty}
 use Rattle.index_format.proofs.Fields.{number_kept, claim_read}
-use Rattle.index_build.specs.Content.{IsTableOf, claim_of, entries_of, table_entries, table_entry, tables_text, HasTable, IsIndexOf}
+use Rattle.index_build.specs.Content.{IsTableOf, claim_of, entries_of, table_entries, table_entry, tables_text, HasByteSlices, HasTable, IsIndexOf}
 use Rattle.index_build.specs.Making.{AreNear}
 use Rattle.std.specs.Prelude.{Option}
 use Rattle.std.proofs.lemmas.Bool.{cases_Bool}
 use Rattle.std.proofs.Math.Seq.{drop-cons}
-use Rattle.std.proofs.lemmas.List.{drop_at, get_or_default, take-append-drop, take-append-le, take_at}
+use Rattle.std.proofs.lemmas.List.{drop_at, get_or-append-add, get_or_default, take-append-drop, take-append-le, take_at}
 use Rattle.std.proofs.lemmas.List.Concat.{flat_map-append}
-use Rattle.std.proofs.lemmas.List.Elements.{AllZip-get_or, Contains-get_or}
+use Rattle.std.proofs.lemmas.List.Elements.{All-contains, AllZip-get_or, Contains-get_or}
 use Rattle.std.proofs.lemmas.Slice.Zip.{AllZip-long}
 use Rattle.table_checked_pages.proofs.PageLemmas.{length-stored, may_be}
 use Rattle.table_symbols.specs.Found.{IsSaid}
@@ -286,3 +288,18 @@ has_table o text index content short r there admitted =
     let c = (members_listed o r).1 there in
     let same : get_or (listing o) c.0 [] ≡ r = get_or_default (listing o) c.0 [] r c.1 ∙ c.2 in
     subst (HasTable text (entries_of (listing o) index.tables)) same (has_table_at o text index c.0 c.1 content short (ap is_admission same ∙ admitted))
+
+-- ---- the slices of a content are bytes, if its records are
+
+end_bytes : (xs ys : List ℕ) → AreBytes (xs ++ ys) → AreBytes ys
+end_bytes xs ys bytes i = subst (λ (n : ℕ). n < 256) (get_or-append-add xs ys i 0) (bytes (length xs + i))
+
+pub slices_are_bytes : (o : Operations) → All AreBytes (listing o) → HasByteSlices o
+unfolding admission
+slices_are_bytes o bytes slice has =
+    let whole : AreBytes (admission_record slice) =
+    All-contains AreBytes (listing o) (admission_record slice) bytes ((members_listed o (admission_record slice)).1 has) in
+    let body : AreBytes (admission slice) = end_bytes (2 ∷ []) (admission slice) whole in
+    let rest : AreBytes (to_be_bytes w64 (length slice) ++ slice) =
+    end_bytes (key_bytes (key_of slice)) (to_be_bytes w64 (length slice) ++ slice) body in
+    end_bytes (to_be_bytes w64 (length slice)) slice rest

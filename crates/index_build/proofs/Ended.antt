@@ -57,6 +57,7 @@ module _ {R D : Type 0} (left : R → Option (List ℕ)) (failures : R → ℕ) 
         makes = record {
           content = made.content;
           is_content = made.is_content;
+          slices = made.slices;
           archive_is = made.archive_is;
           text_is = made.is_index;
           told_is = ap index_line sizes_are;

@@ -6,11 +6,12 @@ use Rattle.std.specs.List.{AllZip, concat}
 use Rattle.std.specs.Io.KnownBytes.{Appends, Consumes}
 use Rattle.std.proofs.lemmas.List.{append-nil, map-append, take_all}
 use Rattle.std.proofs.lemmas.List.Concat.{flat_map-append}
-use Rattle.std.proofs.lemmas.List.Elements.{AllZip-push}
+use Rattle.std.proofs.lemmas.List.Elements.{All-nil, All-push, AllZip-push}
 use Rattle.byte_device.specs.Writes.{IsPut, StopsPut}
 use Rattle.byte_device.proofs.Gains.{puts_then}
 use Rattle.byte_device.proofs.Known.{Consumes-then, Appends-none, Appends-then}
 use Rattle.table_checked_pages.specs.Pages.{stored}
+use Rattle.table_symbols.specs.Steps.{AreBytes}
 use Rattle.archive_records.specs.Kind.{magic}
 use Rattle.archive_records.specs.Reader.{Finishes, HasRead, Passes, Position, Stopped, StopsAt}
 use Rattle.archive_records.specs.Text.{text_of}
@@ -65,7 +66,7 @@ put_none a b held failures old new position done read put =
       records = [];
       tables = [];
       read = read;
-      tabled = record { near = tt; each = tt; entries_are = refl };
+      tabled = record { bytes = All-nil AreBytes; near = tt; each = tt; entries_are = refl };
       put =
           put;
     }
@@ -80,10 +81,10 @@ module _ {W : Type 0} (a b c : Option (List ℕ)) (held : W → Option (List ℕ
 
   -- one record more was read, and its table written
   pub put_more : (more : List IndexEntry) (e : IndexEntry) (t : List ℕ) (end : ℕ) → Passes b c before after
-      → (before.offset < 2 ^ 64) × (done < 2 ^ 64) → more ≡ entries ++ e ∷ [] → IsTableOf after.last t → entry_bytes e
+      → (before.offset < 2 ^ 64) × (done < 2 ^ 64) → AreBytes after.last → more ≡ entries ++ e ∷ [] → IsTableOf after.last t → entry_bytes e
       ≡ table_entry before.offset done after.last t → IsPut held failures mid new done (stored t) end
       → HasPut a c held failures old new more after end
-  put_more more e t end passes near grown table is put = record {
+  put_more more e t end passes near bytes grown table is put = record {
     records = h.records ++ after.last ∷ [];
     tables = h.tables ++ t ∷ [];
     read = HasRead-grows Archive a b c h.records before after h.read passes;
@@ -91,6 +92,7 @@ module _ {W : Type 0} (a b c : Option (List ℕ)) (held : W → Option (List ℕ
         let start : before.offset ≡ 8 + length (concat h.records) = h.read.offset_is in
         let here : done ≡ 8 + length (tables_text h.tables) = omega (arith, h.put.size_is, length-append index_magic (tables_text h.tables)) in
         record {
+          bytes = All-push AreBytes h.records after.last h.tabled.bytes bytes;
           near = near_push 8 8 h.records h.tables after.last t h.tabled.each h.tabled.near (omega (arith, start, near.0)) (omega (arith, here, near.1));
           each = AllZip-push IsTableOf h.records h.tables after.last t h.tabled.each table;
           entries_are =

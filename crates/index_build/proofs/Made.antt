@@ -1,13 +1,14 @@
 -- What was written so far is a beginning of the index of the content whose text the input is; and the index that was made.
 use Rattle.std.proofs.Common.{◌≡◌, ℕ, ◌<◌, ◌≤◌, List, [], ◌∷◌, ◌++◌, length, take, Option, Some, None, refl, sym, ap, ◌∙◌, ◌⊎◌, ◌^◌, subst, inl, inr, arith}
 use Rattle.std.proofs.Common.{append_assoc, length-append, map, Err, Ok}
-use Rattle.std.specs.List.{AllZip, concat}
+use Rattle.std.specs.List.{All, AllZip, concat}
 use Rattle.std.specs.Io.KnownBytes.{Appends, Consumes, IsAtEnd}
 use Rattle.std.proofs.lemmas.List.{append-nil, take-append-le, length-take-le}
 use Rattle.std.proofs.lemmas.List.Concat.{flat_map-append}
 use Rattle.join_core.specs.Listing.{listing}
 use Rattle.byte_device.specs.Writes.{WritesFirst, IsPut, StopsPut}
 use Rattle.table_checked_pages.specs.Pages.{stored}
+use Rattle.table_symbols.specs.Steps.{AreBytes}
 use Rattle.archive_core.specs.Content.{Operations, IsContent}
 use Rattle.archive_records.specs.Kind.{magic}
 use Rattle.archive_records.specs.Text.{AreApart, InOrder, end_record, written, IsArchiveOf, text_of}
@@ -20,7 +21,7 @@ use Rattle.index_format.specs.Text.{index_magic}
 use Rattle.index_build.specs.Content.{IsIndexOf, IsTableOf, entries_of, front_of, tables_text}
 use Rattle.index_build.specs.Making.{IsBegun, IsTooFar, AreNear, IsMade, IsRefused, IsStopped, Makes, RefusesToMake}
 use Rattle.index_format.specs.Text.{end_of, index_text}
-use Rattle.index_build.proofs.Contents.{HaveOneTable, same_table, as_many, one_of_content}
+use Rattle.index_build.proofs.Contents.{HaveOneTable, same_table, as_many, one_of_content, slices_are_bytes}
 use Rattle.index_format.proofs.IndexTexts.{end_long}
 use Rattle.std.specs.Prelude.{IfSome}
 use Rattle.std.specs.FinSet as set
@@ -279,6 +280,7 @@ module _ {R W : Type 0} (once : HaveOneTable) (left : R → Option (List ℕ)) (
           text = text;
           index = index;
           is_index = is_index;
+          slices = slices_are_bytes content (subst (All AreBytes) (sym listed) all.tabled.bytes);
           near = subst (λ (rs : List (List ℕ)). AreNear 8 8 rs all.tables) (sym listed) all.tabled.near;
           put = record { written = puts.gained; records_are = count ∙ records_are; bytes_are = omega (arith, puts.size_is); unfailed = puts.unfailed };
         }

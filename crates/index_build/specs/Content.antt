@@ -6,7 +6,9 @@ use Rattle.std.specs.FinSet as set
 use Rattle.join_core.specs.Listing.{listing}
 use Rattle.table_checked_pages.specs.Pages.{AreStored, Claim, stored}
 use Rattle.table_source_frames.specs.SliceTable.{IsSliceTable}
+use Rattle.table_symbols.specs.Steps.{AreBytes}
 use Rattle.archive_core.specs.Content.{Operations, is_admission}
+use Rattle.archive_core.specs.Record.{admission_record}
 use Rattle.archive_core.specs.Summary.{Entries, entry}
 use Rattle.index_format.specs.Entry.{placed_entry}
 use Rattle.index_format.specs.Text.{index_magic}
@@ -45,6 +47,10 @@ tables_text tables = flat_map stored tables
 -- what an index with these tables begins with
 abbrev pub front_of : List (List ℕ) → List ℕ
 front_of tables = index_magic ++ tables_text tables
+
+-- the slices of a content are bytes
+abbrev pub HasByteSlices : Operations → Type 0
+HasByteSlices o = (slice : List ℕ) → set.contains o (admission_record slice) ≡ true → AreBytes slice
 
 -- The text is the index of a content: of the tables of its records, in the order of these, and of their entries.
 pub record IsIndexOf (o : Operations) (text : List ℕ) : Type 0 where

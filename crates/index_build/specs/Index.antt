@@ -9,7 +9,7 @@ use Rattle.archive_records.specs.declared.fault.RecordFaultKind.TheVariants.{Out
 use Rattle.archive_records.specs.declared.writing.Sizes.{Sizes}
 use Rattle.index_format.specs.declared.fault.IndexingFault.{IndexingFault}
 use Rattle.index_format.specs.declared.fault.IndexingFault.TheVariants.{Archive as OfArchive, OldArchive, TooLong}
-use Rattle.index_build.specs.Content.{IsIndexOf}
+use Rattle.index_build.specs.Content.{HasByteSlices, IsIndexOf}
 use Rattle.index_build.specs.Making.{Makes}
 use Rattle.index_build.specs.declared.fault.MakingFault.{MakingFault}
 use Rattle.index_build.specs.declared.fault.MakingFault.TheVariants.{Archive as Refused, Write as Wrote}
@@ -64,10 +64,12 @@ abbrev pub StopsIndex : {R D : Type 0} → Reader R → Stream D → CommandFaul
 StopsIndex archive draft told =
     StopsMaking (stream archive.left archive.failures archive.old archive.new) draft told
 
--- ARCHIVE is the text of a content in version 2; these are the text of its index, and the line with its sizes.
+-- ARCHIVE is the text of a content of byte strings in version 2; these are the text of its index, and the line with its
+-- sizes.
 pub record MakesIndex {R : Type 0} (archive : Reader R) (text told : List ℕ) : Type 0 where
   pub content : Operations
   pub is_content : IsContent content
+  pub slices : HasByteSlices content
   pub archive_is : Holds archive (written content)
   pub text_is : IsIndexOf content text
   pub told_is : told ≡ index_report_of content text

@@ -6,17 +6,18 @@ use Rattle.archive_core.specs.Content.{Operations, IsContent}
 use Rattle.archive_records.specs.Text.{written}
 use Rattle.archive_records.specs.Writing.{IsWrittenWhole}
 use Rattle.archive_records.specs.declared.writing.Sizes.{Sizes}
-use Rattle.index_build.specs.Content.{IsIndexOf}
+use Rattle.index_build.specs.Content.{HasByteSlices, IsIndexOf}
 use Rattle.command_common.specs.Ends.{HasTaken}
 use Rattle.command_common.specs.Inputs.{Holds, Reader, Unfailed}
 use Rattle.command_common.specs.Outputs.{writer}
 use Rattle.command_common.specs.declared.faults.CommandFault.{CommandFault}
 use Rattle.index_build.specs.Index.{StopsIndex}
 
--- The archive is the text of a content in version 2, and its index was written, with these sizes.
+-- The archive is the text of a content of byte strings in version 2, and its index was written, with these sizes.
 pub record IsIndexed {R D : Type 0} (archive : Reader R) (draft : Stream D) (sizes : Sizes) : Type 0 where
   pub content : Operations
   pub is_content : IsContent content
+  pub slices : HasByteSlices content
   pub archive_is : Holds archive (written content)
   pub unfailed : Unfailed archive
   pub text : List ℕ

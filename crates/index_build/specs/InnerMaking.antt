@@ -1,10 +1,11 @@
 -- An index that is made, record by record: the words of the inner functions. No contract of a public one has them.
-use Rattle.std.specs.Prelude.{◌≡◌, ◌≤◌, ◌^◌, ℕ, List, [], ◌⊎◌, map, Option}
+use Rattle.std.specs.Prelude.{◌≡◌, ◌≤◌, ◌^◌, ℕ, List, [], ◌⊎◌, All, map, Option}
 use Rattle.std.specs.List.{AllZip}
 use Rattle.std.specs.Io.KnownBytes.{Appends, Consumes}
 use Rattle.byte_device.specs.Writes.{IsPut, StopsPut}
 use Rattle.byte_device.specs.Devices.{FailedIn}
 use Rattle.table_checked_pages.specs.Pages.{stored}
+use Rattle.table_symbols.specs.Steps.{AreBytes}
 use Rattle.archive_records.specs.Kind.{old_magic}
 use Rattle.archive_records.specs.Reader.{HasRead, HasReadAll, HasStopped, Position}
 use Rattle.archive_records.specs.declared.format.Format.TheVariants.{Archive}
@@ -30,8 +31,9 @@ StopsTable held failures old new done IsTable OutOfMemory =
 StopsTable held failures old new done IsTable (Write fault) = (table : List ℕ) × IsTable table
     × StopsPut held failures old new done (stored table) fault.written
 
--- these are the tables of the records, and their entries
+-- these are the tables of the records, which are bytes, and their entries
 pub record AreTabled (records tables : List (List ℕ)) (entries : List IndexEntry) : Type 0 where
+  pub bytes : All AreBytes records
   pub near : AreNear 8 8 records tables
   pub each : AllZip IsTableOf records tables
   pub entries_are : map entry_bytes entries ≡ table_entries 8 8 records tables

@@ -20,7 +20,7 @@ use Rattle.archive_records.specs.declared.writing.Sizes.{Sizes}
 use Rattle.index_format.specs.Making.{RefusesToIndex, TellsVersion}
 use Rattle.index_format.specs.declared.fault.IndexingFault.{IndexingFault}
 use Rattle.index_format.specs.declared.fault.IndexingFault.TheVariants.{TooLong}
-use Rattle.index_build.specs.Content.{IsIndexOf, IsTableOf, front_of}
+use Rattle.index_build.specs.Content.{HasByteSlices, IsIndexOf, IsTableOf, front_of}
 use Rattle.index_build.specs.declared.fault.MakingFault.{MakingFault}
 use Rattle.index_build.specs.declared.fault.MakingFault.TheVariants.{Archive as Refused, Write}
 
@@ -31,13 +31,15 @@ AreNear offset at (r ∷ rs) [] = Unit {0}
 AreNear offset at (r ∷ rs) (t ∷ ts) =
     (offset < 2 ^ 64) × (at < 2 ^ 64) × AreNear (offset + length r) (at + length (stored t)) rs ts
 
--- The whole input is the text of one content, in version 2, and its index was written, with these sizes.
+-- The whole input is the text of one content of byte strings, in version 2, and its index was written, with these
+-- sizes.
 pub record IsMade {R W : Type 0} (input : Stream R) (out : Stream W) (sizes : Sizes) : Type 0 where
   pub content : Operations
   pub whole : IsReadWhole Archive content input.bytes input.failures input.old input.new
   pub text : IfSome (input.bytes input.old) (λ text. text ≡ written content)
   pub index : List ℕ
   pub is_index : IsIndexOf content index
+  pub slices : HasByteSlices content
   pub near : AreNear 8 8 (listing content) is_index.tables
   pub put : IsWrittenWhole out.bytes out.failures out.old out.new (set.len content) index sizes
 

@@ -3,6 +3,7 @@
 ghost use Rattle.std.specs.Prelude.{◌≡◌, ◌<◌, ◌^◌, ℕ, List, Option, [], IfErr, IfOk, OnOk};
 ghost use Rattle.byte_device.specs.Writes.{IsPut};
 ghost use Rattle.table_checked_pages.specs.Pages.{stored};
+ghost use Rattle.table_symbols.specs.Steps.{AreBytes};
 ghost use Rattle.archive_core.specs.Record.{IsRecord};
 ghost use Rattle.archive_records.specs.Reader.{HasRead};
 ghost use Rattle.archive_records.specs.declared.format.Format.TheVariants.{Archive};
@@ -37,6 +38,7 @@ fn put_record<W: Sink>(
 ) -> Result<(IndexEntry, u128), MakingFault>
     requires { IsRecord reader.now.last }
     ensures near { OnOk result ((before < 2 ^ 64) × (done < 2 ^ 64)) }
+    ensures bytes { OnOk result (AreBytes reader.now.last) }
     ensures short { IfOk result (λ put. put.1 < 2 ^ 80) }
     ensures put { IfOk result (λ put. (table : List ℕ) × IsTableOf reader.now.last table
         × (entry_bytes put.0 ≡ table_entry before done reader.now.last table)
@@ -50,7 +52,8 @@ fn put_record<W: Sink>(
         return Err(MakingFault::Archive(IndexingFault::TooLong));
     };
     let item = reader.record();
-    let size = reader.last().len() as u64;
+    let last = reader.last();
+    let size = last.len() as u64;
     match put_table(heap, &item, w, at) {
         Ok((claim, done)) => Ok((IndexEntry::of_record(&item, offset, size, claim), done)),
         Err(TableFault::OutOfMemory) => Err(refused(RecordFault::out_of_memory(before))),

@@ -21,10 +21,7 @@ use table_source_frames_build::line_table;
 use table_symbols::TableText;
 
 /// The table of a slice, and what stands before it where it is stored.
-fn table_of<'a>(
-    heap: &Heap,
-    slice: &CheckedSlice<'a>,
-) -> Result<(TableText<'a>, Stored), NoMemory>
+fn table_of<'a>(heap: &Heap, slice: &CheckedSlice<'a>) -> Result<(TableText<'a>, Stored), NoMemory>
     requires { IsValid slice.now }
     ensures table { IfOk result (λ made. IsSliceTable slice.now made.0) }
     ensures stored { IfOk result (λ made. made.1.bytes.items ++ made.0 ≡ stored made.0) }

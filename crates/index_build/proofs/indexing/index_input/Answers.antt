@@ -7,6 +7,7 @@ returns-in-Ok g c =
     record {
       content = m.content;
       is_content = m.whole.is;
+      slices = m.slices;
       archive_is = m.text;
       unfailed = m.whole.unfailed;
       text = m.index;

@@ -1,4 +1,4 @@
-use Rattle.std.proofs.Common.{◌≡◌, ◌∙◌, ℕ, List, ap, subst}
+use Rattle.std.proofs.Common.{◌≡◌, ◌<◌, ◌∙◌, ℕ, List, ap, arith, rules, slice_index, subst}
 use Rattle.byte_device.specs.Writes.{IsPut}
 use Rattle.table_checked_pages.specs.Pages.{stored}
 use Rattle.table_checked_pages.specs.Views.{claim_view}
@@ -22,3 +22,8 @@ returns-in-Ok-put_table-clause-put g c =
       subst (λ (n : ℕ). IsPut g.W.Sink.held g.W.Sink.failures c.args.w.now c.put_table.new.w n (stored p.0)
           c.in-Ok-put_table.done) c.in-Ok-try_from.ensures.1 p.3,
     )
+
+pub returns-in-Ok-put_table-clause-bytes : goal.returns-in-Ok-put_table-clause-bytes
+returns-in-Ok-put_table-clause-bytes g c = λ i.
+    let fits : slice_index c.last-last.result.now i < 256 = first_of (omega arith, search rules) in
+    subst (λ (bytes : List ℕ). slice_index bytes i < 256) c.last-last.ensures fits
