@@ -3,19 +3,18 @@ use Rattle.std.specs.Prelude.{◌≡◌, ◌≢◌, ◌<◌, ◌≤◌, ◌^◌,
 use Rattle.std.specs.List.{AllZip}
 use Rattle.std.specs.FinSet as set
 use Rattle.sha2.specs.Sha256.{sha256}
-use Rattle.table_symbols.specs.Steps.{AreBytes}
 use Rattle.archive_core.specs.Content.{IsAnswering, IsContent, Operations, joined}
 use Rattle.archive_core.specs.Key.{IsKey, key_bytes}
 use Rattle.archive_core.specs.Record.{admission_record}
 use Rattle.archive_core.specs.declared.keys.SliceKey.{SliceKey}
 use Rattle.archive_records.specs.Text.{written}
 use Rattle.index_format.specs.Text.{IsIndexText}
-use Rattle.index_build.specs.Content.{IsIndexOf}
+use Rattle.index_build.specs.Content.{HasByteSlices, IsIndexOf}
 
 -- the text is the index of a content of byte strings, and neither it nor the archive has 2^64 bytes
 pub record IsIndexFile (o : Operations) (text : List ℕ) : Type 0 where
   pub content : IsContent o
-  pub slices : (slice : List ℕ) → set.contains o (admission_record slice) ≡ true → AreBytes slice
+  pub slices : HasByteSlices o
   pub archive_fits : length (written o) < 2 ^ 64
   pub index : IsIndexOf o text
   pub index_fits : length text < 2 ^ 64

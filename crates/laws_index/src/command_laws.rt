@@ -28,6 +28,7 @@ ghost use Rattle.command_common.specs.Outputs.{Writer, summary_report_of};
 ghost use Rattle.command_common.specs.declared.faults.InputName.{InputName};
 ghost use Rattle.command_common.specs.declared.faults.Status.{Status};
 ghost use Rattle.command_common.specs.declared.faults.Why.{Why};
+ghost use Rattle.index_build.specs.Index.{MakesIndex};
 ghost use Rattle.laws_index.specs.Indexes.{AreTiedSlices, DigestsTell, IsIndexFile, all_joined};
 ghost use Rattle.command_index_queries.specs.Find.{find_at, find_together};
 ghost use Rattle.command_index_queries.specs.Indexes.{IsRefusedByIndex};
@@ -47,7 +48,14 @@ ghost use Rattle.laws_index.specs.Refusing.{IsRefusedForLines, TellsAddressesOrB
 ghost use Rattle.laws_index.specs.Refusing.{TellsFramesOrBesides};
 ghost use Rattle.laws_index.specs.Undecided.{TellsUndecided};
 
-use byte_device::Placed;
+use byte_device::{Placed, Source};
+
+/// The index that `index` makes is the index file of a content, as the other laws ask, if neither it nor the archive has
+/// 2^64 bytes.
+pub fn made_index_is_of_a_content<R: Source>()
+    ensures { (archive : Reader R) (text told : List ℕ) → (made : MakesIndex archive text told)
+        → length (written made.content) < 2 ^ 64 → length text < 2 ^ 64 → IsIndexFile made.content text }
+{}
 
 /// The rows of the index of a content, under a prefix, are the list of what the content has there. Nothing is supposed
 /// of SHA-256, and no archive is read. A content that has an index file has such keys as this asks.
