@@ -28,7 +28,8 @@ def look_of(there: bytes) -> Optional[str]:
         OPS: "an operations file, which `apply` takes",
         SUM: "a summary, which `delta` takes",
         IDX: "an index, which `index` writes",
-        EARLIER_IDX: "an index of an earlier release, which `index` makes anew",
+        EARLIER_IDX: "an index of an earlier release, which `index` makes anew, "
+        "or `symarch-keep` if it keeps the archive",
     }
     if there[:8] in kinds:
         return kinds[there[:8]]

@@ -88,7 +88,9 @@ impl fmt::Display for FileKind {
             FileKind::Operations => "an operations file, which `apply` takes",
             FileKind::Summary => "a summary, which `delta` takes",
             FileKind::Index => "an index, which `index` writes",
-            FileKind::EarlierIndex => "an index of an earlier release, which `index` makes anew",
+            FileKind::EarlierIndex => {
+                "an index of an earlier release, which `index` makes anew, or `symarch-keep` if it keeps the archive"
+            }
             FileKind::MachO => "a Mach-O file, which `admit` takes",
             FileKind::Universal => "a universal file, which `admit` takes",
             FileKind::JavaClass => "a Java class file, which no command takes",

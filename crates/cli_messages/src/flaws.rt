@@ -121,12 +121,18 @@ impl fmt::Display for ScriptWords {
                 write!(f, "has an invalid N: {number}")
             }
             ScriptFlaw::Site(flaw) => {
-                let number = InvalidNumber { flaw, most: u32::MAX };
+                let number = InvalidNumber {
+                    flaw,
+                    most: u32::MAX,
+                };
                 write!(f, "has an invalid SITE: {number}")
             }
             ScriptFlaw::Bytes => f.write_str("has an invalid BYTES: expected pairs of hex digits"),
             ScriptFlaw::Message(flaw) => {
-                let number = InvalidNumber { flaw, most: u32::MAX };
+                let number = InvalidNumber {
+                    flaw,
+                    most: u32::MAX,
+                };
                 write!(f, "has an invalid MESSAGE: {number}")
             }
             ScriptFlaw::Uuid => {

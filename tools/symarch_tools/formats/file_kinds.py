@@ -13,7 +13,10 @@ BEGINNINGS: Tuple[Tuple[bytes, str], ...] = (
     (b"MSYMOPS1", "an operations file, which `symarch apply` takes"),
     (b"MSYMSUM1", "a summary, which `symarch delta` takes"),
     (b"MSYMIDX2", "an index, which `symarch index` writes"),
-    (b"MSYMIDX1", "an index of an earlier release, which `symarch index` makes anew"),
+    (
+        b"MSYMIDX1",
+        "an index of an earlier release, which `symarch index` makes anew, or `symarch-keep` if it keeps the archive",
+    ),
     *((begins, f"{what}, {UNPACKED}") for begins, what in PACKED),
     (b"PK\5\6", "an empty zip file"),
     (b"xar!", f"a xar file, {UNPACKED}"),
