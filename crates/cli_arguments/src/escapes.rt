@@ -1,7 +1,8 @@
 //! Words and paths as they are shown: a control character, which a terminal obeys, is escaped.
 
-ghost use Rattle.std.specs.Prelude.{◌≡◌, ◌++◌, IfOk, OnOk, string_bytes};
-ghost use Rattle.cli_arguments.specs.Shown.{shown, shown_character};
+ghost use Rattle.std.specs.Prelude.{◌≡◌, ◌++◌, IfOk, OnOk, codes, string_bytes};
+ghost use Rattle.std.specs.List.{list_any};
+ghost use Rattle.cli_arguments.specs.Shown.{has_control, shown, shown_character, without_line_feed};
 
 use std::alloc::{AllocError, Global};
 use std::convert::AsStr;
@@ -31,19 +32,36 @@ pub fn shown(alloc: Global, text: &str) -> Result<String, AllocError>
     Ok(shown)
 }
 
-/// A text of several lines as one line. No contract speaks of it.
-pub fn shown_line(alloc: Global, text: &str) -> Result<String, AllocError> {
-    let mut line = shown(alloc, text.strip_suffix("\n").unwrap_or(text))?;
+/// A text without the line feed at its end.
+pub fn without_line_feed(text: &str) -> &str
+    ensures { result.now ≡ without_line_feed text.now }
+{
+    match text.strip_suffix("\n") {
+        Some(line) => line,
+        None => text,
+    }
+}
+
+/// A text of several lines as one line, with a line feed at its end.
+pub fn shown_line(alloc: Global, text: &str) -> Result<String, AllocError>
+    ensures { IfOk result (λ line. string_bytes line ≡ shown (without_line_feed text.now) ++ codes "\n") }
+{
+    let mut line = shown(alloc, without_line_feed(text))?;
     line.push('\n')?;
     Ok(line)
 }
 
-/// Whether a word has a control character. No contract speaks of it.
-pub fn has_control<S: AsStr>(words: &[S]) -> bool {
-    'words: for word in words {
-        if word.as_str().chars().any(char::is_control) {
-            return true;
-        }
-    }
-    false
+/// Whether a text has a control character.
+#[tactic(auto, unfolding(crate::specs::Shown::has_control))]
+fn is_controlled(text: &str) -> bool
+    ensures { result ≡ has_control text.now }
+{
+    text.chars().any(char::is_control)
+}
+
+/// Whether a word has one.
+pub fn has_control<S: AsStr>(words: &[S]) -> bool
+    ensures { result ≡ list_any (λ word. has_control (S.text word)) words.now }
+{
+    words.iter().any(|word| is_controlled(word.as_str()))
 }

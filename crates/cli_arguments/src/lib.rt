@@ -35,7 +35,7 @@ mod spelled_values;
 mod values;
 
 pub use commands::{Argument, Form, Kind, Role, form_text, is_input_of};
-pub use escapes::shown;
+pub use escapes::{shown, without_line_feed};
 pub use inputs::Inputs;
 pub use line_faults::LineFault;
 pub use lines::Line;

@@ -1,9 +1,9 @@
 -- The lines on standard error.
-use Rattle.std.specs.Prelude.{◌≡◌, ◌⊎◌, ℕ, Bool, true, false, ◌==◌, List, [], ◌∷◌, ◌++◌, ◌-◌, codes, drop}
-use Rattle.std.specs.Prelude.{if◌then◌else◌, length, nat_eq, take, Option, Some, Result, Ok, Err}
-use Rattle.std.specs.List.{ends_with, flat_map, list_any, starts_with}
+use Rattle.std.specs.Prelude.{◌≡◌, ◌⊎◌, ℕ, Bool, true, false, ◌==◌, List, [], ◌∷◌, ◌++◌, codes, drop}
+use Rattle.std.specs.Prelude.{if◌then◌else◌, nat_eq, Option, Some, Result, Ok, Err}
+use Rattle.std.specs.List.{flat_map, list_any, starts_with}
 use Rattle.clap.specs.Words.{Text}
-use Rattle.cli_arguments.specs.{Lines.Line, Shown.shown}
+use Rattle.cli_arguments.specs.{Lines.Line, Shown.shown, Shown.without_line_feed}
 use Rattle.text_reports.specs.Report.{line}
 use Rattle.command_common.specs.declared.{failures.Failure.Failure, faults.Status.Status}
 use Rattle.command_common.specs.{FaultTexts.failure_text, Outputs.FailsBehind, Outputs.Takes, Outputs.Writer}
@@ -92,10 +92,7 @@ abbrev pub SaysEnd : Writer → Line → Result Status Failure → List Note →
 SaysEnd standard_error asked (Ok _) notes = SaysNotes standard_error notes
 SaysEnd standard_error asked (Err failure) notes = SaysFailure standard_error asked failure
 
--- a text without the line feed at its end, and without the word at its front
-abbrev pub without_line_feed : Text → Text
-without_line_feed text = if ends_with nat_eq text (10 ∷ []) then take (length text - 1) text else text
-
+-- a text without the word at its front
 abbrev pub behind_error : Text → Text
 behind_error text = if starts_with nat_eq text (codes "error: ") then drop 7 text else text
 

@@ -6,14 +6,14 @@ ghost use Rattle.command_common.specs.Outputs.{writer};
 ghost use Rattle.command_common.specs.Statuses.{exit_status};
 ghost use Rattle.cli_arguments.specs.LineView.{line_view};
 ghost use Rattle.cli_messages.specs.Ending.{EndsLine, IsUnreadable, WantsMemory};
-ghost use Rattle.cli_messages.specs.StandardError.{SaysFailure, SaysNotes, behind_error, reason_in, without_line_feed};
+ghost use Rattle.cli_messages.specs.StandardError.{SaysFailure, SaysNotes, behind_error, reason_in};
 
 use crate::hints::{Seen, second_line_of};
 use crate::standard_error::{
     RefusedLine, print_notes, print_out_of_memory, print_second_line, say,
 };
 use byte_device::{Sink, push_all};
-use cli_arguments::{Line, LineFault};
+use cli_arguments::{Line, LineFault, without_line_feed};
 use command_common::{Failure, Note, Status, exit_status};
 use memory::Heap;
 use std::alloc::Global;
@@ -98,15 +98,6 @@ fn reason_in(text: &str) -> &str
     ensures { result.now ≡ reason_in text.now }
 {
     behind_error(without_line_feed(text))
-}
-
-fn without_line_feed(text: &str) -> &str
-    ensures { result.now ≡ without_line_feed text.now }
-{
-    match text.strip_suffix("\n") {
-        Some(line) => line,
-        None => text,
-    }
 }
 
 fn behind_error(text: &str) -> &str
