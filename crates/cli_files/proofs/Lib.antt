@@ -4,6 +4,7 @@ pub mod Publishings
 pub mod Asked
 pub mod Compared
 mod PlacesHeld
+mod Kept
 pub mod Described
 mod DraftNames
 mod Said

@@ -74,6 +74,13 @@ left_in left file (state.Open input) = left input
 left_in left file (state.Placed places) = bytes_at file
 left_in left file (state.Unopened reason) = bytes_at file
 
+-- the file of an input that is read from its start
+abbrev pub input_in : {I P : Type 0} → InputState I P → Option I
+input_in state.Waiting = None
+input_in (state.Open input) = Some input
+input_in (state.Placed places) = None
+input_in (state.Unopened reason) = None
+
 -- the file of an input that is read from any place
 abbrev pub places_in : {I P : Type 0} → InputState I P → Option P
 places_in state.Waiting = None

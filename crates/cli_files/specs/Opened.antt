@@ -1,5 +1,5 @@
 -- A file that is open, or closed at its end.
-use Rattle.std.specs.Prelude.{ℕ, List, [], Option, Some, None}
+use Rattle.std.specs.Prelude.{ℕ, List, [], ◌++◌, ◌+◌, drop, length, max, min, take, Option, Some, None}
 use Rattle.std.specs.declared.io.Error.{Error}
 use Rattle.byte_device.specs.declared.streams.Reading.{Reading}
 
@@ -12,3 +12,11 @@ left_of left None = Some []
 abbrev pub reason_of : {R : Type 0} → Option (Reading R) → Option Error
 reason_of (Some reading) = reading.reason
 reason_of None = None
+
+-- what is kept of the first eight bytes of a file once these came after so many
+abbrev pub kept : List ℕ → ℕ → List ℕ → List ℕ
+kept leading read bytes = take 8 (take read leading ++ (bytes ++ drop (read + length bytes) leading))
+
+-- how many of the first eight came then
+abbrev pub kept_count : ℕ → ℕ → ℕ
+kept_count read count = max read (min 8 (read + count))

@@ -2,13 +2,13 @@
 //! some from a place.
 
 ghost use Rattle.std.proofs.Props.{props};
-ghost use Rattle.std.specs.Prelude.{◌≡◌, ◌≢◌, ◌≤◌, List, ◌∷◌, [], Some, None, IfOk, OnOk, length};
+ghost use Rattle.std.specs.Prelude.{◌≡◌, ◌≢◌, ◌≤◌, List, ◌∷◌, [], Some, None, IfOk, OnOk, length, option_map};
 ghost use Rattle.std.specs.Io.KnownBytes.{ReadConsumes};
 ghost use Rattle.byte_device.specs.Disks.{FileAt, Path, opened_with};
 ghost use Rattle.byte_device.specs.Places.{HasSize, TakenAt};
 ghost use Rattle.cli_files.specs.InputStates.{GivesPlaces, GivesState, HoldsFile, IsStateOf, Open, SaysWanting};
-ghost use Rattle.cli_files.specs.InputStates.{Waiting, bytes_at, left_in, opened_in, opening_in};
-ghost use Rattle.cli_files.specs.InputStates.{stage_of, unopened_in, wanting_in};
+ghost use Rattle.cli_files.specs.InputStates.{Waiting, bytes_at, input_in, left_in, opened_in, opening_in};
+ghost use Rattle.cli_files.specs.InputStates.{places_in, stage_of, unopened_in, wanting_in};
 
 use crate::disks::Disk;
 use byte_device::{CannotOpen, Failed, Placed, Source};
@@ -84,7 +84,9 @@ impl<'l, D: Disk> LazyInput<'l, D> {
     }
 
     /// The file, if it was opened to be read from its start.
-    pub fn input(&self) -> Option<&D::Input> {
+    pub fn input(&self) -> Option<&D::Input>
+        ensures { option_map (λ input. input.now) result ≡ input_in self.now.state }
+    {
         match &self.state {
             InputState::Open(input) => Some(input),
             InputState::Waiting | InputState::Placed(_) | InputState::Unopened(_) => None,
@@ -92,7 +94,9 @@ impl<'l, D: Disk> LazyInput<'l, D> {
     }
 
     /// The file, if it was opened to be read from any place.
-    pub fn places(&self) -> Option<&D::Places> {
+    pub fn places(&self) -> Option<&D::Places>
+        ensures { option_map (λ places. places.now) result ≡ places_in self.now.state }
+    {
         match &self.state {
             InputState::Placed(places) => Some(places),
             InputState::Waiting | InputState::Open(_) | InputState::Unopened(_) => None,

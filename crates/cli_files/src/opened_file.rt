@@ -1,8 +1,8 @@
 //! A file of the system that was opened to be read, and is closed at its end.
 
-ghost use Rattle.std.specs.Prelude.{◌≡◌, ◌≤◌, ◌<◌, None, Ok, IfOk, ◌∷◌, [], length};
+ghost use Rattle.std.specs.Prelude.{◌≡◌, ◌≤◌, ◌<◌, None, Ok, IfOk, OnErr, ◌∷◌, [], length, replicate, take};
 ghost use Rattle.std.specs.Io.KnownBytes.{ReadConsumes};
-ghost use Rattle.cli_files.specs.Opened.{left_of, reason_of};
+ghost use Rattle.cli_files.specs.Opened.{kept, kept_count, left_of, reason_of};
 
 use crate::call_log::CallLog;
 use byte_device::{Failed, Reading, Source};
@@ -29,7 +29,9 @@ pub struct OpenedFile<R> {
 impl<R: Read + Drop> OpenedFile<R> {
     /// The file that this reader reads, which was opened at this path.
     pub fn new(reader: R, path: &str) -> Self
-        ensures { result.at.entries ≡ path.now ∷ [] }
+        ensures path { result.at.entries ≡ path.now ∷ [] }
+        ensures leading { result.leading_bytes ≡ replicate 8 0 }
+        ensures unread { result.read ≡ 0 }
     {
         let mut at = CallLog::new();
         at.note(path.as_bytes());
@@ -53,13 +55,18 @@ impl<R: Read + Drop> OpenedFile<R> {
     }
 
     /// Its first bytes.
-    pub fn leading_bytes(&self) -> LeadingBytes {
+    pub fn leading_bytes(&self) -> LeadingBytes
+        ensures { result ≡ self.now.leading_bytes }
+    {
         self.leading_bytes
     }
 }
 
 /// Keeps bytes that come after so many, where they are among the first, and gives how many came then.
-pub(crate) fn keep(leading_bytes: &mut LeadingBytes, read: usize, bytes: &[u8]) -> usize {
+pub(crate) fn keep(leading_bytes: &mut LeadingBytes, read: usize, bytes: &[u8]) -> usize
+    ensures bytes { leading_bytes.new ≡ kept leading_bytes.old read bytes.now }
+    ensures count { result ≡ kept_count read (length bytes.now) }
+{
     if read >= LEADING_LEN {
         return read;
     }
@@ -103,6 +110,11 @@ impl<R: Read + Drop> Source for OpenedFile<R> {
 
         // At its end it is closed.
         ensures closed { result ≡ Ok 0 → 0 < length buf.new → self.new.reading ≡ None }
+        ensures leading { IfOk result
+            (λ n. self.new.leading_bytes ≡ kept self.old.leading_bytes self.old.read (take n buf.new)) }
+        ensures read { IfOk result (λ n. self.new.read ≡ kept_count self.old.read n) }
+        ensures refused { OnErr result
+            ((self.new.leading_bytes ≡ self.old.leading_bytes) × (self.new.read ≡ self.old.read)) }
     {
         if self.failures == u64::MAX {
             return Err(Failed);

@@ -1,6 +1,8 @@
 //! A file of the system that was opened to be read from any place.
 
-ghost use Rattle.std.specs.Prelude.{◌≡◌, ◌==◌, ◌∷◌, [], is_some, not};
+ghost use Rattle.std.specs.Prelude.{◌≡◌, ◌==◌, ◌≤◌, ◌∷◌, [], IfOk, OnErr, is_some, length, not, replicate, take};
+ghost use Rattle.byte_device.specs.Places.{TakenAt};
+ghost use Rattle.cli_files.specs.Opened.{kept};
 
 use crate::call_log::CallLog;
 use crate::opened_file::{LEADING_LEN, LeadingBytes, keep};
@@ -20,7 +22,8 @@ pub struct PlacedFile<R> {
 impl<R: Read + Seek + Drop> PlacedFile<R> {
     /// The file of this reader, which was opened at this path.
     pub fn new(reader: R, path: &str) -> Self
-        ensures { result.at.entries ≡ path.now ∷ [] }
+        ensures path { result.at.entries ≡ path.now ∷ [] }
+        ensures leading { result.leading_bytes ≡ replicate 8 0 }
     {
         let mut at = CallLog::new();
         at.note(path.as_bytes());
@@ -32,7 +35,9 @@ impl<R: Read + Seek + Drop> PlacedFile<R> {
     }
 
     /// Its first bytes, if they were taken; else zeros.
-    pub fn leading_bytes(&self) -> LeadingBytes {
+    pub fn leading_bytes(&self) -> LeadingBytes
+        ensures { result ≡ self.now.leading_bytes }
+    {
         self.leading_bytes
     }
 
@@ -46,20 +51,27 @@ impl<R: Read + Seek + Drop> PlacedFile<R> {
 }
 
 impl<R: Read + Seek + Drop> Placed for PlacedFile<R> {
+    ghost use Rattle.byte_device.specs.Devices.{CountsFailure};
+
     ghost whole = { λ file. ⟦<Placing<R> as Placed>⟧.whole file.placing };
 
     ghost failures = { λ file. ⟦<Placing<R> as Placed>⟧.failures file.placing };
 
-    fn take_at(&mut self, at: u64, buf: &mut [u8]) -> Result<usize, Failed> {
-        match self.placing.take_at(at, buf) {
-            Ok(count) => {
-                if at < LEADING_LEN as u64 {
-                    keep(&mut self.leading_bytes, at as usize, &buf[..count]);
-                }
-                Ok(count)
-            }
-            Err(Failed) => Err(Failed),
-        }
+    fn take_at(&mut self, at: u64, buf: &mut [u8]) -> Result<usize, Failed>
+        ensures bound { IfOk result (λ n. n ≤ length buf.new) }
+        ensures bytes { IfOk result
+            (λ n. TakenAt (⟦<Placing<R> as Placed>⟧.whole self.old.placing) at n buf.new) }
+        ensures keeps { ⟦<Placing<R> as Placed>⟧.whole self.new.placing
+            ≡ ⟦<Placing<R> as Placed>⟧.whole self.old.placing }
+        ensures count { CountsFailure (⟦<Placing<R> as Placed>⟧.failures self.old.placing)
+            (⟦<Placing<R> as Placed>⟧.failures self.new.placing) result }
+        ensures leading { IfOk result
+            (λ n. self.new.leading_bytes ≡ kept self.old.leading_bytes at (take n buf.new)) }
+        ensures refused { OnErr result (self.new.leading_bytes ≡ self.old.leading_bytes) }
+    {
+        let count = self.placing.take_at(at, buf)?;
+        keep(&mut self.leading_bytes, at as usize, &buf[..count]);
+        Ok(count)
     }
 
     // A folder has a size too, and no byte of it can be read.

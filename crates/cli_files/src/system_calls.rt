@@ -217,7 +217,9 @@ impl<'p, T: Read> Opened<'p, T> {
     }
 
     /// The file alone.
-    pub fn into_reader(self) -> T {
+    pub fn into_reader(self) -> T
+        ensures { result ≡ self.entry.file }
+    {
         self.file
     }
 
