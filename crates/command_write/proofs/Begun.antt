@@ -17,11 +17,12 @@ use Rattle.command_common.specs.Ends.{Carries, EndsStreamed, IsStopped, Streamed
 use Rattle.command_common.specs.Inputs.{Reader, EachKnown, Gives, IsKnown, IsRefusal, IsRefusedArchive, IsRefusedInTurn, IsWantedInTurn, TellsInTurn, Unfailed}
 use Rattle.command_common.specs.Inputs.{reader}
 use Rattle.command_common.specs.Outputs.{Out, Publishes, Takes, Writer, IsKept}
-use Rattle.command_write.specs.Begun.{EndsBegun, HasBegun, IsUnfinished, begins_alone, begins_behind}
+use Rattle.byte_device.specs.Writes.{WritesFirst}
+use Rattle.command_write.specs.Begun.{BeginsGood, EndsBegun, HasBegun, IsUnfinished, begins_alone, begins_behind}
 use Rattle.archive_core.specs.Content.{Operations}
 use Rattle.command_common.specs.declared.faults.InputName.{InputName}
 use Rattle.command_common.specs.declared.faults.Why.{Why}
-use Rattle.command_common.proofs.Amidst.{refused_in_turn}
+use Rattle.command_common.proofs.Amidst.{nothing_first, refused_in_turn}
 
 -- ---- a draft
 
@@ -33,14 +34,30 @@ no_bytes w0 w1 none = text_none w0 w1 [] 0 tt (begun_whole w0 w1 (kept []) 0 (be
 pub taken_begun : {R : Type 0} (side : Stream R) (records : List (List ℕ)) (behind : List ℕ) → IsTaken side records behind → IsBegun side
 taken_begun side records behind t = (t.format, t.archive, concat records ++ behind, t.taken)
 
-module _ {R : Type 0} (input : Reader R) (Accepted : Type 0) (draft : Writer) where
-  -- one that took nothing
-  pub untouched : Takes draft [] → IsUnfinished input Accepted draft
-  untouched none = record { no_text = no_bytes draft.old draft.new none.0; begun = inl none }
+module _ {R : Type 0} (input : Reader R) (Accepted : Type 0) (command : Reader R → Command) (Known : Type 0)
+    (draft : Writer) where
+  -- one that took nothing, where what the command makes is not empty
+  pub untouched : ((sound : Reader R) (text told : List ℕ) → (command sound).Makes text told
+      → WritesFirst draft.old draft.new text 0) → Takes draft []
+      → IsUnfinished input Accepted command Known draft
+  untouched first none = record {
+    no_text = no_bytes draft.old draft.new none.0;
+    begun = inl none;
+    good = λ known bytes records sound text told given are is makes. (0, first sound text told makes);
+  }
 
-  -- the same of a command that accepted more
-  pub accepted : {Fewer : Type 0} → Accepted → IsUnfinished input Fewer draft → IsUnfinished input Accepted draft
-  accepted {Fewer} all u = record { no_text = u.no_text; begun = ⊎_map (λ (none : Takes draft []). none) (λ (b : Fewer × HasBegun input). (all, b.1)) u.begun }
+  -- the same of a command that accepted more, and makes no more of an archive
+  pub accepted : (Fewer : Type 0) (from : Reader R → Command) (KnownToo : Type 0) → Accepted → (Known → KnownToo)
+      → (Known → (sound : Reader R) (text told : List ℕ) → (command sound).Makes text told
+      → (other : List ℕ) × (from sound).Makes text other)
+      → IsUnfinished input Fewer from KnownToo draft → IsUnfinished input Accepted command Known draft
+  accepted Fewer from KnownToo all known makes u = record {
+    no_text = u.no_text;
+    begun = ⊎_map (λ (none : Takes draft []). none) (λ (b : Fewer × HasBegun input). (all, b.1)) u.begun;
+    good = λ k bytes records sound text told given are is m.
+        let other = makes k sound text told m in
+        u.good (known k) bytes records sound text other.0 given are is other.1;
+  }
 
 -- ---- a command
 
@@ -77,10 +94,12 @@ module _ (out : Out) (report : Writer) where
     ends_so r e = carried r e
 
   -- one that ended so, with a draft that is unfinished
-  pub begun : {R : Type 0} (input : Reader R) (Accepted : Type 0) (command : Streamed)
-      → IsUnfinished input Accepted out.draft → (r : Result Status CommandFault) → EndsStreamed command out report r
-      → EndsStreamed (begins_behind input Accepted out.draft command) out report r
-  begun input Accepted command u = ends_so command (begins_behind input Accepted out.draft command) (λ text told m. m) (λ f. f) (λ fault s. (s, u))
+  pub begun : {R : Type 0} (input : Reader R) (Accepted : Type 0) (command : Reader R → Command) (Known : Type 0)
+      (streamed : Streamed) → IsUnfinished input Accepted command Known out.draft → (r : Result Status CommandFault)
+      → EndsStreamed streamed out report r
+      → EndsStreamed (begins_behind input Accepted command Known out.draft streamed) out report r
+  begun input Accepted command Known streamed u =
+      ends_so streamed (begins_behind input Accepted command Known out.draft streamed) (λ text told m. m) (λ f. f) (λ fault s. (s, u))
 
 -- what makes no more of content and lines makes no more of their texts
 makes_alike : (P Q : Operations → List ℕ → Type 0) → ((o : Operations) (lines : List ℕ) → P o lines → Q o lines)
@@ -94,24 +113,31 @@ makes_alike P Q makes text told m = record {
   told_is = m.told_is;
 }
 
-module _ {R : Type 0} (Makes : Operations → List ℕ → Type 0) (input : Reader R)
+module _ {R : Type 0} (Makes : Reader R → Operations → List ℕ → Type 0) (input : Reader R)
     (IsRefusedBehind : InputName → Why → Type 0) (OthersUnfailed Known Accepted : Type 0) (out : Out)
     (report : Writer) where
-  abbrev command : Command
-  command = record { Makes = MakesArchive Makes; Refuses = IsRefusedInTurn input IsRefusedBehind; Unfailed = Unfailed input × OthersUnfailed }
+  abbrev command : Reader R → Command
+  command given = record {
+    Makes = MakesArchive (Makes given);
+    Refuses = IsRefusedInTurn given IsRefusedBehind;
+    Unfailed = Unfailed given × OthersUnfailed;
+  }
+
+  abbrev streamed : Streamed
+  streamed = writes_in_turn (command input) (IsWantedInTurn input IsRefusedBehind) (IsKnown input × Known) out.draft
 
   abbrev EndsSo : Result Status CommandFault → Type 0
-  EndsSo result = EndsStreamed (begins_behind input Accepted out.draft
-      (writes_in_turn command (IsWantedInTurn input IsRefusedBehind) Known out.draft)) out report result
+  EndsSo result = EndsStreamed (begins_behind input Accepted command Known out.draft streamed) out report result
 
   ends : (fault : CommandFault) → IsRefusal (IsRefusedInTurn input IsRefusedBehind)
       ((Unfailed input × OthersUnfailed) ⊎ IsWantedInTurn input IsRefusedBehind) fault → IsKept out → Takes report []
       → EndsSo (Err fault)
   ends fault refusal kept unreported =
-      begun out report input Accepted (writes_in_turn command (IsWantedInTurn input IsRefusedBehind) Known out.draft)
-      (untouched input Accepted out.draft kept.0) (Err fault)
-      (refused_in_turn Makes (IsRefusedInTurn input IsRefusedBehind) (Unfailed input × OthersUnfailed)
-      (IsWantedInTurn input IsRefusedBehind) Known out report fault refusal kept unreported)
+      begun out report input Accepted command Known streamed
+      (untouched input Accepted command Known out.draft
+      (λ sound text told m. nothing_first (Makes sound) out.draft.old out.draft.new text told kept.0.0 m) kept.0) (Err fault)
+      (refused_in_turn (Makes input) (IsRefusedInTurn input IsRefusedBehind) (Unfailed input × OthersUnfailed)
+      (IsWantedInTurn input IsRefusedBehind) (IsKnown input × Known) out report fault refusal kept unreported)
 
   refused : (at : InputName) (why : Why) → IsRefusedBehind at why → (fault : CommandFault)
       → IsRefusal (IsRefusedInTurn input (λ place reason. (place ≡ at) × (reason ≡ why))) (Unfailed input) fault
@@ -133,26 +159,30 @@ module _ {R : Type 0} (Makes : Operations → List ℕ → Type 0) (input : Read
   told_behind fault told r t = absurd r
 
   -- what is after it was read: as the command ends that reads the first input alone and makes the same of it
-  pub read_behind : (Others : Operations → List ℕ → Type 0) → OthersUnfailed → Accepted → (Known → IsKnown input)
-      → ((o : Operations) (lines : List ℕ) → Others o lines → Makes o lines)
-      → (Known → (o : Operations) (lines : List ℕ) → Makes o lines → Others o lines)
+  pub read_behind : (Others : Reader R → Operations → List ℕ → Type 0) → OthersUnfailed → Accepted
+      → ((o : Operations) (lines : List ℕ) → Others input o lines → Makes input o lines)
+      → (Known → (given : Reader R) (o : Operations) (lines : List ℕ) → Makes given o lines → Others given o lines)
       → (result : Result Status CommandFault) → EndsBegun input
-      (record { Makes = MakesArchive Others; Refuses = IsRefusedArchive 0 input; Unfailed = Unfailed input }) out
-      report result → EndsSo result
-  read_behind Others unfailed all known forth back =
-      ends_so out report (begins_alone input out.draft other)
-      (begins_behind input Accepted out.draft (writes_in_turn command (IsWantedInTurn input IsRefusedBehind) Known
-      out.draft))
-      (makes_alike Others Makes forth) (λ u. (u, unfailed)) (λ fault s. (stops fault s.0, accepted input Accepted out.draft all s.1))
+      (λ given. record { Makes = MakesArchive (Others given); Refuses = IsRefusedArchive 0 given; Unfailed = Unfailed given })
+      out report result → EndsSo result
+  read_behind Others unfailed all forth back =
+      ends_so out report (begins_alone input other out.draft)
+      (begins_behind input Accepted command Known out.draft streamed)
+      (makes_alike (Others input) (Makes input) forth) (λ u. (u, unfailed))
+      (λ fault s. (stops fault s.0, accepted input Accepted command Known out.draft (Unit {0}) other (Unit {0}) all (λ k. tt) alike s.1))
     where
-      other : Command
-      other = record { Makes = MakesArchive Others; Refuses = IsRefusedArchive 0 input; Unfailed = Unfailed input }
+      other : Reader R → Command
+      other given = record { Makes = MakesArchive (Others given); Refuses = IsRefusedArchive 0 given; Unfailed = Unfailed given }
 
-      first : (n : ℕ) → HasFirst other (IsKnown input) out.draft n → HasFirst command Known out.draft n
-      first n f k text told m = f (known k) text told (makes_alike Makes Others (back k) text told m)
+      alike : Known → (given : Reader R) (text told : List ℕ) → MakesArchive (Makes given) text told
+          → (same : List ℕ) × MakesArchive (Others given) text same
+      alike k given text told m = (told, makes_alike (Makes given) (Others given) (back k given) text told m)
 
-      stops : (fault : CommandFault) → StopsAmidst other (IsKnown input) out.draft fault
-          → StopsInTurn command (IsWantedInTurn input IsRefusedBehind) Known out.draft fault
+      first : (n : ℕ) → HasFirst (other input) (IsKnown input) out.draft n → HasFirst (command input) (IsKnown input × Known) out.draft n
+      first n f k text told m = f k.0 text told (alike k.1 input text told m).1
+
+      stops : (fault : CommandFault) → StopsAmidst (other input) (IsKnown input) out.draft fault
+          → StopsInTurn (command input) (IsWantedInTurn input IsRefusedBehind) (IsKnown input × Known) out.draft fault
       stops (Input at why) s = (inl s.0, s.1, (s.2.0, first s.2.0 s.2.1))
       stops (Output n) s = ((s.0, unfailed), s.1, first n s.2)
       stops (Report n) s = absurd s

@@ -314,13 +314,13 @@ module _ {R S : Type 0} (input : Reader R) (files : List (Reader S)) (out : Out)
   pub admitted_in_turn : (opening : S → Opening) (texts : List (List ℕ)) (came : Operations) (first_rows : List ℕ)
       (rows : List FileRow) (h : HasCome opening files (map Ok texts) came first_rows rows) → EachUnfailed files
       → (result : Result Status CommandFault)
-      → EndsBegun input (telling input came (lines_again rows (records_of (map Ok texts)))) out report result
+      → EndsBegun input (λ given. telling given came (lines_again rows (records_of (map Ok texts)))) out report result
       → EndsStreamed (admit_as_it_comes input files out.draft) out report result
   admitted_in_turn opening texts came first_rows rows h unfailed =
-      read_behind (MakesAdmitted input files) input (IsFirstRefused File IsAccepted IsFileRefused files)
-      (EachUnfailed files) (IsKnown input × EachKnown files) (AllByRecursion IsAccepted files × EachUnfailed files)
-      out report (MakesTold input came (lines_again rows (records_of (map Ok texts))))
-      unfailed (all_accepted opening files texts h.become, unfailed) (λ known. known.0)
+      read_behind (λ given. MakesAdmitted given files) input (IsFirstRefused File IsAccepted IsFileRefused files)
+      (EachUnfailed files) (EachKnown files) (AllByRecursion IsAccepted files × EachUnfailed files)
+      out report (λ given. MakesTold given came (lines_again rows (records_of (map Ok texts))))
+      unfailed (all_accepted opening files texts h.become, unfailed)
       (λ o lines m. record {
         before = m.before;
         texts = texts;
@@ -331,9 +331,9 @@ module _ {R S : Type 0} (input : Reader R) (files : List (Reader S)) (out : Out)
         content_is = m.content_is ∙ images m.before m.is_content.itself;
         lines_are = m.lines_are ∙ lines_of m.before m.is_content.itself;
       })
-      (λ known o lines m.
+      (λ known given o lines m.
       let same = all_given (λ x text. text ≡ x) IsAcceptedFile (λ text x y _ _ h k. sym h ∙ k) files m.texts texts
-      m.accepted accepted known.1 m.files_are hold in
+      m.accepted accepted known m.files_are hold in
       record {
         before = m.before;
         is_content = m.is_content;

@@ -28,7 +28,7 @@ use Rattle.command_common.specs.Ends.{HasTaken, StopsAmidst, EndsStreamed}
 use Rattle.command_common.specs.Outputs.{Out, PublishesNothing, Publishes, Takes, Writer}
 use Rattle.command_write.specs.Begun.{EndsBegun, IsUnfinished}
 use Rattle.command_write.specs.Joining.{joining, MakesJoined, joins}
-use Rattle.command_write.proofs.Streamed.{archive_published, join_stopped, join_stops}
+use Rattle.command_write.proofs.Streamed.{archive_published, join_stopped, join_stops, join_unfinished}
 use Rattle.std.specs.Prelude.{IfErr, IfOk, OnOk}
 use Rattle.archive_records.proofs.Versions.{one_content, old_written_text}
 use Rattle.command_common.specs.declared.faults.CommandFault.TheVariants.{OutOfMemory}
@@ -133,12 +133,12 @@ merged_again o (c ∷ cs) is are =
 
 module _ {R S : Type 0} (input : Reader R) (files : List (Reader S)) (out : Out) (report : Writer) where
   pub merged_in_turn : (p : Operations) → HasJoined files set.empty p → EachUnfailed files
-      → (result : Result Status CommandFault) → EndsBegun input (joins input p) out report result
+      → (result : Result Status CommandFault) → EndsBegun input (λ given. joins given p) out report result
       → EndsStreamed (merge_in_turn input files out.draft) out report result
   merged_in_turn p j unfailed =
-      read_behind (MakesMerged input files) input (IsFirstRefused further_name IsArchive IsArchiveRefused files)
-      (EachUnfailed files) (IsKnown input × EachKnown files) (AllByRecursion IsArchive files × EachUnfailed files)
-      out report (MakesJoined input p) unfailed (joined_archives files set.empty p j, unfailed) (λ known. known.0)
+      read_behind (λ given. MakesMerged given files) input (IsFirstRefused further_name IsArchive IsArchiveRefused files)
+      (EachUnfailed files) (EachKnown files) (AllByRecursion IsArchive files × EachUnfailed files)
+      out report (λ given. MakesJoined given p) unfailed (joined_archives files set.empty p j, unfailed)
       (λ o lines m. record {
         before = m.before;
         contents = j.contents;
@@ -149,13 +149,13 @@ module _ {R S : Type 0} (input : Reader R) (files : List (Reader S)) (out : Out)
         content_is = m.content_is ∙ sym (all_joined m.before m.is_content);
         lines_are = m.lines_are;
       })
-      (λ known o lines m. record {
+      (λ known given o lines m. record {
         before = m.before;
         is_content = m.is_content;
         archive = m.archive;
         content_is = m.content_is
             ∙ ap (merged m.before) (all_given IsArchiveOf IsContent one_content files m.contents j.contents
-            m.are_contents j.are_contents known.1 m.files_are j.files_are) ∙ all_joined m.before m.is_content;
+            m.are_contents j.are_contents known m.files_are j.files_are) ∙ all_joined m.before m.is_content;
         lines_are = m.lines_are;
       })
     where
@@ -182,17 +182,18 @@ module _ {R : Type 0} (input : Reader R) (operations : Operations) (lines_of : (
   -- what stops the join with what they make stops it
   pub told_stopped : (out : Out) (report : Writer) (fault : CommandFault)
       → StopsAmidst (joining input (content_of operations)) (IsKnown input) out.draft fault
-      → IsUnfinished input (Unit {0}) out.draft → HasTaken out.draft fault → PublishesNothing out → Takes report []
-      → EndsBegun input (telling input operations lines_of) out report (Err fault)
-  told_stopped = join_stopped input (content_of operations) (MakesTold input operations lines_of)
-      (λ o lines m. (m.before, m.is_content, m.archive, m.content_is))
+      → IsUnfinished input (Unit {0}) (λ given. joining given (content_of operations)) (Unit {0}) out.draft
+      → HasTaken out.draft fault → PublishesNothing out → Takes report []
+      → EndsBegun input (λ given. telling given operations lines_of) out report (Err fault)
+  told_stopped = join_stopped input (content_of operations) (λ given. MakesTold given operations lines_of)
+      (λ given o lines m. (m.before, m.is_content, m.archive, m.content_is))
 
   -- and what it makes is published
   pub told_published : {W : Type 0} (draft : Stream W) (sizes : Sizes) (arrived : List Arrival) (withdraws : Bool)
       (j : IsJoinedTelling input operations draft sizes arrived withdraws) (lines : List ℕ) → lines
       ≡ lines_of (changes j.joined.content) → (out : Out) (report : Writer) (result : Result Status CommandFault)
       → Publishes out report (written (joined j.joined.content (content_of operations))) (lines ++ archive_line sizes)
-      result → EndsBegun input (telling input operations lines_of) out report result
+      result → EndsBegun input (λ given. telling given operations lines_of) out report result
   told_published draft sizes arrived withdraws j lines lines_are out report result =
       let i = j.joined in
       archive_published (MakesTold input operations lines_of) _ (Unfailed input) draft sizes
@@ -220,13 +221,13 @@ module _ {R S : Type 0} (input : Reader R) (left : S → Option (List ℕ)) (fai
 
   -- OPS was read
   pub applied : (sorted : List Operation) (number : ℕ) → HasNewOf ops sorted number → Unfailed ops → (result : Result Status CommandFault)
-      → EndsBegun input (telling input (set_of sorted) (counts_of (map record_bytes sorted) number)) out report result
+      → EndsBegun input (λ given. telling given (set_of sorted) (counts_of (map record_bytes sorted) number)) out report result
       → EndsStreamed (apply_as_it_comes input ops out.draft) out report result
   applied sorted number has unfailed =
-      read_behind (MakesApplied input ops) input (IsRefusedOps ops) (Unfailed ops) (IsKnown input × IsKnown ops)
+      read_behind (λ given. MakesApplied given ops) input (IsRefusedOps ops) (Unfailed ops) (IsKnown ops)
       (GivesOperations ops × Unfailed ops) out report
-      (MakesTold input (set_of sorted) (counts_of (map record_bytes sorted) number)) unfailed
-      ((has.operations, has.ops_are), unfailed) (λ known. known.0)
+      (λ given. MakesTold given (set_of sorted) (counts_of (map record_bytes sorted) number)) unfailed
+      ((has.operations, has.ops_are), unfailed)
       (λ o lines m. record {
         before = m.before;
         operations = has.operations;
@@ -236,9 +237,9 @@ module _ {R S : Type 0} (input : Reader R) (left : S → Option (List ℕ)) (fai
         content_is = m.content_is ∙ joined_all has.operations sorted has.sorted_is m.before m.is_content.itself;
         lines_are = m.lines_are ∙ counts_all has.operations sorted number has.sorted_is has.number_is m.before m.is_content.itself;
       })
-      (λ known o lines m.
+      (λ known given o lines m.
       let same = one_given (λ xs text. IsOperationsText text xs) left failures old new m.operations has.operations
-      (λ text. one_operations text m.operations has.operations) known.1 m.ops_are has.ops_are in
+      (λ text. one_operations text m.operations has.operations) known m.ops_are has.ops_are in
       record {
         before = m.before;
         is_content = m.is_content;
@@ -278,13 +279,22 @@ module _ (key : SliceKey) (digest : Digest) where
           had_is = j.withdraws_is;
         }
 
+    retired_join : (given : Reader R) (o : Operations) (lines : List ℕ) → MakesRetired given key digest o lines
+        → (before : Operations) × IsContent before × HoldsArchive given before × (o ≡ joined before (content_of alone))
+    retired_join given o lines m =
+        (m.before, m.is_content, m.archive, m.content_is ∙ taken_are_joined m.before (record_of ∷ []) m.is_content.itself)
+
     -- what stops the join with what the retirement makes stops it
     pub retire_stops : (draft : Writer) (fault : CommandFault)
         → StopsAmidst (joining input (content_of alone)) (IsKnown input) draft fault
         → StopsAmidst (retire input key digest) (IsKnown input) draft fault
     retire_stops =
-        join_stops input (content_of alone) (MakesRetired input key digest)
-        (λ o lines m. (m.before, m.is_content, m.archive, m.content_is ∙ taken_are_joined m.before (record_of ∷ []) m.is_content.itself))
+        join_stops input (content_of alone) (λ given. MakesRetired given key digest) retired_join
+
+    pub retire_unfinished : (draft : Writer)
+        → IsUnfinished input (Unit {0}) (λ given. joining given (content_of alone)) (Unit {0}) draft
+        → IsUnfinished input (Unit {0}) (λ given. retire given key digest) (Unit {0}) draft
+    retire_unfinished = join_unfinished input (content_of alone) (λ given. MakesRetired given key digest) retired_join
 
     -- and what it makes is published
     pub retire_published : {W : Type 0} (draft : Stream W) (sizes : Sizes) (changed had : Bool)
@@ -292,7 +302,7 @@ module _ (key : SliceKey) (digest : Digest) where
         (result : Result Status CommandFault)
         → Publishes out report (written (with_record i.before record_of))
         (retire_line changed key digest ++ archive_line sizes) result
-        → EndsBegun input (retire input key digest) out report result
+        → EndsBegun input (λ given. retire given key digest) out report result
     retire_published draft sizes changed had i out report result =
         archive_published (MakesRetired input key digest) _ (Unfailed input) draft sizes
         (with_record i.before record_of) (retire_line changed key digest) out report result i.unfailed

@@ -105,8 +105,11 @@ module _ {R S : Type 0} (opening : S → Opening) (input : Reader R) (files : Li
   abbrev Known : Type 0
   Known = IsKnown input × EachCounted files
 
-  abbrev Makes : Operations → List ℕ → Type 0
-  Makes content lines = (status : Status) × MakesPassing opening input files status content lines
+  abbrev Makes : Reader R → Operations → List ℕ → Type 0
+  Makes given content lines = (status : Status) × MakesPassing opening given files status content lines
+
+  abbrev command : Reader R → Command
+  command given = admit_passing opening given files
 
   -- memory was wanted before IN was read
   pub wanting : Unfailed input → IsKept out → Takes report []
@@ -118,11 +121,12 @@ module _ {R S : Type 0} (opening : S → Opening) (input : Reader R) (files : Li
         kept.0.1,
         (
           0,
-          λ known text told m. nothing_first Makes out.draft.old out.draft.new text told
+          λ known text told m. nothing_first (Makes input) out.draft.old out.draft.new text told
               kept.0.0 m,
         ),
       ),
-      untouched input (BecomeSome opening files) out.draft kept.0,
+      untouched input (BecomeSome opening files) command (EachCounted files) out.draft
+          (λ given text told m. nothing_first (Makes given) out.draft.old out.draft.new text told kept.0.0 m) kept.0,
     );
     bytes = [];
     took = kept.0.0;
@@ -136,10 +140,10 @@ module _ {R S : Type 0} (opening : S → Opening) (input : Reader R) (files : Li
     abbrev lines : (List ℕ → Bool) → List ℕ
     lines = lines_again rows (records_of outcomes)
 
-    abbrev Others : Operations → List ℕ → Type 0
-    Others = MakesTold input came lines
+    abbrev Others : Reader R → Operations → List ℕ → Type 0
+    Others given = MakesTold given came lines
 
-    forth : (o : Operations) (told : List ℕ) → Others o told → MakesPassing opening input files (status_over outcomes) o told
+    forth : (o : Operations) (told : List ℕ) → Others input o told → MakesPassing opening input files (status_over outcomes) o told
     forth o told m = record {
       before = m.before;
       outcomes = outcomes;
@@ -151,7 +155,8 @@ module _ {R S : Type 0} (opening : S → Opening) (input : Reader R) (files : Li
       status_is = refl;
     }
 
-    archive_forth : (text told : List ℕ) → MakesArchive Others text told → MakesArchive (MakesPassing opening input files (status_over outcomes)) text told
+    archive_forth : (text told : List ℕ) → MakesArchive (Others input) text told
+        → MakesArchive (MakesPassing opening input files (status_over outcomes)) text told
     archive_forth text told m = record {
       content = m.content;
       lines = m.lines;
@@ -160,7 +165,7 @@ module _ {R S : Type 0} (opening : S → Opening) (input : Reader R) (files : Li
       told_is = m.told_is;
     }
 
-    archive_any : (text told : List ℕ) → MakesArchive Others text told → MakesArchive Makes text told
+    archive_any : (text told : List ℕ) → MakesArchive (Others input) text told → MakesArchive (Makes input) text told
     archive_any text told m = record {
       content = m.content;
       lines = m.lines;
@@ -171,12 +176,13 @@ module _ {R S : Type 0} (opening : S → Opening) (input : Reader R) (files : Li
     }
 
     -- what files whose bytes are known make has the text that these make
-    back : Known → (text told : List ℕ) → MakesArchive Makes text told → (other : List ℕ) × MakesArchive Others text other
-    back known text told m =
+    back : EachCounted files → (given : Reader R) (text told : List ℕ) → MakesArchive (Makes given) text told
+        → (other : List ℕ) × MakesArchive (Others given) text other
+    back known given text told m =
         let made = m.makes.1 in
         let o = made.before in
         let same = ap (λ (images : List (List ℕ)). admitted o images)
-        (one_image_lists none opening files made.outcomes outcomes known.1 made.become h.become) in (
+        (one_image_lists none opening files made.outcomes outcomes known made.become h.become) in (
           report_of m.content (lines (changes o)),
           record {
             content = m.content;
@@ -185,7 +191,7 @@ module _ {R S : Type 0} (opening : S → Opening) (input : Reader R) (files : Li
               before = o;
               is_content = made.is_content;
               archive = made.archive;
-              content_is = made.content_is ∙ same ∙ sym (with_images opening input files outcomes came first_rows rows h o made.is_content.itself);
+              content_is = made.content_is ∙ same ∙ sym (with_images opening given files outcomes came first_rows rows h o made.is_content.itself);
               lines_are = refl;
             };
             text_is = m.text_is;
@@ -193,28 +199,30 @@ module _ {R S : Type 0} (opening : S → Opening) (input : Reader R) (files : Li
           },
         )
 
-    abbrev command : Command
-    command = admit_passing opening input files
+    abbrev other : Reader R → Command
+    other given = telling given came lines
 
-    abbrev other : Command
-    other = telling input came lines
+    first : (n : ℕ) → HasFirst (other input) (IsKnown input) out.draft n → HasFirst (command input) Known out.draft n
+    first n f known text told m = let b = back known.1 input text told m in f known.0 text b.0 b.1
 
-    first : (n : ℕ) → HasFirst other (IsKnown input) out.draft n → HasFirst command Known out.draft n
-    first n f known text told m = let b = back known text told m in f known.0 text b.0 b.1
-
-    stops : (fault : CommandFault) → StopsAmidst other (IsKnown input) out.draft fault → StopsAmidst command Known out.draft fault
+    stops : (fault : CommandFault) → StopsAmidst (other input) (IsKnown input) out.draft fault
+        → StopsAmidst (command input) Known out.draft fault
     stops (Input at why) s = (s.0, s.1, (s.2.0, first s.2.0 s.2.1))
     stops (Output n) s = (s.0, s.1, first n s.2)
     stops (Report n) s = absurd s
     stops OutOfMemory s = (s.0, s.1, (s.2.0, first s.2.0 s.2.1))
 
     stopped : (fault : CommandFault) → EndsBegun input other out report (Err fault)
-        → EndsStreamed (begins_behind input (BecomeSome opening files) out.draft
-        (writes_amidst command Known out.draft)) out report (Err fault)
+        → EndsStreamed (begins_behind input (BecomeSome opening files) command (EachCounted files) out.draft
+        (writes_amidst (command input) Known out.draft)) out report (Err fault)
     stopped fault =
-        ends_so out report (begins_alone input out.draft other)
-        (begins_behind input (BecomeSome opening files) out.draft (writes_amidst command Known out.draft))
-        archive_any (λ u. u) (λ fault s. (stops fault s.0, accepted input (BecomeSome opening files) out.draft (outcomes, h.become) s.1)) (Err fault)
+        ends_so out report (begins_alone input other out.draft)
+        (begins_behind input (BecomeSome opening files) command (EachCounted files) out.draft (writes_amidst (command input) Known out.draft))
+        archive_any (λ u. u) (λ fault s. (
+          stops fault s.0,
+          accepted input (BecomeSome opening files) command (EachCounted files) out.draft (Unit {0}) other (Unit {0})
+              (outcomes, h.become) (λ k. tt) back s.1,
+        )) (Err fault)
 
     done : (status was : Status) → status ≡ status_over outcomes → EndsBegun input other out report (Ok was)
         → EndsPassing (admit_passing_as_it_comes opening input files out.draft) out report (Ok status)

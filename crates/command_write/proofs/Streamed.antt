@@ -19,21 +19,21 @@ use Rattle.command_common.specs.declared.faults.CommandFault.TheVariants.{Input,
 use Rattle.command_common.specs.declared.faults.InputName.{InputName}
 use Rattle.command_common.specs.declared.faults.Status.{Status}
 use Rattle.command_common.specs.declared.faults.Why.{Why}
-use Rattle.command_common.specs.Ends.{EndsStreamed, HasFirst, HasTaken, MakesArchive, StopsAmidst, writes_amidst}
+use Rattle.command_common.specs.Ends.{Command, EndsStreamed, HasFirst, HasTaken, MakesArchive, StopsAmidst, writes_amidst}
 use Rattle.command_common.specs.Ends.{IsStopped}
 use Rattle.command_common.specs.Inputs.{HoldsArchive, IsKnown, IsRefusedArchive, Reader, Unfailed, reader, EachUnfailed}
 use Rattle.command_common.specs.Inputs.{IsDeviceFault, IsGivenArchive}
 use Rattle.command_common.specs.Outputs.{Out, PublishesNothing, Publishes, Takes, Writer, sizes_of, writer, Outs}
 use Rattle.command_common.specs.Outputs.{draft_of, out_of}
 use Rattle.command_common.proofs.Amidst.{gives_known, stopped_amidst, stops_alike}
-use Rattle.command_write.specs.Begun.{EndsBegun, HasBegun, IsUnfinished}
+use Rattle.command_write.specs.Begun.{BeginsGood, EndsBegun, HasBegun, IsUnfinished}
 use Rattle.command_write.specs.Joining.{IsAtHand, IsJoined, MakesJoin, joining}
 use Rattle.command_write.specs.MergeStreams.{IsMergeFaultTold, IsSide, StopsMergeOfOne, merge_as_it_comes, merge_of_one}
-use Rattle.command_write.proofs.Beginnings.{first_of_join}
-use Rattle.command_write.proofs.Begun.{begun, published, taken_begun}
+use Rattle.command_write.proofs.Beginnings.{first_of_good, first_of_join, good_content}
+use Rattle.command_write.proofs.Begun.{accepted, begun, published, taken_begun}
 use Rattle.join_core.specs.Listing.{listing}
 use Rattle.std.specs.List.{list_any}
-use Rattle.archive_records.proofs.Versions.{made_content}
+use Rattle.archive_records.proofs.Versions.{made_content, one_content}
 use Rattle.archive_merge.specs.Telling.{HasOperations, IsMergedTelling}
 use Rattle.archive_merge.specs.Arrivals.{arrival_of}
 use Rattle.archive_merge.specs.declared.arrivals.Arrival.{Arrival}
@@ -66,45 +66,57 @@ archive_published Makes Stops NoneFailed draft sizes o lines out report result u
     })
 
 -- one that was stopped
-pub stopped_begun : {R : Type 0} (input : Reader R) (Makes : List ℕ → List ℕ → Type 0)
-    (Refuses : InputName → Why → Type 0) (NoneFailed : Type 0) (out : Out) (report : Writer) (fault : CommandFault)
-    → StopsAmidst (record { Makes = Makes; Refuses = Refuses; Unfailed = NoneFailed }) (IsKnown input) out.draft fault
-    → IsUnfinished input (Unit {0}) out.draft → HasTaken out.draft fault → PublishesNothing out → Takes report []
-    → EndsBegun input (record { Makes = Makes; Refuses = Refuses; Unfailed = NoneFailed }) out report (Err fault)
-stopped_begun input Makes Refuses NoneFailed out report fault s u taken nothing unreported =
-    begun out report input (Unit {0}) (writes_amidst (record
-    { Makes = Makes; Refuses = Refuses; Unfailed = NoneFailed }) (IsKnown input) out.draft) u (Err fault)
-    (stopped_amidst Makes Refuses NoneFailed (IsKnown input) out report fault s taken nothing unreported)
+pub stopped_begun : {R : Type 0} (input : Reader R) (command : Reader R → Command) (out : Out) (report : Writer)
+    (fault : CommandFault) → StopsAmidst (command input) (IsKnown input) out.draft fault
+    → IsUnfinished input (Unit {0}) command (Unit {0}) out.draft → HasTaken out.draft fault → PublishesNothing out
+    → Takes report [] → EndsBegun input command out report (Err fault)
+stopped_begun input command out report fault s u taken nothing unreported =
+    begun out report input (Unit {0}) command (Unit {0}) (writes_amidst (command input) (IsKnown input) out.draft) u (Err fault)
+    (stopped_amidst (command input).Makes (command input).Refuses (command input).Unfailed (IsKnown input) out report
+    fault s taken nothing unreported)
 
-module _ {R : Type 0} (input : Reader R) (p : Operations) (Makes : Operations → List ℕ → Type 0)
-    (makes : (o : Operations) (lines : List ℕ) → Makes o lines → (before : Operations) × IsContent before
-    × HoldsArchive input before × (o ≡ joined before p)) where
+module _ {R : Type 0} (input : Reader R) (p : Operations) (Makes : Reader R → Operations → List ℕ → Type 0)
+    (makes : (given : Reader R) (o : Operations) (lines : List ℕ) → Makes given o lines → (before : Operations)
+    × IsContent before × HoldsArchive given before × (o ≡ joined before p)) where
+  abbrev command : Reader R → Command
+  command given = record { Makes = MakesArchive (Makes given); Refuses = IsRefusedArchive 0 given; Unfailed = Unfailed given }
+
+  makes_join : (given : Reader R) (text told : List ℕ) → MakesArchive (Makes given) text told → MakesJoin given p text told
+  makes_join given text told m =
+      let j = makes given m.content m.lines m.makes in
+      record { content = j.0; is_content = j.1; archive = j.2; text_is = m.text_is ∙ ap written j.3 }
+
   -- what stops a join stops what makes no more
   pub join_stops : (draft : Writer) (fault : CommandFault) → StopsAmidst (joining input p) (IsKnown input) draft fault
-      → StopsAmidst (record { Makes = MakesArchive Makes; Refuses = IsRefusedArchive 0 input; Unfailed = Unfailed input }) (IsKnown input) draft fault
+      → StopsAmidst (command input) (IsKnown input) draft fault
   join_stops draft =
-      stops_alike (MakesJoin input p) (MakesArchive Makes) (IsRefusedArchive 0 input) (IsRefusedArchive 0 input)
-      (Unfailed input) (Unfailed input) (IsKnown input) (IsKnown input) draft
-      (λ text told m. let j = makes m.content m.lines m.makes
-      in record { content = j.0; is_content = j.1; archive = j.2; text_is = m.text_is ∙ ap written j.3 })
-      (λ at why r. r) (λ u. u) (λ k. k)
+      stops_alike (MakesJoin input p) (MakesArchive (Makes input)) (IsRefusedArchive 0 input) (IsRefusedArchive 0 input)
+      (Unfailed input) (Unfailed input) (IsKnown input) (IsKnown input) draft (makes_join input) (λ at why r. r) (λ u. u) (λ k. k)
+
+  -- and leaves it a draft as that
+  pub join_unfinished : (draft : Writer) → IsUnfinished input (Unit {0}) (λ given. joining given p) (Unit {0}) draft
+      → IsUnfinished input (Unit {0}) command (Unit {0}) draft
+  join_unfinished draft =
+      accepted input (Unit {0}) command (Unit {0}) draft (Unit {0}) (λ given. joining given p) (Unit {0}) tt (λ k. k)
+      (λ k given text told m. (told, makes_join given text told m))
 
   pub join_stopped : (out : Out) (report : Writer) (fault : CommandFault)
-      → StopsAmidst (joining input p) (IsKnown input) out.draft fault → IsUnfinished input (Unit {0}) out.draft
-      → HasTaken out.draft fault → PublishesNothing out → Takes report []
-      → EndsBegun input (record { Makes = MakesArchive Makes; Refuses = IsRefusedArchive 0 input; Unfailed = Unfailed input }) out report (Err fault)
-  join_stopped out report fault s = stopped_begun input (MakesArchive Makes) (IsRefusedArchive 0 input) (Unfailed input)
-      out report fault (join_stops out.draft fault s)
+      → StopsAmidst (joining input p) (IsKnown input) out.draft fault
+      → IsUnfinished input (Unit {0}) (λ given. joining given p) (Unit {0}) out.draft → HasTaken out.draft fault
+      → PublishesNothing out → Takes report [] → EndsBegun input command out report (Err fault)
+  join_stopped out report fault s u =
+      stopped_begun input command out report fault (join_stops out.draft fault s) (join_unfinished out.draft u)
 
 -- what a join makes is published
-pub join_published : {R W : Type 0} (input : Reader R) (p : Operations) (Makes : Operations → List ℕ → Type 0)
+pub join_published : {R W : Type 0} (input : Reader R) (p : Operations) (Makes : Reader R → Operations → List ℕ → Type 0)
     (draft : Stream W) (sizes : Sizes) (j : IsJoined input p draft sizes) (lines : List ℕ)
-    → Makes (joined j.content p) lines
+    → Makes input (joined j.content p) lines
     → (out : Out) (report : Writer) (result : Result Status CommandFault)
     → Publishes out report (written (joined j.content p)) (lines ++ archive_line sizes) result
-    → EndsBegun input (record { Makes = MakesArchive Makes; Refuses = IsRefusedArchive 0 input; Unfailed = Unfailed input }) out report result
+    → EndsBegun input (λ given. record { Makes = MakesArchive (Makes given); Refuses = IsRefusedArchive 0 given; Unfailed = Unfailed given })
+    out report result
 join_published input p Makes draft sizes j lines makes out report result =
-    archive_published Makes _ (Unfailed input) draft sizes (joined j.content p) lines out report result j.unfailed makes
+    archive_published (Makes input) _ (Unfailed input) draft sizes (joined j.content p) lines out report result j.unfailed makes
     j.written_is
 
 -- what a draft has where a merge into it was stopped
@@ -121,10 +133,6 @@ module _ {R S W : Type 0} (left : R → Option (List ℕ)) (failures : R → ℕ
     | inr behind ↦ inr (tt, taken_begun (stream left failures l l') behind.lefts behind.left_next behind.left_taken)
   ]
   begun_by Write n s = inr (tt, s.left_begun)
-
-  pub unfinished_opened : (e : MergeFault) → Merges (stream left failures l l') other (stream held draft_failures w w')
-      (Err e) → IsUnfinished (reader left failures l l') (Unit {0}) (writer held draft_failures w w')
-  unfinished_opened e merges = record { no_text = merges.2; begun = begun_by e.cause e.written merges.0 }
 
 module _ {S : Type 0} (left2 : S → Option (List ℕ)) (failures2 : S → ℕ) (r r' : S) (p : Operations) (at : IsAtHand (stream left2 failures2 r r') p) where
   abbrev other : Stream S
@@ -174,6 +182,28 @@ module _ {S : Type 0} (left2 : S → Option (List ℕ)) (failures2 : S → ℕ) 
         subst (λ (t : List ℕ). WritesFirst (held w) (held w') t e.written) (sym m.text_is)
         (first_of_join (left l) (left2 r) (held w) (held w') e.written m.content p given.0 at.text m.is_content
         at.is_content given.1 at.is_text given.2 at.bytes merges.1)
+
+    -- and of what its good records make with this content
+    good : (e : MergeFault) → MergesSo (Err e) → BeginsGood (λ given. joining given p) input draft
+    good e merges bytes records sound text told given are is m =
+        let held_text : IsArchiveOf m.content is.0 = rw is.2 at m.archive in
+        let same : m.content ≡ content_of (set.from_list records) =
+        one_content is.0 m.content (content_of (set.from_list records)) m.is_content (good_content bytes records are)
+        held_text is.1 in (
+          e.written,
+          subst (λ (t : List ℕ). WritesFirst (held w) (held w') t e.written)
+              (sym (m.text_is ∙ ap (λ (q : Operations). written (joined q p)) same))
+              (first_of_good (left l) (left2 r) (held w) (held w') e.written records p bytes at.text at.is_content
+              at.is_text given at.bytes are merges.1),
+        )
+
+    pub unfinished_opened : (e : MergeFault) → MergesSo (Err e)
+        → IsUnfinished input (Unit {0}) (λ given. joining given p) (Unit {0}) draft
+    unfinished_opened e merges = record {
+      no_text = merges.2;
+      begun = begun_by left failures l l' other held draft_failures w w' e.cause e.written merges.0;
+      good = λ known. good e merges;
+    }
 
     -- what stopped it stops the command
     stops : (cause : MergeCause) (n : ℕ) (fault : CommandFault)

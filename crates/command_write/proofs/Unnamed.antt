@@ -30,18 +30,18 @@ use Rattle.byte_device.proofs.Known.{Appends-then, Consumes-then}
 use Rattle.byte_device.proofs.Gains.{stopped}
 use Rattle.command_write.specs.Copying.{BlamesDevices, BlamesOne, HasDraft, IsCause, IsCopied, IsCopiedUpTo, IsCopiedWhole, ReadsBehindMagic, StopsEnd}
 use Rattle.command_write.specs.Copying.{StopsRecords, copy_of, CopiesUnnamed, IsCopiedToEnd, StopsCopy, StopsCopyBy}
-use Rattle.archive_core.specs.Content.{Operations, IsContent}
+use Rattle.archive_core.specs.Content.{Operations, IsContent, content_of}
 use Rattle.archive_core.proofs.Summaries.{delta_content}
 use Rattle.archive_records.specs.declared.format.Format.TheVariants.{Archive, OldArchive, Operations as Operations_file, Summary as Summary_file}
 use Rattle.archive_records.proofs.Ends.{length-end_record}
-use Rattle.archive_records.proofs.Formats.{format_magic, in_order_old, no_operations_text, no_summary_text}
+use Rattle.archive_records.proofs.Formats.{in_order_of, in_order_old, no_operations_text, no_summary_text}
 use Rattle.archive_records.proofs.Inputs.{read_whole, refused}
 use Rattle.archive_records.proofs.KeptRecords.{behind, kept_more}
 use Rattle.archive_records.proofs.Made.{read_to, taken_listing}
 use Rattle.archive_records.proofs.Puts.{delta_count, delta_parts}
 use Rattle.archive_records.proofs.Versions.{Formed, formed, formed_content, formed_text, one_content}
-use Rattle.archive_merge.specs.Merging.{IsArchiveText, IsBegun}
-use Rattle.archive_merge.proofs.Fronts.{before, front_of, taken_rest, text_whole}
+use Rattle.archive_merge.specs.Merging.{AreGoodRecords, IsArchiveText, IsBegun}
+use Rattle.archive_merge.proofs.Fronts.{before, front_of, taken_made, taken_rest, text_whole, whole_front}
 use Rattle.archive_merge.proofs.Unread.{first_no_text}
 use Rattle.command_write.proofs.Beginnings.{good_formed}
 use Rattle.command_write.proofs.Begun.{no_bytes}
@@ -253,30 +253,40 @@ first_in w0 w1 front tail whole n is some within gained = record {
   gained = rw (is, take-append-le n front tail within) gained;
 }
 
--- ---- what was written of a text that is known
+some_written : (o : Operations) → 0 < length (written o)
+unfolding written
+some_written o = omega arith
 
-module _ (s : Entries) (text : List ℕ) (o : Operations) (content : IsContent o) (is : IsArchiveOf o text) (b w0 w1 : Option (List ℕ)) (n : ℕ) where
+-- ---- what was written of a text that is known, by its good records
+
+module _ (s : Entries) (text : List ℕ) (goods : List (List ℕ)) (are : AreGoodRecords text goods) (b w0 w1 : Option (List ℕ)) (n : ℕ) where
+  abbrev made : Operations
+  made = content_of (set.from_list goods)
+
   abbrev First : Type 0
-  First = WritesFirst w0 w1 (written (delta o s)) n
+  First = WritesFirst w0 w1 (written (delta made s)) n
+
+  -- what is written of them, where they are those of a text of this version
+  good_text : (file : Format) (kind : kind_of file ≡ Archive_text) → InOrder file [] goods → AreApart file goods
+      → written (delta made s) ≡ whole_of s (taken_of file goods)
+  good_text file kind ordered apart =
+      ap (λ (p : Operations). written (delta p s))
+      (sym (taken_made file kind goods (in_order_of file kind [] goods ordered) apart))
+      ∙ delta_text s file kind goods ordered
 
   first_up_to : (file : Format) → kind_of file ≡ Archive_text → IsCopiedUpTo file s (Some text) b w0 w1 n → First
   first_up_to file kind u =
-      let f = formed o text content is in
       let k = taken_rest text (magic_of file ++ (concat u.records ++ u.rest)) b u.taken in
       let begun : text ≡ magic_of file ++ ((concat u.records ++ u.rest) ++ k.0) = k.1 ∙ append_assoc (magic_of file) (concat u.records ++ u.rest) k.0 in
       let split : text ≡ (magic_of file ++ concat u.records) ++ (u.rest ++ k.0) = k.1 ∙ simp append_assoc in
-      let longest = front_of file kind text f.records ((concat u.records ++ u.rest) ++ k.0, begun)
-      (good_formed f.format f.archive text f.records f.ordered f.apart f.whole) in
-      let more = before file text (Some (u.rest ++ k.0)) u.records f.records split u.ordered u.apart longest in
-      let same : f.format ≡ file =
-      sym (format_magic f.format f.archive text (concat f.records ++ ending f.format (length f.records)) f.whole)
-      ∙ format_magic file kind text ((concat u.records ++ u.rest) ++ k.0) begun in
-      let ordered : InOrder file [] (u.records ++ more.0) = rw (← more.1, ← same) f.ordered in
+      let longest = front_of file kind text goods ((concat u.records ++ u.rest) ++ k.0, begun) are in
+      let more = before file text (Some (u.rest ++ k.0)) u.records goods split u.ordered u.apart longest in
+      let ordered : InOrder file [] (u.records ++ more.0) = subst (InOrder file []) more.1 longest.front.ordered in
       let ms = taken_front file kind u.records more.0 ordered in
-      let o_is : o ≡ set_of (taken_of file (u.records ++ more.0)) = rw (← more.1, ← same) f.content in
       let end = end_record (length (missing s (taken_of file (u.records ++ more.0)))) in
-      let whole : written (delta o s) ≡ copy_of s (taken_of file u.records) ++ (concat (missing s ms.0) ++ end) =
-      ap (λ (p : Operations). written (delta p s)) o_is ∙ delta_text s file kind (u.records ++ more.0) ordered
+      let whole : written (delta made s) ≡ copy_of s (taken_of file u.records) ++ (concat (missing s ms.0) ++ end) =
+      good_text file kind longest.front.ordered longest.front.apart
+      ∙ ap (λ (rs : List (List ℕ)). whole_of s (taken_of file rs)) more.1
       ∙ ap (λ (rs : List (List ℕ)). copy_of s rs ++ end) ms.1 ∙ ap (λ (t : List ℕ). t ++ end) (copy_more s (taken_of file u.records) ms.0)
       ∙ append_assoc (copy_of s (taken_of file u.records)) (concat (missing s ms.0)) end in
       let some : 0 < length (concat (missing s ms.0) ++ end) =
@@ -285,34 +295,22 @@ module _ (s : Entries) (text : List ℕ) (o : Operations) (content : IsContent o
         length-append (concat (missing s ms.0)) end,
         length-end_record (length (missing s (taken_of file (u.records ++ more.0)))),
       ) in
-      first_in w0 w1 (copy_of s (taken_of file u.records)) (concat (missing s ms.0) ++ end) (written (delta o s)) n whole some u.within u.gained
+      first_in w0 w1 (copy_of s (taken_of file u.records)) (concat (missing s ms.0) ++ end) (written (delta made s)) n whole some u.within u.gained
 
   first_to_end : (file : Format) → kind_of file ≡ Archive_text → IsCopiedToEnd file s (Some text) b w0 w1 n → First
   first_to_end file kind u =
       let all = text_whole file text b u.records u.taken u.at_end in
-      let made = set_of (taken_of file u.records) in
-      let form : Formed made text = record {
-        format = file;
-        archive = kind;
-        records = u.records;
-        ordered = u.ordered;
-        apart = u.apart;
-        whole = all;
-        content = refl;
-      } in
-      let same : o ≡ made = one_content text o made content (formed_content made text form) is (formed_text made text form) in
-      rw (same, delta_text s file kind u.records u.ordered) u.first
+      let longest = front_of file kind text goods (concat u.records ++ ending file (length u.records), all) are in
+      let same : goods ≡ u.records = whole_front file kind text u.records goods u.ordered u.apart all longest in
+      let whole : written (delta made s) ≡ whole_of s (taken_of file u.records) =
+      good_text file kind longest.front.ordered longest.front.apart
+      ∙ ap (λ (rs : List (List ℕ)). whole_of s (taken_of file rs)) same in
+      subst (λ (t : List ℕ). WritesFirst w0 w1 t n) (sym whole) u.first
 
   first_none : n ≡ 0 → Appends w0 w1 [] → First
   first_none zero gained =
-      let f = formed o text content is in
-      let kept_of = taken_of f.format f.records in
-      let end = end_record (length (missing s kept_of)) in
-      let whole : written (delta o s) ≡ copy_of s kept_of
-      ++ end = ap (λ (p : Operations). written (delta p s)) f.content
-      ∙ delta_text s f.format f.archive f.records f.ordered in
-      let some : 0 < length (copy_of s kept_of ++ end) = omega (arith, length-append (copy_of s kept_of) end, length-end_record (length (missing s kept_of))) in
-      rw zero (first_in w0 w1 [] (copy_of s kept_of ++ end) (written (delta o s)) 0 whole some (omega arith) gained)
+      let some : 0 < length (written (delta made s)) = some_written (delta made s) in
+      rw zero (first_in w0 w1 [] (written (delta made s)) (written (delta made s)) 0 refl some (omega arith) gained)
 
   pub first_of : (a : Option (List ℕ)) → a ≡ Some text → HasDraft s a b w0 w1 n → First
   first_of a given (inl none) = first_none none.0 none.1
@@ -408,7 +406,7 @@ module _ {R W : Type 0} (left : R → Option (List ℕ)) (failures : R → ℕ) 
       }
   unnamed (Err e) ok (cause, draft) blames = record {
     by = stops_by e.cause cause blames;
-    first = λ o text content is given. first_of s text o content is (left new) (held w) (held w') e.written (left old) given draft;
+    first = λ text records are given. first_of s text records are (left new) (held w) (held w') e.written (left old) given draft;
     count = drafted s (left old) (left new) (held w) (held w') e.written draft;
     no_text = draft_no_text s (left old) (left new) (held w) (held w') e.written draft;
     begun = begun_by e.cause e.written cause draft blames;

@@ -54,6 +54,7 @@ admit input files = record {
 -- the same as it comes, the files before IN
 abbrev pub admit_as_it_comes : {R S : Type 0} → Reader R → List (Reader S) → Writer → Streamed
 admit_as_it_comes input files draft =
-    begins_behind input (AllByRecursion IsAccepted files × EachUnfailed files) draft
+    begins_behind input (AllByRecursion IsAccepted files × EachUnfailed files) (λ given. admit given files)
+    (EachKnown files) draft
     (writes_in_turn (admit input files) (IsWantedInTurn input (IsFirstRefused File IsAccepted IsFileRefused files))
     (IsKnown input × EachKnown files) draft)

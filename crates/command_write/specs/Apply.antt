@@ -40,5 +40,5 @@ GivesOperations ops = (operations : List Operation) × Gives ops (λ text. IsOpe
 -- the same as it comes, OPS before IN
 abbrev pub apply_as_it_comes : {R S : Type 0} → Reader R → Reader S → Writer → Streamed
 apply_as_it_comes input ops draft =
-    begins_behind input (GivesOperations ops × Unfailed ops) draft
+    begins_behind input (GivesOperations ops × Unfailed ops) (λ given. apply given ops) (IsKnown ops) draft
     (writes_in_turn (apply input ops) (IsWantedInTurn input (IsRefusedOps ops)) (IsKnown input × IsKnown ops) draft)

@@ -4,7 +4,7 @@ use Rattle.std.specs.Prelude.{◌≡◌, ℕ, ◌+◌, ◌≤◌, List, [], ◌+
 use Rattle.std.specs.List.{concat}
 use Rattle.std.specs.FinSet as set
 use Rattle.std.specs.Io.KnownBytes.{Appends, Consumes, IsAtEnd}
-use Rattle.archive_core.specs.Content.{Operations, IsContent}
+use Rattle.archive_core.specs.Content.{Operations, IsContent, content_of}
 use Rattle.archive_core.specs.Summary.{Entries, delta}
 use Rattle.archive_records.specs.declared.fault.MergeCause.{MergeCause}
 use Rattle.archive_records.specs.declared.fault.MergeCause.TheVariants.{Left, Right, Write}
@@ -19,7 +19,8 @@ use Rattle.archive_records.specs.Text.{end_record, missing, text_of, written, ta
 use Rattle.archive_records.specs.Writing.{IsWrittenWhole}
 use Rattle.byte_device.specs.Devices.{FailedIn, Stream}
 use Rattle.byte_device.specs.Writes.{WritesFirst}
-use Rattle.archive_merge.specs.Merging.{Gains, GainsCount, GainsNoText, IsBegun, IsRefusedAlone, IsUnfailed}
+use Rattle.archive_merge.specs.Merging.{AreGoodRecords, Gains, GainsCount, GainsNoText, IsBegun, IsRefusedAlone}
+use Rattle.archive_merge.specs.Merging.{IsUnfailed}
 use Rattle.command_common.specs.Ends.{Command, MakesArchive}
 use Rattle.command_common.specs.Inputs.{Reader, Unfailed, IsRefusedArchive, HoldsArchive}
 
@@ -128,14 +129,15 @@ StopsCopyBy input draft (Left fault) = IsRefusedAlone input fault × IsUnfailed 
 StopsCopyBy input draft (Right fault) = ⊥
 StopsCopyBy input draft Write = IsUnfailed input × FailedIn (draft.failures draft.old) (draft.failures draft.new)
 
--- It was stopped. Of what is written of an archive's text, if the input is one, exactly the first bytes were written,
--- and fewer than all. What was written is no archive's text, and nothing was before the magic of the input was taken.
+-- It was stopped. Of what is written of the good records of the input exactly the first bytes were written, and fewer
+-- than all. What was written is no archive's text, and nothing was before the magic of the input was taken.
 pub record StopsCopy {R W : Type 0} (input : Stream R) (draft : Stream W) (s : Entries) (e : MergeFault)
     : Type 0 where
   pub by : StopsCopyBy input draft e.cause
-  pub first : (o : Operations) (text : List ℕ) → IsContent o → IsArchiveOf o text
+  pub first : (text : List ℕ) (records : List (List ℕ)) → AreGoodRecords text records
       → input.bytes input.old ≡ Some text
-      → WritesFirst (draft.bytes draft.old) (draft.bytes draft.new) (written (delta o s)) e.written
+      → WritesFirst (draft.bytes draft.old) (draft.bytes draft.new)
+      (written (delta (content_of (set.from_list records)) s)) e.written
   pub count : GainsCount draft e.written
   pub no_text : GainsNoText draft
   pub begun : (Gains draft [] × IsUnfailed draft) ⊎ IsBegun input

@@ -39,6 +39,7 @@ GivesSummary summary = (entries : Entries) × AreEntries entries × Holds summar
 -- the same as it comes, SUMMARY before ARCHIVE
 abbrev pub delta_as_it_comes : {R S : Type 0} → Reader R → Reader S → Writer → Streamed
 delta_as_it_comes archive summary draft =
-    begins_behind archive (GivesSummary summary × Unfailed summary) draft
+    begins_behind archive (GivesSummary summary × Unfailed summary) (λ given. delta given summary) (IsKnown summary)
+    draft
     (writes_in_turn (delta archive summary) (IsWantedInTurn archive (IsRefusedSummary summary))
     (IsKnown archive × IsKnown summary) draft)

@@ -19,7 +19,7 @@ WritesAmidst command Makes input draft (Ok made) = Makes input draft made
 WritesAmidst command Makes input draft (Err fault) =
     HasTaken (writer draft.bytes draft.failures draft.old draft.new) fault
     × StopsAmidst (command input) (IsKnown input) (writer draft.bytes draft.failures draft.old draft.new) fault
-    × IsUnfinished input (Unit {0}) (writer draft.bytes draft.failures draft.old draft.new)
+    × IsUnfinished input (Unit {0}) command (Unit {0}) (writer draft.bytes draft.failures draft.old draft.new)
 
 -- A source has the text of this content, and does not fail.
 pub record IsAtHand {S : Type 0} (side : Stream S) (p : Operations) : Type 0 where
@@ -62,9 +62,10 @@ abbrev pub JoinsAmidst : {R W : Type 0} → (Operations → Type 0) → Reader R
 JoinsAmidst IsGiven input draft (Ok sizes) = (p : Operations) → IsGiven p → IsJoined input p draft sizes
 JoinsAmidst IsGiven input draft (Err fault) =
     HasTaken (writer draft.bytes draft.failures draft.old draft.new) fault
-    × ((p : Operations) → IsGiven p → StopsAmidst (joining input p) (IsKnown input)
-    (writer draft.bytes draft.failures draft.old draft.new) fault)
-    × IsUnfinished input (Unit {0}) (writer draft.bytes draft.failures draft.old draft.new)
+    × ((p : Operations) → IsGiven p
+    → StopsAmidst (joining input p) (IsKnown input) (writer draft.bytes draft.failures draft.old draft.new) fault
+    × IsUnfinished input (Unit {0}) (λ given. joining given p) (Unit {0})
+    (writer draft.bytes draft.failures draft.old draft.new))
 
 -- The input is an archive's text, and this is the join of its content with this one; there are no lines but the sizes.
 pub record MakesJoined {R : Type 0} (input : Reader R) (p content : Operations) (lines : List ℕ) : Type 0 where

@@ -44,7 +44,8 @@ merge input files = record {
 -- the same as IN comes, the files before it
 abbrev pub merge_in_turn : {R S : Type 0} → Reader R → List (Reader S) → Writer → Streamed
 merge_in_turn input files draft =
-    begins_behind input (AllByRecursion IsArchive files × EachUnfailed files) draft
+    begins_behind input (AllByRecursion IsArchive files × EachUnfailed files) (λ given. merge given files)
+    (EachKnown files) draft
     (writes_in_turn (merge input files)
     (IsWantedInTurn input (IsFirstRefused further_name IsArchive IsArchiveRefused files))
     (IsKnown input × EachKnown files) draft)

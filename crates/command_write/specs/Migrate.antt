@@ -23,4 +23,4 @@ migrate input = record {
 
 -- the same as it comes
 abbrev pub migrate_as_it_comes : {R : Type 0} → Reader R → Writer → Streamed
-migrate_as_it_comes input draft = begins_alone input draft (migrate input)
+migrate_as_it_comes input draft = begins_alone input (λ given. migrate given) draft

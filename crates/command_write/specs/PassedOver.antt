@@ -126,7 +126,8 @@ EndsPassing command out report (Err fault) = EndsStreamed command.streamed out r
 abbrev pub admit_passing_as_it_comes : {R S : Type 0} → (S → Opening) → Reader R → List (Reader S) → Writer → Passing
 admit_passing_as_it_comes opening input files draft = record {
   Makes = λ status. MakesArchive (MakesPassing opening input files status);
-  streamed = begins_behind input (BecomeSome opening files) draft
+  streamed = begins_behind input (BecomeSome opening files) (λ given. admit_passing opening given files)
+      (EachCounted files) draft
       (writes_amidst (admit_passing opening input files) (IsKnown input × EachCounted files) draft);
 }
 

@@ -30,4 +30,4 @@ retire input key digest = record {
 
 -- the same as it comes
 abbrev pub retire_as_it_comes : {R : Type 0} → Reader R → SliceKey → Digest → Writer → Streamed
-retire_as_it_comes input key digest draft = begins_alone input draft (retire input key digest)
+retire_as_it_comes input key digest draft = begins_alone input (λ given. retire given key digest) draft

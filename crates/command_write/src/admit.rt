@@ -226,8 +226,7 @@ fn write_admitted<R: Source, T: Target, P: Sink>(
     ensures ends { (records : List (List ℕ))
         → AreFirstRows (listing arrivals.came) arrivals.first_rows.items arrivals.rows.items records
         → EndsBegun (reader R.left R.failures input.old input.new)
-        (telling (reader R.left R.failures input.old input.new) arrivals.came
-        (lines_again arrivals.rows.items records))
+        (λ input. telling input arrivals.came (lines_again arrivals.rows.items records))
         (out_of (outs T.Draft.held T.Draft.failures T.published T.failures out.old out.new))
         (writer P.held P.failures report.old report.new) result }
     ensures noted { OnOk result (IsNoted (reader R.left R.failures input.old input.new) arrivals.came

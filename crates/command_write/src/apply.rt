@@ -37,8 +37,8 @@ fn write_applied<R: Source, T: Target, P: Sink>(
     requires are { AllByRecursion IsOperation operations.now }
     requires few { (o : Operations) → IsMade o → count_by (changes o) (map record_bytes operations.now) ≤ number }
     ensures { EndsBegun (reader R.left R.failures input.old input.new)
-        (telling (reader R.left R.failures input.old input.new)
-        (set.from_list (map record_bytes operations.now)) (counts_of (map record_bytes operations.now) number))
+        (λ input. telling input (set.from_list (map record_bytes operations.now))
+        (counts_of (map record_bytes operations.now) number))
         (out_of (outs T.Draft.held T.Draft.failures T.published T.failures out.old out.new))
         (writer P.held P.failures report.old report.new) result }
 {

@@ -38,8 +38,7 @@ fn write_unnamed<R: Source, T: Target, P: Sink>(
     out: &mut Output<T::Draft, T>,
     report: &mut P,
 ) -> Result<Status, CommandFault>
-    ensures { EndsBegun (reader R.left R.failures archive.old archive.new)
-        (copying (reader R.left R.failures archive.old archive.new) named.now)
+    ensures { EndsBegun (reader R.left R.failures archive.old archive.new) (λ archive. copying archive named.now)
         (out_of (outs T.Draft.held T.Draft.failures T.published T.failures out.old out.new))
         (writer P.held P.failures report.old report.new) result }
 {

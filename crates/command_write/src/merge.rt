@@ -86,8 +86,7 @@ fn merge_text<R: Source, T: Target, P: Sink>(
     report: &mut P,
 ) -> Result<Status, CommandFault>
     ensures { (p : Operations) → IsContent p → text.now ≡ written p
-        → EndsBegun (reader R.left R.failures input.old input.new)
-        (joins (reader R.left R.failures input.old input.new) p)
+        → EndsBegun (reader R.left R.failures input.old input.new) (λ input. joins input p)
         (out_of (outs T.Draft.held T.Draft.failures T.published T.failures out.old out.new))
         (writer P.held P.failures report.old report.new) result }
 {

@@ -224,21 +224,22 @@ pub fn merge_of_one_keeps_out<R: Source, S: Source, D: Sink, T: Target>()
 {}
 
 /// A command that is stopped before its text is whole leaves OUT as it was, also if OUT was begun: an input that is
-/// refused (`Err (Input ..)` of `EndsStreamed`) is such a stop. A pipe, like a draft, has a beginning of the text then.
+/// refused (`Err (Input ..)` of `EndsStreamed`) is such a stop. A pipe, like a draft, has a beginning of the text then:
+/// of what the command makes of an archive with the good records of its first input.
 pub fn stopped_commands_keep_out<R: Source, S: Source, D: Sink, T: Target>()
     ensures admit { (input : Reader R) (files : List (Reader S)) (out : Out) (report : Writer)
-        → LeavesBeginningIfStopped (admit_as_it_comes input files out.draft) (admit input files)
-        (IsKnown input × EachKnown files) out report }
+        → LeavesBeginningIfStopped (admit_as_it_comes input files out.draft) (λ given. admit given files) input
+        (EachKnown files) out report }
     ensures passing { (opening : S → Opening) (input : Reader R) (files : List (Reader S)) (out : Out) (report : Writer)
         → LeavesBeginningIfStopped (admit_passing_as_it_comes opening input files out.draft).streamed
-        (admit_passing opening input files) (IsKnown input × EachCounted files) out report }
+        (λ given. admit_passing opening given files) input (EachCounted files) out report }
     ensures retire { (input : Reader R) (key : SliceKey) (digest : Digest) (out : Out) (report : Writer)
-        → LeavesBeginningIfStopped (retire_as_it_comes input key digest out.draft) (retire input key digest)
-        (IsKnown input) out report }
+        → LeavesBeginningIfStopped (retire_as_it_comes input key digest out.draft) (λ given. retire given key digest)
+        input (Unit {0}) out report }
     ensures merge { (input : Reader R) (files : List (Reader S)) (out : Outs D T) (report : Writer)
-        → LeavesBeginningIfStopped (merge_as_it_comes input files out) (merge input files)
-        (IsKnown input × EachKnown files) (out_of out) report }
-    // With one FILE there is such a text of whatever bytes, of their good records.
+        → LeavesBeginningIfStopped (merge_as_it_comes input files out) (λ given. merge given files) input
+        (EachKnown files) (out_of out) report }
+    // With one FILE there is such a text of whatever bytes both have, of their good records.
     ensures faulty { (input : Reader R) (file : Reader S) (out : Outs D T) (report : Writer) (fault : CommandFault)
         (text other : List ℕ) (records others : List (List ℕ))
         → IsStopped (merge_of_one input file (draft_of out)) (out_of out) report fault
@@ -248,13 +249,14 @@ pub fn stopped_commands_keep_out<R: Source, S: Source, D: Sink, T: Target>()
         → AreGoodRecords other others
         → (n : ℕ) × WritesFirst (out_of out).draft.old (out_of out).draft.new (written (of_both records others)) n }
     ensures migrate { (input : Reader R) (out : Out) (report : Writer)
-        → LeavesBeginningIfStopped (migrate_as_it_comes input out.draft) (migrate input) (IsKnown input) out report }
+        → LeavesBeginningIfStopped (migrate_as_it_comes input out.draft) (λ given. migrate given) input (Unit {0})
+        out report }
     ensures apply { (input : Reader R) (ops : Reader S) (out : Out) (report : Writer)
-        → LeavesBeginningIfStopped (apply_as_it_comes input ops out.draft) (apply input ops)
-        (IsKnown input × IsKnown ops) out report }
+        → LeavesBeginningIfStopped (apply_as_it_comes input ops out.draft) (λ given. apply given ops) input
+        (IsKnown ops) out report }
     ensures delta { (archive : Reader R) (named : Reader S) (out : Out) (report : Writer)
-        → LeavesBeginningIfStopped (delta_as_it_comes archive named out.draft) (delta archive named)
-        (IsKnown archive × IsKnown named) out report }
+        → LeavesBeginningIfStopped (delta_as_it_comes archive named out.draft) (λ given. delta given named) archive
+        (IsKnown named) out report }
 {
     stopped_merge_of_texts::<R, S, D>();
 }

@@ -2,8 +2,9 @@ use Rattle.std.proofs.Common.{refl, map, Ok}
 use Rattle.std.proofs.lemmas.Result.{on_ok_weaker}
 use Rattle.byte_device.proofs.Known.{Appends-none}
 use Rattle.byte_openings.specs.declared.openings.Opening.TheVariants.{Fine}
-use Rattle.command_common.specs.Inputs.{reader}
+use Rattle.command_common.specs.Inputs.{reader, readers}
 use Rattle.command_common.specs.Outputs.{out_of, outs, writer}
+use Rattle.command_write.specs.Admit.{MakesAdmitted}
 use Rattle.command_write.specs.InnerArriving.{records_of}
 use Rattle.command_write.proofs.Begun.{told_behind}
 use Rattle.command_write.proofs.Files.{admitted_in_turn, retired_noted}
@@ -23,7 +24,9 @@ returns-in-Ok-clause-ends g c =
 
 pub returns-in-Err-clause-ends : goal.returns-in-Err-clause-ends
 returns-in-Err-clause-ends g c =
-    told_behind _ _ _ _ _ _ _ _ c.in-Err.fault c.first_refusal.result c.in-Err.ensures c.first_refusal.ensures
+    let files = readers g.S.Source.left g.S.Source.failures c.args.files.now c.admit_files.new.files in
+    told_behind (λ given. MakesAdmitted given files) (reader g.R.Source.left g.R.Source.failures c.args.input.now c.first_refusal.new.input)
+    _ _ _ _ _ _ c.in-Err.fault c.first_refusal.result c.in-Err.ensures c.first_refusal.ensures
     ((Appends-none _, refl), (refl, refl)) (Appends-none _, refl)
 
 pub returns-in-Ok-clause-noted : goal.returns-in-Ok-clause-noted

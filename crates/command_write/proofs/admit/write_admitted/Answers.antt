@@ -24,9 +24,10 @@ merge_operations-requires-clause-ascending g c = rw c.operations.ensures.listed 
 
 pub returns-in_err-sizes-clause-ends : goal.returns-in_err-sizes-clause-ends
 returns-in_err-sizes-clause-ends g c = λ records are_first.
+    let same = same_set c.args.arrivals.came c.operations.ensures.listed in
     rw (failed c.from_residual.result _ c.from_residual.ensures.1)
-    (told_stopped _ _ _ _ _ _ (rw (same_set c.args.arrivals.came c.operations.ensures.listed) at
-    c.in_err-sizes.ensures.1) c.in_err-sizes.ensures.2 c.in_err-sizes.ensures.0 (refl, refl) (Appends-none _, refl))
+    (told_stopped _ _ _ _ _ _ (rw same at c.in_err-sizes.ensures.1) (rw same at c.in_err-sizes.ensures.2)
+    c.in_err-sizes.ensures.0 (refl, refl) (Appends-none _, refl))
 
 pub report_arrivals-requires-clause-told : goal.report_arrivals-requires-clause-told
 report_arrivals-requires-clause-told g c =

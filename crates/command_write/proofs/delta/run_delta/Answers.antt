@@ -2,6 +2,7 @@ use Rattle.std.proofs.Common.{refl}
 use Rattle.byte_device.proofs.Known.{Appends-none}
 use Rattle.command_common.specs.Inputs.{reader}
 use Rattle.command_common.specs.Outputs.{out_of, outs, writer}
+use Rattle.command_write.specs.Delta.{MakesDelta}
 use Rattle.command_write.proofs.Begun.{told_behind}
 use Rattle.command_write.proofs.Deltas.{named}
 use Rattle.command_write.proofs.delta.run_delta.Goals as goal
@@ -17,5 +18,7 @@ returns-in-Ok g c =
 
 pub returns-in-Err : goal.returns-in-Err
 returns-in-Err g c =
-    told_behind _ _ _ _ _ _ _ _ c.in-Err.fault c.first_refusal.result c.in-Err.ensures c.first_refusal.ensures
+    let summary = reader g.S.Source.left g.S.Source.failures c.args.summary.now c.read_summary_input.new.summary in
+    told_behind (λ given. MakesDelta given summary) (reader g.R.Source.left g.R.Source.failures c.args.archive.now c.first_refusal.new.input)
+    _ _ _ _ _ _ c.in-Err.fault c.first_refusal.result c.in-Err.ensures c.first_refusal.ensures
     ((Appends-none _, refl), (refl, refl)) (Appends-none _, refl)

@@ -1,6 +1,7 @@
 use Rattle.std.proofs.Common.{refl}
 use Rattle.archive_records.proofs.Blamed.{failed}
 use Rattle.byte_device.proofs.Known.{Appends-none}
+use Rattle.command_write.specs.Copying.{copying}
 use Rattle.command_write.proofs.Streamed.{stopped_begun}
 use Rattle.command_write.proofs.Deltas.{unnamed_published}
 use Rattle.command_write.proofs.delta.write_unnamed.Goals as goal
@@ -8,7 +9,7 @@ use Rattle.command_write.proofs.delta.write_unnamed.Goals as goal
 pub returns-in_err-sizes : goal.returns-in_err-sizes
 returns-in_err-sizes g c =
     rw (failed c.from_residual.result _ c.from_residual.ensures.1)
-    (stopped_begun _ _ _ _ _ _ _ c.in_err-sizes.ensures.1 c.in_err-sizes.ensures.2 c.in_err-sizes.ensures.0
+    (stopped_begun _ (λ archive. copying archive c.args.named.now) _ _ _ c.in_err-sizes.ensures.1 c.in_err-sizes.ensures.2 c.in_err-sizes.ensures.0
     (refl, refl) (Appends-none _, refl))
 
 pub returns : goal.returns

@@ -10,9 +10,10 @@ pub returns-in-Err : goal.returns-in-Err
 returns-in-Err g c = (
   taken_of g.W.Sink.held g.W.Sink.failures c.args.draft.now c.merge_streams.new.w c.in-Err.fault
       c.command_fault_of.result c.in-Err.ensures.written c.command_fault_of.ensures,
-  λ p at.
-      stopped_opened _ _ c.args.other.now c.merge_streams.new.right p at g.R.Source.left g.R.Source.failures c.args.input.now c.merge_streams.new.left
-      _ _ _ c.merge_streams.new.w c.in-Err.fault c.command_fault_of.result c.in-Err.ensures.merges c.command_fault_of.ensures,
-  unfinished_opened g.R.Source.left g.R.Source.failures c.args.input.now c.merge_streams.new.left _ _ _ _
-      c.merge_streams.new.w c.in-Err.fault c.in-Err.ensures.merges,
+  λ p at. (
+    stopped_opened _ _ c.args.other.now c.merge_streams.new.right p at g.R.Source.left g.R.Source.failures c.args.input.now c.merge_streams.new.left
+        _ _ _ c.merge_streams.new.w c.in-Err.fault c.command_fault_of.result c.in-Err.ensures.merges c.command_fault_of.ensures,
+    unfinished_opened _ _ c.args.other.now c.merge_streams.new.right p at g.R.Source.left g.R.Source.failures c.args.input.now c.merge_streams.new.left
+        _ _ _ c.merge_streams.new.w c.in-Err.fault c.in-Err.ensures.merges,
+  ),
 )

@@ -1,8 +1,9 @@
 use Rattle.std.proofs.Common.{◌∙◌, refl, sym}
 use Rattle.std.proofs.lemmas.Option.{same_Some}
 use Rattle.byte_device.proofs.Known.{Appends-none}
-use Rattle.command_common.specs.Inputs.{reader}
+use Rattle.command_common.specs.Inputs.{reader, readers}
 use Rattle.command_common.specs.Outputs.{out_of, outs, writer}
+use Rattle.command_write.specs.Merge.{MakesMerged}
 use Rattle.command_write.proofs.Begun.{told_behind}
 use Rattle.command_write.proofs.Joined.{merged_in_turn}
 use Rattle.command_write.proofs.merge.merge_in_turn.Goals as goal
@@ -17,5 +18,7 @@ returns-in-Ok g c =
 
 pub returns-in-Err : goal.returns-in-Err
 returns-in-Err g c =
-    told_behind _ _ _ _ _ _ _ _ c.in-Err.fault c.first_refusal.result c.in-Err.ensures c.first_refusal.ensures
+    let files = readers g.S.Source.left g.S.Source.failures c.args.files.now c.joined_text.new.files in
+    told_behind (λ given. MakesMerged given files) (reader g.R.Source.left g.R.Source.failures c.args.input.now c.first_refusal.new.input)
+    _ _ _ _ _ _ c.in-Err.fault c.first_refusal.result c.in-Err.ensures c.first_refusal.ensures
     ((Appends-none _, refl), (refl, refl)) (Appends-none _, refl)

@@ -9,17 +9,17 @@ use Rattle.command_write.proofs.merge.merge_text.Goals as goal
 pub returns-in_err-sizes : goal.returns-in_err-sizes
 returns-in_err-sizes g c = λ p content is.
     let given = c.new-other.ensures.left ∙ ap Some is in
-    rw (failed c.from_residual.result _ c.from_residual.ensures.1)
-    (join_stopped _ p (MakesJoined _ p) (λ o lines m. (m.before, m.is_content, m.archive, m.content_is)) _ _ _
-    (c.in_err-sizes.ensures.1 p (record {
+    let stopped = c.in_err-sizes.ensures.1 p (record {
       is_content = content;
       text = written p;
       is_text = inl refl;
       bytes = given;
       unfailed_before = c.new-other.ensures.failures;
       unfailed = refl;
-    }))
-    c.in_err-sizes.ensures.2 c.in_err-sizes.ensures.0 (refl, refl) (Appends-none _, refl))
+    }) in
+    rw (failed c.from_residual.result _ c.from_residual.ensures.1)
+    (join_stopped _ p (λ input. MakesJoined input p) (λ input o lines m. (m.before, m.is_content, m.archive, m.content_is)) _ _ _
+    stopped.0 stopped.1 c.in_err-sizes.ensures.0 (refl, refl) (Appends-none _, refl))
 
 pub returns : goal.returns
 returns g c = λ p content is.
@@ -32,7 +32,7 @@ returns g c = λ p content is.
       unfailed_before = c.new-other.ensures.failures;
       unfailed = refl;
     }) in
-    join_published _ p (MakesJoined _ p) _ _ j _
+    join_published _ p (λ input. MakesJoined input p) _ _ j _
     (record {
       before = j.content;
       is_content = j.is_content;

@@ -29,6 +29,7 @@ returns-in-Err g c =
       stopped_opened _ _ c.new-text.result c.merge_telling.new.right _ at
           g.R.Source.left g.R.Source.failures c.args.input.now c.merge_telling.new.left _ _ _ c.merge_telling.new.w
           c.in-Err.fault c.command_fault_of.result c.in-Err.ensures.merges c.command_fault_of.ensures,
-      unfinished_opened g.R.Source.left g.R.Source.failures c.args.input.now c.merge_telling.new.left _ _ _ _
-          c.merge_telling.new.w c.in-Err.fault c.in-Err.ensures.merges,
+      unfinished_opened _ _ c.new-text.result c.merge_telling.new.right _ at
+          g.R.Source.left g.R.Source.failures c.args.input.now c.merge_telling.new.left _ _ _ c.merge_telling.new.w
+          c.in-Err.fault c.in-Err.ensures.merges,
     )

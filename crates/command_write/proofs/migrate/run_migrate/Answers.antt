@@ -11,10 +11,7 @@ use Rattle.command_write.proofs.migrate.run_migrate.Goals as goal
 pub returns-in_err-sizes : goal.returns-in_err-sizes
 returns-in_err-sizes g c =
     let nothing = c.new-nothing.ensures.left ∙ ap Some c.empty_text-empty.ensures in
-    rw (failed c.from_residual.result _ c.from_residual.ensures.1)
-    (join_stopped _ set.empty (MakesMigrated _) (λ o lines m.
-    (o, m.is_content, m.archive, sym (join_with_nothing o m.is_content.itself))) _ _ _
-    (c.in_err-sizes.ensures.1 set.empty (record {
+    let stopped = c.in_err-sizes.ensures.1 set.empty (record {
       is_content = empty_content;
       text = written set.empty;
       is_text =
@@ -22,8 +19,11 @@ returns-in_err-sizes g c =
       bytes = nothing;
       unfailed_before = c.new-nothing.ensures.failures;
       unfailed = refl;
-    }))
-    c.in_err-sizes.ensures.2 c.in_err-sizes.ensures.0 (refl, refl) (Appends-none _, refl))
+    }) in
+    rw (failed c.from_residual.result _ c.from_residual.ensures.1)
+    (join_stopped _ set.empty (λ given. MakesMigrated given) (λ given o lines m.
+    (o, m.is_content, m.archive, sym (join_with_nothing o m.is_content.itself))) _ _ _
+    stopped.0 stopped.1 c.in_err-sizes.ensures.0 (refl, refl) (Appends-none _, refl))
 
 pub returns : goal.returns
 returns g c =
@@ -37,7 +37,7 @@ returns g c =
       unfailed_before = c.new-nothing.ensures.failures;
       unfailed = refl;
     }) in
-    join_published _ set.empty (MakesMigrated _) _ _ j _
+    join_published _ set.empty (λ given. MakesMigrated given) _ _ j _
     (rw (join_with_nothing j.content j.is_content.itself)
     (record { is_content = j.is_content; archive = j.archive; lines_are = c.new.ensures.bytes })) _ _
     c.publish_draft.result

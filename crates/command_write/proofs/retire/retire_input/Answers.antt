@@ -2,7 +2,7 @@ use Rattle.std.proofs.Common.{ap, arith, length, map, ◌∙◌}
 use Rattle.std.specs.List.Sorted.{IsStrictlySortedBy}
 use Rattle.archive_records.proofs.Blamed.{failed}
 use Rattle.archive_merge.specs.Arrivals.{is_new, arrival_of}
-use Rattle.command_write.proofs.Joined.{listed_alone, retire_stops, retired}
+use Rattle.command_write.proofs.Joined.{listed_alone, retire_stops, retire_unfinished, retired}
 use Rattle.command_write.proofs.retire.retire_input.Goals as goal
 
 pub merge_operations-requires-clause-ascending : goal.merge_operations-requires-clause-ascending
@@ -14,7 +14,7 @@ returns-in_err-sizes g c =
     rw (failed c.from_residual.result _ c.from_residual.ensures.1) (
       c.in_err-sizes.ensures.0,
       retire_stops _ _ _ _ _ (rw c.retirement.ensures.is at c.in_err-sizes.ensures.1),
-      c.in_err-sizes.ensures.2,
+      retire_unfinished _ _ _ _ (rw c.retirement.ensures.is at c.in_err-sizes.ensures.2),
     )
 
 pub index-requires : goal.index-requires

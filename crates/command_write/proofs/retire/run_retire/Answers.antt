@@ -2,6 +2,7 @@ use Rattle.std.proofs.Common.{Err, refl, ◌∙◌, inr}
 use Rattle.archive_records.proofs.Blamed.{failed}
 use Rattle.byte_device.proofs.Known.{Appends-none}
 use Rattle.command_common.specs.declared.faults.CommandFault.TheVariants.{OutOfMemory}
+use Rattle.command_write.specs.Retire.{retire}
 use Rattle.command_write.proofs.Noted.{missing_noted}
 use Rattle.command_write.proofs.Streamed.{stopped_begun}
 use Rattle.command_write.proofs.Joined.{retire_published}
@@ -11,7 +12,7 @@ use Rattle.command_write.proofs.retire.run_retire.Goals as goal
 pub returns-in_err-written-clause-ends : goal.returns-in_err-written-clause-ends
 returns-in_err-written-clause-ends g c =
     rw (failed c.from_residual.result _ c.from_residual.ensures.1)
-    (stopped_begun _ _ _ _ _ _ _ c.in_err-written.ensures.1 c.in_err-written.ensures.2 c.in_err-written.ensures.0
+    (stopped_begun _ (λ input. retire input c.args.key c.args.digest) _ _ _ c.in_err-written.ensures.1 c.in_err-written.ensures.2 c.in_err-written.ensures.0
     (refl, refl) (Appends-none _, refl))
 
 pub returns-in_err-note_missing-clause-ends : goal.returns-in_err-note_missing-clause-ends
