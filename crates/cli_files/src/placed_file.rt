@@ -50,6 +50,10 @@ impl<R: Read + Seek + Drop> Placed for PlacedFile<R> {
 
     ghost failures = { λ file. ⟦<Placing<R> as Placed>⟧.failures file.placing };
 
+    ghost unread = { λ old new at. ⟦<Placing<R> as Placed>⟧.unread old.placing new.placing at };
+
+    ghost unmeasured = { λ old new. FailedIn old.placing.failures new.placing.failures };
+
     fn take_at(&mut self, at: u64, buf: &mut [u8]) -> Result<usize, Failed> {
         match self.placing.take_at(at, buf) {
             Ok(count) => {
