@@ -3,3 +3,4 @@ pub mod Named
 pub mod Saying
 pub mod Reasons
 pub mod OneLine
+pub mod Seeing

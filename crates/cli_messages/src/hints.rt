@@ -1,16 +1,21 @@
 //! What helps a person with a failure: which file it was, what the system said, and what a refused file looks like. Of
 //! it contracts say what it is of, the path, the faulty line, the hint for a stale index, and the words of both.
 
-ghost use Rattle.std.specs.Prelude.{◌≡◌, ℕ, codes, IfSome, None, Option, Some};
+ghost use Rattle.std.specs.Prelude.{◌≡◌, ℕ, codes, Err, IfSome, None, Option, Some};
 ghost use Rattle.command_common.specs.declared.failures.Failure.TheVariants.{Command};
 ghost use Rattle.command_common.specs.declared.faults.CommandFault.TheVariants.{Input};
 ghost use Rattle.command_common.specs.declared.faults.InputName.{InputName};
+ghost use Rattle.command_common.specs.declared.faults.Why.{Why};
 ghost use Rattle.command_common.specs.declared.faults.Why.TheVariants.{Damaged, NoLines, Stale};
+ghost use Rattle.cli_arguments.specs.Inputs.{inputs_view};
 ghost use Rattle.cli_arguments.specs.LineView.{line_view};
 ghost use Rattle.cli_arguments.specs.Lines.{out_of};
 ghost use Rattle.cli_messages.specs.declared.hints.Hint.TheVariants.{NoSourceLines, DamagedIndex};
-ghost use Rattle.cli_messages.specs.Hints.{IsOfInput, IsOfNoFile, IsOfOut, faulty_line_of, file_of};
+ghost use Rattle.cli_files.specs.OutFiles.{stage_of};
+ghost use Rattle.cli_messages.specs.Hints.{IsOfNoFile, IsOfOut, faulty_line_of, file_of};
 ghost use Rattle.cli_messages.specs.Hints.{other_kind_text, records_word, stale_hint, subject_of, subject_text};
+ghost use Rattle.cli_messages.specs.Names.{input_at};
+ghost use Rattle.cli_messages.specs.Seen.{nothing, seen_at_out, seen_in, seen_of};
 
 use crate::file_kinds::FileKind;
 use crate::flaws::FaultyLine;
@@ -42,27 +47,36 @@ impl Seen {
     };
 
     /// What was seen of an input.
+    #[tactic(auto, using(
+        crate::proofs::Seeing::seen_open,
+        crate::proofs::Seeing::seen_placed,
+        crate::proofs::Seeing::seen_refused,
+        crate::proofs::Seeing::seen_wanting,
+        crate::proofs::Seeing::seen_waiting
+    ))]
     fn of_input<F: Files>(input: &SystemInput<'_, '_, F>) -> Seen
-        ensures { result.obstacle ≡ None }
+        ensures { result ≡ seen_in input.now.state }
     {
-        match (input.input(), input.unopened()) {
-            (Some(file), _) => Seen {
+        if let Some(file) = input.input() {
+            return Seen {
                 reason: file.reason(),
                 kind: FileKind::of(&file.leading_bytes()),
                 obstacle: None,
-            },
-            (None, Some(Unopened::Refused(refused))) => Seen {
+            };
+        }
+        if let Some(file) = input.places() {
+            return Seen {
+                reason: file.reason(),
+                kind: FileKind::of(&file.leading_bytes()),
+                obstacle: None,
+            };
+        }
+        match input.unopened() {
+            Some(Unopened::Refused(refused)) => Seen {
                 reason: Some(refused.reason),
                 ..Seen::NOTHING
             },
-            (None, _) => match input.places() {
-                Some(file) => Seen {
-                    reason: file.reason(),
-                    kind: FileKind::of(&file.leading_bytes()),
-                    obstacle: None,
-                },
-                None => Seen::NOTHING,
-            },
+            Some(Unopened::OutOfMemory) | None => Seen::NOTHING,
         }
     }
 
@@ -72,10 +86,10 @@ impl Seen {
         inputs: &Inputs<SystemInput<'_, '_, F>>,
         out: &OutFile<'_, F>,
     ) -> Seen
-        ensures nothing { IsOfNoFile ended.now
-            → (result.reason ≡ None) × (result.kind ≡ None) × (result.obstacle ≡ None) }
-        ensures out { IsOfOut ended.now → result.kind ≡ None }
-        ensures input { IsOfInput ended.now → result.obstacle ≡ None }
+        ensures nothing { IsOfNoFile ended.now → result ≡ nothing }
+        ensures out { IsOfOut ended.now → result ≡ seen_at_out (stage_of out.now.state) out.now.reason }
+        ensures input { (name : InputName) (why : Why) → ended.now ≡ Err (Input name why)
+            → result ≡ seen_of (input_at (inputs_view inputs.now) name) }
     {
         match ended {
             Err(CommandFault::Input(name, _)) => match input_at(inputs, *name) {
