@@ -4,3 +4,4 @@ pub mod Saying
 pub mod Reasons
 pub mod OneLine
 pub mod Seeing
+mod Beginning

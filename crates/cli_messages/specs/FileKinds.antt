@@ -25,8 +25,12 @@ beginnings =
     ∷ (0xef ∷ 0xbb ∷ 0xbf ∷ [], kind.Marked)
     ∷ []
 
+-- the kind of the first of these with which the bytes begin
+abbrev pub kind_among : List ℕ → List (List ℕ × FileKind) → Option FileKind
+kind_among bytes rows = option_map (λ row. row.1) (find (λ row. starts_with nat_eq bytes row.0) rows)
+
 abbrev pub other_kind : List ℕ → Option FileKind
-other_kind bytes = option_map (λ row. row.1) (find (λ row. starts_with nat_eq bytes row.0) beginnings)
+other_kind bytes = kind_among bytes beginnings
 
 -- symarch's own
 abbrev pub own_kind : List ℕ → Option FileKind

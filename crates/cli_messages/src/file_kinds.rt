@@ -1,8 +1,8 @@
 //! What a file that is refused looks like, by its first bytes, and which command takes it.
 
-ghost use Rattle.std.specs.Prelude.{◌≡◌, find, nat_eq, option_map};
+ghost use Rattle.std.specs.Prelude.{◌≡◌, find, map, nat_eq, option_map};
 ghost use Rattle.std.specs.List.{starts_with};
-ghost use Rattle.cli_messages.specs.FileKinds.{is_class, kind_of, other_kind, own_kind};
+ghost use Rattle.cli_messages.specs.FileKinds.{is_class, kind_among, kind_of, other_kind, own_kind};
 
 use archive_records::Format;
 use cli_files::LeadingBytes;
@@ -83,10 +83,17 @@ fn own_kind(leading_bytes: &LeadingBytes) -> Option<FileKind>
 fn other_kind(leading_bytes: &LeadingBytes) -> Option<FileKind>
     ensures { result ≡ other_kind leading_bytes.now }
 {
-    first_kind(&BEGINNINGS, leading_bytes)
+    kind_among(&BEGINNINGS, leading_bytes)
 }
 
 /// The kind of the first of these with which the bytes begin.
+fn kind_among(beginnings: &[(&[u8], FileKind)], bytes: &[u8]) -> Option<FileKind>
+    ensures { result ≡ kind_among bytes.now (map (λ row. (row.0.now, row.1)) beginnings.now) }
+{
+    first_kind(beginnings, bytes)
+}
+
+/// It is the same of references.
 fn first_kind(beginnings: &[(&[u8], FileKind)], bytes: &[u8]) -> Option<FileKind>
     ensures { result
         ≡ option_map (λ row. row.1) (find (λ row. starts_with nat_eq bytes.now row.0.now) beginnings.now) }

@@ -49,10 +49,7 @@ impl Seen {
     /// What was seen of an input.
     #[tactic(auto, using(
         crate::proofs::Seeing::seen_open,
-        crate::proofs::Seeing::seen_placed,
-        crate::proofs::Seeing::seen_refused,
-        crate::proofs::Seeing::seen_wanting,
-        crate::proofs::Seeing::seen_waiting
+        crate::proofs::Seeing::seen_placed
     ))]
     fn of_input<F: Files>(input: &SystemInput<'_, '_, F>) -> Seen
         ensures { result ≡ seen_in input.now.state }
