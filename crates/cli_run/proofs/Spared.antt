@@ -29,8 +29,9 @@ use Rattle.index_build.specs.declared.fault.MakingFault.{MakingFault}
 use Rattle.index_build.specs.declared.fault.MakingFault.TheVariants.{Archive as Refused, Write as Wrote}
 use Rattle.command_index_queries.specs.{Indexes.IsOfOtherLength, Indexes.IsRefusedByIndex, Several.AreRefusedLater, Several.AreRefusedTogether}
 use Rattle.command_index_queries.specs.Together.{IsFirstRefusedByIndex, IsRefusedAtPlaces}
+use Rattle.text_inputs.specs.declared.frame.Frame.{Frame}
 use Rattle.command_frames.specs.Asking.{AreRefusedAsking, IsTableRefused}
-use Rattle.command_frames.specs.Frames.{frames_at, frames_by_indexes, keys_of, symbolicate_at}
+use Rattle.command_frames.specs.Frames.{frames_at, frames_by_indexes, symbolicate_at}
 use Rattle.command_index_queries.specs.Find.{find_by}
 use Rattle.command_extract.specs.{Entries.IsRefusedSlice, Extract.Extraction, Extract.Extracts, Indexed.AreRefusedBefore, Indexed.extract_at}
 use Rattle.byte_openings.specs.declared.openings.Opening.{Opening}
@@ -123,11 +124,11 @@ found_by : {I P : Type 0} (indexes : List (Reader I)) (archives : List (Reader P
 found_by (index ∷ []) (archive ∷ []) uuid at r = by_index 0 index archive at r
 found_by indexes archives uuid at r = of_several _ indexes archives at r
 
-asking : {I P : Type 0} (lines slices : Bool) (keys : List (List ℕ)) (indexes : List (Reader I))
-    (archives : List (Reader P)) → Spares (AreRefusedAsking lines slices keys indexes archives)
-asking lines slices keys indexes archives at (inl r) = by_indexes indexes archives at r
-asking lines slices keys indexes archives at (inr (inl r)) = later (r.key ∷ []) indexes archives at r.refused
-asking lines slices keys indexes archives at (inr (inr r)) = go slices r.untold.untold
+asking : {I P : Type 0} (lines slices : Bool) (frames : List Frame) (indexes : List (Reader I))
+    (archives : List (Reader P)) → Spares (AreRefusedAsking lines slices frames indexes archives)
+asking lines slices frames indexes archives at (inl r) = by_indexes indexes archives at r
+asking lines slices frames indexes archives at (inr (inl r)) = later (r.key ∷ []) indexes archives at r.refused
+asking lines slices frames indexes archives at (inr (inr r)) = go slices r.untold.untold
   where
     go : (wanted : Bool) → IsTableRefused lines wanted indexes r.untold.answering at CannotOpen → ⊥
     go false (inl changed) = cc changed.why_is
@@ -179,7 +180,7 @@ frames lines slices crash (archive ∷ others) places [] at r =
 frames lines slices crash archives places indexes at r =
     when_paired (length archives) (length indexes) (frames_at lines slices crash indexes places)
     (framed crash (frames_by_indexes lines slices indexes places)
-    (λ says. asking lines slices (keys_of says.0) indexes places)) at r
+    (λ says. asking lines slices says.0 indexes places)) at r
 
 stops_at : {S : Type 0} (indexes places : List (Reader S)) (key : SliceKey) (digest : Option Digest) (draft : Writer)
     (at : InputName) → (extract_at indexes places key digest draft).writes.Stops (Input at CannotOpen) → ⊥

@@ -1,9 +1,13 @@
 -- How commands end that ask key by key.
-use Rattle.std.proofs.Common.{◌≡◌, ℕ, ◌⊎◌, Bool, true, false, List, [], ◌∷◌, length, Option, refl, sym, ap, ◌∙◌, subst, inl, inr}
+use Rattle.std.proofs.Common.{◌≡◌, ℕ, ◌⊎◌, Bool, true, false, List, [], ◌∷◌, length, take, Option, refl, sym, ap, ◌∙◌, subst, inl, inr}
 use Rattle.std.specs.Prelude.{slice_get, slice_set}
+use Rattle.std.specs.Cmp.Lexicographic.{slice_cmp}
 use Rattle.std.specs.List.{AllZip, Contains}
+use Rattle.std.specs.Ordering.{nat_cmp}
 use Rattle.std.proofs.lemmas.List.Elements.{All-weaker}
+use Rattle.std.proofs.lemmas.Option.{get_or_from_slice_get, slice_get_within}
 use Rattle.std.proofs.lemmas.Slice.Zip.{AllZip-long}
+use Rattle.archive_core.proofs.Members.{to_map}
 use Rattle.archive_core.specs.Key.{key_bytes}
 use Rattle.archive_core.specs.Lookup.{AnswerRecord}
 use Rattle.archive_core.specs.declared.keys.SliceKey.{SliceKey}
@@ -23,20 +27,23 @@ use Rattle.index_lookup.specs.declared.fault.AnswerFault.TheVariants as answer
 use Rattle.command_index_queries.specs.Several.{AreRefusedLater, AreUnfailedTogether}
 use Rattle.command_index_queries.specs.Together.{AreAllKept, AreReadWith, IsKept}
 use Rattle.command_index_queries.proofs.Groups.{later_readers, read_earlier, unfailed_through}
-use Rattle.command_frames.specs.Asking.{AreGiven, AreRefusedAsking, AreUnread, AreUntold, IsAnsweredAt, IsAnsweredByTables}
-use Rattle.command_frames.specs.Asking.{IsChanged, IsLineless, IsTableRefused, IsUntoldUnder, IsUnreadTable}
+use Rattle.command_queries.specs.Symbolicate.{asked_of}
+use Rattle.command_frames.specs.Asking.{AreAnsweredBelow, AreGiven, AreRefusedAsking, AreUnread, AreUntold, IsAnsweredAt, IsAnsweredByTables}
+use Rattle.command_frames.specs.Asking.{IsChanged, IsLineless, IsTableRefused, IsUntoldUnder, IsUnreadTable, keys_of}
 use Rattle.command_frames.specs.Frames.{AreToldAt}
-use Rattle.command_frames.specs.InnerAsking.{IsKeyFault, IsOfKey, IsUnreadBy, IsUntoldBy, NoneFailed, RefusesAll, command_fault}
+use Rattle.command_frames.specs.InnerAsking.{IsKeyFault, IsOfKey, IsRefusedUnder, IsUntoldBy, NoneFailed, RefusesAll, command_fault}
 use Rattle.command_frames.specs.InnerPlaces.{AreKeysOf}
 use Rattle.command_frames.specs.InnerReplies.{PrintsFrames}
-use Rattle.command_frames.specs.InnerTold.{AreTold, IsRefusedAt}
+use Rattle.command_frames.specs.InnerTold.{AreTold, IsRefusedAfter, IsRefusedAt}
 use Rattle.command_frames.specs.Refusals.{IsKeyRefused, IsRefusedBySlice, IsRefusedByTable, KeyRefusal}
 use Rattle.command_frames.specs.declared.places.AskedKey.{AskedKey}
 use Rattle.command_frames.specs.declared.told.KeyAnswers.{KeyAnswers}
 use Rattle.command_frames.proofs.Archives.{HaveBytesOf, bytes_kept, kept_then, same_bytes, slices_same, stale_same}
+use Rattle.command_frames.proofs.Before.{said_below}
 use Rattle.command_frames.proofs.Followed.{followed}
 use Rattle.command_frames.proofs.Refused.{part_told}
-use Rattle.command_frames.proofs.Shown.{under_as}
+use Rattle.command_frames.proofs.Runs.{among_frames}
+use Rattle.command_frames.proofs.Shown.{only_key, under_as}
 use Rattle.command_frames.proofs.States.{all_kept, fails_alone, none_failed_of, read_before, texts_of}
 
 -- after the indexes were read
@@ -224,33 +231,77 @@ module _ {I P : Type 0} (left : I → Option (List ℕ)) (failures : I → ℕ) 
 
   -- ---- what is refused
 
-  pub frames_refused : (asked keys : List (List ℕ)) → ((key : List ℕ) → Contains asked key → Contains keys key) → (fault : CommandFault)
-      → IsRefusal (λ at why. (EachUnfailed later × IsUntoldBy left failures lines slices asked all mid new at why)
-      ⊎ (NoneFailed failures mid new × IsUnreadBy whole failures_at slices asked all seen after at why))
+  abbrev IsSaidLater : SliceKey → Where → AnswerRecord → List (List FrameRecord) → Type 0
+  IsSaidLater = IsAnsweredAt (HaveTexts left mid) (readers whole failures_at seen seen) all lines
+
+  abbrev IsRefusedLater : SliceKey → InputName → Why → Type 0
+  IsRefusedLater = IsRefusedAt (HaveTexts left mid) (readers whole failures_at seen seen) all lines
+
+  abbrev RefusesUnder : InputName → Why → List (List ℕ) → Type 0
+  RefusesUnder at why keys = IsRefusedUnder left failures whole failures_at lines slices all mid new seen after keys at why
+
+  module _ (frames : List Frame) (asked : List AskedKey) (of : AreKeysOf frames asked) (at : InputName) (why : Why)
+      (r : IsRefusedAfter IsSaidLater IsRefusedLater slices asked (RefusesUnder at why)) where
+    -- its key is one of those of the frames
+    there : (key : List ℕ) → key_bytes r.one.key ≡ key → Contains (keys_of frames) key
+    there key is =
+        let has : Contains asked r.one =
+        (r.number, slice_get_within asked r.number r.one r.one_is, get_or_from_slice_get asked r.number r.one r.one r.one_is) in
+        subst (Contains (keys_of frames)) is
+        (among_frames frames asked of (key_bytes r.one.key) (to_map (λ (a : AskedKey). key_bytes a.key) asked r.one has))
+
+    -- the frames of lower keys have answers
+    below : (key : List ℕ) → key_bytes r.one.key ≡ key → slices ≡ false → AreAnsweredBelow (AreGiven named) known all lines frames key
+    below key is none frame has less =
+        let before = subst (λ (s : Bool). AreTold IsSaidLater IsRefusedLater s (take r.number asked) r.told) none r.before in
+        let said = said_below IsSaidLater IsRefusedLater frames asked of r.number r.one r.one_is r.told before frame has
+        (ap (λ (b : List ℕ). slice_cmp nat_cmp (key_bytes frame.key) b) is ∙ less) in
+        record {
+          key = said.key;
+          key_is = said.key_is;
+          answer = said.answer;
+          frames = said.frames;
+          answered = said_given said.key (asked_of frame.load frame.address) said.answer said.frames said.said;
+        }
+
+    refused_so : RefusesUnder at why (key_bytes r.one.key ∷ []) → AreRefusedAsking lines slices frames named known at why
+    refused_so (inl (each, untold)) =
+        let u = untold_named (key_bytes r.one.key ∷ []) at why untold in
+        let is = only_key (key_bytes r.one.key) u.key u.key_is in
+        let told : AreUntold lines slices frames named known at why = record {
+          all = all;
+          read = read_all;
+          unfailed = unfailed_known each;
+          untold = record { key = u.key; key_is = there u.key is; answering = u.answering; are = u.are; untold = u.untold };
+          before = below u.key is;
+        } in
+        inr (inr told)
+    refused_so (inr (none, u)) =
+        let is = only_key (key_bytes r.one.key) u.key u.key_is in
+        let long_mid : length u.mid ≡ length seen = AllZip-long (IsKept whole failures_at) seen u.mid u.kept in
+        let later_refused : AreRefusedLater (u.key ∷ []) named known at why = record {
+          all = all;
+          read = read_all;
+          unfailed = none_failed_named none;
+          later = readers whole failures_at u.mid after;
+          are_later = later_readers whole failures_at before u.mid after (more_at ∙ sym long_mid)
+              (kept_then whole failures_at before seen u.mid kept.1 u.kept);
+          refused = u.refused;
+        } in
+        let told : AreUnread lines slices frames named known at why = record {
+          key = u.key;
+          key_is = there u.key is;
+          refused = later_refused;
+          tied = u.tied;
+          before = below u.key is;
+          of_all = u.of_all;
+        } in
+        inr (inl told)
+
+  pub frames_refused : (frames : List Frame) (asked : List AskedKey) → AreKeysOf frames asked → (fault : CommandFault)
+      → IsRefusal (λ at why. IsRefusedAfter IsSaidLater IsRefusedLater slices asked (RefusesUnder at why))
       (NoneFailed failures mid new × EachUnfailed later) fault
-      → IsRefusal (AreRefusedAsking lines slices keys named known) (AreUnfailedTogether named known) fault
-  frames_refused asked keys among (Input at why) (inl (each, untold)) =
-      let u = untold_named asked at why untold in
-      let told : AreUntold lines slices keys named known at why = record {
-        all = all;
-        read = read_all;
-        unfailed = unfailed_known each;
-        untold = record { key = u.key; key_is = among u.key u.key_is; answering = u.answering; are = u.are; untold = u.untold };
-      } in
-      inr (inr told)
-  frames_refused asked keys among (Input at why) (inr (none, r)) =
-      let long_mid : length r.mid ≡ length seen = AllZip-long (IsKept whole failures_at) seen r.mid r.kept in
-      let later_refused : AreRefusedLater (r.key ∷ []) named known at why = record {
-        all = all;
-        read = read_all;
-        unfailed = none_failed_named none;
-        later = readers whole failures_at r.mid after;
-        are_later = later_readers whole failures_at before r.mid after (more_at ∙ sym long_mid)
-            (kept_then whole failures_at before seen r.mid kept.1 r.kept);
-        refused = r.refused;
-      } in
-      let told : AreUnread slices keys named known at why =
-      record { key = r.key; key_is = among r.key r.key_is; refused = later_refused; tied = r.tied; of_all = r.of_all } in
-      inr (inl told)
-  frames_refused asked keys among OutOfMemory r = unfailed_all r
-  frames_refused asked keys among fault r = absurd r
+      → IsRefusal (AreRefusedAsking lines slices frames named known) (AreUnfailedTogether named known) fault
+  frames_refused frames asked of (Input at why) r = refused_so frames asked of at why r r.refused
+  frames_refused frames asked of OutOfMemory r = unfailed_all r
+  frames_refused frames asked of fault r = absurd r

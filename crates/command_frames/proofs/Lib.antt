@@ -7,6 +7,7 @@ pub mod Keys
 pub mod SliceRows
 pub mod Followed
 pub mod Refused
+pub mod Before
 pub mod Ended
 pub mod Questioned
 pub mod RowsAnswering

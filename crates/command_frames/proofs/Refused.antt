@@ -23,7 +23,8 @@ use Rattle.command_common.specs.declared.faults.Status.TheVariants.{Done, Partia
 use Rattle.command_common.specs.declared.faults.Why.{Why}
 use Rattle.command_queries.specs.Frames.{IsFrameSaid, TellFrames, TellsFrames}
 use Rattle.command_queries.specs.Sources.{IsSourced}
-use Rattle.command_frames.specs.Frames.{IsAnsweredOrRefused, IsFrameReplied, TellFramesBesides, keys_of}
+use Rattle.command_frames.specs.Asking.{keys_of}
+use Rattle.command_frames.specs.Frames.{IsAnsweredOrRefused, IsFrameReplied, TellFramesBesides}
 use Rattle.command_frames.specs.InnerPlaces.{AreKeysOf, key_cmp}
 use Rattle.command_frames.specs.InnerTold.{AreTold, IsFrameTold, IsKeyTold, IsPrintedOf, IsToldUnder, Printed, ShowsFrames, StandsAt}
 use Rattle.command_frames.specs.InnerTold.{NoneRefused, asked_in, refusals_in, status_with}

@@ -33,7 +33,7 @@ use Rattle.archive_read.specs.Keys.{AreInOrder as AreKeysInOrder}
 use Rattle.command_queries.specs.Symbolicate.{asked_of}
 use Rattle.text_inputs.specs.declared.frame.Frame.{Frame}
 use Rattle.command_common.proofs.Readers.{all_more, all_take}
-use Rattle.command_frames.specs.Frames.{keys_of}
+use Rattle.command_frames.specs.Asking.{keys_of}
 use Rattle.command_frames.specs.declared.places.AskedKey.{AskedKey}
 use Rattle.command_frames.specs.declared.places.AskedPlace.{AskedPlace}
 use Rattle.command_frames.specs.declared.told.KeyAnswers.{KeyAnswers}

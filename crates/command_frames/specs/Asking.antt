@@ -1,8 +1,11 @@
 -- The answers for addresses by indexes: under each key from the tables of the slices that answer, or from these slices.
 use Rattle.std.specs.Prelude.{◌≡◌, ◌+◌, ◌⊎◌, ◌&&◌, ℕ, List, [], ◌∷◌, Bool, true, false, Some, Contains, take, drop}
-use Rattle.std.specs.Prelude.{slice_get}
+use Rattle.std.specs.Prelude.{map, slice_get}
+use Rattle.std.specs.Cmp.Lexicographic.{slice_cmp}
 use Rattle.std.specs.List.{AllZip}
 use Rattle.std.specs.Option.{is_some}
+use Rattle.std.specs.Ordering.{nat_cmp}
+use Rattle.std.specs.declared.cmp.Ordering.TheVariants.{Less}
 use Rattle.byte_device.specs.Devices.{FailedIn}
 use Rattle.archive_core.specs.Content.{Operations}
 use Rattle.archive_core.specs.Key.{key_bytes}
@@ -11,6 +14,8 @@ use Rattle.archive_core.specs.declared.keys.SliceKey.{SliceKey}
 use Rattle.archive_core.specs.declared.lookup.Where.{Where}
 use Rattle.dwarf_source_frames.specs.Frames.{FrameRecord}
 use Rattle.command_queries.specs.Sources.{IsSourced}
+use Rattle.command_queries.specs.Symbolicate.{asked_of}
+use Rattle.text_inputs.specs.declared.frame.Frame.{Frame}
 use Rattle.index_format.specs.declared.index_fault.IndexFaultKind.TheVariants.{Device}
 use Rattle.index_lookup.specs.Among.{AreAnsweringAmong, AreTied, EntryAt}
 use Rattle.index_lookup.specs.AmongAsked.{IsAskedAt, IsDamagedAt, IsLinelessAt}
@@ -56,6 +61,28 @@ abbrev pub IsAnsweredAt : {P : Type 0} → (List (List ℕ) → Type 0) → List
 IsAnsweredAt AreTexts archives all lines key asked answer frames =
     IsAnsweredByTables AreTexts all lines key asked answer frames
     ⊎ IsAnsweredBySlices archives all lines key asked answer frames
+
+-- ---- before a refusal
+
+-- the keys of frames
+abbrev pub keys_of : List Frame → List (List ℕ)
+keys_of frames = map (λ frame. key_bytes frame.key) frames
+
+-- Under the key with these bytes a place has an answer.
+pub record HasAnswer {P : Type 0} (AreTexts : List (List ℕ) → Type 0) (archives : List (Reader P))
+    (all : List (List (List ℕ))) (lines : Bool) (bytes : List ℕ) (asked : Where) : Type 0 where
+  pub key : SliceKey
+  pub key_is : key_bytes key ≡ bytes
+  pub answer : AnswerRecord
+  pub frames : List (List FrameRecord)
+  pub answered : IsAnsweredAt AreTexts archives all lines key asked answer frames
+
+-- each of these frames whose key has lower bytes than these has an answer
+abbrev pub AreAnsweredBelow : {P : Type 0} → (List (List ℕ) → Type 0) → List (Reader P) → List (List (List ℕ)) → Bool
+    → List Frame → List ℕ → Type 0
+AreAnsweredBelow AreTexts archives all lines frames bytes =
+    (frame : Frame) → Contains frames frame → slice_cmp nat_cmp (key_bytes frame.key) bytes ≡ Less
+    → HasAnswer AreTexts archives all lines (key_bytes frame.key) (asked_of frame.load frame.address)
 
 -- ---- refused
 
@@ -116,13 +143,15 @@ pub record IsUntoldUnder {I : Type 0} (lines slices : Bool) (keys : List (List �
   pub are : AreAnsweringAmong key all answering
   pub untold : IsTableRefused lines slices indexes answering at why
 
--- The indexes were read, and then a table is not told.
-pub record AreUntold {I P : Type 0} (lines slices : Bool) (keys : List (List ℕ)) (indexes : List (Reader I))
+-- The indexes were read, and then under the key of one of these frames a table is not told. Unless slices are wanted,
+-- the frames of lower keys have answers.
+pub record AreUntold {I P : Type 0} (lines slices : Bool) (frames : List Frame) (indexes : List (Reader I))
     (archives : List (Reader P)) (at : InputName) (why : Why) : Type 0 where
   pub all : List (List (List ℕ))
   pub read : AreReadWith indexes archives all
   pub unfailed : EachUnfailed archives
-  pub untold : IsUntoldUnder lines slices keys indexes all at why
+  pub untold : IsUntoldUnder lines slices (keys_of frames) indexes all at why
+  pub before : slices ≡ false → AreAnsweredBelow (AreGiven indexes) archives all lines frames untold.key
 
 -- it is stale at an entry: no record of its archive is there
 abbrev pub is_stale_entry : Why → Bool
@@ -141,20 +170,22 @@ is_stale_entry (NoLines _) = false
 is_stale_entry NoArchive = false
 is_stale_entry NoIndex = false
 
--- Two slices are tied under one of these keys, and of the archives, which are read for it, one is refused. If slices
--- are wanted, that is not for an entry: otherwise its key is refused, and the others are answered.
-pub record AreUnread {I P : Type 0} (slices : Bool) (keys : List (List ℕ)) (indexes : List (Reader I))
+-- Two slices are tied under the key of one of these frames, and of the archives, which are read for it, one is refused.
+-- Unless slices are wanted, the frames of lower keys have answers. If they are, that is not for an entry: otherwise its
+-- key is refused, and the others are answered.
+pub record AreUnread {I P : Type 0} (lines slices : Bool) (frames : List Frame) (indexes : List (Reader I))
     (archives : List (Reader P)) (at : InputName) (why : Why) : Type 0 where
   pub key : List ℕ
-  pub key_is : Contains keys key
+  pub key_is : Contains (keys_of frames) key
   pub refused : AreRefusedLater (key ∷ []) indexes archives at why
   pub tied : AreTied key refused.all
+  pub before : slices ≡ false → AreAnsweredBelow (AreGiven indexes) archives refused.all lines frames key
   pub of_all : (slices && is_stale_entry why) ≡ false
 
--- The first that is refused, of commands that ask under these keys: an index, or the length of its archive; after that
--- an archive whose slices are read, since two are tied; or a table.
-abbrev pub AreRefusedAsking : {I P : Type 0} → Bool → Bool → List (List ℕ) → List (Reader I) → List (Reader P)
+-- The first that is refused, of commands that ask for these frames: an index, or the length of its archive; after that,
+-- by the bytes of the keys, an archive whose slices are read, since two are tied; or a table.
+abbrev pub AreRefusedAsking : {I P : Type 0} → Bool → Bool → List Frame → List (Reader I) → List (Reader P)
     → InputName → Why → Type 0
-AreRefusedAsking lines slices keys indexes archives at why =
+AreRefusedAsking lines slices frames indexes archives at why =
     IsFirstRefusedByIndex indexes archives at why
-    ⊎ (AreUnread slices keys indexes archives at why ⊎ AreUntold lines slices keys indexes archives at why)
+    ⊎ (AreUnread lines slices frames indexes archives at why ⊎ AreUntold lines slices frames indexes archives at why)

@@ -1,6 +1,6 @@
 -- The reports of `frames` and `symbolicate` over archives by their indexes.
 use Rattle.std.specs.Prelude.{◌≡◌, ◌≢◌, ◌↔◌, ℕ, List, [], ◌++◌, Bool, true, false, Option, Some, None, All}
-use Rattle.std.specs.Prelude.{Contains, map}
+use Rattle.std.specs.Prelude.{Contains}
 use Rattle.std.specs.List.{AllZip}
 use Rattle.std.specs.List.Sorted.{IsStrictlySortedBy}
 use Rattle.archive_core.specs.Key.{key_bytes}
@@ -18,14 +18,10 @@ use Rattle.command_common.specs.declared.faults.Status.{Status}
 use Rattle.command_common.specs.declared.faults.Status.TheVariants.{Refused}
 use Rattle.command_index_queries.specs.Several.{AreUnfailedTogether}
 use Rattle.command_index_queries.specs.Together.{AreReadWith}
-use Rattle.command_frames.specs.Asking.{AreGiven, AreRefusedAsking, IsAnsweredAt}
+use Rattle.command_frames.specs.Asking.{AreGiven, AreRefusedAsking, IsAnsweredAt, keys_of}
 use Rattle.command_frames.specs.Refusals.{AreRefusing, IsKeyRefused, KeyRefusal, Reply, refusal_lines}
 use Rattle.command_frames.specs.Refusals.{replies_status, replies_text}
 use Rattle.command_frames.specs.Slices.{IsAnsweringEntryRow}
-
--- the keys of frames
-abbrev pub keys_of : List Frame → List (List ℕ)
-keys_of frames = map (λ frame. key_bytes frame.key) frames
 
 -- a frame of a key that is not refused has an answer, of which this is true, and else none
 abbrev pub IsAnsweredOrRefused : (SliceKey → Where → AnswerRecord → List (List FrameRecord) → Type 0)
@@ -86,7 +82,7 @@ pub record AreToldAt {I P : Type 0} (lines slices : Bool) (indexes : List (Reade
 abbrev pub frames_by_indexes : {I P : Type 0} → Bool → Bool → List (Reader I) → List (Reader P) → AskedOfFrames
 frames_by_indexes lines slices indexes archives = record {
   Tells = AreToldAt lines slices indexes archives;
-  Refuses = λ frames. AreRefusedAsking lines slices (keys_of frames) indexes archives;
+  Refuses = λ frames. AreRefusedAsking lines slices frames indexes archives;
   Untouched = EachUntouched indexes × EachUntouched archives;
   Unfailed = AreUnfailedTogether indexes archives;
 }

@@ -95,16 +95,28 @@ AsksSlices whole failures slices keys all old new result IsTrue =
     ReadsInputs result (λ value. IsTrue value × AreAllKept whole failures old new)
     (IsUnreadBy whole failures slices keys all old new) (EachUnfailed (readers whole failures old new))
 
+-- under one of these keys a table is not told, or an archive is refused
+abbrev pub IsRefusedUnder : {D P : Type 0} → (D → Option (List ℕ)) → (D → ℕ) → (P → Option (List ℕ)) → (P → ℕ) → Bool
+    → Bool → List (List (List ℕ)) → List D → List D → List P → List P → List (List ℕ) → InputName → Why → Type 0
+IsRefusedUnder whole failures whole_at failures_at lines slices all old new old_at new_at keys at why =
+    (EachUnfailed (readers whole_at failures_at old_at new_at)
+    × IsUntoldBy whole failures lines slices keys all old new at why)
+    ⊎ (NoneFailed failures old new × IsUnreadBy whole_at failures_at slices keys all old_at new_at at why)
+
 -- What came of asking under these keys: something of which this is true, each index has its bytes, and each archive is
--- kept; or a table is not told, or an archive is refused.
+-- kept; or it is refused so.
+abbrev pub AsksBy : {D P T : Type 0} → (D → Option (List ℕ)) → (D → ℕ) → (P → Option (List ℕ)) → (P → ℕ)
+    → List D → List D → List P → List P → Result T CommandFault → (T → Type 0) → (InputName → Why → Type 0) → Type 0
+AsksBy whole failures whole_at failures_at old new old_at new_at result IsTrue Refuses =
+    ReadsInputs result
+    (λ value. IsTrue value × (each_known whole new ≡ each_known whole old)
+    × AreAllKept whole_at failures_at old_at new_at) Refuses
+    (NoneFailed failures old new × EachUnfailed (readers whole_at failures_at old_at new_at))
+
+-- the same, where a table is not told, or an archive is refused, under one of these keys
 abbrev pub AsksKeys : {D P T : Type 0} → (D → Option (List ℕ)) → (D → ℕ) → (P → Option (List ℕ)) → (P → ℕ) → Bool
     → Bool → List (List ℕ) → List (List (List ℕ)) → List D → List D → List P → List P → Result T CommandFault
     → (T → Type 0) → Type 0
 AsksKeys whole failures whole_at failures_at lines slices keys all old new old_at new_at result IsTrue =
-    ReadsInputs result
-    (λ value. IsTrue value × (each_known whole new ≡ each_known whole old)
-    × AreAllKept whole_at failures_at old_at new_at)
-    (λ at why. (EachUnfailed (readers whole_at failures_at old_at new_at)
-    × IsUntoldBy whole failures lines slices keys all old new at why)
-    ⊎ (NoneFailed failures old new × IsUnreadBy whole_at failures_at slices keys all old_at new_at at why))
-    (NoneFailed failures old new × EachUnfailed (readers whole_at failures_at old_at new_at))
+    AsksBy whole failures whole_at failures_at old new old_at new_at result IsTrue
+    (IsRefusedUnder whole failures whole_at failures_at lines slices all old new old_at new_at keys)

@@ -16,7 +16,7 @@ use Rattle.archive_core.specs.declared.lookup.Where.{Where}
 use Rattle.archive_core.specs.declared.lookup.Where.TheVariants.{File, Loaded}
 use Rattle.command_frames.specs.declared.places.AskedKey.{AskedKey}
 use Rattle.command_frames.specs.declared.places.AskedPlace.{AskedPlace}
-use Rattle.command_frames.specs.Frames.{keys_of}
+use Rattle.command_frames.specs.Asking.{keys_of}
 
 -- a place as numbers, which no other place has
 abbrev pub numbers_of : Where → List ℕ

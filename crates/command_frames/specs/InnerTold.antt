@@ -1,7 +1,7 @@
 -- What is told of places under their keys, and where it stands: the words of inner functions. No contract of a public
 -- one has them.
-use Rattle.std.specs.Prelude.{◌≡◌, ◌<◌, ◌⊎◌, ◌&&◌, ◌++◌, ℕ, Bool, true, false, List, Contains, All, Option, Some, None}
-use Rattle.std.specs.Prelude.{Result, Ok, Err, if◌then◌else◌, fold, length, map, slice_get, string_bytes}
+use Rattle.std.specs.Prelude.{◌≡◌, ◌<◌, ◌⊎◌, ◌&&◌, ◌++◌, ℕ, Bool, true, false, List, [], ◌∷◌, Contains, All, Option, Some}
+use Rattle.std.specs.Prelude.{None, Result, Ok, Err, if◌then◌else◌, fold, length, map, slice_get, string_bytes, take}
 use Rattle.std.specs.List.{AllZip, filter_map, flat_map}
 use Rattle.dwarf_source_frames.specs.Frames.{FrameRecord}
 use Rattle.archive_core.specs.Key.{key_bytes}
@@ -112,6 +112,18 @@ pub record AreTold (IsSaid : SliceKey → Where → AnswerRecord → List (List 
     : Type 0 where
   pub asked_is : asked_in told ≡ asked
   pub are_true : All (IsToldUnder IsSaid IsRefused slices) told
+
+-- Under the key of this number, of these, it is refused so. Under those before it something is told, and this is true of
+-- it.
+pub record IsRefusedAfter (IsSaid : SliceKey → Where → AnswerRecord → List (List FrameRecord) → Type 0)
+    (IsRefused : SliceKey → InputName → Why → Type 0) (slices : Bool) (asked : List AskedKey)
+    (Refuses : List (List ℕ) → Type 0) : Type 0 where
+  pub number : ℕ
+  pub one : AskedKey
+  pub one_is : slice_get asked number ≡ Some one
+  pub told : List KeyAnswers
+  pub before : AreTold IsSaid IsRefused slices (take number asked) told
+  pub refused : Refuses (key_bytes one.key ∷ [])
 
 -- no key is refused
 abbrev pub NoneRefused : SliceKey → InputName → Why → Type 0

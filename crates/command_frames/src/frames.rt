@@ -7,7 +7,7 @@ ghost use Rattle.command_common.specs.Outputs.{writer};
 ghost use Rattle.command_queries.specs.Frames.{prints_frames};
 ghost use Rattle.command_index_queries.specs.Several.{AreUnfailedTogether};
 ghost use Rattle.command_frames.specs.Asking.{AreRefusedAsking};
-ghost use Rattle.command_frames.specs.Frames.{AreToldAt, keys_of};
+ghost use Rattle.command_frames.specs.Frames.{AreToldAt};
 ghost use Rattle.command_frames.specs.InnerReplies.{PrintsFrames};
 ghost use Rattle.command_frames.specs.InnerPlaces.{AreKeysOf};
 ghost use Rattle.command_frames.specs.InnerTold.{HaveEachTold, asked_in};
@@ -72,7 +72,7 @@ pub(crate) fn tell_frames<A: Archive + Drop, I: Placed, P: Placed>(
         let known = readers P.whole P.failures archives.old archives.new in
         ReadsInputs result
         (λ told. AreToldAt lines slices named known keys.now frames.now told.0 told.1.items)
-        (AreRefusedAsking lines slices (keys_of frames.now) named known) (AreUnfailedTogether named known) }
+        (AreRefusedAsking lines slices frames.now named known) (AreUnfailedTogether named known) }
 {
     let read = read_indexes(heap, indexes, archives)?;
     let asked = asked_keys(heap, frames)?;

@@ -1,12 +1,12 @@
 //! What indexes tell of the places that frames mean, key by key.
 
-ghost use Rattle.std.specs.Prelude.{◌≡◌, ◌∷◌, [], length, map};
+ghost use Rattle.std.specs.Prelude.{◌≡◌, ◌∷◌, [], length};
 ghost use Rattle.archive_core.specs.Key.{key_bytes};
 ghost use Rattle.command_common.specs.Inputs.{readers};
 ghost use Rattle.index_lookup.specs.AmongAsked.{HaveTexts};
 ghost use Rattle.command_frames.specs.Asking.{IsAnsweredAt};
-ghost use Rattle.command_frames.specs.InnerAsking.{AsksKeys};
-ghost use Rattle.command_frames.specs.InnerTold.{AreTold, IsKeyTold, IsRefusedAt};
+ghost use Rattle.command_frames.specs.InnerAsking.{AsksBy, AsksKeys, IsRefusedUnder};
+ghost use Rattle.command_frames.specs.InnerTold.{AreTold, IsKeyTold, IsRefusedAfter, IsRefusedAt};
 
 use crate::places::AskedKey;
 use crate::tables::{KeyTold, tell_by_tables};
@@ -50,8 +50,8 @@ fn tell_key<A: Archive + Drop, I: Placed, P: Placed>(
     }
 }
 
-/// What is told under keys, one after another. If slices are wanted, a table that was changed, or has no lines, and a
-/// slice that changed, refuse their key alone.
+/// What is told under keys, one after another: what is refused is of the first key of which something is. If slices are
+/// wanted, a table that was changed, or has no lines, and a slice that changed, refuse their key alone.
 pub(crate) fn tell_keys<'k, A: Archive + Drop, I: Placed, P: Placed>(
     heap: &Heap,
     read: &[Index],
@@ -64,10 +64,13 @@ pub(crate) fn tell_keys<'k, A: Archive + Drop, I: Placed, P: Placed>(
     requires same { length read.now ≡ length indexes.old }
     requires many { length read.now ≡ length archives.old }
     ensures { let known = readers P.whole P.failures archives.old archives.old in
-        AsksKeys I.whole I.failures P.whole P.failures lines slices (map (λ one. key_bytes one.key) asked.now) read.now
-        indexes.old indexes.new archives.old archives.new result
-        (λ told. AreTold (IsAnsweredAt (HaveTexts I.whole indexes.old) known read.now lines)
-        (IsRefusedAt (HaveTexts I.whole indexes.old) known read.now lines) slices asked.now told.items) }
+        let IsSaid = IsAnsweredAt (HaveTexts I.whole indexes.old) known read.now lines in
+        let IsRefused = IsRefusedAt (HaveTexts I.whole indexes.old) known read.now lines in
+        AsksBy I.whole I.failures P.whole P.failures indexes.old indexes.new archives.old archives.new result
+        (λ told. AreTold IsSaid IsRefused slices asked.now told.items)
+        (λ at why. IsRefusedAfter IsSaid IsRefused slices asked.now
+        (λ keys. IsRefusedUnder I.whole I.failures P.whole P.failures lines slices read.now indexes.old indexes.new
+        archives.old archives.new keys at why)) }
 {
     let mut told = Vec::new(heap.share());
     'keys: for one in asked {

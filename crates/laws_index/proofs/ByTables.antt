@@ -11,6 +11,7 @@ use Rattle.archive_core.specs.Lookup.{AnswerRecord, answer_view}
 use Rattle.archive_core.specs.declared.keys.SliceKey.{SliceKey}
 use Rattle.archive_core.specs.declared.lookup.Where.{Where}
 use Rattle.archive_core.proofs.Compare.{length_key_bytes}
+use Rattle.archive_core.proofs.Entries.{admission_entry}
 use Rattle.archive_core.proofs.Members.{in_cons, in_front, in_map, in_rest}
 use Rattle.dwarf_source_frames.specs.Frames.{FrameRecord}
 use Rattle.command_queries.specs.Frames.{IsFrameAnswered, IsFrameSaid, TellFrames, TellsFrames, TellsFramesWith, frame_keys, frames_under_key}
@@ -22,6 +23,7 @@ use Rattle.command_queries.proofs.Sourced.{sourced_as}
 use Rattle.command_common.proofs.Alike.{answers_alike}
 use Rattle.command_common.specs.Inputs.{EachUnfailed, IsDeviceFault, IsGiven, Reader, Unfailed}
 use Rattle.command_common.specs.declared.faults.InputName.{InputName}
+use Rattle.command_common.specs.declared.faults.InputName.TheVariants.{Index}
 use Rattle.command_common.specs.declared.faults.Status.{Status}
 use Rattle.command_common.specs.declared.faults.Why.{Why}
 use Rattle.command_common.specs.declared.faults.Why.TheVariants.{NoLines}
@@ -36,9 +38,9 @@ use Rattle.text_reports.specs.Slices.{TellsSlices}
 use Rattle.command_index_queries.specs.Several.{HoldTogether}
 use Rattle.command_index_queries.specs.Together.{AreLater, AreReadWith, IsReadWith}
 use Rattle.command_frames.specs.Asking.{AreGiven, AreRefusedAsking, AreUntold, IsAnsweredAt, IsAnsweredBySlices, IsAnsweredByTables}
-use Rattle.command_frames.specs.Asking.{IsTableRefused, IsUnreadTable, is_stale_entry}
+use Rattle.command_frames.specs.Asking.{IsTableRefused, IsUnreadTable, is_stale_entry, keys_of}
 use Rattle.command_frames.specs.Frames.{AreToldAt, IsAnsweredOrRefused, IsFrameReplied}
-use Rattle.command_frames.specs.Frames.{TellFramesBesides, TellFramesWith, keys_of, symbolicate_at}
+use Rattle.command_frames.specs.Frames.{TellFramesBesides, TellFramesWith, symbolicate_at}
 use Rattle.command_frames.specs.Refusals.{IsKeyRefused, IsRefusedBySlice, IsRefusedByTable, KeyRefusal, Reply, refusal_lines}
 use Rattle.command_frames.specs.Slices.{IsAnsweringEntryRow}
 use Rattle.command_frames.proofs.Refused.{answers_alone}
@@ -105,22 +107,47 @@ module _ {I P : Type 0} (inputs : List (Reader I)) (archives : List (Reader P)) 
 
 -- ---- what is refused
 
--- a table that has no lines is that of a slice that has none
+-- what is true of two lists place by place is true at a place
+zip_get : {X Y : Type 0} (R : X → Y → Type 0) (xs : List X) (ys : List Y) (n : ℕ) (x : X) (y : Y) → AllZip R xs ys
+    → slice_get xs n ≡ Some x → slice_get ys n ≡ Some y → R x y
+zip_get R [] ys n x y all at_x at_y = absurd (cc at_x)
+zip_get R (a ∷ xs) [] n x y all at_x at_y = absurd all
+zip_get {X} {Y} R (a ∷ xs) (b ∷ ys) zero x y all at_x at_y =
+    let is_x : a ≡ x = cc at_x in
+    let is_y : b ≡ y = cc at_y in
+    subst (λ (z : X). R z y) is_x (subst (λ (z : Y). R a z) is_y all.0)
+zip_get R (a ∷ xs) (b ∷ ys) (suc n) x y all at_x at_y = zip_get R xs ys n x y all.1 at_x at_y
+
+-- a table that has no lines is that of a slice that has none, at whose entry the index is refused
 lacks_lines : (os : List Operations) (texts : List (List ℕ)) (all : List (List (List ℕ))) → AreIndexes os texts all → (lines : Bool)
-    (key : List ℕ) (keys : List (List ℕ)) → Contains keys key → (why : Why) (answering : List EntryAt) (input number : ℕ)
-    → AreAnsweringAmong key all answering → lines ≡ true → why ≡ NoLines number → IsLinelessAt texts answering input number
-    → IsForLines lines os keys why
-lacks_lines os texts all indexes lines key keys there why answering input number are wanted why_is lacks =
-    let slice = told.lineless os texts all indexes key answering input number are lacks in
+    (key : List ℕ) (keys : List (List ℕ)) → Contains keys key → (at : InputName) (why : Why) (answering : List EntryAt) (input number : ℕ)
+    → AreAnsweringAmong key all answering → lines ≡ true → at ≡ Index input → why ≡ NoLines number → IsLinelessAt texts answering input number
+    → IsForLines lines os keys at why
+lacks_lines os texts all indexes lines key keys has at why answering input number are wanted at_is why_is lacks =
+    let l = told.lineless_of os texts all indexes key answering input number are lacks in
+    let file = l.of.of.file in
     record {
       wanted = wanted;
+      input = input;
       number = number;
+      at_is = at_is;
       why_is = why_is;
       key = key;
-      key_is = there;
-      slice = slice.0;
-      answers = slice.1;
-      lacks = slice.2;
+      key_is = has;
+      slice = l.slice;
+      answers = l.answers;
+      lacks = l.lacks;
+      o = l.of.of.o;
+      there = file.content_at;
+      is_number = record {
+        text = l.of.of.text;
+        file = zip_get IsIndexFile os texts input l.of.of.o l.of.of.text indexes.files file.content_at file.text_at;
+        entries = l.of.of.entries;
+        read = zip_get IsIndexText texts all input l.of.of.text l.of.of.entries indexes.read file.text_at file.index_at;
+        e = lacks.entry;
+        entry_at = l.of.of.entry_at;
+        entry_is = l.of.is.prefix ∙ sym (admission_entry l.slice l.of.is.valid);
+      };
     }
 
 own_given : {I P : Type 0} (inputs : List (Reader I)) (archives : List (Reader P)) (os : List Operations)
@@ -148,7 +175,8 @@ module _ {I P : Type 0} (inputs : List (Reader I)) (archives : List (Reader P)) 
         | inl changed ↦ absurd (told.none_damaged os its.texts all indexes (key_bytes refusal.key) r.answering changed.input
             changed.number r.are (changed.changed its.texts its.given))
         | inr lacking ↦ lacks_lines os its.texts all indexes lines (key_bytes refusal.key) (key_bytes refusal.key ∷ []) (0, omega arith, refl)
-            refusal.why r.answering lacking.input lacking.number r.are lacking.wanted lacking.why_is (lacking.lacks its.texts its.given)
+            refusal.at refusal.why r.answering lacking.input lacking.number r.are lacking.wanted lacking.at_is lacking.why_is
+            (lacking.lacks its.texts its.given)
       ]
 
   unfailed_at : {Q : Type 0} (ones : List (Reader Q)) (n : ℕ) (one : Reader Q) → EachUnfailed ones
@@ -473,12 +501,15 @@ module _ {I P : Type 0} (input : Reader I) (archive : Reader P) (o : Operations)
 
 -- ---- what refuses the command
 
-module _ {I P : Type 0} (keys : List (List ℕ)) (inputs : List (Reader I)) (archives : List (Reader P)) (at : InputName) (why : Why) where
+module _ {I P : Type 0} (frames : List Frame) (inputs : List (Reader I)) (archives : List (Reader P)) (at : InputName) (why : Why) where
+  abbrev keys : List (List ℕ)
+  keys = keys_of frames
+
   untold_table : (indexes : List (Reader I)) (answering : List EntryAt) → IsUnreadTable indexes answering at why → IsDeviceFault why
   untold_table indexes answering u = subst IsDeviceFault (sym u.why_is) refl
 
   pub untold_by_device : (lines slices : Bool) (os : List Operations) → AreIndexesGiven inputs os
-      → AreUntold lines slices keys inputs archives at why → IsDeviceFault why ⊎ IsForLines lines os keys why
+      → AreUntold lines slices frames inputs archives at why → IsDeviceFault why ⊎ IsForLines lines os keys at why
   untold_by_device lines slices os are u = by slices u.untold.untold
     where
       t : AreTextsOf inputs os
@@ -487,16 +518,16 @@ module _ {I P : Type 0} (keys : List (List ℕ)) (inputs : List (Reader I)) (arc
       indexes : AreIndexes os t.texts u.all
       indexes = indexes_are inputs archives u.all u.read os t.texts t.given t.files
 
-      by : (wanted : Bool) → IsTableRefused lines wanted inputs u.untold.answering at why → IsDeviceFault why ⊎ IsForLines lines os keys why
+      by : (wanted : Bool) → IsTableRefused lines wanted inputs u.untold.answering at why → IsDeviceFault why ⊎ IsForLines lines os keys at why
       by true unread = inl (untold_table inputs u.untold.answering unread)
       by false (inl changed) = absurd (told.none_damaged os t.texts u.all indexes u.untold.key u.untold.answering changed.input
           changed.number u.untold.are (changed.changed t.texts t.given))
-      by false (inr (inl lacking)) = inr (lacks_lines os t.texts u.all indexes lines u.untold.key keys u.untold.key_is why u.untold.answering
-          lacking.input lacking.number u.untold.are lacking.wanted lacking.why_is (lacking.lacks t.texts t.given))
+      by false (inr (inl lacking)) = inr (lacks_lines os t.texts u.all indexes lines u.untold.key keys u.untold.key_is at why u.untold.answering
+          lacking.input lacking.number u.untold.are lacking.wanted lacking.at_is lacking.why_is (lacking.lacks t.texts t.given))
       by false (inr (inr unread)) = inl (untold_table inputs u.untold.answering unread)
 
   pub asked_by_device : (lines slices : Bool) (os : List Operations) → AreOwnIndexes inputs archives os
-      → AreRefusedAsking lines slices keys inputs archives at why → IsDeviceFault why ⊎ IsForLines lines os keys why
+      → AreRefusedAsking lines slices frames inputs archives at why → IsDeviceFault why ⊎ IsForLines lines os keys at why
   asked_by_device lines slices os are (inl first) = inl (first_by_device keys inputs archives os at why are first)
   asked_by_device lines slices os are (inr (inl unread)) = inl (later_by_device (unread.key ∷ []) inputs archives os at why are unread.refused)
   asked_by_device lines slices os are (inr (inr untold)) = untold_by_device lines slices os (own_given inputs archives os are) untold

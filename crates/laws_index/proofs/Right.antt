@@ -218,25 +218,40 @@ module _ (os : List Operations) (texts : List (List ℕ)) (indexes : List (List 
 
     -- ---- where there are no lines
 
-    pub lineless : (prefix : List ℕ) (answering : List EntryAt) (input number : ℕ)
-        → AreAnsweringAmong prefix indexes answering → IsLinelessAt texts answering input number → (slice : List ℕ)
-        × AnswersUnder os prefix slice × HasNoLines slice
-    lineless prefix answering input number are lacking =
+    -- the entry is that of a slice that answers and has none
+    pub record IsLinelessOf (prefix : List ℕ) (x : EntryAt) : Type 0 where
+      pub slice : List ℕ
+      pub of : IsOfSlice os texts indexes x slice
+      pub answers : AnswersUnder os prefix slice
+      pub lacks : HasNoLines slice
+
+    pub lineless_of : (prefix : List ℕ) (answering : List EntryAt) (input number : ℕ)
+        → AreAnsweringAmong prefix indexes answering → (lacking : IsLinelessAt texts answering input number)
+        → IsLinelessOf prefix (record { input = input; number = number; entry = lacking.entry })
+    lineless_of prefix answering input number are lacking =
         let x : EntryAt = record { input = input; number = number; entry = lacking.entry } in
         let answers : answers_among prefix (all_of indexes) x.entry
         ≡ true = All-contains (λ y. answers_among prefix (all_of indexes) y.entry ≡ true) answering x are.each
         lacking.answers in
         let s = slice_of_entry os texts indexes all x (All-contains (IsAmong indexes) answering x are.among lacking.answers) (tagged prefix x answers) in
         let same : s.1.of.text ≡ lacking.text = cc (s.1.of.file.text_at, lacking.text_is) in
-        let is : IsSliceOf lacking.text s.0 x.entry = subst (λ (t : List ℕ). IsSliceOf t s.0 x.entry) same s.1.is.is in (
-          s.0,
-          record {
+        let is : IsSliceOf lacking.text s.0 x.entry = subst (λ (t : List ℕ). IsSliceOf t s.0 x.entry) same s.1.is.is in
+        record {
+          slice = s.0;
+          of = s.1;
+          answers = record {
             is_held = is_held os texts indexes x s.0 s.1;
             answers = λ key is_key is. answers_if os texts indexes all key is_key x s.0 s.1
                 (subst (λ (f : List ℕ). answers_among f (all_of indexes) x.entry ≡ true) (sym is) answers);
-          },
-          lacking.lacks.of_slice s.0 is.table is.bytes is.is_table (may_be lacking.text is.table (claim_in x.entry) is.stored),
-        )
+          };
+          lacks = lacking.lacks.of_slice s.0 is.table is.bytes is.is_table (may_be lacking.text is.table (claim_in x.entry) is.stored);
+        }
+
+    pub lineless : (prefix : List ℕ) (answering : List EntryAt) (input number : ℕ)
+        → AreAnsweringAmong prefix indexes answering → IsLinelessAt texts answering input number → (slice : List ℕ)
+        × AnswersUnder os prefix slice × HasNoLines slice
+    lineless prefix answering input number are lacking =
+        let of = lineless_of prefix answering input number are lacking in (of.slice, of.answers, of.lacks)
 
     module _ (key : SliceKey) (is_key : IsKey key) where
       abbrev every : List (List ℕ)

@@ -1,17 +1,21 @@
 -- Archives that are asked by the indexes of contents.
-use Rattle.std.specs.Prelude.{◌≡◌, ◌⊎◌, ℕ, Bool, List, Contains, true, length, take, drop}
+use Rattle.std.specs.Prelude.{◌≡◌, ◌⊎◌, ℕ, Bool, List, Contains, Some, true, length, slice_get, take, drop}
 use Rattle.std.specs.List.{AllZip}
 use Rattle.std.specs.FinSet as set
 use Rattle.sha2.specs.Sha256.{sha256}
 use Rattle.archive_core.specs.Content.{Operations}
 use Rattle.archive_core.specs.Key.{IsKey}
 use Rattle.archive_core.specs.Record.{admission_record}
+use Rattle.archive_core.specs.Summary.{entry}
 use Rattle.archive_core.specs.Valid.{IsValid, key_of}
 use Rattle.archive_records.specs.Text.{written}
 use Rattle.command_common.specs.Inputs.{Reader, IsGiven}
+use Rattle.command_common.specs.declared.faults.InputName.{InputName}
+use Rattle.command_common.specs.declared.faults.InputName.TheVariants.{Index}
 use Rattle.command_common.specs.declared.faults.Why.{Why}
 use Rattle.command_common.specs.declared.faults.Why.TheVariants.{NoLines}
 use Rattle.table_source_frames.specs.SliceTable.{HasNoLines}
+use Rattle.index_format.specs.Text.{IsIndexText}
 use Rattle.laws_index.specs.Indexes.{AnswersUnder, IsIndexFile}
 use Rattle.command_index_queries.specs.Together.{AllThree}
 
@@ -49,13 +53,30 @@ IsIndexed index archive o = IsIndexGiven index o
 abbrev pub AreIndexed : {I P : Type 0} → List (Reader I) → List (Reader P) → List Operations → Type 0
 AreIndexed indexes archives os = AllThree IsIndexed indexes archives os
 
--- Lines are wanted, and an input is refused for the table of a slice that answers under one of these keys and has none.
-pub record IsForLines (lines : Bool) (os : List Operations) (keys : List (List ℕ)) (why : Why) : Type 0 where
+-- In an index of a content the entry of this number is that of a slice.
+pub record IsNumberOf (o : Operations) (slice : List ℕ) (number : ℕ) : Type 0 where
+  pub text : List ℕ
+  pub file : IsIndexFile o text
+  pub entries : List (List ℕ)
+  pub read : IsIndexText text entries
+  pub e : List ℕ
+  pub entry_at : slice_get entries number ≡ Some e
+  pub entry_is : take 57 e ≡ entry (admission_record slice)
+
+-- Lines are wanted, and an index is refused at the entry of a slice that answers under one of these keys and has none:
+-- it is the entry of this number in the index of the content that has the slice.
+pub record IsForLines (lines : Bool) (os : List Operations) (keys : List (List ℕ)) (at : InputName) (why : Why)
+    : Type 0 where
   pub wanted : lines ≡ true
+  pub input : ℕ
   pub number : ℕ
+  pub at_is : at ≡ Index input
   pub why_is : why ≡ NoLines number
   pub key : List ℕ
   pub key_is : Contains keys key
   pub slice : List ℕ
   pub answers : AnswersUnder os key slice
   pub lacks : HasNoLines slice
+  pub o : Operations
+  pub there : slice_get os input ≡ Some o
+  pub is_number : IsNumberOf o slice number

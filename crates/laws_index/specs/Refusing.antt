@@ -21,7 +21,7 @@ use Rattle.laws_index.specs.Indexes.{AreTiedSlices, all_joined}
 
 -- The key is refused since lines are wanted, and a slice that answers under it has none.
 abbrev pub IsRefusedForLines : Bool → List Operations → KeyRefusal → Type 0
-IsRefusedForLines lines os refusal = IsForLines lines os (key_bytes refusal.key ∷ []) refusal.why
+IsRefusedForLines lines os refusal = IsForLines lines os (key_bytes refusal.key ∷ []) refusal.at refusal.why
 
 -- the archives are the texts of these contents
 abbrev pub AreOwnTexts : {P : Type 0} → List (Reader P) → List Operations → Type 0

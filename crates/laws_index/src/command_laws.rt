@@ -37,7 +37,7 @@ ghost use Rattle.command_index_queries.specs.Rows.{AreIndexRows};
 ghost use Rattle.command_index_queries.specs.Several.{AreRefusedTogether, HoldTogether};
 ghost use Rattle.command_index_queries.specs.Summary.{summary_at};
 ghost use Rattle.command_index_queries.specs.Together.{AreReadWith};
-ghost use Rattle.command_frames.specs.Asking.{AreRefusedAsking, AreUntold, IsAnsweredBySlices};
+ghost use Rattle.command_frames.specs.Asking.{AreRefusedAsking, AreUntold, IsAnsweredBySlices, keys_of};
 ghost use Rattle.command_frames.specs.Frames.{AreToldAt, symbolicate_at};
 ghost use Rattle.command_frames.specs.Refusals.{IsKeyRefused, KeyRefusal};
 ghost use Rattle.command_extract.specs.Indexed.{LacksEntry, MakesEntry, extract_at};
@@ -208,16 +208,18 @@ pub fn undecided_by_indexes<I: Placed, P: Placed>()
         → TellsUndecided (all_joined os) key digest told }
 {}
 
-/// By the indexes of contents a table is refused for a device alone, or if lines are wanted for a slice that answers
-/// and has none, whatever bytes the archives have. By the indexes of these very archives all that is refused is so, and
+/// By the indexes of contents a table is refused for a device alone, or if lines are wanted at the entry of a slice that
+/// answers under a key of the frames and has none, whatever bytes the archives have. By the indexes of these very archives all that is refused is so, and
 /// a key that is refused alone is so for such a slice.
 pub fn undamaged_by_indexes<I: Placed, P: Placed>()
-    ensures tables { (lines slices : Bool) (keys : List (List ℕ)) (inputs : List (Reader I))
+    ensures tables { (lines slices : Bool) (frames : List Frame) (inputs : List (Reader I))
         (archives : List (Reader P)) (os : List Operations) (at : InputName) (why : Why) → AreIndexesGiven inputs os
-        → AreUntold lines slices keys inputs archives at why → IsDeviceFault why ⊎ IsForLines lines os keys why }
-    ensures asked { (lines slices : Bool) (keys : List (List ℕ)) (inputs : List (Reader I)) (archives : List (Reader P))
+        → AreUntold lines slices frames inputs archives at why
+        → IsDeviceFault why ⊎ IsForLines lines os (keys_of frames) at why }
+    ensures asked { (lines slices : Bool) (frames : List Frame) (inputs : List (Reader I)) (archives : List (Reader P))
         (os : List Operations) (at : InputName) (why : Why) → AreOwnIndexes inputs archives os
-        → AreRefusedAsking lines slices keys inputs archives at why → IsDeviceFault why ⊎ IsForLines lines os keys why }
+        → AreRefusedAsking lines slices frames inputs archives at why
+        → IsDeviceFault why ⊎ IsForLines lines os (keys_of frames) at why }
     ensures key { (lines : Bool) (inputs : List (Reader I)) (archives : List (Reader P)) (os : List Operations)
         (all : List (List (List ℕ))) (refusal : KeyRefusal) → AreOwnIndexes inputs archives os
         → AreReadWith inputs archives all → IsKeyRefused lines inputs archives all refusal

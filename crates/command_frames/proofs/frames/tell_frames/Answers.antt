@@ -1,14 +1,10 @@
-use Rattle.std.proofs.Common.{◌∙◌, ap, length, map, subst, sym, inl}
+use Rattle.std.proofs.Common.{◌∙◌, ap, length, subst, sym, inl}
 use Rattle.std.proofs.lemmas.Result.{err_from_is_err_and}
-use Rattle.archive_core.specs.Key.{key_bytes}
 use Rattle.command_common.specs.Inputs.{readers}
 use Rattle.command_common.proofs.Parts.{refusal_of}
 use Rattle.command_index_queries.proofs.Groups.{as_many}
-use Rattle.command_frames.specs.Frames.{keys_of}
 use Rattle.command_frames.specs.InnerPlaces.{AreKeysOf}
-use Rattle.command_frames.specs.declared.places.AskedKey.{AskedKey}
 use Rattle.command_frames.proofs.Ended.{frames_refused, frames_told, unfailed_all}
-use Rattle.command_frames.proofs.Runs.{among_frames}
 use Rattle.command_frames.proofs.Shown.{even_told}
 use Rattle.command_frames.proofs.frames.tell_frames.Goals as goal
 
@@ -43,9 +39,8 @@ returns-in_err-told g c =
     rw (p.1, p.2) (frames_refused g.I.Placed.whole g.I.Placed.failures g.P.Placed.whole g.P.Placed.failures
     c.args.indexes.now c.read_indexes.new.indexes c.tell_keys.new.indexes c.args.archives.now c.read_indexes.new.archives
     c.tell_keys.new.archives c.deref.result.now c.tell_keys.auto.indexes c.tell_keys.auto.archives read
-    c.in_ok-read.ensures.kept c.args.lines c.args.slices
-    (map (λ (one : AskedKey). key_bytes one.key) c.deref-2.result.now) (keys_of c.args.frames.now)
-    (among_frames c.args.frames.now c.deref-2.result.now of) c.in_err-told.field-0.0 c.in_err-told.ensures)
+    c.in_ok-read.ensures.kept c.args.lines c.args.slices c.args.frames.now c.deref-2.result.now of
+    c.in_err-told.field-0.0 c.in_err-told.ensures)
 
 pub print_frames-requires-clause-asked : goal.print_frames-requires-clause-asked
 print_frames-requires-clause-asked g c =

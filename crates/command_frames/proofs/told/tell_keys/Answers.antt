@@ -2,10 +2,10 @@ use Rattle.std.proofs.Common.{◌≡◌, ◌+◌, ◌++◌, ◌<◌, ℕ, List, 
 use Rattle.std.specs.List.{All, Contains}
 use Rattle.std.proofs.lemmas.List.{map-append, take_all, take_more}
 use Rattle.std.proofs.lemmas.List.Elements.{All-push}
+use Rattle.std.proofs.lemmas.Option.{slice_get_read}
 use Rattle.std.proofs.lemmas.Result.{err_from_is_err_and}
-use Rattle.archive_core.proofs.Members.{to_map}
 use Rattle.archive_core.specs.Key.{key_bytes}
-use Rattle.command_common.specs.Inputs.{readers}
+use Rattle.command_common.proofs.Parts.{refusal_of}
 use Rattle.command_index_queries.proofs.Groups.{kept_none}
 use Rattle.index_lookup.specs.AmongAsked.{HaveTexts}
 use Rattle.command_frames.specs.Asking.{IsAnsweredAt}
@@ -14,7 +14,6 @@ use Rattle.command_frames.specs.declared.places.AskedKey.{AskedKey}
 use Rattle.command_frames.specs.declared.told.KeyAnswers.{KeyAnswers}
 use Rattle.command_frames.proofs.Archives.{kept_then, kept_unfailed}
 use Rattle.command_frames.proofs.Keys.{refused_among, true_first}
-use Rattle.command_frames.proofs.Shown.{only_key}
 use Rattle.command_frames.proofs.told.tell_keys.Goals as goal
 
 pub keys-init : goal.keys-init
@@ -30,14 +29,20 @@ pub returns-in_err-answers : goal.returns-in_err-answers
 returns-in_err-answers g c =
     let p = err_from_is_err_and c.from_residual.result c.from_residual.ensures.1 in
     let one : AskedKey = c.one-item.result in
-    let keys = map (λ (a : AskedKey). key_bytes a.key) c.args.asked.now in
-    let there : Contains keys (key_bytes one.key) =
-    to_map (λ (a : AskedKey). key_bytes a.key) c.args.asked.now one (c.keys.one-index, c.keys-test.true, sym c.one-item.is) in
-    rw (p.1, p.2) (refused_among g.I.Placed.whole g.I.Placed.failures g.P.Placed.whole g.P.Placed.failures c.args.lines
+    let inv = c.keys.invariant in
+    let refused = refused_among g.I.Placed.whole g.I.Placed.failures g.P.Placed.whole g.P.Placed.failures c.args.lines
     c.args.slices c.args.read.now c.args.indexes.now c.keys.indexes c.args.archives.now c.keys.archives
-    c.keys.invariant.texts c.keys.invariant.counts c.keys.invariant.kept c.tell_key.new.indexes c.tell_key.new.archives
-    (key_bytes one.key ∷ []) keys c.in_err-answers.field-0.0 c.tell_key.auto.archives
-    (λ other is. subst (Contains keys) (only_key (key_bytes one.key) other is) there) c.in_err-answers.ensures)
+    inv.texts inv.counts inv.kept c.tell_key.new.indexes c.tell_key.new.archives
+    (key_bytes one.key ∷ []) (key_bytes one.key ∷ []) c.in_err-answers.field-0.0 c.tell_key.auto.archives
+    (λ other is. is) c.in_err-answers.ensures in
+    rw (p.1, p.2) (refusal_of _ _ _ _ c.in_err-answers.field-0.0 (λ at why under. record {
+      number = c.keys.one-index;
+      one = one;
+      one_is = slice_get_read c.args.asked.now (length c.args.asked.now) c.keys.one-index one refl c.keys-test.true c.one-item.is;
+      told = c.keys.told.items;
+      before = record { asked_is = inv.asked_is; are_true = inv.are_true };
+      refused = under;
+    }) (λ unfailed. unfailed) refused)
 
 -- one key more
 all_more : (P Q : KeyAnswers → Type 0) → ((k : KeyAnswers) → Q k → P k) → (told next : List KeyAnswers) (one : KeyAnswers)
