@@ -1,5 +1,5 @@
 -- A device during a call, and how a call changes its count of failures.
-use Rattle.std.specs.Prelude.{◌≡◌, ℕ, ◌+◌, ◌-◌, ◌^◌, ◌<◌, min, MatchResult, Result, List, Option}
+use Rattle.std.specs.Prelude.{◌≡◌, ℕ, ◌+◌, ◌-◌, ◌^◌, ◌<◌, ◌≤◌, min, MatchResult, Result, List, Option}
 
 -- the greatest count of failures
 abbrev pub most_failures : ℕ
@@ -25,3 +25,14 @@ pub record Stream (D : Type 0) : Type 0 where
 -- the device between these two states
 abbrev pub stream : {D : Type 0} → (D → Option (List ℕ)) → (D → ℕ) → D → D → Stream D
 stream bytes failures old new = record { bytes = bytes; failures = failures; old = old; new = new }
+
+-- A read within so many bytes from this place on failed, of a device that had its bytes, and had not failed, until then.
+pub record FailsWithin {D : Type 0} (whole : D → Option (List ℕ)) (failures : D → ℕ) (unread : D → D → ℕ → Type 0)
+    (old new : D) (start count : ℕ) : Type 0 where
+  pub mid : D
+  pub keeps : whole mid ≡ whole old
+  pub unfailed : failures mid ≡ failures old
+  pub place : ℕ
+  pub from : start ≤ place
+  pub below : place < start + count
+  pub fails : unread mid new place

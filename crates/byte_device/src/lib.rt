@@ -10,7 +10,7 @@
 //! - `disks`: why a file cannot be opened or created.
 #![tactic(auto)]
 
-ghost use Rattle.std.specs.Prelude.{◌≡◌, ℕ, List, Option, IfOk, ◌<◌, ◌≤◌, length};
+ghost use Rattle.std.specs.Prelude.{◌≡◌, ℕ, List, Option, IfOk, OnErr, ◌<◌, ◌≤◌, length};
 ghost use Rattle.std.specs.Io.KnownBytes.{ReadConsumes, WriteAppends};
 ghost use Rattle.byte_device.specs.Devices.{CountsFailure};
 ghost use Rattle.byte_device.specs.Places.{TakenAt, HasSize};
@@ -89,17 +89,26 @@ pub trait Placed {
     // How often a call failed.
     ghost failures: { Self → ℕ };
 
+    // Between the two a read from this place on failed. Where nothing more is known of a device, only such a read shows
+    // it.
+    ghost unread: { Self → Self → ℕ → Type 0 };
+
+    // Between the two the device failed when it was asked how many bytes there are.
+    ghost unmeasured: { Self → Self → Type 0 };
+
     /// Takes bytes from the place on into the first bytes of `buf` and says how many: at least one where `buf` is not
     /// empty, and 0 only at or past the end.
     fn take_at(&mut self, at: u64, buf: &mut [u8]) -> Result<usize, Failed>
         ensures bound { IfOk result (λ n. n ≤ length buf.new) }
         ensures bytes { IfOk result (λ n. TakenAt (whole self.old) at n buf.new) }
         ensures keeps { whole self.new ≡ whole self.old }
-        ensures count { CountsFailure (failures self.old) (failures self.new) result };
+        ensures count { CountsFailure (failures self.old) (failures self.new) result }
+        ensures unread { OnErr result (unread self.old self.new at) };
 
     /// How many bytes there are.
     fn size(&mut self) -> Result<u64, Failed>
         ensures size { IfOk result (λ size. HasSize (whole self.old) size) }
         ensures keeps { whole self.new ≡ whole self.old }
-        ensures count { CountsFailure (failures self.old) (failures self.new) result };
+        ensures count { CountsFailure (failures self.old) (failures self.new) result }
+        ensures unmeasured { OnErr result (unmeasured self.old self.new) };
 }

@@ -1,6 +1,7 @@
 //! A device for tests: it gives a part at a time, and fails where a test wants it.
 
-ghost use Rattle.std.specs.Prelude.{◌≡◌, ◌<◌, ◌≤◌, ◌+◌, ◌-◌, ◌⊎◌, ◌↔◌, Some, IfOk, IsErr, length, min, MatchResult};
+ghost use Rattle.std.specs.Prelude.{◌≡◌, ◌<◌, ◌≤◌, ◌+◌, ◌-◌, ◌⊎◌, ◌↔◌, Some, IfOk, IsErr, OnErr, length, min};
+ghost use Rattle.std.specs.Prelude.{MatchResult};
 ghost use Rattle.byte_device.specs.Devices.{CountsFailure, most_failures};
 ghost use Rattle.byte_device.specs.Places.{HasSize, TakenAt};
 
@@ -37,17 +38,23 @@ impl<'a> PlacedPieces<'a> {
 }
 
 impl<'a> Placed for PlacedPieces<'a> {
+    ghost use Rattle.byte_device.specs.Devices.{FailedIn};
     ghost use Rattle.byte_device.specs.Limits.{placed_piece_size, placed_pieces_limit};
 
     ghost whole = { λ s. Some s.bytes.now };
 
     ghost failures = { λ s. s.failures };
 
+    ghost unread = { λ old new _. FailedIn old.failures new.failures };
+
+    ghost unmeasured = { λ old new. FailedIn old.failures new.failures };
+
     fn take_at(&mut self, at: u64, buf: &mut [u8]) -> Result<usize, Failed>
         ensures bound { IfOk result (λ n. n ≤ length buf.new) }
         ensures bytes { IfOk result (λ n. TakenAt (Some self.old.bytes.now) at n buf.new) }
         ensures keeps { Some self.new.bytes.now ≡ Some self.old.bytes.now }
         ensures count { CountsFailure self.old.failures self.new.failures result }
+        ensures unread { OnErr result (FailedIn self.old.failures self.new.failures) }
 
         // It fails exactly where its limit is reached, or its count of failures is at its greatest.
         ensures fails { IsErr result ↔ ((placed_pieces_limit self.old ≡ 0) ⊎ (self.old.failures ≡ most_failures)) }
@@ -79,6 +86,7 @@ impl<'a> Placed for PlacedPieces<'a> {
         ensures size { IfOk result (λ size. HasSize (Some self.old.bytes.now) size) }
         ensures keeps { Some self.new.bytes.now ≡ Some self.old.bytes.now }
         ensures count { CountsFailure self.old.failures self.new.failures result }
+        ensures unmeasured { OnErr result (FailedIn self.old.failures self.new.failures) }
 
         // It fails exactly where `take_at` does.
         ensures fails { IsErr result ↔ ((placed_pieces_limit self.old ≡ 0) ⊎ (self.old.failures ≡ most_failures)) }

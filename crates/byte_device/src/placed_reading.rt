@@ -1,7 +1,7 @@
 //! So many bytes that are read from a place.
 
 ghost use Rattle.std.specs.Prelude.{◌≡◌, ◌+◌, ◌^◌, ◌<◌, ◌≤◌, length, take, Err, IfOk, MatchOption, OnOk};
-ghost use Rattle.byte_device.specs.Devices.{FailedIn};
+ghost use Rattle.byte_device.specs.Devices.{FailedIn, FailsWithin};
 ghost use Rattle.byte_device.specs.Places.{EndsBefore, Stands};
 
 use crate::{Failed, PIECE_LEN, Placed, ReadFault, make_room};
@@ -22,6 +22,8 @@ pub fn read_at<P: Placed>(
     ensures keeps { P.whole device.new ≡ P.whole device.old }
     ensures unfailed { OnOk result (P.failures device.new ≡ P.failures device.old) }
     ensures device { result ≡ Err ReadFault.Device → FailedIn (P.failures device.old) (P.failures device.new) }
+    ensures unread { result ≡ Err ReadFault.Device
+        → FailsWithin P.whole P.failures P.unread device.old device.new at count }
     ensures memory { result ≡ Err ReadFault.OutOfMemory → P.failures device.new ≡ P.failures device.old }
 {
     let mut bytes = Vec::new(heap);

@@ -61,10 +61,15 @@ impl<R: Read + Seek + Drop> Placing<R> {
 
 impl<R: Read + Seek + Drop> Placed for Placing<R> {
     ghost use Rattle.std.specs.Prelude.{None};
+    ghost use Rattle.byte_device.specs.Devices.{FailedIn};
 
     ghost whole = { λ _. None };
 
     ghost failures = { λ s. s.failures };
+
+    ghost unread = { λ old new _. FailedIn old.failures new.failures };
+
+    ghost unmeasured = { λ old new. FailedIn old.failures new.failures };
 
     fn take_at(&mut self, at: u64, buf: &mut [u8]) -> Result<usize, Failed> {
         if self.failures == u64::MAX {

@@ -257,6 +257,10 @@ impl<'l, D: Disk> Placed for LazyInput<'l, D> {
 
     ghost failures = { λ s. s.failures };
 
+    ghost unread = { λ old new _. FailedIn old.failures new.failures };
+
+    ghost unmeasured = { λ old new. FailedIn old.failures new.failures };
+
     fn take_at(&mut self, at: u64, buf: &mut [u8]) -> Result<usize, Failed> {
         if self.failures == u64::MAX {
             return Err(Failed);

@@ -51,11 +51,15 @@ impl<R: Read + Seek + Drop> PlacedFile<R> {
 }
 
 impl<R: Read + Seek + Drop> Placed for PlacedFile<R> {
-    ghost use Rattle.byte_device.specs.Devices.{CountsFailure};
+    ghost use Rattle.byte_device.specs.Devices.{CountsFailure, FailedIn};
 
     ghost whole = { λ file. ⟦<Placing<R> as Placed>⟧.whole file.placing };
 
     ghost failures = { λ file. ⟦<Placing<R> as Placed>⟧.failures file.placing };
+
+    ghost unread = { λ old new at. ⟦<Placing<R> as Placed>⟧.unread old.placing new.placing at };
+
+    ghost unmeasured = { λ old new. FailedIn old.placing.failures new.placing.failures };
 
     fn take_at(&mut self, at: u64, buf: &mut [u8]) -> Result<usize, Failed>
         ensures bound { IfOk result (λ n. n ≤ length buf.new) }
@@ -65,6 +69,7 @@ impl<R: Read + Seek + Drop> Placed for PlacedFile<R> {
             ≡ ⟦<Placing<R> as Placed>⟧.whole self.old.placing }
         ensures count { CountsFailure (⟦<Placing<R> as Placed>⟧.failures self.old.placing)
             (⟦<Placing<R> as Placed>⟧.failures self.new.placing) result }
+        ensures unread { OnErr result (⟦<Placing<R> as Placed>⟧.unread self.old.placing self.new.placing at) }
         ensures leading { IfOk result
             (λ n. self.new.leading_bytes ≡ kept self.old.leading_bytes at (take n buf.new)) }
         ensures refused { OnErr result (self.new.leading_bytes ≡ self.old.leading_bytes) }

@@ -12,9 +12,14 @@ use Rattle.command_common.specs.Archives.{merged}
 use Rattle.command_common.specs.Inputs.{Reader, reader, readers, EachUnfailed, IsRefusal, ReadsInputs, Unfailed}
 use Rattle.command_common.specs.declared.faults.CommandFault.{CommandFault}
 use Rattle.command_common.specs.declared.faults.CommandFault.TheVariants.{Input, OutOfMemory}
+use Rattle.command_common.specs.declared.faults.InputName.{InputName}
+use Rattle.command_common.specs.declared.faults.InputName.TheVariants.{Archive as ArchivePlace}
+use Rattle.command_common.specs.declared.faults.Why.{Why}
+use Rattle.command_common.specs.declared.faults.Why.TheVariants.{Record}
 use Rattle.command_common.proofs.Readers.{all_take, readers_long, rest_kept, set_one, unfailed_more, untouched_behind}
 use Rattle.index_format.specs.Text.{placed_of}
-use Rattle.command_index_queries.specs.Prefixes.{HoldsNamed}
+use Rattle.byte_device.specs.Devices.{FailsWithin}
+use Rattle.command_index_queries.specs.Prefixes.{FailsAt, FailsFor, HoldsNamed, TellsPlace}
 use Rattle.command_index_queries.specs.Indexes.{IsRefusedByIndex}
 use Rattle.command_index_queries.specs.InnerParts.{HaveJoinedGroups, IsNamedIn}
 use Rattle.command_index_queries.specs.Several.{AreRefusedLater, AreRefusedTogether, AreUnfailedTogether, HoldTogether}
@@ -231,6 +236,39 @@ module _ {P : Type 0} (whole : P → Option (List ℕ)) (failures : P → ℕ) (
   }
   one_refused o mid OutOfMemory h r = unfailed_more whole failures before seen place archive later lt long is each r
   one_refused o mid fault h r = absurd r
+
+-- the place of one of them is that among all
+pub place_in_all : {P : Type 0} (whole : P → Option (List ℕ)) (failures : P → ℕ) (unread : P → P → ℕ → Type 0)
+    (unmeasured : P → P → Type 0) (prefixes : List (List ℕ)) (all : List (List (List ℕ))) (before seen : List P) (place : ℕ)
+    (archive later : P) (entries : List (List ℕ)) → place < length before → length seen ≡ length before
+    → archive ≡ get_or before place archive → place < length all → entries ≡ get_or all place entries → (fault : CommandFault)
+    → TellsPlace (λ named offset. (named ≡ place) × FailsFor (unmeasured archive later)
+    (FailsWithin whole failures unread archive later) prefixes (placed_of entries) offset) fault
+    → TellsPlace (FailsAt whole failures unread unmeasured prefixes before (set seen place later) all) fault
+place_in_all whole failures unread unmeasured prefixes all before seen place archive later entries lt long is few entries_are (Input at why) h =
+    by at why h
+  where
+    there : (number offset : ℕ) → number ≡ place → FailsFor (unmeasured archive later) (FailsWithin whole failures unread archive later)
+        prefixes (placed_of entries) offset
+        → FailsAt whole failures unread unmeasured prefixes before (set seen place later) all number offset
+    there number offset same fails = subst (λ (n : ℕ). FailsAt whole failures unread unmeasured prefixes before (set seen place later) all n offset)
+        (sym same) (record {
+          old = archive;
+          new = later;
+          entries = entries;
+          old_is = slice_get_read before (length before) place archive refl lt is;
+          new_is = slice_get-get_or (set seen place later) place later (omega (arith, lt, long, length-set seen place later))
+              ∙ ap Some (get_or-set_same seen place later later (omega (arith, lt, long)));
+          entries_are = slice_get_read all (length all) place entries refl few entries_are;
+          fails = fails;
+        })
+
+    by : (name : InputName) (reason : Why) → TellsPlace (λ named offset. (named ≡ place) × FailsFor (unmeasured archive later)
+        (FailsWithin whole failures unread archive later) prefixes (placed_of entries) offset) (Input name reason)
+        → TellsPlace (FailsAt whole failures unread unmeasured prefixes before (set seen place later) all) (Input name reason)
+    by (ArchivePlace number) (Record fault) h = there number fault.offset h.0 h.1
+    by name reason h = tt
+place_in_all whole failures unread unmeasured prefixes all before seen place archive later entries lt long is few entries_are fault h = tt
 
 -- ---- all of them
 

@@ -10,7 +10,7 @@ use Rattle.std.proofs.lemmas.Option.{IfSome_then}
 use Rattle.archive_core.specs.Content.{Operations, IsMade, content_of, joined, with_record, with_records}
 use Rattle.archive_core.proofs.Taken.{made_taken, taken_are_joined}
 use Rattle.archive_core.specs.Summary.{Entries}
-use Rattle.index_format.specs.Places.{BlamesPlaced, HasIndexedLength, IsNamedBy, IsReadUnder, IsStale, entries_under}
+use Rattle.index_format.specs.Places.{BlamesPlaced, FailsUnder, HasIndexedLength, IsNamedBy, IsStale, entries_under}
 use Rattle.index_format.specs.declared.fault.PlaceFault.{PlaceFault}
 use Rattle.index_format.specs.declared.fault.PlaceFault.TheVariants.{Stale, Device, OutOfMemory}
 use Rattle.command_common.specs.Archives.{merged}
@@ -20,7 +20,7 @@ use Rattle.index_format.specs.Gathering.{AreGatheredUnder, IsEntryFault}
 use Rattle.index_format.proofs.Gathered.{along_both, known}
 use Rattle.command_index_queries.specs.declared.prefixes.KeyPrefix.{KeyPrefix}
 use Rattle.index_format.specs.Text.{placed_of}
-use Rattle.command_index_queries.specs.Prefixes.{AreNamedUnder, IsReadFor, IsReadUnderOne, prefix_bytes}
+use Rattle.command_index_queries.specs.Prefixes.{AreNamedUnder, FailsFor, FailsUnderOne, IsReadFor, TellsPlace, prefix_bytes}
 use Rattle.command_index_queries.specs.InnerParts.{HasJoinedNamed, HaveGathered, IsFaultAmong, IsFaultUnder, IsNamedIn, told_fault}
 use Rattle.command_index_queries.specs.Together.{IsRefusedAtPlaces}
 
@@ -72,9 +72,19 @@ module _ (whole now : Option (List ℕ)) (prefixes : List KeyPrefix) (i : ℕ) (
             ∙ flat_map_more (λ (records : List (List ℕ)). records) old before.groups one.records;
       }
 
-  -- a record under it is read
-  pub read_at_prefix : (n : ℕ) → IsReadUnder (prefix_bytes prefix) entries n → IsReadUnderOne (map prefix_bytes prefixes) entries n
-  read_at_prefix n h = (i, omega (arith, lt, length-map prefixes prefix_bytes), subst (λ (f : List ℕ). IsReadUnder f entries n) at h)
+  -- a read of a record under it fails
+  pub fails_at_prefix : (Fails More : ℕ → ℕ → Type 0) (n : ℕ) → ((start count : ℕ) → Fails start count → More start count)
+      → FailsUnder Fails (prefix_bytes prefix) entries n → FailsUnderOne More (map prefix_bytes prefixes) entries n
+  fails_at_prefix Fails More n more h =
+      let f : FailsUnder More (prefix_bytes prefix) entries n = record {
+        number = h.number;
+        within = h.within;
+        passing = h.passing;
+        admits = h.admits;
+        offset_is = h.offset_is;
+        fails = more n _ h.fails;
+      } in
+      (i, omega (arith, lt, length-map prefixes prefix_bytes), subst (λ (b : List ℕ). FailsUnder More b entries n) at f)
 
   -- a fault at a prefix
   pub fault_at : (old mid : List (List ℕ)) (fault : PlaceFault)
@@ -146,12 +156,22 @@ module _ {S : Type 0} (whole : S → Option (List ℕ)) (failures : S → ℕ) (
         (λ text l a. (l, a)) long h.named;
   })
 
+  -- where it failed it was read
+  read_for : (IsUnmeasured : Type 0) (Fails : ℕ → ℕ → Type 0) (es : Entries) (n : ℕ) → FailsFor IsUnmeasured Fails prefixes es n
+      → IsReadFor prefixes es n
+  read_for IsUnmeasured Fails es n (inl h) = inl h.0
+  read_for IsUnmeasured Fails es n (inr (i, lt, f)) = inr (
+    i,
+    lt,
+    record { number = f.number; within = f.within; passing = f.passing; admits = f.admits; offset_is = f.offset_is },
+  )
+
   -- what is told where this fault came of it
-  pub told_refused : (number : ℕ) (fault : PlaceFault)
+  pub told_refused : (IsUnmeasured : Type 0) (Fails : ℕ → ℕ → Type 0) (number : ℕ) (fault : PlaceFault)
       → IfSome (whole source) (λ text. IsFaultUnder prefixes entries text fault)
-      → BlamesPlaced (IsReadFor prefixes entries) failures source after fault
+      → BlamesPlaced (FailsFor IsUnmeasured Fails prefixes entries) failures source after fault
       → IsRefusal (IsRefusedAtPlaces prefixes number archive tables) (Unfailed archive) (told_fault number fault)
-  told_refused number (Stale entry) h b = inr (
+  told_refused IsUnmeasured Fails number (Stale entry) h b = inr (
     refl,
     b,
     (
@@ -161,5 +181,33 @@ module _ {S : Type 0} (whole : S → Option (List ℕ)) (failures : S → ℕ) (
           placed h,
     ),
   )
-  told_refused number (Device offset) h b = inl (refl, (refl, subst (λ (e : Entries). IsReadFor prefixes e offset) placed b.1, b.0))
-  told_refused number OutOfMemory h b = b
+  told_refused IsUnmeasured Fails number (Device offset) h b = inl (
+    refl,
+    (refl, subst (λ (e : Entries). IsReadFor prefixes e offset) placed (read_for IsUnmeasured Fails entries offset b.1), b.0),
+  )
+  told_refused IsUnmeasured Fails number OutOfMemory h b = b
+
+-- a read that failed, from an earlier state
+pub fails_as_one : (Fails More : ℕ → ℕ → Type 0) (prefixes : List (List ℕ)) (entries : Entries) (n : ℕ)
+    → ((start count : ℕ) → Fails start count → More start count) → FailsUnderOne Fails prefixes entries n
+    → FailsUnderOne More prefixes entries n
+fails_as_one Fails More prefixes entries n more (i, lt, f) = (
+  i,
+  lt,
+  record {
+    number = f.number;
+    within = f.within;
+    passing = f.passing;
+    admits = f.admits;
+    offset_is = f.offset_is;
+    fails = more n _ f.fails;
+  },
+)
+
+-- it says the place
+pub told_place : {P : Type 0} (failures : P → ℕ) (old new : P) (IsThere : ℕ → Type 0) (number : ℕ) (fault : PlaceFault)
+    → BlamesPlaced IsThere failures old new fault
+    → TellsPlace (λ named offset. (named ≡ number) × IsThere offset) (told_fault number fault)
+told_place failures old new IsThere number (Stale entry) b = tt
+told_place failures old new IsThere number (Device offset) b = (refl, b.1)
+told_place failures old new IsThere number OutOfMemory b = tt

@@ -1,11 +1,17 @@
 -- The records that an index names under several prefixes of keys.
-use Rattle.std.specs.Prelude.{◌≡◌, ◌<◌, ◌⊎◌, ℕ, List, [], Option, Some, None, length, take, slice_index_or}
+use Rattle.std.specs.Prelude.{◌≡◌, ◌<◌, ◌⊎◌, ℕ, List, [], Option, Some, None, length, take, slice_get, slice_index_or}
 use Rattle.std.specs.List.{AllZip}
 use Rattle.archive_core.specs.Content.{Operations}
 use Rattle.archive_core.specs.Key.{key_bytes}
 use Rattle.archive_core.specs.Summary.{Entries}
-use Rattle.index_format.specs.Places.{AreNamed, HasIndexedLength, IsReadUnder, IsStale}
+use Rattle.byte_device.specs.Devices.{FailsWithin}
+use Rattle.index_format.specs.Places.{AreNamed, FailsUnder, HasIndexedLength, IsReadUnder, IsStale}
+use Rattle.index_format.specs.Text.{placed_of}
 use Rattle.command_common.specs.Inputs.{Reader, Gives}
+use Rattle.command_common.specs.declared.faults.CommandFault.{CommandFault}
+use Rattle.command_common.specs.declared.faults.CommandFault.TheVariants.{Input}
+use Rattle.command_common.specs.declared.faults.InputName.TheVariants.{Archive}
+use Rattle.command_common.specs.declared.faults.Why.TheVariants.{Record}
 use Rattle.command_index_queries.specs.declared.prefixes.KeyPrefix.{KeyPrefix}
 use Rattle.command_index_queries.specs.declared.prefixes.KeyPrefix.TheVariants.{Uuid, Key}
 
@@ -50,3 +56,33 @@ HoldsNamed prefixes archive entries parts =
 -- the index is not of this archive, as far as these prefixes tell
 abbrev pub IsStaleFor : {S : Type 0} → List (List ℕ) → Reader S → Entries → Option ℕ → Type 0
 IsStaleFor prefixes archive entries entry = Gives archive (λ text. IsStaleUnder prefixes entries text entry)
+
+-- ---- which read failed
+
+-- of the record of an entry under one of these prefixes, which begins at this offset, a read failed
+abbrev pub FailsUnderOne : (ℕ → ℕ → Type 0) → List (List ℕ) → Entries → ℕ → Type 0
+FailsUnderOne Fails prefixes entries offset =
+    (number : ℕ) × (number < length prefixes) × FailsUnder Fails (slice_index_or prefixes number []) entries offset
+
+-- where the device of an archive failed that was read by its index: asked for its length, at 0, or in such a record
+abbrev pub FailsFor : Type 0 → (ℕ → ℕ → Type 0) → List (List ℕ) → Entries → ℕ → Type 0
+FailsFor IsUnmeasured Fails prefixes entries offset =
+    ((offset ≡ 0) × IsUnmeasured) ⊎ FailsUnderOne Fails prefixes entries offset
+
+-- The device of the archive of this number failed so between the two.
+pub record FailsAt {P : Type 0} (whole : P → Option (List ℕ)) (failures : P → ℕ) (unread : P → P → ℕ → Type 0)
+    (unmeasured : P → P → Type 0) (prefixes : List (List ℕ)) (olds news : List P) (all : List (List (List ℕ)))
+    (number offset : ℕ) : Type 0 where
+  pub old : P
+  pub new : P
+  pub entries : List (List ℕ)
+  pub old_is : slice_get olds number ≡ Some old
+  pub new_is : slice_get news number ≡ Some new
+  pub entries_are : slice_get all number ≡ Some entries
+  pub fails : FailsFor (unmeasured old new) (FailsWithin whole failures unread old new) prefixes (placed_of entries)
+      offset
+
+-- a refusal of the device of an archive says the number of the archive and the offset of what was read
+abbrev pub TellsPlace : (ℕ → ℕ → Type 0) → CommandFault → Type 0
+TellsPlace IsThere (Input (Archive number) (Record fault)) = IsThere number fault.offset
+TellsPlace IsThere _ = Unit {0}

@@ -1,15 +1,16 @@
 //! What an index names in its archive, read and joined.
 
-ghost use Rattle.std.specs.Prelude.{◌≡◌, IfSome, OnOk, map};
+ghost use Rattle.std.specs.Prelude.{◌≡◌, IfErr, IfSome, OnOk, map};
 ghost use Rattle.std.specs.FinSet as set;
 ghost use Rattle.archive_core.specs.Content.{content_of, joined};
 ghost use Rattle.archive_core.specs.Record.{record_bytes};
+ghost use Rattle.byte_device.specs.Devices.{FailsWithin};
 ghost use Rattle.byte_device.specs.Places.{HasSize};
-ghost use Rattle.index_format.specs.Places.{HasIndexedLength, IsReadUnder};
+ghost use Rattle.index_format.specs.Places.{FailsUnder, HasIndexedLength};
 ghost use Rattle.index_format.specs.Text.{placed_of};
 ghost use Rattle.command_common.specs.Inputs.{ReadsInput, reader};
 ghost use Rattle.index_format.specs.Gathering.{AreGatheredUnder, IsEntryFault, ReadsPlaces};
-ghost use Rattle.command_index_queries.specs.Prefixes.{IsReadFor, IsReadUnderOne, prefix_bytes};
+ghost use Rattle.command_index_queries.specs.Prefixes.{FailsFor, FailsUnderOne, TellsPlace, prefix_bytes};
 ghost use Rattle.command_index_queries.specs.InnerParts.{HasJoinedNamed, HaveGathered, IsFaultAmong, IsFaultUnder};
 ghost use Rattle.command_index_queries.specs.InnerParts.{IsNamedIn};
 ghost use Rattle.command_index_queries.specs.InnerParts.{told_fault};
@@ -37,7 +38,8 @@ fn gather_prefix<P: Placed>(
         (λ _. AreGatheredUnder (P.whole device.old) (prefix_bytes prefix.now) (placed_of index.now)
         (map record_bytes gathered.old.items) (map record_bytes gathered.new.items))
         (IsEntryFault (prefix_bytes prefix.now) (placed_of index.now))
-        (IsReadUnder (prefix_bytes prefix.now) (placed_of index.now)) }
+        (FailsUnder (FailsWithin P.whole P.failures P.unread device.old device.new) (prefix_bytes prefix.now)
+        (placed_of index.now)) }
 {
     match prefix {
         KeyPrefix::Uuid(uuid) => {
@@ -61,7 +63,8 @@ fn gather_prefixes<P: Placed>(
         (λ _. HaveGathered (P.whole device.old) (map prefix_bytes prefixes.now) (placed_of index.now)
         (map record_bytes gathered.old.items) (map record_bytes gathered.new.items))
         (IsFaultAmong (map prefix_bytes prefixes.now) (placed_of index.now))
-        (IsReadUnderOne (map prefix_bytes prefixes.now) (placed_of index.now)) }
+        (FailsUnderOne (FailsWithin P.whole P.failures P.unread device.old device.new) (map prefix_bytes prefixes.now)
+        (placed_of index.now)) }
 {
     'prefixes: for prefix in prefixes {
         gather_prefix(heap, gathered, prefix, index, device, size)?;
@@ -95,7 +98,9 @@ fn join_prefixes<A: Archive + Drop, P: Placed>(
         (λ _. IfSome (P.whole device.old) (HasIndexedLength (placed_of index.now)) × HasJoinedNamed (P.whole device.old)
         (map prefix_bytes prefixes.now) (placed_of index.now) (A.content kept.old) (A.content kept.new))
         (IsFaultUnder (map prefix_bytes prefixes.now) (placed_of index.now))
-        (IsReadFor (map prefix_bytes prefixes.now) (placed_of index.now)) }
+        (FailsFor (P.unmeasured device.old device.new)
+        (FailsWithin P.whole P.failures P.unread device.old device.new) (map prefix_bytes prefixes.now)
+        (placed_of index.now)) }
 {
     let _held = kept.len();
     let size = indexed_size(index, device)?;
@@ -134,6 +139,10 @@ pub(crate) fn join_archive<A: Archive + Drop, P: Placed>(
         ReadsInput (reader P.whole P.failures archive.old archive.new) result
         (λ archive _. IsNamedIn archive sought (placed_of tables.now) (A.content kept.old) (A.content kept.new))
         (λ archive. IsRefusedAtPlaces sought number archive tables.now) }
+    ensures place { IfErr result (TellsPlace (λ named offset. (named ≡ number)
+        × FailsFor (P.unmeasured archive.old archive.new)
+        (FailsWithin P.whole P.failures P.unread archive.old archive.new) (map prefix_bytes prefixes.now)
+        (placed_of tables.now) offset)) }
     ensures kept { P.whole archive.new ≡ P.whole archive.old }
 {
     match join_prefixes(heap, kept, prefixes, tables, archive) {

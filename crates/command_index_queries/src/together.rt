@@ -1,8 +1,8 @@
 //! Archives that are asked together by their indexes.
 
-ghost use Rattle.std.specs.Prelude.{◌≡◌, OnOk, length, map};
+ghost use Rattle.std.specs.Prelude.{◌≡◌, IfErr, OnOk, length, map};
 ghost use Rattle.command_common.specs.Inputs.{EachUnfailed, ReadsInputs, readers};
-ghost use Rattle.command_index_queries.specs.Prefixes.{prefix_bytes};
+ghost use Rattle.command_index_queries.specs.Prefixes.{FailsAt, TellsPlace, prefix_bytes};
 ghost use Rattle.command_index_queries.specs.InnerParts.{HaveJoinedGroups};
 ghost use Rattle.command_index_queries.specs.Several.{AreRefusedTogether, AreUnfailedTogether, HoldTogether};
 ghost use Rattle.command_index_queries.specs.Together.{AreAllKept, AreReadWith, HoldNamed, IsFirstRefusedAtPlaces};
@@ -64,6 +64,8 @@ fn join_archives<A: Archive + Drop, P: Placed>(
         ReadsInputs result
         (λ _. HaveJoinedGroups sought known read.now (A.content kept.old) (A.content kept.new))
         (IsFirstRefusedAtPlaces sought known read.now) (EachUnfailed known) }
+    ensures place { IfErr result (TellsPlace (FailsAt P.whole P.failures P.unread P.unmeasured
+        (map prefix_bytes prefixes.now) archives.old archives.new read.now)) }
     ensures kept { HaveSameBytes P.whole archives.old archives.new }
 {
     'archives: for number in 0..read.len() {
@@ -97,6 +99,8 @@ pub fn read_prefixes<A: Archive + Drop, P: Placed>(
         let known = readers P.whole P.failures archives.old archives.new in
         ReadsInputs result (λ kept. HoldNamed sought known read.now (A.content kept))
         (IsFirstRefusedAtPlaces sought known read.now) (EachUnfailed known) }
+    ensures place { IfErr result (TellsPlace (FailsAt P.whole P.failures P.unread P.unmeasured
+        (map prefix_bytes prefixes.now) archives.old archives.new read.now)) }
     ensures kept { HaveSameBytes P.whole archives.old archives.new }
 {
     let mut kept = A::empty(heap.share());

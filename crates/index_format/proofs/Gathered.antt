@@ -12,16 +12,16 @@ use Rattle.archive_core.proofs.Made.{and_right}
 use Rattle.archive_core.specs.Record.{record_bytes}
 use Rattle.archive_core.specs.declared.operations.Operation.{Operation}
 use Rattle.archive_core.proofs.Taken.{IsUnderWay}
-use Rattle.index_format.specs.Entry.{IsPlacedEntry, offset_in}
+use Rattle.index_format.specs.Entry.{IsPlacedEntry, length_in, offset_in}
 use Rattle.index_format.specs.Index.{AreIndexed}
-use Rattle.index_format.specs.Places.{BlamesPlaced, IsNamedBy, IsReadAmong}
-use Rattle.byte_device.specs.Devices.{FailedIn}
+use Rattle.index_format.specs.Places.{BlamesPlaced, FailsAmong, IsNamedBy}
+use Rattle.byte_device.specs.Devices.{FailedIn, FailsWithin}
 use Rattle.index_format.specs.declared.fault.PlaceFault.{PlaceFault}
 use Rattle.index_format.specs.declared.fault.PlaceFault.TheVariants.{Stale, Device, OutOfMemory}
 use Rattle.archive_core.specs.Summary.{Entries}
 use Rattle.archive_records.proofs.Puts.{length_written}
 use Rattle.join_core.specs.Listing.{listing}
-use Rattle.index_format.specs.InnerGathering.{AreGathered, IsGathered, IsReadOf, IsStaleAmong, IsUnnamed}
+use Rattle.index_format.specs.InnerGathering.{AreGathered, FailsOf, IsGathered, IsStaleAmong, IsUnnamed}
 use Rattle.index_format.specs.Gathering.{AreGatheredUnder, IsEntryFault, ReadsPlaces}
 use Rattle.index_format.specs.Runs.{is_tagged}
 use Rattle.index_format.proofs.RunLemmas.{past}
@@ -95,26 +95,30 @@ partner R p (x ∷ xs) ys (suc n) (suc j) zip below lt passes =
         → (y : List ℕ) × R (get_or xs j []) y
     by rest b zs z = grind arith
 
--- the record of an entry that passes is read
-pub read_at : (p : List ℕ → Bool) (entries : List (List ℕ)) (k : ℕ) (x : List ℕ) (n : ℕ) → k < length entries → x
-    ≡ get_or entries k [] → p x ≡ true → IsReadOf x n → IsReadAmong p entries n
-read_at p entries k x n lt is passes h = record {
+-- a read fails of the record of an entry that passes
+pub fails_at : (Fails More : ℕ → ℕ → Type 0) (p : List ℕ → Bool) (entries : List (List ℕ)) (k : ℕ) (x : List ℕ) (n : ℕ)
+    → k < length entries → x ≡ get_or entries k [] → p x ≡ true → ((start count : ℕ) → Fails start count → More start count)
+    → FailsOf Fails x n → FailsAmong More p entries n
+fails_at Fails More p entries k x n lt is passes more h = record {
   number = k;
   within = lt;
   passing = ap p (sym is) ∙ passes;
   admits = ap is_admission (sym is) ∙ h.0;
   offset_is = h.1 ∙ ap offset_in is;
+  fails = subst (λ (e : List ℕ). More n (length_in e)) is (more n (length_in x) h.2);
 }
 
 -- one that has a tag besides is under the prefix
-pub read_tagged : (tag : ℕ) (prefix : List ℕ) (entries : List (List ℕ)) (n : ℕ)
-    → IsReadAmong (is_tagged tag prefix) entries n → IsReadAmong (is_under prefix) entries n
-read_tagged tag prefix entries n h = record {
+pub fails_tagged : (Fails More : ℕ → ℕ → Type 0) (tag : ℕ) (prefix : List ℕ) (entries : List (List ℕ)) (n : ℕ)
+    → ((start count : ℕ) → Fails start count → More start count)
+    → FailsAmong Fails (is_tagged tag prefix) entries n → FailsAmong More (is_under prefix) entries n
+fails_tagged Fails More tag prefix entries n more h = record {
   number = h.number;
   within = h.within;
   passing = and_right _ _ h.passing;
   admits = h.admits;
   offset_is = h.offset_is;
+  fails = more n _ h.fails;
 }
 
 -- where no record is that an entry names, and each before it that passes names one
@@ -238,6 +242,19 @@ module _ (whole : Option (List ℕ)) (prefix : List ℕ) (entries : List (List �
 
 module _ {P : Type 0} (whole : P → Option (List ℕ)) (failures : P → ℕ) (old mid new : P) (keeps : whole mid ≡ whole old)
     (same : failures mid ≡ failures old) where
+  -- a read that failed
+  pub fails_behind : (unread : P → P → ℕ → Type 0) (start count : ℕ) → FailsWithin whole failures unread mid new start count
+      → FailsWithin whole failures unread old new start count
+  fails_behind unread start count h = record {
+    mid = h.mid;
+    keeps = h.keeps ∙ keeps;
+    unfailed = h.unfailed ∙ same;
+    place = h.place;
+    from = h.from;
+    below = h.below;
+    fails = h.fails;
+  }
+
   -- what a fault says of the device
   pub blamed_behind : (M N : ℕ → Type 0) (fault : PlaceFault) → ((n : ℕ) → M n → N n)
       → BlamesPlaced M failures mid new fault → BlamesPlaced N failures old new fault

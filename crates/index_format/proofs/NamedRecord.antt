@@ -19,7 +19,7 @@ use Rattle.index_format.specs.declared.entry.IndexEntry.{IndexEntry}
 use Rattle.index_format.specs.Entry.{IsPlacedEntry, length_in, offset_in, placed_bytes, placed_entry, tag_byte, dsym_byte}
 use Rattle.index_format.specs.Places.{IsNamedBy}
 use Rattle.index_format.specs.declared.fault.PlaceFault.TheVariants.{Stale}
-use Rattle.index_format.specs.InnerGathering.{IsReadOf, IsUnnamed}
+use Rattle.index_format.specs.InnerGathering.{FailsOf, IsUnnamed}
 use Rattle.index_format.proofs.Entries.{length_of_bytes, offset_of_bytes}
 use Rattle.index_format.proofs.Placed.{length_is, offset_is, tag_is}
 
@@ -58,8 +58,13 @@ admission_at text e r is offset_fits length_fits other n =
     ]
 
 -- the record of an admission is read where it stands
-pub read_of : (e : IndexEntry) → IsPlacedEntry (placed_bytes e) → e.offset < 2 ^ 64 → e.row.state ≢ Retired → IsReadOf (placed_bytes e) e.offset
-read_of e is fits other = (ap (λ (n : ℕ). eqb n 2) (first_byte e ∙ tag_two e.row.state other), sym (offset_of_bytes e is.long fits))
+pub read_of : (Fails : ℕ → ℕ → Type 0) (e : IndexEntry) → IsPlacedEntry (placed_bytes e) → e.offset < 2 ^ 64 → e.length < 2 ^ 64
+    → e.row.state ≢ Retired → Fails e.offset e.length → FailsOf Fails (placed_bytes e) e.offset
+read_of Fails e is offset_fits length_fits other fails = (
+  ap (λ (n : ℕ). eqb n 2) (first_byte e ∙ tag_two e.row.state other),
+  sym (offset_of_bytes e is.long offset_fits),
+  subst (Fails e.offset) (sym (length_of_bytes e is.long length_fits)) fails,
+)
 
 -- none where fewer bytes stand
 pub none_short : (whole : Option (List ℕ)) (number : ℕ) (e : IndexEntry) → IsPlacedEntry (placed_bytes e)

@@ -6,7 +6,7 @@ use Rattle.std.specs.List.{AllZip}
 use Rattle.index_format.specs.declared.fault.PlaceFault.{PlaceFault}
 use Rattle.index_format.specs.declared.fault.PlaceFault.TheVariants.{Stale, Device, OutOfMemory}
 use Rattle.archive_core.specs.Content.{is_admission}
-use Rattle.index_format.specs.Entry.{offset_in}
+use Rattle.index_format.specs.Entry.{length_in, offset_in}
 use Rattle.index_format.specs.Places.{IsNamedBy}
 
 -- the record that this entry names stands after what was gathered
@@ -23,9 +23,10 @@ pub record AreGathered (whole : Option (List ℕ)) (passes : List ℕ → Bool) 
   pub named : IfSome whole (λ text. AllZip (IsNamedBy text) (filter passes (take n entries)) records)
   pub behind : new ≡ old ++ records
 
--- the entry is that of an admission, whose record begins at this offset
-abbrev pub IsReadOf : List ℕ → ℕ → Type 0
-IsReadOf entry offset = (is_admission entry ≡ true) × (offset ≡ offset_in entry)
+-- the entry is that of an admission, whose record begins at this offset, and of its bytes a read failed
+abbrev pub FailsOf : (ℕ → ℕ → Type 0) → List ℕ → ℕ → Type 0
+FailsOf Fails entry offset =
+    (is_admission entry ≡ true) × (offset ≡ offset_in entry) × Fails offset (length_in entry)
 
 -- the entry with this number names no record of the text
 abbrev pub IsUnnamed : ℕ → List ℕ → List ℕ → PlaceFault → Type 0

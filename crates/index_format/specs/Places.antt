@@ -10,7 +10,7 @@ use Rattle.archive_core.specs.Content.{Operations, is_admission, content_of}
 use Rattle.archive_core.specs.Part.{is_under}
 use Rattle.archive_core.specs.Summary.{Entries}
 use Rattle.byte_device.specs.Devices.{FailedIn}
-use Rattle.index_format.specs.Entry.{offset_in, placed_entry}
+use Rattle.index_format.specs.Entry.{length_in, offset_in, placed_entry}
 use Rattle.index_format.specs.Index.{lengths_of}
 use Rattle.index_format.specs.declared.fault.PlaceFault.{PlaceFault}
 use Rattle.index_format.specs.declared.fault.PlaceFault.TheVariants.{Stale, Device, OutOfMemory}
@@ -69,6 +69,21 @@ pub record IsReadAmong (passes : List ℕ → Bool) (es : List (List ℕ)) (offs
 -- the record of an admission whose entry is under the front begins at this offset
 abbrev pub IsReadUnder : List ℕ → Entries → ℕ → Type 0
 IsReadUnder front entries offset = IsReadAmong (is_under front) (listing entries) offset
+
+-- One of these entries that pass is that of an admission, whose record begins at this offset, and of its bytes, so many
+-- from there on, a read failed.
+pub record FailsAmong (Fails : ℕ → ℕ → Type 0) (passes : List ℕ → Bool) (es : List (List ℕ)) (offset : ℕ)
+    : Type 0 where
+  pub number : ℕ
+  pub within : number < length es
+  pub passing : passes (slice_index_or es number []) ≡ true
+  pub admits : is_admission (slice_index_or es number []) ≡ true
+  pub offset_is : offset ≡ offset_in (slice_index_or es number [])
+  pub fails : Fails offset (length_in (slice_index_or es number []))
+
+-- the same of the entries under the front
+abbrev pub FailsUnder : (ℕ → ℕ → Type 0) → List ℕ → Entries → ℕ → Type 0
+FailsUnder Fails front entries offset = FailsAmong Fails (is_under front) (listing entries) offset
 
 -- what a fault says of the device: it failed where something is read at such an offset, or it did not
 abbrev pub BlamesPlaced : {P : Type 0} → (ℕ → Type 0) → (P → ℕ) → P → P → PlaceFault → Type 0

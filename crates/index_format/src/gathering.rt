@@ -3,11 +3,12 @@
 ghost use Rattle.std.specs.Prelude.{◌≤◌, length, map};
 ghost use Rattle.archive_core.specs.Part.{is_under};
 ghost use Rattle.archive_core.specs.Record.{record_bytes};
+ghost use Rattle.byte_device.specs.Devices.{FailsWithin};
 ghost use Rattle.byte_device.specs.Places.{HasSize};
 ghost use Rattle.index_format.specs.Entry.{IsPlacedEntry, placed_bytes};
 ghost use Rattle.index_format.specs.Index.{AreIndexed};
-ghost use Rattle.index_format.specs.Places.{IsReadAmong, IsReadUnder};
-ghost use Rattle.index_format.specs.InnerGathering.{AreGathered, IsGathered, IsReadOf, IsStaleAmong, IsUnnamed};
+ghost use Rattle.index_format.specs.Places.{FailsAmong, FailsUnder};
+ghost use Rattle.index_format.specs.InnerGathering.{AreGathered, FailsOf, IsGathered, IsStaleAmong, IsUnnamed};
 ghost use Rattle.index_format.specs.Runs.{is_tagged};
 ghost use Rattle.index_format.specs.Gathering.{AreGatheredUnder, IsEntryFault, ReadsPlaces};
 ghost use Rattle.index_format.specs.Text.{placed_of};
@@ -34,7 +35,7 @@ fn gather_entry<P: Placed>(
     ensures { ReadsPlaces P.whole P.failures archive.old archive.new result
         (λ _. IsGathered (P.whole archive.old) (placed_bytes entry.now) (map record_bytes gathered.old.items)
         (map record_bytes gathered.new.items)) (IsUnnamed number (placed_bytes entry.now))
-        (IsReadOf (placed_bytes entry.now)) }
+        (FailsOf (FailsWithin P.whole P.failures P.unread archive.old archive.new) (placed_bytes entry.now)) }
 {
     let operation = operation_at(heap, archive, size, number, entry)?;
     let Ok(()) = gathered.push(operation) else {
@@ -60,7 +61,8 @@ fn gather_run<P: Placed>(
         (λ _. AreGathered (P.whole archive.old) (is_tagged tag prefix.now) (map placed_bytes entries.now)
         (length entries.now) (map record_bytes gathered.old.items) (map record_bytes gathered.new.items))
         (IsStaleAmong (is_tagged tag prefix.now) (map placed_bytes entries.now))
-        (IsReadAmong (is_tagged tag prefix.now) (map placed_bytes entries.now)) }
+        (FailsAmong (FailsWithin P.whole P.failures P.unread archive.old archive.new) (is_tagged tag prefix.now)
+        (map placed_bytes entries.now)) }
 {
     let (start, stop) = run_under(entries, tag, prefix);
     let run = &entries[start..stop];
@@ -87,7 +89,8 @@ fn gather_under<P: Placed>(
         (λ _. AreGathered (P.whole archive.old) (is_under prefix.now) (map placed_bytes entries.now)
         (length entries.now) (map record_bytes gathered.old.items) (map record_bytes gathered.new.items))
         (IsStaleAmong (is_under prefix.now) (map placed_bytes entries.now))
-        (IsReadAmong (is_under prefix.now) (map placed_bytes entries.now)) }
+        (FailsAmong (FailsWithin P.whole P.failures P.unread archive.old archive.new) (is_under prefix.now)
+        (map placed_bytes entries.now)) }
 {
     gather_run(heap, gathered, RETIREMENT, prefix, entries, archive, size)?;
     gather_run(heap, gathered, ADMISSION, prefix, entries, archive, size)
@@ -115,7 +118,8 @@ pub fn gather_at<P: Placed>(
         (λ _. AreGatheredUnder (P.whole archive.old) prefix.now (placed_of index.now)
         (map record_bytes gathered.old.items)
         (map record_bytes gathered.new.items)) (IsEntryFault prefix.now (placed_of index.now))
-        (IsReadUnder prefix.now (placed_of index.now)) }
+        (FailsUnder (FailsWithin P.whole P.failures P.unread archive.old archive.new) prefix.now
+        (placed_of index.now)) }
 {
     gather_under(heap, gathered, prefix, index.entries(), archive, size)
 }

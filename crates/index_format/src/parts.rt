@@ -40,7 +40,7 @@ pub fn indexed_size<P: Placed>(index: &Index, archive: &mut P) -> Result<u64, Pl
     ensures { ReadsPlaces P.whole P.failures archive.old archive.new result
         (λ size. HasSize (P.whole archive.old) size
         × IfSome (P.whole archive.old) (HasIndexedLength (placed_of index.now)))
-        (IsLengthFault (placed_of index.now)) (λ offset. offset ≡ 0) }
+        (IsLengthFault (placed_of index.now)) (λ offset. (offset ≡ 0) × P.unmeasured archive.old archive.new) }
 {
     let told = index.archive_size();
     let Ok(size) = archive.size() else {

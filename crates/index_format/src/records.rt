@@ -5,11 +5,11 @@ ghost use Rattle.std.specs.Prelude.{slice_index, IfNone, IfOk, IfSome, IsTrue, M
 ghost use Rattle.std.specs.Int.{w64, from_be_bytes};
 ghost use Rattle.archive_core.specs.Record.{Admits, borrowed_bytes, record_bytes};
 ghost use Rattle.archive_core.specs.declared.find.FindState.TheVariants.{Retired};
-ghost use Rattle.byte_device.specs.Devices.{FailedIn};
+ghost use Rattle.byte_device.specs.Devices.{FailedIn, FailsWithin};
 ghost use Rattle.byte_device.specs.Places.{EndsBefore, HasSize, Stands};
 ghost use Rattle.index_format.specs.Entry.{IsPlacedEntry, placed_bytes, placed_entry};
 ghost use Rattle.index_format.specs.Places.{IsNamedBy};
-ghost use Rattle.index_format.specs.InnerGathering.{IsReadOf, IsUnnamed};
+ghost use Rattle.index_format.specs.InnerGathering.{FailsOf, IsUnnamed};
 ghost use Rattle.index_format.specs.Gathering.{ReadsPlaces};
 
 use crate::{IndexEntry, PlaceFault};
@@ -102,6 +102,8 @@ fn bytes_at<P: Placed>(
     ensures keeps { P.whole archive.new ≡ P.whole archive.old }
     ensures unfailed { OnOk result (P.failures archive.new ≡ P.failures archive.old) }
     ensures device { result ≡ Err ReadFault.Device → FailedIn (P.failures archive.old) (P.failures archive.new) }
+    ensures unread { result ≡ Err ReadFault.Device
+        → FailsWithin P.whole P.failures P.unread archive.old archive.new entry.now.offset entry.now.length }
     ensures memory { result ≡ Err ReadFault.OutOfMemory → P.failures archive.new ≡ P.failures archive.old }
 {
     if entry.length > size || entry.offset > size - entry.length {
@@ -148,7 +150,8 @@ pub(crate) fn operation_at<P: Placed>(
     requires entry { IsPlacedEntry (placed_bytes entry.now) }
     ensures { ReadsPlaces P.whole P.failures archive.old archive.new result
         (λ operation. IfSome (P.whole archive.old) (λ text. IsNamedBy text (placed_bytes entry.now)
-        (record_bytes operation))) (IsUnnamed number (placed_bytes entry.now)) (IsReadOf (placed_bytes entry.now)) }
+        (record_bytes operation))) (IsUnnamed number (placed_bytes entry.now))
+        (FailsOf (FailsWithin P.whole P.failures P.unread archive.old archive.new) (placed_bytes entry.now)) }
 {
     let _offset = offset_of(entry);
     let _length = length_of(entry);

@@ -1,12 +1,13 @@
-use Rattle.std.proofs.Common.{◌∙◌, map, refl, arith}
+use Rattle.std.proofs.Common.{◌∙◌, ℕ, map, refl, arith}
 use Rattle.std.proofs.Math.ListN.{length-map}
 use Rattle.std.proofs.lemmas.List.{take_all}
 use Rattle.archive_core.specs.Record.{record_bytes}
 use Rattle.archive_records.proofs.Blamed.{failed}
-use Rattle.index_format.proofs.Gathered.{refused_behind}
-use Rattle.index_format.specs.Places.{IsReadUnder}
-use Rattle.command_index_queries.specs.Prefixes.{IsReadUnderOne, prefix_bytes}
-use Rattle.command_index_queries.proofs.Joined.{fault_at, gathered_more, gathered_none, read_at_prefix}
+use Rattle.byte_device.specs.Devices.{FailsWithin}
+use Rattle.index_format.proofs.Gathered.{fails_behind, refused_behind}
+use Rattle.index_format.specs.Places.{FailsUnder}
+use Rattle.command_index_queries.specs.Prefixes.{FailsUnderOne, prefix_bytes}
+use Rattle.command_index_queries.proofs.Joined.{fails_at_prefix, fault_at, gathered_more, gathered_none}
 use Rattle.index_format.specs.Text.{placed_of}
 use Rattle.command_index_queries.proofs.parts.gather_prefixes.Goals as goal
 
@@ -30,16 +31,20 @@ prefixes-preserved g c =
 pub returns-in_err-gather_prefix : goal.returns-in_err-gather_prefix
 returns-in_err-gather_prefix g c =
     let fault = c.in_err-gather_prefix.field-0.0 in
+    let new = c.gather_prefix.new.device in
+    let Fails : g.row.P.Denot → ℕ → ℕ → Type 0 = λ old. FailsWithin g.P.Placed.whole g.P.Placed.failures g.P.Placed.unread old new in
     rw (failed c.from_residual.result fault c.from_residual.ensures.1)
     (refused_behind g.P.Placed.whole g.P.Placed.failures c.args.device.now c.prefixes.device _ c.prefixes.invariant.keeps c.prefixes.invariant.unfailed
-    (IsReadUnder (prefix_bytes c.prefix-item.result) (placed_of c.args.index.now))
-    (IsReadUnderOne (map prefix_bytes c.args.prefixes.now) (placed_of c.args.index.now)) fault
+    (FailsUnder (Fails c.prefixes.device) (prefix_bytes c.prefix-item.result) (placed_of c.args.index.now))
+    (FailsUnderOne (Fails c.args.device.now) (map prefix_bytes c.args.prefixes.now) (placed_of c.args.index.now)) fault
     (fault_at _ _ c.args.prefixes.now c.prefixes.prefix-index c.prefix-item.result (placed_of c.args.index.now)
     c.prefixes-test.true c.prefix-item.is c.prefixes.invariant.keeps _ (map record_bytes c.prefixes.gathered.items)
     fault c.prefixes.invariant.gathered)
-    (read_at_prefix (g.P.Placed.whole c.args.device.now) (g.P.Placed.whole c.prefixes.device) c.args.prefixes.now
+    (λ n. fails_at_prefix (g.P.Placed.whole c.args.device.now) (g.P.Placed.whole c.prefixes.device) c.args.prefixes.now
     c.prefixes.prefix-index c.prefix-item.result (placed_of c.args.index.now) c.prefixes-test.true c.prefix-item.is
-    c.prefixes.invariant.keeps)
+    c.prefixes.invariant.keeps (Fails c.prefixes.device) (Fails c.args.device.now) n
+    (fails_behind g.P.Placed.whole g.P.Placed.failures c.args.device.now c.prefixes.device new c.prefixes.invariant.keeps
+    c.prefixes.invariant.unfailed g.P.Placed.unread))
     c.in_err-gather_prefix.ensures)
 
 pub returns : goal.returns

@@ -1,7 +1,7 @@
 use Rattle.std.proofs.Common.{map, refl}
 use Rattle.index_format.specs.Text.{placed_of}
 use Rattle.command_index_queries.specs.Prefixes.{prefix_bytes}
-use Rattle.command_index_queries.proofs.Joined.{named_in, told_refused}
+use Rattle.command_index_queries.proofs.Joined.{named_in, told_place, told_refused}
 use Rattle.command_index_queries.proofs.parts.join_archive.Goals as goal
 
 pub returns-in-Ok-clause-read : goal.returns-in-Ok-clause-read
@@ -17,7 +17,12 @@ pub returns-in-Err-clause-read : goal.returns-in-Err-clause-read
 returns-in-Err-clause-read g c =
     rw c.told.ensures
     (told_refused g.P.Placed.whole g.P.Placed.failures c.args.archive.now _ (map prefix_bytes c.args.prefixes.now)
-    (placed_of c.args.tables.now) c.args.tables.now refl _ _ c.in-Err.ensures.0 c.in-Err.ensures.2)
+    (placed_of c.args.tables.now) c.args.tables.now refl _ _ _ _ c.in-Err.ensures.0 c.in-Err.ensures.2)
+
+pub returns-in-Err-clause-place : goal.returns-in-Err-clause-place
+returns-in-Err-clause-place g c =
+    rw c.told.ensures
+    (told_place g.P.Placed.failures c.args.archive.now _ _ c.args.number c.in-Err.fault c.in-Err.ensures.2)
 
 pub returns-in-Ok-clause-kept : goal.returns-in-Ok-clause-kept
 returns-in-Ok-clause-kept g c = c.in-Ok.ensures.1

@@ -5,7 +5,7 @@ use Rattle.command_common.specs.Inputs.{reader, readers}
 use Rattle.command_common.proofs.Readers.{all_read, none_failed, one_more, rest_kept, same_at, unfailed_more}
 use Rattle.command_index_queries.specs.Prefixes.{prefix_bytes}
 use Rattle.command_index_queries.specs.InnerParts.{HaveJoinedGroups}
-use Rattle.command_index_queries.proofs.Groups.{bytes_more, groups_more, groups_none, one_refused}
+use Rattle.command_index_queries.proofs.Groups.{bytes_more, groups_more, groups_none, one_refused, place_in_all}
 use Rattle.command_index_queries.proofs.together.join_archives.Goals as goal
 
 pub archives-init : goal.archives-init
@@ -61,6 +61,24 @@ returns-in_err-join_archive-clause-read g c =
     (one_refused g.P.Placed.whole g.P.Placed.failures (map prefix_bytes c.args.prefixes.now) all before seen number archive _ c.index-read-number.result
     lt c.archives.auto.archives (same_at seen before number archive inv.rest c.index-archives-number.is) inv.rest inv.unfailed few c.index-read-number.is
     _ _ c.in_err-join_archive.field-0.0 inv.joined (rw (← c.index-archives-number.is) at c.in_err-join_archive.ensures.read))
+
+pub returns-in_err-join_archive-clause-place : goal.returns-in_err-join_archive-clause-place
+returns-in_err-join_archive-clause-place g c =
+    let all = c.args.read.now in
+    let before = c.args.archives.now in
+    let seen = c.archives.archives in
+    let number = c.archives.number in
+    let archive = c.index-archives-number.result in
+    let later = c.join_archive.new.archive in
+    let inv = c.archives.invariant in
+    let lt : number < length before = omega arith in
+    let few : number < length all = omega arith in
+    let is = same_at seen before number archive inv.rest c.index-archives-number.is in
+    let p = err_from_is_err_and c.from_residual.result c.from_residual.ensures.1 in
+    rw (p.1, p.2) (place_in_all g.P.Placed.whole g.P.Placed.failures g.P.Placed.unread g.P.Placed.unmeasured
+    (map prefix_bytes c.args.prefixes.now) all before seen number archive later c.index-read-number.result
+    lt c.archives.auto.archives is few c.index-read-number.is c.in_err-join_archive.field-0.0
+    (rw (← c.index-archives-number.is) at c.in_err-join_archive.ensures.place))
 
 pub returns-clause-read : goal.returns-clause-read
 returns-clause-read g c =

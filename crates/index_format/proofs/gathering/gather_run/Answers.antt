@@ -2,13 +2,14 @@ use Rattle.std.proofs.Common.{◌≡◌, ℕ, ◌+◌, List, [], Option, length,
 use Rattle.std.proofs.Math.ListN.{length-map}
 use Rattle.archive_core.specs.Record.{record_bytes}
 use Rattle.archive_records.proofs.Blamed.{failed}
+use Rattle.byte_device.specs.Devices.{FailsWithin}
 use Rattle.index_format.specs.Entry.{IsPlacedEntry, placed_bytes}
 use Rattle.index_format.proofs.Entries.{each_of}
-use Rattle.index_format.specs.Places.{IsReadAmong}
-use Rattle.index_format.specs.InnerGathering.{AreGathered, IsGathered, IsReadOf}
+use Rattle.index_format.specs.Places.{FailsAmong}
+use Rattle.index_format.specs.InnerGathering.{AreGathered, FailsOf, IsGathered}
 use Rattle.index_format.specs.Runs.{is_tagged}
 use Rattle.index_format.proofs.RunLemmas.{length_run}
-use Rattle.index_format.proofs.Gathered.{gathered_more, gathered_none, gathered_rest, read_at, refused_behind, stale_at}
+use Rattle.index_format.proofs.Gathered.{fails_at, fails_behind, gathered_more, gathered_none, gathered_rest, refused_behind, stale_at}
 use Rattle.index_format.proofs.Ordered.{in_run}
 use Rattle.index_format.proofs.gathering.gather_run.Goals as goal
 
@@ -38,15 +39,20 @@ returns-in_err-gather_entry g c =
     let there = in_run entries run.result.0 run.result.1 c.run.index e c.run-test.true c.index-run-index.is in
     let passes = ap (is_tagged c.args.tag c.args.prefix.now) there.3 ∙ run.ensures.placed.inside k [] (omega arith) there.0 in
     let fault = c.in_err-gather_entry.field-0.0 in
+    let new = c.gather_entry.new.archive in
+    let Fails : g.row.P.Denot → ℕ → ℕ → Type 0 = λ old. FailsWithin g.P.Placed.whole g.P.Placed.failures g.P.Placed.unread old new in
     rw (failed c.from_residual.result fault c.from_residual.ensures.1)
     (refused_behind g.P.Placed.whole g.P.Placed.failures c.args.archive.now c.run.archive _ c.run.invariant.keeps c.run.invariant.unfailed
-    (IsReadOf (placed_bytes e)) (IsReadAmong (is_tagged c.args.tag c.args.prefix.now) (map placed_bytes entries)) fault
+    (FailsOf (Fails c.run.archive) (placed_bytes e))
+    (FailsAmong (Fails c.args.archive.now) (is_tagged c.args.tag c.args.prefix.now) (map placed_bytes entries)) fault
     (stale_at (g.P.Placed.whole c.args.archive.now) (g.P.Placed.whole c.run.archive)
     (is_tagged c.args.tag c.args.prefix.now) (map placed_bytes entries) k (placed_bytes e)
     (map record_bytes c.args.gathered.now.items) (map record_bytes c.run.gathered.items) fault
     (omega (arith, length-map entries placed_bytes, there.1)) there.3 passes c.run.invariant.keeps c.run.invariant.gathered)
-    (λ n h. read_at (is_tagged c.args.tag c.args.prefix.now) (map placed_bytes entries) k (placed_bytes e) n
-    (omega (arith, length-map entries placed_bytes, there.1)) there.3 passes h)
+    (λ n h. fails_at (Fails c.run.archive) (Fails c.args.archive.now) (is_tagged c.args.tag c.args.prefix.now)
+    (map placed_bytes entries) k (placed_bytes e) n (omega (arith, length-map entries placed_bytes, there.1)) there.3 passes
+    (fails_behind g.P.Placed.whole g.P.Placed.failures c.args.archive.now c.run.archive new c.run.invariant.keeps
+    c.run.invariant.unfailed g.P.Placed.unread) h)
     c.in_err-gather_entry.ensures)
 
 pub run-preserved : goal.run-preserved

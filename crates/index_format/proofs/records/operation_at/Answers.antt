@@ -1,5 +1,6 @@
 use Rattle.std.proofs.Common.{◌∙◌, Err, sym, ap, subst, refl, arith, length}
 use Rattle.std.proofs.lemmas.Option.{IfSome_then}
+use Rattle.byte_device.specs.Devices.{FailsWithin}
 use Rattle.byte_device.specs.Places.{Stands}
 use Rattle.index_format.specs.Entry.{placed_bytes}
 use Rattle.index_format.specs.Places.{IsNamedBy}
@@ -45,7 +46,8 @@ returns-in-Err-Device g c =
       h.keeps,
       (
         h.device (ap Err c.in-Err-Device.field-0-is),
-        read_of c.args.entry.now c.requires.entry (omega arith)
-            (c.is_retirement.ensures.no c.if-is_retirement.false),
+        read_of (FailsWithin g.P.Placed.whole g.P.Placed.failures g.P.Placed.unread c.args.archive.now c.bytes_at.new.archive)
+            c.args.entry.now c.requires.entry (omega arith) (omega arith)
+            (c.is_retirement.ensures.no c.if-is_retirement.false) (h.unread (ap Err c.in-Err-Device.field-0-is)),
       ),
     )
