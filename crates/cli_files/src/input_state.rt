@@ -253,6 +253,7 @@ impl<'l, D: Disk> Opens for LazyInput<'l, D> {
 }
 
 impl<'l, D: Disk> Placed for LazyInput<'l, D> {
+    ghost use Rattle.byte_device.specs.Devices.{FailedIn};
     ghost whole = { λ s. bytes_at (D.file_at s.disk s.path.now) };
 
     ghost failures = { λ s. s.failures };

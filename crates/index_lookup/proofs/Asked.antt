@@ -1,17 +1,21 @@
 -- What came of asking one entry after another.
-use Rattle.std.proofs.Common.{◌≡◌, ℕ, ◌+◌, ◌<◌, Bool, List, [], ◌∷◌, ◌++◌, length, map, take, set, get_or, slice_get, refl, sym, subst, ap, ◌∙◌, arith}
+use Rattle.std.proofs.Common.{◌≡◌, ℕ, suc, ◌+◌, ◌<◌, Bool, List, [], ◌∷◌, ◌++◌, length, map, take, drop, set, get_or, slice_get, refl, sym, subst, ap, ◌∙◌}
+use Rattle.std.proofs.Common.{arith, inl, inr}
 use Rattle.std.specs.Prelude.{Contains, Option, Some, Result, Ok, Err, MatchResult}
 use Rattle.std.specs.List.{AllZip}
 use Rattle.std.proofs.Math.ListN.{length-map}
+use Rattle.std.proofs.Math.Seq.{split_at}
 use Rattle.std.specs.Option.{option_map}
 use Rattle.std.proofs.lemmas.List.{map-set, set-get_or}
 use Rattle.std.proofs.lemmas.List.Elements.{All-weaker}
 use Rattle.std.proofs.lemmas.Option.{get_or_from_slice_get, same_Some, slice_get-get_or, slice_get-map, slice_get_within}
 use Rattle.std.proofs.lemmas.Slice.Zip.{AllZip-long}
 use Rattle.archive_core.specs.declared.lookup.Where.{Where}
+use Rattle.archive_core.proofs.Members.{in_cons, in_front}
 use Rattle.index_format.specs.Entry.{claim_in}
 use Rattle.index_lookup.specs.Among.{EntryAt}
-use Rattle.index_lookup.specs.AmongAsked.{AreThere, AsksAmong, BlamesAmong, HasText, HaveTexts, IsUntoldAmong, each_known}
+use Rattle.index_lookup.specs.AmongAsked.{AreThere, AsksAmong, BlamesAmong, HasText, HaveTexts, IsFirstAmong, IsUntoldAmong}
+use Rattle.index_lookup.specs.AmongAsked.{TellBefore, each_known}
 use Rattle.index_lookup.specs.InnerAnswering.{AsksOne, BlamesOne, IsColumnOf, IsUntoldOne, entry_at}
 use Rattle.index_lookup.specs.Told.{AreFramesToldBy, IsToldBy}
 use Rattle.index_lookup.specs.Views.{IsColumnAt, frame_lists, told_view}
@@ -137,6 +141,12 @@ asked_at whole failures lines asked answering x devices old new r answers is one
 
 -- ---- one after another
 
+only_one : (x y : EntryAt) → Contains (x ∷ []) y → x ≡ y
+only_one x y there = elim (in_cons x [] y there) [
+  | inl same ↦ same
+  | inr none ↦ absurd (omega (arith, none.1))
+]
+
 module _ {D : Type 0} (whole : D → Option (List ℕ)) (failures : D → ℕ) (lines : Bool) (asked : List Where) (entries : List Numbered) where
   abbrev answering : List EntryAt
   answering = map entry_at entries
@@ -185,6 +195,30 @@ module _ {D : Type 0} (whole : D → Option (List ℕ)) (failures : D → ℕ) (
           keeps = told.keeps ∙ so_far.keeps;
           counts = subst (λ ks. BlamesAmong lines answering ks (each_known failures new) f) so_far.counts told.counts;
         }
+
+    -- it is the first that is not told
+    pub first_untold : (new : List D) (f : AnswerFault) → IsAsked new (Err f) → (texts : List (List ℕ)) → HaveTexts whole old texts
+        → IsFirstAmong texts lines asked answering f
+    first_untold new f all texts have = by f ((all (entry_at n ∷ []) (in_front (entry_at n) [])).says texts (have_texts texts have))
+      where
+        before : (input number : ℕ) (entry : List ℕ) → Contains (entry_at n ∷ []) (record { input = input; number = number; entry = entry })
+            → TellBefore texts lines asked answering input number
+        before input number entry there = record {
+          before = take i answering;
+          entry = entry;
+          after = drop (suc i) answering;
+          order = split_at answering i (entry_at n) (map_within entry_at entries i n lt is)
+              ∙ ap (λ (x : EntryAt). take i answering ++ x ∷ drop (suc i) answering)
+              (sym (read_map entry_at entries i n lt is) ∙ only_one (entry_at n) (record { input = input; number = number; entry = entry }) there);
+          columns = columns;
+          told = so_far.says texts have;
+        }
+
+        by : (g : AnswerFault) → IsUntoldAmong texts (entry_at n ∷ []) g → IsFirstAmong texts lines asked answering g
+        by (Damaged input number) h = before input number h.entry h.answers
+        by (NoLines input number) h = before input number h.entry h.answers
+        by (Device input offset) h = tt
+        by OutOfMemory h = tt
 
     -- no memory is left for what was told
     pub no_memory : {U : Type 0} (new : List D) (column : EntryAnswers) (B : List (List ℕ) → U → Type 0)

@@ -1,5 +1,5 @@
 -- The results of asking entries of several indexes.
-use Rattle.std.specs.Prelude.{◌≡◌, ◌<◌, ◌^◌, ℕ, Bool, true, List, All, Contains, length, map, slice_get, slice_set}
+use Rattle.std.specs.Prelude.{◌≡◌, ◌<◌, ◌^◌, ◌++◌, ◌∷◌, ℕ, Bool, true, List, All, Contains, length, map, slice_get, slice_set}
 use Rattle.std.specs.Prelude.{Option, Some, Result, MatchResult}
 use Rattle.std.specs.List.{AllZip}
 use Rattle.byte_device.specs.Devices.{FailedIn}
@@ -7,7 +7,10 @@ use Rattle.table_checked_pages.specs.Pages.{AreStored}
 use Rattle.table_source_frames.specs.SliceTable.{IsSliceTable}
 use Rattle.index_format.specs.Entry.{claim_in}
 use Rattle.index_lookup.specs.Among.{EntryAt}
+use Rattle.archive_core.specs.declared.lookup.Where.{Where}
 use Rattle.index_lookup.specs.Told.{HasNoLinesBy}
+use Rattle.index_lookup.specs.Views.{IsColumnAt}
+use Rattle.index_lookup.specs.declared.answers.EntryAnswers.{EntryAnswers}
 use Rattle.index_lookup.specs.declared.fault.AnswerFault.{AnswerFault}
 use Rattle.index_lookup.specs.declared.fault.AnswerFault.TheVariants.{Damaged, Device, NoLines, OutOfMemory}
 
@@ -54,6 +57,26 @@ pub record IsAskedAt (answering : List EntryAt) (input offset : ℕ) : Type 0 wh
   pub entry : List ℕ
   pub answers : Contains answering (record { input = input; number = number; entry = entry })
   pub offset_is : offset ≡ (claim_in entry).offset
+
+-- Of entries that answer, those before the one of these numbers tell of each of these places, and if lines are wanted
+-- they have the frames.
+pub record TellBefore (texts : List (List ℕ)) (lines : Bool) (asked : List Where) (answering : List EntryAt)
+    (input number : ℕ) : Type 0 where
+  pub before : List EntryAt
+  pub entry : List ℕ
+  pub after : List EntryAt
+  pub order : answering ≡ before ++ record { input = input; number = number; entry = entry } ∷ after
+  pub columns : List EntryAnswers
+  pub told : AllZip (IsColumnAt texts lines asked) before columns
+
+-- what a fault says of the entries before that at which it is
+abbrev pub IsFirstAmong : List (List ℕ) → Bool → List Where → List EntryAt → AnswerFault → Type 0
+IsFirstAmong texts lines asked answering (Damaged input number) =
+    TellBefore texts lines asked answering input number
+IsFirstAmong texts lines asked answering (NoLines input number) =
+    TellBefore texts lines asked answering input number
+IsFirstAmong texts lines asked answering (Device input offset) = Unit {0}
+IsFirstAmong texts lines asked answering OutOfMemory = Unit {0}
 
 -- what a fault says of the texts
 abbrev pub IsUntoldAmong : List (List ℕ) → List EntryAt → AnswerFault → Type 0

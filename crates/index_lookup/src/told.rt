@@ -1,7 +1,7 @@
 //! What the table of an entry tells of several places, and those of several entries.
 
-ghost use Rattle.std.specs.Prelude.{◌≡◌, ◌<◌, ◌^◌, ℕ, List, Contains, IfOk, IsOk, MatchOption, None, OnOk, Some, map};
-ghost use Rattle.std.specs.Prelude.{length, true};
+ghost use Rattle.std.specs.Prelude.{◌≡◌, ◌<◌, ◌^◌, ℕ, List, Contains, IfErr, IfOk, IsOk, MatchOption, None, OnOk, Some};
+ghost use Rattle.std.specs.Prelude.{length, map, true};
 ghost use Rattle.std.specs.List.{AllZip};
 ghost use Rattle.table_checked_pages.specs.Pages.{AreStored};
 ghost use Rattle.table_checked_pages.specs.Views.{claim_view};
@@ -10,7 +10,7 @@ ghost use Rattle.table_symbols.specs.Opened.{IsOpened, IsOpenedIn};
 ghost use Rattle.table_symbols.specs.Table.{TableParts, table_bytes};
 ghost use Rattle.table_source_frames.specs.SliceTable.{IsSliceTable};
 ghost use Rattle.index_lookup.specs.Among.{EntryAt};
-ghost use Rattle.index_lookup.specs.AmongAsked.{AreThere, AsksAmong, HasNoTable};
+ghost use Rattle.index_lookup.specs.AmongAsked.{AreThere, AsksAmong, HasNoTable, HaveTexts, IsFirstAmong};
 ghost use Rattle.index_lookup.specs.Told.{HasNoLinesBy, IsToldBy};
 ghost use Rattle.index_lookup.specs.Views.{IsColumnAt, told_view};
 ghost use Rattle.index_lookup.specs.InnerAnswering.{AsksOne, IsBaseBy, IsColumnOf, IsOwnOpened, IsTableBy, entry_at};
@@ -158,8 +158,10 @@ fn told_by_each<P: Placed>(
     asked: &[Where],
 ) -> Result<Vec<EntryAnswers, Heap>, AnswerFault>
     requires { AreThere devices.old (map entry_at answering.now) }
-    ensures { AsksAmong P.whole P.failures lines (map entry_at answering.now) devices.old devices.new result
+    ensures asks { AsksAmong P.whole P.failures lines (map entry_at answering.now) devices.old devices.new result
         (λ texts columns. AllZip (IsColumnAt texts lines asked.now) (map entry_at answering.now) columns.items) }
+    ensures first { IfErr result (λ fault. (texts : List (List ℕ)) → HaveTexts P.whole devices.old texts
+        → IsFirstAmong texts lines asked.now (map entry_at answering.now) fault) }
 {
     let mut columns = Vec::new(heap.share());
     'answering: for numbered in answering {
@@ -177,8 +179,8 @@ fn told_by_each<P: Placed>(
 ///
 /// # Errors
 ///
-/// `Damaged` at one of the entries, whose table is not what the entry vouches for; `NoLines` at one whose table has no
-/// lines, if they are wanted. The entries are asked in their order, each for its symbols before its lines.
+/// `Damaged` at the first entry whose table is not what the entry vouches for, or `NoLines` whose table has no lines, if
+/// they are wanted. The entries are asked in their order, each for its symbols before its lines.
 pub fn answer_among<P: Placed>(
     heap: &Heap,
     devices: &mut [P],
@@ -187,8 +189,10 @@ pub fn answer_among<P: Placed>(
     asked: &[Where],
 ) -> Result<Answers, AnswerFault>
     requires { AreThere devices.old answering.now }
-    ensures { AsksAmong P.whole P.failures lines answering.now devices.old devices.new result
+    ensures asks { AsksAmong P.whole P.failures lines answering.now devices.old devices.new result
         (λ texts answers. AllZip (IsColumnAt texts lines asked.now) answering.now answers.columns.items) }
+    ensures first { IfErr result (λ fault. (texts : List (List ℕ)) → HaveTexts P.whole devices.old texts
+        → IsFirstAmong texts lines asked.now answering.now fault) }
 {
     let columns = told_by_each(heap, devices, answering.entries(), lines, asked)?;
     Ok(Answers { columns })

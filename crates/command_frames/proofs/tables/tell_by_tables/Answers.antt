@@ -13,15 +13,15 @@ pub returns-in-Ok : goal.returns-in-Ok
 returns-in-Ok g c =
     let are = rw c.in-Some.is at c.in_ok-answering.ensures in
     let told = told_of g.I.Placed.whole g.I.Placed.failures c.args.key.now c.args.read.now c.in-Some.answering are
-    c.args.indexes.now c.answer_among.new.devices c.args.lines c.args.places.now c.in-Ok.answers c.in-Ok.ensures
+    c.args.indexes.now c.answer_among.new.devices c.args.lines c.args.places.now c.in-Ok.answers c.in-Ok.ensures.asks
     c.each_told.ensures.answer in
     record {
       is = (
         tables_tell (HaveTexts g.I.Placed.whole c.args.indexes.now) c.args.read.now c.args.key.now c.args.lines
             c.args.places.now c.in-Ok.answers c.in_ok-told-in-Ok.told.items told c.in_ok-told-in-Ok.ensures,
-        c.answer_among.ensures.keeps,
+        c.answer_among.ensures.asks.keeps,
       );
-      unfailed = c.in-Ok.ensures.counts;
+      unfailed = c.in-Ok.ensures.asks.counts;
     }
 
 pub returns : goal.returns
@@ -29,4 +29,4 @@ returns g c =
     let are = rw c.in-Some.is at c.in_ok-answering.ensures in
     rw c.told_fault.ensures (fault_told g.I.Placed.whole g.I.Placed.failures c.args.key.now c.args.read.now
     c.in-Some.answering are c.args.indexes.now c.answer_among.new.devices c.args.lines c.args.places.now
-    c.args.slices c.in-Err.fault c.in-Err.ensures)
+    c.args.slices c.in-Err.fault c.in-Err.ensures.asks)

@@ -6,7 +6,7 @@ use Rattle.std.proofs.lemmas.Result.{err_from_is_err_and}
 use Rattle.index_lookup.specs.Among.{EntryAt}
 use Rattle.index_lookup.specs.Views.{IsColumnAt}
 use Rattle.index_lookup.specs.InnerAnswering.{entry_at}
-use Rattle.index_lookup.proofs.Asked.{no_memory, none_more, one_told, there_here}
+use Rattle.index_lookup.proofs.Asked.{first_untold, no_memory, none_more, one_told, there_here}
 use Rattle.index_lookup.proofs.told.told_by_each.Goals as goal
 
 pub answering-preserved : goal.answering-preserved
@@ -22,8 +22,8 @@ told_at-requires g c =
     c.answering.numbered-index c.numbered-item.result c.answering-test.true c.numbered-item.is _ _ _
     c.answering.invariant c.requires
 
-pub returns-in_err-column : goal.returns-in_err-column
-returns-in_err-column g c =
+pub returns-in_err-column-clause-asks : goal.returns-in_err-column-clause-asks
+returns-in_err-column-clause-asks g c =
     let p = err_from_is_err_and c.from_residual.result c.from_residual.ensures.1 in
     rw (p.1, p.2)
     (none_more g.P.Placed.whole g.P.Placed.failures c.args.lines c.args.asked.now c.args.answering.now
@@ -31,15 +31,24 @@ returns-in_err-column g c =
     c.answering.invariant
     c.told_at.new.devices c.in_err-column.field-0.0 _ c.in_err-column.ensures)
 
-pub returns-in-Err : goal.returns-in-Err
-returns-in-Err g c =
+pub returns-in_err-column-clause-first : goal.returns-in_err-column-clause-first
+returns-in_err-column-clause-first g c =
+    let p = err_from_is_err_and c.from_residual.result c.from_residual.ensures.1 in
+    rw (p.1, p.2)
+    (first_untold g.P.Placed.whole g.P.Placed.failures c.args.lines c.args.asked.now c.args.answering.now
+    c.answering.numbered-index c.numbered-item.result c.answering-test.true c.numbered-item.is _ _ _
+    c.answering.invariant
+    c.told_at.new.devices c.in_err-column.field-0.0 c.in_err-column.ensures)
+
+pub returns-in-Err-clause-asks : goal.returns-in-Err-clause-asks
+returns-in-Err-clause-asks g c =
     no_memory g.P.Placed.whole g.P.Placed.failures c.args.lines c.args.asked.now c.args.answering.now
     c.answering.numbered-index c.numbered-item.result c.answering-test.true c.numbered-item.is _ _ _
     c.answering.invariant
     c.told_at.new.devices c.in_ok-column.column _ c.in_ok-column.ensures
 
-pub returns : goal.returns
-returns g c =
+pub returns-clause-asks : goal.returns-clause-asks
+returns-clause-asks g c =
     let xs = map entry_at c.args.answering.now in
     let told = c.answering.invariant in
     record {
