@@ -17,7 +17,7 @@ ENTRIES_A_BYTE = 4
 MOST_NUMBER = 2**32 - 1
 
 
-class Frame(NamedTuple):
+class SourceFrame(NamedTuple):
     """A frame: the name of its function, the parts of its path, line and column."""
 
     name: Optional[bytes]
@@ -124,16 +124,16 @@ class DebugUnit:
             return None
         return parts_of(names, self.texts, self.texts.of(self.attributes.get("comp_dir")) or b"", file)
 
-    def frames(self, address: int) -> List[Frame]:
+    def frames(self, address: int) -> List[SourceFrame]:
         """The frames of an address, the innermost first."""
         row = None if self.lines is None else row_of(self.lines, address)
         file, line, column = (None, 0, 0) if row is None else (row.file, known(row.line), known(row.column))
         chain = self.chain(address)
         if not chain and row is not None:
-            return [Frame(None, self.parts(file), line, column)]
+            return [SourceFrame(None, self.parts(file), line, column)]
         found = []
         for entry in reversed(chain):
-            found.append(Frame(self.debug.name_of(self, entry.attributes), self.parts(file), line, column))
+            found.append(SourceFrame(self.debug.name_of(self, entry.attributes), self.parts(file), line, column))
             call = entry.attributes
             file = number_of(call.get("call_file"), "constant")
             line, column = (known(number_of(call.get(it), "constant") or 0) for it in ("call_line", "call_column"))
@@ -225,7 +225,7 @@ def debug_of(slice_bytes: bytes) -> Debug:
     return Debug(sections)
 
 
-def frames_of(slice_bytes: bytes, address: int) -> List[Frame]:
+def frames_of(slice_bytes: bytes, address: int) -> List[SourceFrame]:
     """The frames of an address of a slice, the innermost first."""
     unit = debug_of(slice_bytes).unit_of(address)
     return [] if unit is None else unit.frames(address)

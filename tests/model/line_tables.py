@@ -7,7 +7,7 @@ from functools import lru_cache
 from itertools import accumulate, groupby
 from typing import Dict, Hashable, Iterable, List, NamedTuple, Optional, Set, Tuple, TypeVar
 
-from .dwarf_frames import MOST_FRAMES, Debug, DebugUnit, Frame, debug_of
+from .dwarf_frames import MOST_FRAMES, Debug, DebugUnit, SourceFrame, debug_of
 from .dwarf_lines import PathParts, rows_of
 from .dwarf_ranges import aranges_of
 from .pages import MOST_ADDRESSES, Changed, Pages
@@ -17,7 +17,7 @@ NO_LINES = bytes(HEAD)
 T = TypeVar("T", bound=Hashable)
 
 # The frames of an address, the innermost first.
-Chain = Tuple[Frame, ...]
+Chain = Tuple[SourceFrame, ...]
 
 
 # ---- made
@@ -204,15 +204,15 @@ class LineTable:
                 high = middle
         return self.row(">2I", self.first_step, low, self.steps)[1] if low else 0
 
-    def frames(self, address: int) -> List[Frame]:
+    def frames(self, address: int) -> List[SourceFrame]:
         """The frames of an address, the innermost first: of each location and of its callers, whose numbers fall."""
-        frames: List[Frame] = []
+        frames: List[SourceFrame] = []
         number = self.location_for(address)
         while number:
             name, file, line, column, caller = self.row(">5I", self.first_location, number, self.locations)
             if caller >= number or len(frames) == MOST_FRAMES:
                 raise Changed
             parts = self.path(file) if file else None
-            frames.append(Frame(self.text(name) if name else None, parts, line, column))
+            frames.append(SourceFrame(self.text(name) if name else None, parts, line, column))
             number = caller
         return frames

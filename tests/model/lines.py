@@ -5,7 +5,7 @@ import struct
 from typing import List, Optional, Sequence, Set, Tuple
 
 from .contents import RETIREMENT, Content
-from .dwarf_frames import Frame, frames_of
+from .dwarf_frames import SourceFrame, frames_of
 from .images import Image, image_of, sha
 from .line_tables import LineTable
 from .tables import Table
@@ -120,7 +120,7 @@ def table_text(table: Table, address: int, load: Optional[int]) -> str:
     return symbol_text(found.name, max(0, place - found.value), names_text(found.segment, found.section))
 
 
-def frame_line(frame: Frame) -> str:
+def frame_line(frame: SourceFrame) -> str:
     """The line of a frame. A space of the name that could be taken for that before `at ` is escaped."""
     name = "?" if frame.name is None else AT.sub(r"\\x20", escaped(frame.name))
     path = "?" if frame.path is None else escaped(frame.path)

@@ -6,7 +6,7 @@ use Rattle.std.specs.List.Sorted.{IsPermutation}
 use Rattle.std.specs.FinSet as set
 use Rattle.std.specs.FinSet.{union}
 use Rattle.std.proofs.lemmas.List.Sorted.{IsPermutation-map}
-use Rattle.join_core.proofs.Merge.{from_list_permuted, from_list_append}
+use Rattle.join_core.proofs.SortedUnion.{from_list_permuted, from_list_append}
 use Rattle.join_core.specs.Bound.{IsLeastAbove, IsTowards}
 use Rattle.archive_core.specs.Record.{record_bytes}
 use Rattle.archive_core.specs.Content.{Operations, content_of, IsMade, IsContent, IsBelow, IsTakenInPart, with_records, joined as joined_of}

@@ -8,7 +8,7 @@ use Rattle.join_core.specs.Listing.{listing}
 use Rattle.join_core.proofs.Retain.{listing_retain}
 use Rattle.archive_core.specs.Record.{IsRecord}
 use Rattle.archive_core.specs.Content.{Operations, is_admission, key_and_digest, covering, is_covered, IsMade, IsContent, IsBelow, joined}
-use Rattle.archive_core.specs.Summary.{Entries, entry, summary, is_known, delta, DigestsTell}
+use Rattle.archive_core.specs.Summary.{Entries, entry, summary, is_known, delta, DigestsDiffer}
 use Rattle.archive_core.proofs.Members.{in_listing, in_made, in_map, to_map}
 use Rattle.archive_core.proofs.Made.{bytes_same, by_test, and_left, below_subset, below_made_known, below_left}
 use Rattle.archive_core.proofs.Made.{below_right, below_transitive, joined_below, made_part}
@@ -57,14 +57,14 @@ pub delta_content : (o : Operations) (s : Entries) → IsContent o → IsContent
 delta_content o s a = record { itself = delta_made o s a.itself; records = λ r h. a.records r (delta_part o s r h) }
 
 -- operations of two contents that have one entry are one, where digests tell
-pub told_by_digests : (o p : Operations) (r s : List ℕ) → IsContent o → IsContent p → DigestsTell o p
+pub told_by_digests : (o p : Operations) (r s : List ℕ) → IsContent o → IsContent p → DigestsDiffer o p
     → set.contains o r ≡ true → set.contains p s ≡ true → entry r ≡ entry s → r ≡ s
 told_by_digests o p r s a b tells in_o in_p e =
     entry_tells r s (a.records r in_o) (b.records s in_p) e
     (λ x y is_x is_y. tells x y (sym (ap (set.contains o) is_x) ∙ in_o) (sym (ap (set.contains p) is_y) ∙ in_p))
 
 -- an operation whose entry another content's summary has is in that content
-pub named_there : (o p : Operations) (r : List ℕ) → IsContent o → IsContent p → DigestsTell o p → set.contains o r
+pub named_there : (o p : Operations) (r : List ℕ) → IsContent o → IsContent p → DigestsDiffer o p → set.contains o r
     ≡ true → set.contains (summary p) (entry r) ≡ true → set.contains p r ≡ true
 named_there o p r a b tells in_o named =
     let found : (q : List ℕ) × (set.contains p q ≡ true) × (entry q ≡ entry r) = member_of_entry p (entry r) named in
@@ -79,7 +79,7 @@ entry_of_retirement : (r : List ℕ) → IsRecord r → is_admission r ≡ false
 entry_of_retirement r (inl admits) n = cc (ap is_admission admits.is)
 entry_of_retirement r (inr retires) n = cc (retires.is, retirement_entry retires.key retires.digest)
 
-known_there : (o p : Operations) (r : List ℕ) → IsContent o → IsContent p → DigestsTell o p → set.contains o r ≡ true
+known_there : (o p : Operations) (r : List ℕ) → IsContent o → IsContent p → DigestsDiffer o p → set.contains o r ≡ true
     → is_known p (entry r) ≡ true → (set.contains p r || is_covered p r) ≡ true
 known_there o p r a b tells in_o known =
     grind (arith, named_there o p r a b tells in_o, entry_of_covered r, entry_of_retirement r (a.records r in_o))
@@ -91,7 +91,7 @@ known_more p q r known =
     grind (arith, contains-union nat_list_cmp_total p q r, contains-union nat_list_cmp_total p q (covering r))
 
 -- an operation is known, or in the delta
-known_or_in_delta : (o p : Operations) (s : Entries) → IsContent o → IsContent p → DigestsTell o p
+known_or_in_delta : (o p : Operations) (s : Entries) → IsContent o → IsContent p → DigestsDiffer o p
     → ((e : List ℕ) → set.contains s e ≡ true → is_known p e ≡ true)
     → (r : List ℕ) → set.contains o r ≡ true → (set.contains (set.union p (delta o s)) r || is_covered (set.union p (delta o s)) r) ≡ true
 known_or_in_delta o p s a b tells has r in_o = by_test _ (set.contains s (entry r))
@@ -99,7 +99,7 @@ known_or_in_delta o p s a b tells has r in_o = by_test _ (set.contains s (entry 
     (λ missing. grind (arith, contains_delta o s r, contains-union nat_list_cmp_total p (delta o s) r))
 
 -- a content to which each entry of a summary is known, joined with the delta against that summary, is above what the delta was made of
-pub brought_above : (o p : Operations) (s : Entries) → IsContent o → IsContent p → DigestsTell o p
+pub brought_above : (o p : Operations) (s : Entries) → IsContent o → IsContent p → DigestsDiffer o p
     → ((e : List ℕ) → set.contains s e ≡ true → is_known p e ≡ true) → IsBelow o (joined p (delta o s))
 brought_above o p s a b tells has = below_made_known o (set.union p (delta o s)) (known_or_in_delta o p s a b tells has)
 

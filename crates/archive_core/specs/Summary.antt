@@ -31,6 +31,6 @@ unfoldable pub delta : Operations → Entries → Operations
 delta o s = set.retain o (λ r. not (set.contains s (entry r)))
 
 -- no slice of the one content has the SHA-256 of a different slice of the other
-abbrev pub DigestsTell : Operations → Operations → Type 0
-DigestsTell o p = (a b : List ℕ) → set.contains o (admission_record a) ≡ true
+abbrev pub DigestsDiffer : Operations → Operations → Type 0
+DigestsDiffer o p = (a b : List ℕ) → set.contains o (admission_record a) ≡ true
     → set.contains p (admission_record b) ≡ true → sha256 a ≡ sha256 b → a ≡ b

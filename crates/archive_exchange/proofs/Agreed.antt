@@ -7,7 +7,7 @@ use Rattle.std.specs.FinSet as set
 use Rattle.archive_core.specs.Content.{Operations, content_of, joined, IsBelow}
 use Rattle.archive_exchange.specs.World.{Event, Take, Retire, Deliver, Stop}
 use Rattle.archive_exchange.specs.Reached.{is_stop, site_or, is_of, given}
-use Rattle.archive_exchange.specs.Issued.{IsEntryTelling, IsExchange, IsQuiet, is_changing}
+use Rattle.archive_exchange.specs.Issued.{EntriesDiffer, IsExchange, IsQuiet, is_changing}
 use Rattle.archive_exchange.proofs.Content.{union_nothing, below_reflexive, below_transitive, made_antisymmetric, below_left, joined_below}
 use Rattle.archive_core.proofs.Summaries.{delta_below}
 use Rattle.archive_exchange.proofs.Between.{and_left, and_right}
@@ -77,7 +77,7 @@ module _ {F : Type 0} (sites : ℕ) (events : List (Event F)) where
 
   -- one of two sites that answered each other ends below the other
   half : (i j a r d b s e low high : ℕ) → IsExchange sites events i j a r d → IsExchange sites events j i b s e
-      → IsQuiet events i low high d → IsQuiet events j low high e → IsEntryTelling sites events
+      → IsQuiet events i low high d → IsQuiet events j low high e → EntriesDiffer sites events
       → low ≤ a → low ≤ b → d ≤ high → e ≤ high → IsBelow (holding sites events (suc high) i) (holding sites events (suc high) j)
   half i j a r d b s e low high one other qi qj telling la lb dh eh =
       let r1 : a < r = one.first in let r2 : r < d = one.second in
@@ -90,7 +90,7 @@ module _ {F : Type 0} (sites : ℕ) (events : List (Event F)) where
       (below_transitive _ _ _ (delta_below (holding sites events r j) _) (between j i b s e low high other qj le eh r (omega arith) (omega arith)).1))
 
   pub agreed : (i j a r d b s e : ℕ) → IsExchange sites events i j a r d → IsExchange sites events j i b s e
-      → IsQuiet events i (min a b) (max d e) d → IsQuiet events j (min a b) (max d e) e → IsEntryTelling sites events
+      → IsQuiet events i (min a b) (max d e) d → IsQuiet events j (min a b) (max d e) e → EntriesDiffer sites events
       → holding sites events (suc (max d e)) i ≡ holding sites events (suc (max d e)) j
   agreed i j a r d b s e one other qi qj telling =
       made_antisymmetric (holding sites events (suc (max d e)) i) (holding sites events (suc (max d e)) j)

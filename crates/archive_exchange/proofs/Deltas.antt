@@ -9,7 +9,7 @@ use Rattle.archive_core.specs.Summary.{delta, summary, entry}
 use Rattle.archive_core.proofs.Made.{by_test}
 use Rattle.archive_exchange.specs.World.{Event}
 use Rattle.archive_exchange.specs.Reached.{is_stop, is_sending, is_of, saves, is_accepted, senders, carried}
-use Rattle.archive_exchange.specs.Issued.{IsEntryTelling, message_number, IsExchange}
+use Rattle.archive_exchange.specs.Issued.{EntriesDiffer, message_number, IsExchange}
 use Rattle.archive_exchange.proofs.Content.{below_transitive, below_left, below_right, gathered}
 use Rattle.archive_exchange.proofs.Between.{and_right}
 use Rattle.archive_exchange.proofs.Steps.{holding, sent, gift, saved_next, told_by}
@@ -93,7 +93,7 @@ module _ {F : Type 0} (sites : ℕ) (events : List (Event F)) where
         (saved_next sites events (λ o. o ≡ holding sites events a i) a i (λ _. refl) (λ no. cc saves_asked))
         (saved_under_held sites events (suc a) k i (let l = is.first in let m = is.second in omega arith))
 
-    pub lifted : IsEntryTelling sites events → IsBelow (holding sites events r x) (holding sites events (suc k) i)
+    pub lifted : EntriesDiffer sites events → IsBelow (holding sites events r x) (holding sites events (suc k) i)
     lifted telling = subst (IsBelow (holding sites events r x)) (sym delivered)
         (gathered (holding sites events r x) came (holding sites events a i) (joined (holding sites events k i) came)
         (delta_made (holding sites events r x) _ (holding_content sites events r x)) (holding_content sites events a i)

@@ -28,8 +28,8 @@ abbrev pub AreIssued : {F : Type 0} → ℕ → List (Event F) → Operations �
 AreIssued sites events o = (r : List ℕ) → set.contains o r ≡ true → IsIssued sites events r
 
 -- no two different issued operations share an entry
-abbrev pub IsEntryTelling : {F : Type 0} → ℕ → List (Event F) → Type 0
-IsEntryTelling sites events = (r s : List ℕ) → IsIssued sites events r → IsIssued sites events s → entry r ≡ entry s
+abbrev pub EntriesDiffer : {F : Type 0} → ℕ → List (Event F) → Type 0
+EntriesDiffer sites events = (r s : List ℕ) → IsIssued sites events r → IsIssued sites events s → entry r ≡ entry s
     → r ≡ s
 
 -- the number of the message that event n sends, if it sends one: as many were sent before
@@ -64,7 +64,7 @@ abbrev pub AreRecords : {F : Type 0} → ℕ → List (Event F) → Type 0
 AreRecords sites events = (r : List ℕ) → IsIssued sites events r → IsRecord r
 
 -- no two different issued slices have the same SHA-256
-abbrev pub IsDigestTelling : {F : Type 0} → ℕ → List (Event F) → Type 0
-IsDigestTelling sites events =
+abbrev pub DigestsDiffer : {F : Type 0} → ℕ → List (Event F) → Type 0
+DigestsDiffer sites events =
     (a b : List ℕ) → IsIssued sites events (admission_record a) → IsIssued sites events (admission_record b)
     → sha256 a ≡ sha256 b → a ≡ b

@@ -11,8 +11,8 @@ ghost use Rattle.archive_core.specs.Content.{Operations, IsContent, IsBelow, con
 ghost use Rattle.archive_exchange.specs.World.{World, Event, Fault, Refused, Skipped, fault_of, effect};
 ghost use Rattle.archive_exchange.specs.World.{happens, answer, outcome, state, row_of, rows, records};
 ghost use Rattle.archive_exchange.specs.Reached.{is_accepted, senders, message_sent, had, reaching, reached, Reaches};
-ghost use Rattle.archive_exchange.specs.Issued.{AreIssued, AreRecords, IsDigestTelling};
-ghost use Rattle.archive_exchange.specs.Issued.{IsEntryTelling, IsExchange, IsQuiet};
+ghost use Rattle.archive_exchange.specs.Issued.{AreIssued, AreRecords, DigestsDiffer};
+ghost use Rattle.archive_exchange.specs.Issued.{EntriesDiffer, IsExchange, IsQuiet};
 
 /// An event that is refused changes nothing and answers why; any other has its effect and its answer.
 pub fn refused_changes_nothing<F>()
@@ -74,7 +74,7 @@ pub fn reached_is_held<F>()
 {}
 
 /// Sites that operations reached which make the same content hold the same, after one list of events or after two.
-pub fn same_reached<F>()
+pub fn same_operations_same_content<F>()
     ensures { (sites others : ℕ) (events later : List (Event F)) (i j : ℕ)
         → content_of (reached sites events i) ≡ content_of (reached others later j)
         → (state sites events (length events)).held i ≡ (state others later (length later)).held j }
@@ -106,30 +106,30 @@ pub fn records_make_contents<F>()
 {}
 
 /// Where no two different issued slices have one SHA-256, no two different issued operations have one entry.
-pub fn digests_tell<F>()
+pub fn digests_differ<F>()
     ensures { (sites : ℕ) (events : List (Event F))
         → AreRecords sites events
-        → IsDigestTelling sites events
-        → IsEntryTelling sites events }
+        → DigestsDiffer sites events
+        → EntriesDiffer sites events }
 {}
 
 /// A delta that was made in reply to a summary of site `i`, however old, lifts it above what the replier `x` held then,
 /// whatever stopped between, and whatever slices the site has retired since it asked: event `a` asks, `r` replies, `k`
 /// delivers.
-pub fn delta_lifts<F>()
+pub fn asker_is_above_replier<F>()
     ensures { (sites : ℕ) (events : List (Event F)) (i x a r k : ℕ)
         → AreRecords sites events
-        → IsDigestTelling sites events
+        → DigestsDiffer sites events
         → IsExchange sites events i x a r k
         → IsBelow ((state sites events r).held x) ((state sites events (suc k)).held i) }
 {}
 
 /// Two sites that replied to each other's summaries, and from the earlier ask to the later delivery took, retired,
 /// were given or stopped nothing else, hold the same.
-pub fn answered_agree<F>()
+pub fn mutual_replies_agree<F>()
     ensures { (sites : ℕ) (events : List (Event F)) (i j a r d b s e : ℕ)
         → AreRecords sites events
-        → IsDigestTelling sites events
+        → DigestsDiffer sites events
         → IsExchange sites events i j a r d
         → IsExchange sites events j i b s e
         → IsQuiet events i (min a b) (max d e) d

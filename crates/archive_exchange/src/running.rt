@@ -4,7 +4,7 @@ ghost use Rattle.std.specs.List.{AllZip};
 ghost use Rattle.archive_core.specs.Content.{IsBelow, content_of};
 ghost use Rattle.archive_exchange.specs.World.{start, state, outcomes};
 ghost use Rattle.archive_exchange.specs.Reached.{reached};
-ghost use Rattle.archive_exchange.specs.Issued.{AreIssued, AreRecords, IsDigestTelling, IsExchange, IsQuiet};
+ghost use Rattle.archive_exchange.specs.Issued.{AreIssued, AreRecords, DigestsDiffer, IsExchange, IsQuiet};
 ghost use Rattle.archive_exchange.specs.SiteState.{SiteState};
 ghost use Rattle.archive_exchange.specs.ModelEvent.{ModelEvent, OfEvents, OutcomeIs};
 ghost use Rattle.archive_exchange.specs.WorldState.{Represents};
@@ -14,7 +14,8 @@ ghost use Rattle.archive_exchange.specs.InnerEvents.{HasRun};
 use crate::happening::happen;
 use crate::laws::one_meaning;
 use crate::model_laws::{
-    answered_agree, delta_lifts, issued_and_kept, reached_is_held, same_reached,
+    asker_is_above_replier, issued_and_kept, mutual_replies_agree, reached_is_held,
+    same_operations_same_content,
 };
 use crate::{Outcome, Site, World};
 use archive_admission::TakeFault;
@@ -104,13 +105,13 @@ pub fn run<A: Archive + Drop>(
     // Where no two different issued slices share a SHA-256: a site that takes a delta made in reply to any summary that
     // it sent is above what the replier held then.
     ensures lifted { IfOk result (λ _. OfEvents events.now (λ seen. (i x a r k : ℕ)
-        → IsDigestTelling sites seen
+        → DigestsDiffer sites seen
         → IsExchange sites seen i x a r k
         → IsBelow ((state sites seen r).held x) ((state sites seen (suc k)).held i))) }
 
     // And two sites that answer each other's summaries, and are quiet meanwhile, end alike.
     ensures agreed { IfOk result (λ _. OfEvents events.now (λ seen. (i j a r d b s e : ℕ)
-        → IsDigestTelling sites seen
+        → DigestsDiffer sites seen
         → IsExchange sites seen i j a r d
         → IsExchange sites seen j i b s e
         → IsQuiet seen i (min a b) (max d e) d
@@ -118,10 +119,10 @@ pub fn run<A: Archive + Drop>(
         → AreAlike ((state sites seen (suc (max d e))).held i) ((state sites seen (suc (max d e))).held j))) }
 {
     reached_is_held::<TakeFault>();
-    same_reached::<TakeFault>();
+    same_operations_same_content::<TakeFault>();
     issued_and_kept::<TakeFault>();
-    delta_lifts::<TakeFault>();
-    answered_agree::<TakeFault>();
+    asker_is_above_replier::<TakeFault>();
+    mutual_replies_agree::<TakeFault>();
     let done = carry_out(heap, sites, events)?;
     Ok(done)
 }

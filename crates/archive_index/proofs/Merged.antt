@@ -13,7 +13,7 @@ use Rattle.std.proofs.lemmas.List.Kept.{IsStrictlySortedBy-filter}
 use Rattle.std.proofs.lemmas.List.Elements.{All-filter, All-append, All-from_recursion, recursion_from_All}
 use Rattle.std.proofs.lemmas.List.Sorted.{IsPermutation-map, All-permutation}
 use Rattle.std.proofs.lemmas.Map.Views.{any-filter_same}
-use Rattle.join_core.proofs.Merge.{map_dedup, deduped_is, from_list_append, along_members}
+use Rattle.join_core.proofs.SortedUnion.{map_dedup, deduped_is, from_list_append, along_members}
 use Rattle.archive_core.specs.Record.{record_bytes, IsOperation}
 use Rattle.archive_core.specs.Content.{Operations, IsMade, IsBelow, is_admission, covering, is_covered, changes, joined}
 use Rattle.archive_core.specs.InnerHeld.{IsHeld}

@@ -11,7 +11,7 @@ use Rattle.std.specs.FinSet.{contains, union, from_list, same_set, contains-unio
 use Rattle.std.proofs.Math.ListN.{length-map}
 use Rattle.std.proofs.lemmas.List.Kept.{IsStrictlySortedBy-filter}
 use Rattle.join_core.proofs.Members.{inserts_are_union}
-use Rattle.join_core.proofs.Merge.{from_list_append}
+use Rattle.join_core.proofs.SortedUnion.{from_list_append}
 use Rattle.join_core.proofs.Place.{len_listed}
 use Rattle.archive_core.specs.Record.{record_bytes}
 use Rattle.archive_core.specs.Content.{Operations, is_admission, content_of, IsMade, IsBelow, IsTakenInPart, with_record, with_records, changes, new_among}

@@ -95,7 +95,7 @@ impl Archive for IndexedArchive {
             return Ok(false);
         }
         let key = operation.key();
-        let told = self.held.tells_digests(&key);
+        let told = self.held.may_answer_digests(&key);
         operation.keep_table(self.held.heap())?;
         if told {
             operation.keep_digest();

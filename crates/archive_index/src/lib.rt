@@ -32,4 +32,4 @@ mod taking;
 pub use asked::file_address;
 pub use indexed::IndexedArchive;
 pub use plain::PlainArchive;
-pub use taking::{new_in_turn, take_each};
+pub use taking::{sort_with_same_effect, take_each};

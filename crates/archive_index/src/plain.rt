@@ -130,7 +130,7 @@ impl PlainArchive {
     }
 
     /// Whether a lookup of the key may tell digests: where two of its slices are of one kind, as of three some two are.
-    pub fn tells_digests(&self, key: &SliceKey) -> bool {
+    pub fn may_answer_digests(&self, key: &SliceKey) -> bool {
         let count = self.operations.len();
         if count > 1
             && is_key(&self.operations[count - 1].key(), key)
@@ -150,7 +150,7 @@ impl PlainArchive {
     pub fn keep_digests(&mut self, key: &SliceKey)
         ensures { self.new ≡ self.old }
     {
-        if self.tells_digests(key) {
+        if self.may_answer_digests(key) {
             keep_digests_under(&mut self.operations, *key);
         }
     }

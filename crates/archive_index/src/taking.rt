@@ -142,7 +142,9 @@ pub fn take_each<A: Archive + Drop>(
 /// comes after it and covers it.
 ///
 /// Refused for want of memory alone.
-pub fn new_in_turn(operations: Vec<Operation, Heap>) -> Result<Vec<Operation, Heap>, NoMemory>
+pub fn sort_with_same_effect(
+    operations: Vec<Operation, Heap>,
+) -> Result<Vec<Operation, Heap>, NoMemory>
     ensures { IfOk result (λ sorted. AreSortedWithSameEffect operations.items sorted.items) }
 {
     let Parts {

@@ -8,7 +8,7 @@ use Rattle.std.specs.Cmp.{Equal-is, tied_itself}
 use Rattle.std.specs.Cmp.Lexicographic.{slice_cmp, nat_list_cmp_total}
 use Rattle.archive_records.proofs.Fills.{cmp_parts}
 use Rattle.archive_records.proofs.Puts.{head_and_slice}
-use Rattle.archive_records.proofs.Steps.{HasReadAll-grows, Stopped-with}
+use Rattle.archive_records.proofs.RecordSteps.{HasReadAll-grows, Stopped-with}
 use Rattle.archive_core.specs.Key.{key_bytes}
 use Rattle.archive_core.specs.Valid.{key_of}
 use Rattle.archive_core.specs.Record.{admission_record, IsRecord}
@@ -29,7 +29,7 @@ use Rattle.archive_merge.specs.declared.side.Lookahead.{Lookahead}
 use Rattle.archive_merge.specs.declared.side.Lookahead.TheVariants.{Unread, Held, Ended}
 use Rattle.archive_merge.specs.declared.side.MergeInput.{MergeInput}
 use Rattle.archive_merge.specs.Borrowed.{AdvancesTo, StepsBy}
-use Rattle.archive_merge.specs.MergeSteps.{Stands, memory_behind}
+use Rattle.archive_merge.specs.MergeSteps.{Stands, memory_after}
 use Rattle.archive_merge.specs.Sides.{side_with}
 use Rattle.archive_merge.proofs.Starts.{stands_held}
 
@@ -78,7 +78,7 @@ stood last count offset retired dropped = record { file = OldArchive; last = las
 
 module _ (last : List ℕ) (count offset : ℕ) (retired : List (List ℕ)) (dropped : Bool) where
   -- of a text that another side has begun nothing is taken
-  pub nothing_taken : (t : List ℕ) (fault : RecordFault) → fault ≡ memory_behind offset → count < 2 ^ 63
+  pub nothing_taken : (t : List ℕ) (fault : RecordFault) → fault ≡ memory_after offset → count < 2 ^ 63
       → (stop : StopsAt (Some t) (Some t) (stood last count offset retired dropped) fault) × (fault.kind ≢ Device)
       × (fault.kind ≢ Truncated) × (fault.kind ≡ OutOfMemory → HasWhole OldArchive stop.rest [])
   nothing_taken t fault is few = rw is (
@@ -122,7 +122,7 @@ module _ (last : List ℕ) (count offset : ℕ) (retired : List (List ℕ)) (dro
     )
 
     -- memory is wanted for it
-    pub unkept : may_follow OldArchive last x ≡ true → (fault : RecordFault) → fault ≡ memory_behind offset
+    pub unkept : may_follow OldArchive last x ≡ true → (fault : RecordFault) → fault ≡ memory_after offset
         → (stop : StopsAt (Some (x ++ rest)) (Some rest) (stood last count offset retired dropped) fault)
         × (fault.kind ≢ Device) × (fault.kind ≢ Truncated)
         × (fault.kind ≡ OutOfMemory → HasWhole OldArchive stop.rest x)

@@ -17,7 +17,7 @@ use Rattle.archive_merge.specs.declared.side.Lookahead.TheVariants.{Unread, Held
 use Rattle.archive_merge.specs.declared.side.MergeInput.{MergeInput}
 use Rattle.archive_records.specs.Kind.{magic_of, kind_of, archive_format, may_follow}
 use Rattle.archive_records.specs.Text.{ending, text_of, taken_of, InOrder, AreApart, last_of}
-use Rattle.archive_records.specs.Fault.{is_end, IsFaultBehind, IsOfText}
+use Rattle.archive_records.specs.Fault.{is_end, IsFaultAfter, IsOfText}
 use Rattle.archive_records.specs.Front.{IsGoodFront, IsLongestFront}
 use Rattle.archive_merge.specs.Merging.{HasMagic, IsArchiveText, AreGoodRecords, of_both}
 use Rattle.archive_records.specs.Reader.{set_of, Stopped}
@@ -25,7 +25,7 @@ use Rattle.archive_merge.specs.MergeSteps.{Stands}
 use Rattle.archive_records.proofs.Holds.{holds}
 use Rattle.archive_records.proofs.Forms.{item-framed}
 use Rattle.archive_records.proofs.Puts.{concat-push}
-use Rattle.archive_records.proofs.Steps.{InOrder-push}
+use Rattle.archive_records.proofs.RecordSteps.{InOrder-push}
 use Rattle.archive_records.proofs.Ends.{end-is_end}
 use Rattle.archive_records.proofs.Longest.{Goes, longest, unique, behind_magic, end-stops}
 use Rattle.archive_records.proofs.Formats.{in_order_of, ending_of, kind_archive, format_magic}
@@ -144,7 +144,7 @@ module _ (f : Format) where
   front_is t b records xs fault known ended s l =
       let k = stopped_whole t b records fault s in
       let front : IsGoodFront f t records = record { ordered = s.ordered; apart = s.apart; rest = s.rest ++ k.0; whole = k.1 } in
-      let behind : IsFaultBehind f records (s.rest ++ k.0) fault =
+      let behind : IsFaultAfter f records (s.rest ++ k.0) fault =
       grown_behind f records s.rest k.0 fault (λ p. k.2 (ended p))
       (record_stop f records s.rest fault known s.stops) in
       one_longest t xs records l (fault_longest f t records front fault behind)

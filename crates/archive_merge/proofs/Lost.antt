@@ -13,7 +13,7 @@ use Rattle.archive_records.specs.declared.fault.MergeCause.{MergeCause}
 use Rattle.archive_records.specs.declared.fault.MergeCause.TheVariants.{Left, Right, Write}
 use Rattle.archive_merge.specs.Losses.{IsNotCompared, Loses}
 use Rattle.archive_merge.specs.Merging.{StopsBy}
-use Rattle.archive_merge.specs.Telling.{IsMergedTelling}
+use Rattle.archive_merge.specs.ArrivalMerge.{IsMergedWithArrivals}
 use Rattle.archive_merge.specs.Arrivals.{is_new, arrival_by, arrival_of}
 
 new_by : (has covered : Bool) → is_new (arrival_by covered has) ≡ not (has || covered)
@@ -28,7 +28,7 @@ pub count_new : (o : Operations) (rs : List (List ℕ)) → count_by is_new (map
 count_new o rs = fold-map (λ n t. n + cond (is_new t) 1 0) (arrival_of o) 0 rs ∙ (λ i. count_by (λ r. new_changes o r i) rs)
 
 pub loses : {R S W : Type 0} (new : Stream R) (old : Stream S) (out : Stream W) (sizes : Sizes) (arrivals : List Arrival) (withdraws : Bool) (n : ℕ)
-    → IsMergedTelling new old out sizes arrivals withdraws → n ≡ count_by is_new arrivals → Loses new old n
+    → IsMergedWithArrivals new old out sizes arrivals withdraws → n ≡ count_by is_new arrivals → Loses new old n
 loses new old out sizes arrivals withdraws n t count = record {
   content = t.merged.o;
   operations = t.operations;

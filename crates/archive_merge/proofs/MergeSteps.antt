@@ -19,9 +19,9 @@ use Rattle.archive_records.specs.Text.{end_record, text_of, last_of, kept}
 use Rattle.archive_records.specs.Reader.{HasRead, set_of}
 use Rattle.archive_records.specs.Front.{front_length}
 use Rattle.archive_records.specs.declared.fault.MergeFault.{MergeFault}
-use Rattle.archive_merge.specs.MergeSteps.{TellsBy, TellsCovered, Stands, Merging, WriteStopped, IsFull}
+use Rattle.archive_merge.specs.MergeSteps.{TellsBy, DecidesCovered, Stands, Merging, WriteStopped, IsFull}
 use Rattle.archive_merge.specs.MergeSteps.{HasStoppedMerge, IsBeforeTurn, first_by, first_of, IsRefusedMore, after_turn}
-use Rattle.archive_merge.specs.MergeSteps.{left_after, memory_behind, next_record, next_record_by, right_after}
+use Rattle.archive_merge.specs.MergeSteps.{left_after, memory_after, next_record, next_record_by, right_after}
 use Rattle.archive_merge.specs.MergeSteps.{unread_of, Both}
 use Rattle.archive_records.proofs.Puts.{concat-push}
 use Rattle.archive_records.proofs.Apart.{covered_push, last_of-push}
@@ -153,11 +153,11 @@ module _ (a1 b1 a2 b2 w0 w1 : Option (List ℕ)) (m : Sides) (p : Merging a1 b1 
       let own = held_dropped a2 b2 p.both.rights (last_of [] p.out) m.right p.both.right f.0 in
       cc (either, own, told (held_record a2 b2 p.both.rights (last_of [] p.out) m.right p.both.right f.0))
 
-  pub covered_next : (b : Bool) → TellsCovered m.left m.right b → is_covered (set_of (p.out ++ next_record m ∷ [])) (next_record m) ≡ b
+  pub covered_next : (b : Bool) → DecidesCovered m.left m.right b → is_covered (set_of (p.out ++ next_record m ∷ [])) (next_record m) ≡ b
   covered_next b tells = covered_by_turn b (first_of m.left m.right) refl tells
 
   -- it is passed over
-  unfoldable pub passed : TellsCovered m.left m.right true → Merging a1 b1 a2 b2 w0 w1 (after_turn m m.written)
+  unfoldable pub passed : DecidesCovered m.left m.right true → Merging a1 b1 a2 b2 w0 w1 (after_turn m m.written)
   passed tells =
       let x = next_record m in
       let n = next_turn (first_of m.left m.right) refl in
@@ -171,7 +171,7 @@ module _ (a1 b1 a2 b2 w0 w1 : Option (List ℕ)) (m : Sides) (p : Merging a1 b1 
       }
 
   -- or written
-  module _ (tells : TellsCovered m.left m.right false) (w2 : Option (List ℕ)) where
+  module _ (tells : DecidesCovered m.left m.right false) (w2 : Option (List ℕ)) where
     abbrev after : List (List ℕ)
     after = kept (p.out ++ next_record m ∷ [])
 
@@ -232,7 +232,7 @@ before_last a b done low s p held =
     omega (arith, h.offset_is, ap length (concat-push done s.reader.last), length-append (concat done) s.reader.last)
 
 pub full_stops : (a1 b1 a2 b2 w0 w1 : Option (List ℕ)) (m : Sides) → Merging a1 b1 a2 b2 w0 w1 m → IsBeforeTurn m
-    → TellsCovered m.left m.right false → (e : MergeFault) → IsRefusedMore m e → HasStoppedMerge a1 b1 a2 b2 w0 w1 e
+    → DecidesCovered m.left m.right false → (e : MergeFault) → IsRefusedMore m e → HasStoppedMerge a1 b1 a2 b2 w0 w1 e
 full_stops a1 b1 a2 b2 w0 w1 m p before tells e (most, is, at) =
     let full : IsFull a1 b1 a2 b2 w0 w1 e.written = record {
       sides = m;
@@ -246,14 +246,14 @@ full_stops a1 b1 a2 b2 w0 w1 m p before tells e (most, is, at) =
       | inl l ↦ rw l.1 (inr (inl (
         full,
         l.0,
-        ap (λ (n : ℕ). memory_behind n)
+        ap (λ (n : ℕ). memory_after n)
             (before_last a1 b1 p.both.lefts (last_of [] p.out) m.left p.both.left
             (first_held m.left.ahead m.right.ahead _ l.0)),
       )))
       | inr r ↦ rw r.1 (inr (
         full,
         r.0,
-        ap (λ (n : ℕ). memory_behind n)
+        ap (λ (n : ℕ). memory_after n)
             (before_last a2 b2 p.both.rights (last_of [] p.out) m.right p.both.right
             (first_greater m.left.ahead m.right.ahead _ before.read.left before.some r.0).0),
       ))

@@ -30,7 +30,7 @@ use Rattle.byte_device.specs.Devices.{Stream}
 use Rattle.byte_device.proofs.Known.{Appends-then}
 use Rattle.archive_merge.specs.Sides.{Sides}
 use Rattle.archive_merge.specs.MergeSteps.{LeftTold, RightTold, StopsMerge, Merging, Stands, WriteStopped}
-use Rattle.archive_merge.specs.MergeSteps.{memory_behind, Leaves, MergedAll, BlamesBy, BlamesDevices}
+use Rattle.archive_merge.specs.MergeSteps.{memory_after, Leaves, MergedAll, BlamesBy, BlamesDevices}
 use Rattle.archive_records.proofs.Puts.{length_written, concat-push}
 use Rattle.archive_merge.proofs.MergeSteps.{first_greater, first_held}
 use Rattle.archive_records.proofs.Apart.{apart_front}
@@ -87,7 +87,7 @@ front_in f low (y ∷ ys) x a = (a.0, a.1, front_in f y ys x a.2)
 
 -- memory was wanted for the record that a side holds
 held_stopped : (a b : Option (List ℕ)) (done : List (List ℕ)) (low : List ℕ) (s : MergeInput) (fault : RecordFault)
-    → Stands a b done low s → s.ahead ≡ Held → s.reader.count < 2 ^ 63 → fault ≡ memory_behind (front_length done)
+    → Stands a b done low s → s.ahead ≡ Held → s.reader.count < 2 ^ 63 → fault ≡ memory_after (front_length done)
     → HasStopped Archive_text a b fault
 held_stopped a b done low s fault p held few is =
     let h = (p.held held).0 in

@@ -21,7 +21,7 @@ use Rattle.archive_merge.specs.declared.arrivals.Arrival.{Arrival}
 use Rattle.archive_merge.specs.declared.merging.Merge.{Merge}
 use Rattle.archive_merge.specs.Sides.{Sides, side_with, sides_of}
 use Rattle.archive_merge.specs.MergeSteps.{Merging, Stands, first_of}
-use Rattle.archive_merge.specs.TellingSteps.{Telling}
+use Rattle.archive_merge.specs.ArrivalSteps.{Telling}
 use Rattle.archive_merge.proofs.Covered.{retired_of}
 use Rattle.archive_merge.proofs.MergeSteps.{first_equal}
 use Rattle.archive_merge.proofs.Starts.{with_both}

@@ -16,11 +16,11 @@ use Rattle.archive_records.specs.Kind.{magic, magic_of, kind_of, may_follow, IsI
 use Rattle.archive_records.specs.Text.{end_record, text_of, last_of, kept, InOrder, AreApart}
 use Rattle.archive_records.specs.Reader.{HasRead, Passes, Position, HasWhole, Stopped, StoppedWith}
 use Rattle.archive_records.specs.declared.fault.RecordFault.{RecordFault}
-use Rattle.archive_records.proofs.Steps.{HasRead-grows}
+use Rattle.archive_records.proofs.RecordSteps.{HasRead-grows}
 use Rattle.archive_records.proofs.Formats.{follows_of}
 use Rattle.archive_records.proofs.KeptRecords.{kept_none, long_record}
 use Rattle.archive_merge.specs.MergeSteps.{Stands, Merging, HasMagicRead, RightStopped, WriteStopped, BlamesBy}
-use Rattle.archive_merge.specs.MergeSteps.{BlamesRight, IsToldOfRight, memory_behind, HasEnded, HasStoppedMerge}
+use Rattle.archive_merge.specs.MergeSteps.{BlamesRight, IsToldOfRight, memory_after, HasEnded, HasStoppedMerge}
 use Rattle.archive_merge.specs.MergeSteps.{StopsMerge as MergeStops, Both}
 use Rattle.archive_merge.proofs.MergeSteps.{held_record, before_last}
 use Rattle.archive_records.proofs.Blamed.{blames_behind}
@@ -133,7 +133,7 @@ told_right right m fault e (inr (alone, is)) blames = rw is blames
 -- memory was wanted after these records
 abbrev pub memory_stopped : (f : Format) (a b : Option (List ℕ)) (done : List (List ℕ)) (rest : List ℕ)
     (fault : RecordFault) → Consumes a b (magic_of f ++ (concat done ++ rest)) → InOrder f [] done → AreApart f done
-    → length done < 2 ^ 63 → fault ≡ memory_behind (front_length done)
+    → length done < 2 ^ 63 → fault ≡ memory_after (front_length done)
     → IsCutAtMost f (magic_of f ++ (concat done ++ rest)) → Stopped f a b done fault
 memory_stopped f a b done rest fault taken ordered apart few is cut = record {
   rest = rest;
@@ -212,7 +212,7 @@ module _ (a1 a2 w0 w1 b1 b2 c2 : Option (List ℕ)) (m : Sides) (p : Merging a1 
               both.0,
               same,
               few,
-              ap (λ (n : ℕ). memory_behind n) (before_last a1 b1 p.both.lefts (last_of [] p.out) m.left p.both.left
+              ap (λ (n : ℕ). memory_after n) (before_last a1 b1 p.both.lefts (last_of [] p.out) m.left p.both.left
                   both.0),
             )))
         | inr (alone, is) ↦ rw is (inl (

@@ -20,9 +20,9 @@ use Rattle.archive_records.proofs.Exact.{same_records}
 use Rattle.archive_records.proofs.Formats.{format_magic, in_order_of, old_in_order}
 use Rattle.archive_records.proofs.Versions.{kept_records, listing_of, no_operations, old_written-records, old_written_text}
 use Rattle.archive_merge.specs.Merging.{IsUnfailed}
-use Rattle.archive_merge.specs.Telling.{HasOperations, IsMergedTelling}
+use Rattle.archive_merge.specs.ArrivalMerge.{HasOperations, IsMergedWithArrivals}
 use Rattle.archive_merge.specs.declared.arrivals.Arrival.{Arrival}
-use Rattle.archive_merge.specs.TellingSteps.{ReportsAllArrivals, is_withdrawn}
+use Rattle.archive_merge.specs.ArrivalSteps.{ReportsAllArrivals, is_withdrawn}
 use Rattle.archive_merge.specs.Arrivals.{arrival_by, arrival_of}
 use Rattle.archive_merge.proofs.Fronts.{taken_made, taken_rest}
 use Rattle.archive_merge.proofs.Merges.{merged}
@@ -101,7 +101,7 @@ one_set text o p has other =
 module _ {R S W : Type 0} (left : Stream R) (right : Stream S) (out : Stream W) (sizes : Sizes) (arrivals : List Arrival) (withdraws : Bool) where
   pub merged_telling : ReportsAllArrivals (left.bytes left.old) (left.bytes left.new) (right.bytes right.old)
       (right.bytes right.new) (out.bytes out.old) (out.bytes out.new) sizes arrivals withdraws
-      → IsUnfailed left × IsUnfailed right × IsUnfailed out → IsMergedTelling left right out sizes arrivals withdraws
+      → IsUnfailed left × IsUnfailed right × IsUnfailed out → IsMergedWithArrivals left right out sizes arrivals withdraws
   unfolding merged
   merged_telling t unfailed =
       let m = t.merged.merging.both in

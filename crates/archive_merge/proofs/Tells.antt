@@ -36,9 +36,9 @@ use Rattle.archive_merge.specs.declared.side.Lookahead.TheVariants.{Unread}
 use Rattle.archive_merge.specs.declared.side.MergeInput.{MergeInput}
 use Rattle.archive_merge.specs.declared.arrivals.Arrival.{Arrival}
 use Rattle.archive_merge.specs.MergeSteps.{HasEnded, HasStoppedMerge, IsBeforeTurn, Joins, MergedAll, Merging, Stands}
-use Rattle.archive_merge.specs.MergeSteps.{TellsBy, TellsCovered, after_turn, first_of, left_after, memory_behind}
+use Rattle.archive_merge.specs.MergeSteps.{TellsBy, DecidesCovered, after_turn, first_of, left_after, memory_after}
 use Rattle.archive_merge.specs.MergeSteps.{next_record, next_record_by, right_after, Both}
-use Rattle.archive_merge.specs.TellingSteps.{Telling, TellsNextBy, TellsNext, ReportsAllArrivals, has_next, has_next_by, is_withdrawn, told_with}
+use Rattle.archive_merge.specs.ArrivalSteps.{Telling, TellsNextBy, TellsNext, ReportsAllArrivals, has_next, has_next_by, is_withdrawn, told_with}
 use Rattle.archive_merge.specs.Arrivals.{arrival_by, arrival_of}
 use Rattle.archive_merge.proofs.Covered.{covered_by, not_same}
 use Rattle.archive_merge.proofs.MergeSteps.{first_less, first_equal, first_greater, held_dropped, held_record, next_turn, passed, wrote}
@@ -201,7 +201,7 @@ module _ (a1 b1 a2 b2 w0 w1 : Option (List ℕ)) (m : Sides) (told : List Arriva
       same ∙ t.withdraws_is ∙ sym (withdrawn_right p.out p.both.lefts p.both.rights x p.both.joins (p.both.right.held f.0).1 p.both.lefts)
 
   -- the record is passed over
-  pub tells_passed : TellsCovered m.left m.right true → Telling a1 b1 a2 b2 w0 w1 (after_turn m m.written) (told_with told arrival) (has_next m || withdraws)
+  pub tells_passed : DecidesCovered m.left m.right true → Telling a1 b1 a2 b2 w0 w1 (after_turn m m.written) (told_with told arrival) (has_next m || withdraws)
   unfolding passed
   tells_passed covered = record {
     merging = passed a1 b1 a2 b2 w0 w1 m p before covered;
@@ -212,7 +212,7 @@ module _ (a1 b1 a2 b2 w0 w1 : Option (List ℕ)) (m : Sides) (told : List Arriva
   }
 
   -- or written
-  pub tells_wrote : TellsCovered m.left m.right false → (w2 : Option (List ℕ)) (written : Sizes) → written.records
+  pub tells_wrote : DecidesCovered m.left m.right false → (w2 : Option (List ℕ)) (written : Sizes) → written.records
       ≡ m.written.records + 1 → written.bytes ≡ m.written.bytes + length (next_record m) → Appends w1 w2 (next_record m)
       → Telling a1 b1 a2 b2 w0 w2 (after_turn m written) (told_with told arrival) withdraws
   unfolding wrote
@@ -280,12 +280,12 @@ nothing_more file low count = ap (λ r. next_by file r low count []) (framed-emp
 pub no_room : (a1 b1 a2 b2 w0 w1 : Option (List ℕ)) (m : Sides) → Merging a1 b1 a2 b2 w0 w1 m → m.left.ahead ≢ Unread
     → m.right.ahead ≡ Unread → m.right.reader.count < 2 ^ 63 → (e : MergeFault) (fault : RecordFault) (offset : ℕ) → e
     ≡ record { cause = Right fault; written = m.written.bytes }
-    → fault ≡ memory_behind offset → offset ≡ m.right.reader.offset → HasStoppedMerge a1 b1 a2 b2 w0 w1 e
+    → fault ≡ memory_after offset → offset ≡ m.right.reader.offset → HasStoppedMerge a1 b1 a2 b2 w0 w1 e
 no_room a1 b1 a2 b2 w0 w1 m p read unread few e fault offset is memory at =
     let h = (p.both.right.unread unread).0 in
     let f : Format = m.right.reader.file in
     let taken : Consumes a2 b2 (magic_of f ++ (concat p.both.rights ++ [])) = rw (append-nil (concat p.both.rights)) h.taken in
-    let behind : fault ≡ memory_behind (front_length p.both.rights) = memory ∙ ap (λ (n : ℕ). memory_behind n) (at ∙ h.offset_is) in
+    let behind : fault ≡ memory_after (front_length p.both.rights) = memory ∙ ap (λ (n : ℕ). memory_after n) (at ∙ h.offset_is) in
     let cut = cut_off f p.both.rights h.ordered h.apart (omega (arith, few, h.count_is)) []
     (inl (nothing_more f (last_of [] p.both.rights) (length p.both.rights))) in
     let stopped = memory_stopped f a2 b2 p.both.rights [] fault taken h.ordered h.apart (omega (arith, few, h.count_is)) behind cut in

@@ -6,7 +6,7 @@ use Rattle.archive_records.specs.declared.format.Format.TheVariants.{Archive}
 use Rattle.archive_records.specs.Kind.{may_follow, IsItem}
 use Rattle.archive_records.specs.Text.{last_of}
 use Rattle.archive_merge.specs.MergeSteps.{Joins}
-use Rattle.archive_records.proofs.Steps.{InOrder-push}
+use Rattle.archive_records.proofs.RecordSteps.{InOrder-push}
 
 pushed : (xs : List (List ℕ)) (x z : List ℕ) → x ≡ z → Contains (xs ++ x ∷ []) z
 pushed xs x z e = subst (Contains (xs ++ x ∷ [])) e (Contains-push xs x)

@@ -3,6 +3,6 @@ pub mod Merging
 pub mod Sides
 pub mod MergeSteps
 pub mod Arrivals
-pub mod Telling
-pub mod TellingSteps
+pub mod ArrivalMerge
+pub mod ArrivalSteps
 pub mod Losses

@@ -11,7 +11,7 @@ use Rattle.archive_records.specs.Fault.{IsOfText}
 use Rattle.archive_records.specs.Reading.{IsReadWhole}
 use Rattle.archive_records.specs.Text.{AreOperations}
 use Rattle.archive_merge.specs.Merging.{ForTexts, IsRefusedAlone, IsUnfailed, LeftStops, RightStops}
-use Rattle.archive_merge.specs.Telling.{HasOperations}
+use Rattle.archive_merge.specs.ArrivalMerge.{HasOperations}
 
 -- Both inputs are texts of archives, and of the operations of the old one so many are lost in the new one, which
 -- neither has them nor covers them.

@@ -116,8 +116,8 @@ TellsBy Greater left right b = IsRecord right.reader.last
     → b ≡ (right.reader.dropped || is_covered (set_of left.reader.retired) right.reader.last)
 
 -- the same of two sides
-abbrev pub TellsCovered : MergeInput → MergeInput → Bool → Type 0
-TellsCovered left right b = TellsBy (first_of left right) left right b
+abbrev pub DecidesCovered : MergeInput → MergeInput → Bool → Type 0
+DecidesCovered left right b = TellsBy (first_of left right) left right b
 
 -- ---- both sides
 
@@ -212,27 +212,27 @@ pub record IsFull (a1 b1 a2 b2 w0 w1 : Option (List ℕ)) (written : ℕ) : Type
   pub written_is : written ≡ sides.written.bytes
 
 -- want of memory after so many bytes
-abbrev pub memory_behind : ℕ → RecordFault
-memory_behind offset = record { kind = OutOfMemory; offset = offset }
+abbrev pub memory_after : ℕ → RecordFault
+memory_after offset = record { kind = OutOfMemory; offset = offset }
 
 -- The left side's record is the next, and memory is wanted for it.
 abbrev pub LeftFull : (a1 b1 a2 b2 w0 w1 : Option (List ℕ)) → RecordFault → ℕ → Type 0
 LeftFull a1 b1 a2 b2 w0 w1 fault written =
     (full : IsFull a1 b1 a2 b2 w0 w1 written) × (first_of full.sides.left full.sides.right ≢ Greater)
-    × (fault ≡ memory_behind (front_length full.merging.both.lefts))
+    × (fault ≡ memory_after (front_length full.merging.both.lefts))
 
 -- The right side's is.
 abbrev pub RightFull : (a1 b1 a2 b2 w0 w1 : Option (List ℕ)) → RecordFault → ℕ → Type 0
 RightFull a1 b1 a2 b2 w0 w1 fault written =
     (full : IsFull a1 b1 a2 b2 w0 w1 written) × (first_of full.sides.left full.sides.right ≡ Greater)
-    × (fault ≡ memory_behind (front_length full.merging.both.rights))
+    × (fault ≡ memory_after (front_length full.merging.both.rights))
 
 -- Memory was wanted at the right side's turn, for the record that the left side holds, too: it is told of the left one.
 abbrev pub BothWanted : (a1 b1 a2 b2 w0 w1 : Option (List ℕ)) → RecordFault → ℕ → Type 0
 BothWanted a1 b1 a2 b2 w0 w1 fault written =
     (own : RecordFault) × (s : RightStopped a1 b1 a2 b2 w0 w1 own written) × (s.sides.left.ahead ≡ Held)
     × (s.right.rest ≡ s.sides.left.reader.last) × (s.sides.left.reader.count < 2 ^ 63)
-    × (fault ≡ memory_behind (front_length s.merging.both.lefts))
+    × (fault ≡ memory_after (front_length s.merging.both.lefts))
 
 -- The right side stopped the merge, and memory that it wanted was not for what the left side has: a record that it
 -- holds, or its end record.
@@ -327,7 +327,7 @@ StopsMerge a1 b1 a2 b2 w0 w1 e = ByCause e.cause
 
 -- want of memory for the record that the side holds
 abbrev pub memory_for : MergeInput → RecordFault
-memory_for side = memory_behind (side.reader.offset - length side.reader.last)
+memory_for side = memory_after (side.reader.offset - length side.reader.last)
 
 -- What is told where one record more would be written than there may be: memory is wanted by the side that it comes
 -- from, after those before it.

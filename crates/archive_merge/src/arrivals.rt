@@ -35,20 +35,20 @@ pub fn number_of_new(arrivals: &[Arrival]) -> u64
 
 /// What a merge tells of its sides.
 #[derive(Drop)]
-pub struct Told {
+pub struct MergeReport {
     /// What each record of the right side was to the left one when its turn came, in their order.
     pub arrivals: Vec<Arrival, Heap>,
     /// Whether the right side retires a slice that the left one has.
     pub withdraws: bool,
 }
 
-impl Told {
+impl MergeReport {
     /// Nothing.
-    pub fn nothing(heap: Heap) -> Told
+    pub fn nothing(heap: Heap) -> MergeReport
         ensures arrivals { result.arrivals.items ≡ [] }
         ensures withdraws { result.withdraws ≡ false }
     {
-        Told {
+        MergeReport {
             arrivals: Vec::new(heap),
             withdraws: false,
         }

@@ -68,7 +68,7 @@ impl<'a> BorrowedText<'a> {
     }
 
     /// Whether the magic was taken, so many records after it, and nothing else.
-    fn stands_behind(&self, count: u64) -> bool
+    fn has_taken_just(&self, count: u64) -> bool
         ensures taken { result ≡ true → self.now.taken ≡ Part.Records }
         ensures count { result ≡ true → self.now.count ≡ count }
     {
@@ -253,7 +253,7 @@ impl<'a> BorrowedSide<'a> {
             (beside (Some shared.now) (seen_of self.old).reader) (beside (Some shared.now) (seen_of self.new).reader)
             self.new.ahead result }
     {
-        if !text.stands_behind(self.count) || self.count == MOST {
+        if !text.has_taken_just(self.count) || self.count == MOST {
             self.last = None;
             return Err(self.refused());
         }

@@ -2,8 +2,8 @@
 //!
 //! - `side`, `merging`, `streams`: [`merge_streams`], in the memory of one record of each side and of the
 //!   retirements of either, each kept once;
-//! - `telling`, `arrivals`: [`merge_telling`], which tells, too, what the records of the right side are to the left
-//!   one;
+//! - `arrival_merge`, `arrivals`: [`merge_with_arrivals`], which also reports whether the left side has,
+//!   or has retired, each record of the right side;
 //! - `losses`: [`lost_operations`], by which one archive is above another, over a sink that keeps nothing;
 //!   `laws`: that none lost means above;
 //! - `borrowed`: [`BorrowedText`], the text of operations that stand in memory, and [`BorrowedSide`], which takes its
@@ -18,8 +18,8 @@
 //!   contract says what was read of the other side by then: magics and records are read in turn, left first.
 //! - `Write` is reported only if the writer failed, no reader did, both magics were taken, and no side had stopped the
 //!   merge before.
-//! - [`merge_telling`] does the same, and gives for each record of the right text whether the left content retires or
-//!   has it (`arrival_of`), and whether one of these records retires a slice that is there.
+//! - [`merge_with_arrivals`] does the same, and reports for each record of the right text whether the left content
+//!   retires or has it (`arrival_of`), and whether one of these records retires a slice that is there.
 //! - [`lost_operations`] gives the number of records of an old archive that a new one neither has nor covers (`Loses`);
 //!   it is 0 exactly if the new one is above the old one (`nothing_is_lost_just_above`). Or it says which of the two is
 //!   refused, for which fault, and that this one stops a merge of both (`IsNotCompared`).
@@ -39,7 +39,7 @@
 //!   and the left side is reported. Memory that is wanted for a record of both sides is reported of the left one, which
 //!   reads first (`IsOfBoth`); a record of which a part came, or which the left side has not read yet, is the right
 //!   side's.
-//! - `merge_telling` has a loop of its own over the same steps. What a right record is to the left side is asked when
+//! - `merge_with_arrivals` has a loop of its own over the same steps. The arrival of a right record is found when
 //!   it is next: the left side was read up to it then. The answer is kept before the right side is read on, where want
 //!   of memory can be reported of that side.
 //! - Which side has the next record is found out once a turn (`first`), and handed on: two equal records are compared
@@ -48,6 +48,7 @@
 //!   that tells.
 #![tactic(auto)]
 
+mod arrival_merge;
 mod arrivals;
 mod borrowed;
 pub mod laws;
@@ -55,11 +56,10 @@ mod losses;
 mod merging;
 mod side;
 mod streams;
-mod telling;
 
-pub use arrivals::{Arrival, Told, number_of_new};
+pub use arrival_merge::merge_with_arrivals;
+pub use arrivals::{Arrival, MergeReport, number_of_new};
 pub use borrowed::{BorrowedSide, BorrowedText};
 pub use losses::lost_operations;
 pub use side::{MergeInput, ReadFrom, Side};
 pub use streams::merge_streams;
-pub use telling::merge_telling;

@@ -4,9 +4,9 @@ ghost use Rattle.std.specs.Prelude.{IfErr, IfOk};
 ghost use Rattle.byte_device.specs.Devices.{stream};
 ghost use Rattle.archive_merge.specs.Losses.{IsNotCompared, Loses};
 
+use crate::arrival_merge::merge_with_arrivals;
 use crate::arrivals::number_of_new;
 use crate::side::MergeInput;
-use crate::telling::merge_telling;
 use archive_records::MergeFault;
 use byte_device::{Nowhere, Source};
 use memory::Heap;
@@ -31,6 +31,6 @@ pub fn lost_operations<R: Source, S: Source>(
     ensures refused { IfErr result (λ e. IsNotCompared (stream R.left R.failures new.old new.new)
         (stream S.left S.failures old.old old.new) e.cause) }
 {
-    let (_, told) = merge_telling::<R, S, MergeInput, Nowhere>(heap, new, old, &mut Nowhere)?;
+    let (_, told) = merge_with_arrivals::<R, S, MergeInput, Nowhere>(heap, new, old, &mut Nowhere)?;
     Ok(number_of_new(&told.arrivals))
 }

@@ -8,11 +8,11 @@ ghost use Rattle.archive_merge.specs.Merging.{most_records};
 ghost use Rattle.byte_device.specs.Devices.{stream};
 ghost use Rattle.archive_merge.specs.MergeSteps.{BlamesDevices, BlamesLeft, BlamesRight, BlamesWriter, Fits, HadTurn};
 ghost use Rattle.archive_merge.specs.MergeSteps.{HasEnded, IsBeforeTurn, IsLastOfBoth, IsOneMore, IsRead, IsReadOn};
-ghost use Rattle.archive_merge.specs.MergeSteps.{IsRefusedMore, IsToldOfRight, Merging, MergesOn, TellsCovered};
+ghost use Rattle.archive_merge.specs.MergeSteps.{IsRefusedMore, IsToldOfRight, Merging, MergesOn, DecidesCovered};
 ghost use Rattle.archive_merge.specs.MergeSteps.{after_turn, cost_of, first_of, next_record, unread_of};
 ghost use Rattle.archive_merge.specs.Sides.{sides_of};
 ghost use Rattle.archive_merge.specs.declared.arrivals.Arrival.{Arrival};
-ghost use Rattle.archive_merge.specs.TellingSteps.{Telling, TellsNext, has_next, told_with};
+ghost use Rattle.archive_merge.specs.ArrivalSteps.{Telling, TellsNext, has_next, told_with};
 
 use crate::side::{Lookahead, MergeInput, ReadFrom, Side};
 use archive_core::Retirements;
@@ -108,7 +108,7 @@ pub fn first<B: Side>(left: &MergeInput, right: &B) -> Ordering
 /// is next.
 fn is_covered<B: Side>(m: &mut Merge<B>, next: Ordering) -> bool
     requires { next ≡ first_of m.old.left (B.seen m.old.right) }
-    ensures covered { TellsCovered (sides_of B.seen m.old).left (sides_of B.seen m.old).right result }
+    ensures covered { DecidesCovered (sides_of B.seen m.old).left (sides_of B.seen m.old).right result }
     ensures same { m.new ≡ m.old }
 {
     match next {

@@ -7,7 +7,7 @@ ghost use Rattle.archive_merge.specs.Merging.{GainsCount, Merges};
 ghost use Rattle.archive_merge.specs.MergeSteps.{BlamesDevices, Fits, HasEnded, Leaves, Merging, StopsMerge};
 ghost use Rattle.archive_merge.specs.Sides.{sides_of};
 ghost use Rattle.archive_merge.specs.declared.arrivals.Arrival.{Arrival};
-ghost use Rattle.archive_merge.specs.TellingSteps.{Telling, ReportsAllArrivals};
+ghost use Rattle.archive_merge.specs.ArrivalSteps.{Telling, ReportsAllArrivals};
 
 use crate::merging::{Merge, merge_records};
 use crate::side::{MergeInput, ReadFrom, Side};

@@ -3,7 +3,7 @@
 ghost use Rattle.archive_records.specs.declared.kind.TextKind.TheVariants.{Archive};
 ghost use Rattle.archive_records.specs.Reading.{ReadsInPart};
 
-use archive_records::{FromRecords, RecordFault, RecordReader, TextKind, tell_text};
+use archive_records::{FromRecords, RecordFault, RecordReader, TextKind, read_answer};
 use byte_device::Source;
 use memory::{Heap, NoMemory};
 
@@ -42,5 +42,5 @@ impl FromRecords for Nothing {
 pub fn test_archive<R: Source>(heap: Heap, r: &mut R) -> Result<(), RecordFault>
     ensures { ReadsInPart Archive (λ _ _. Unit {0}) R.left R.failures r.old r.new result }
 {
-    tell_text::<Nothing, R>(&heap, TextKind::Archive, (), r)
+    read_answer::<Nothing, R>(&heap, TextKind::Archive, (), r)
 }

@@ -15,7 +15,7 @@ ghost use Rattle.archive_records.specs.Reading.{ReadsInPart};
 
 use archive_core::{CheckedSlice, NameRow, OwnedNameRow, Record};
 use archive_records::{
-    Entry, FromRecords, RecordFault, RecordReader, Summary, TextKind, tell_text,
+    Entry, FromRecords, RecordFault, RecordReader, Summary, TextKind, read_answer,
 };
 use byte_device::Source;
 use memory::{Heap, NoMemory};
@@ -150,7 +150,7 @@ pub fn read_names<R: Source>(
         told: none,
         names: sought,
     };
-    tell_text::<NameRows<'_>, R>(&heap, TextKind::Archive, start, r)
+    read_answer::<NameRows<'_>, R>(&heap, TextKind::Archive, start, r)
 }
 
 /// What is told of two names in archives so far, of which none is kept.
@@ -229,7 +229,7 @@ pub fn gather_names<R: Source>(
         found,
         names: sought,
     };
-    tell_text::<Gathering<'_>, R>(&heap, TextKind::Archive, start, r)
+    read_answer::<Gathering<'_>, R>(&heap, TextKind::Archive, start, r)
 }
 
 /// Leaves the rows whose slices are not retired, in the order of [`read_names`], each once.

@@ -4,7 +4,7 @@ ghost use Rattle.archive_records.specs.declared.kind.TextKind.TheVariants.{Opera
 ghost use Rattle.archive_records.specs.Reading.{ReadsWhole};
 
 use archive_core::Operation;
-use archive_records::{FromRecords, RecordFault, RecordReader, TextKind, tell_text};
+use archive_records::{FromRecords, RecordFault, RecordReader, TextKind, read_answer};
 use byte_device::Source;
 use memory::{Heap, NoMemory};
 
@@ -52,5 +52,5 @@ impl FromRecords for Listed {
 pub fn read_ops<R: Source>(heap: Heap, r: &mut R) -> Result<Vec<Operation, Heap>, RecordFault>
     ensures { ReadsWhole Operations (λ operations. operations.items) R.left R.failures r.old r.new result }
 {
-    tell_text::<Listed, R>(&heap, TextKind::Operations, (), r)
+    read_answer::<Listed, R>(&heap, TextKind::Operations, (), r)
 }

@@ -7,7 +7,7 @@ ghost use Rattle.archive_records.specs.declared.kind.TextKind.TheVariants.{Archi
 ghost use Rattle.archive_records.specs.Reading.{ReadsWhole, ReadsFront};
 
 use archive_core::{Archive, Record};
-use archive_records::{FromRecords, RecordFault, RecordReader, TextKind, read_text, tell_text};
+use archive_records::{FromRecords, RecordFault, RecordReader, TextKind, read_answer, read_text};
 use byte_device::Source;
 use memory::{Heap, NoMemory};
 
@@ -71,7 +71,7 @@ impl<A: Archive> FromRecords for Whole<A> {
 pub fn read_archive<A: Archive + Drop, R: Source>(heap: Heap, r: &mut R) -> Result<A, RecordFault>
     ensures { ReadsWhole Archive A.content R.left R.failures r.old r.new result }
 {
-    tell_text::<Whole<A>, R>(&heap, TextKind::Archive, (), r)
+    read_answer::<Whole<A>, R>(&heap, TextKind::Archive, (), r)
 }
 
 /// Reads an archive from the front of the input: exactly the bytes of a text that gives it, of either version, and

@@ -9,7 +9,7 @@ ghost use Rattle.archive_records.specs.Reading.{ReadsInPart};
 ghost use Rattle.archive_read.specs.InnerRows.{AreRowsOf};
 
 use archive_core::{FindRow, compare_keys};
-use archive_records::{FromRecords, RecordFault, RecordReader, TextKind, tell_text};
+use archive_records::{FromRecords, RecordFault, RecordReader, TextKind, read_answer};
 use byte_device::Source;
 use memory::{Heap, NoMemory};
 
@@ -63,5 +63,5 @@ impl FromRecords for Rows {
 pub fn list_rows<R: Source>(heap: Heap, r: &mut R) -> Result<Vec<FindRow, Heap>, RecordFault>
     ensures { ReadsInPart Archive (λ rows o. IsList o rows.items) R.left R.failures r.old r.new result }
 {
-    tell_text::<Rows, R>(&heap, TextKind::Archive, (), r)
+    read_answer::<Rows, R>(&heap, TextKind::Archive, (), r)
 }

@@ -6,7 +6,7 @@ ghost use Rattle.archive_records.specs.declared.kind.TextKind.TheVariants.{Archi
 ghost use Rattle.archive_records.specs.Reading.{ReadsInPart};
 
 use archive_records::{
-    Entry, FromRecords, RecordFault, RecordReader, Summary, TextKind, tell_text,
+    Entry, FromRecords, RecordFault, RecordReader, Summary, TextKind, read_answer,
 };
 use byte_device::Source;
 use memory::{Heap, NoMemory};
@@ -51,5 +51,5 @@ impl FromRecords for Entries {
 pub fn summarize<R: Source>(heap: Heap, r: &mut R) -> Result<Summary, RecordFault>
     ensures { ReadsInPart Archive (λ made o. made ≡ summary o) R.left R.failures r.old r.new result }
 {
-    tell_text::<Entries, R>(&heap, TextKind::Archive, (), r)
+    read_answer::<Entries, R>(&heap, TextKind::Archive, (), r)
 }

@@ -9,7 +9,7 @@ use Rattle.archive_records.specs.declared.fault.RecordFault.{RecordFault}
 use Rattle.archive_records.specs.Kind.{magic_of}
 use Rattle.archive_records.specs.Text.{end_record, ending, text_of, InOrder, AreApart, last_of}
 use Rattle.archive_records.specs.Fault.{is_end, next, FailsNext, IsCoveredNext, FailsBehind, Fails, IsTrailing}
-use Rattle.archive_records.specs.Fault.{RefusesSlice, Refuses, IsMagicFault, IsUnended, IsFaultBehind, IsFaultOf}
+use Rattle.archive_records.specs.Fault.{RefusesSlice, Refuses, IsMagicFault, IsUnended, IsFaultAfter, IsFaultOf}
 use Rattle.archive_records.specs.Front.{IsGoodFront, IsLongestFront}
 use Rattle.archive_records.proofs.SliceFacts.{no_slice_fault, one_slice_fault}
 use Rattle.archive_records.proofs.Formats.{length-magic}
@@ -116,13 +116,13 @@ module _ (file : Format) where
   fails_stop records rest kind (inl f) g = fault-stops file (last_of [] records) (length records) rest kind f g.next
   fails_stop records rest kind (inr f) g = covered_stops file records rest kind f g
 
-  behind_stops : (records : List (List ℕ)) (rest : List ℕ) (fault : RecordFault) → IsFaultBehind file records rest fault → Goes file records rest → ⊥
+  behind_stops : (records : List (List ℕ)) (rest : List ℕ) (fault : RecordFault) → IsFaultAfter file records rest fault → Goes file records rest → ⊥
   behind_stops records rest fault (inl f) g = fails_stop records rest fault.kind f.0 g
   behind_stops records rest fault (inr t) g = end-stops file (last_of [] records) rest t.1.end g.next
 
   -- a fault after a good front stands at the end of the longest
   pub fault_longest : (text : List ℕ) (records : List (List ℕ)) (front : IsGoodFront file text records)
-      (fault : RecordFault) → IsFaultBehind file records front.rest fault → IsLongestFront file text records
+      (fault : RecordFault) → IsFaultAfter file records front.rest fault → IsLongestFront file text records
   fault_longest text records front fault f = is_longest file text records front (behind_stops records front.rest fault f)
 
   same_kind : (last : List ℕ) (count : ℕ) (rest : List ℕ) (j k : RecordFaultKind) → FailsNext file last count rest j → FailsNext file last count rest k → j ≡ k
@@ -145,7 +145,7 @@ module _ (file : Format) where
   fails_and_more records rest kind (inl a) t = end_fails file (last_of [] records) (length records) rest kind t.whole t.end a
   fails_and_more records rest kind (inr a) t = end-stops file (last_of [] records) rest t.end (covered_behind file records rest kind a)
 
-  one_behind : (records : List (List ℕ)) (rest : List ℕ) (f g : RecordFault) → IsFaultBehind file records rest f → IsFaultBehind file records rest g → f ≡ g
+  one_behind : (records : List (List ℕ)) (rest : List ℕ) (f g : RecordFault) → IsFaultAfter file records rest f → IsFaultAfter file records rest g → f ≡ g
   one_behind records rest f g (inl a) (inl b) = fault_eq f g (same_fails records rest f.kind g.kind a.0 b.0) (a.1 ∙ sym b.1)
   one_behind records rest f g (inl a) (inr b) = absurd (fails_and_more records rest f.kind a.0 b.1)
   one_behind records rest f g (inr a) (inl b) = absurd (fails_and_more records rest g.kind b.0 a.1)
@@ -159,8 +159,8 @@ module _ (file : Format) where
       let same = unique file a.0 b.0 a.1.rest b.1.rest a.1.ordered a.1.apart b.1.ordered b.1.apart
       (behind_magic file t (concat a.0 ++ a.1.rest) (concat b.0 ++ b.1.rest) a.1.whole b.1.whole)
       (behind_stops a.0 a.1.rest f a.3) (behind_stops b.0 b.1.rest g b.3) in
-      let here : IsFaultBehind file b.0 b.1.rest f = subst (λ (x : List ℕ). IsFaultBehind file b.0 x f) same.1
-      (subst (λ (x : List (List ℕ)). IsFaultBehind file x a.1.rest f) same.0 a.3) in
+      let here : IsFaultAfter file b.0 b.1.rest f = subst (λ (x : List ℕ). IsFaultAfter file b.0 x f) same.1
+      (subst (λ (x : List (List ℕ)). IsFaultAfter file x a.1.rest f) same.0 a.3) in
       one_behind b.0 b.1.rest f g here b.3
 
   -- ---- a text, and what stands after it
@@ -181,7 +181,7 @@ module _ (file : Format) where
 
     pub no_fault_behind : (records : List (List ℕ)) (front : IsGoodFront file t records) (fault : RecordFault)
         → (file ≢ Operations_file → length records ≡ length xs → length xs < 2 ^ 64)
-        → (fault.kind ≡ Trailing → more ≡ []) → IsUnended file front.rest → IsFaultBehind file records front.rest fault
+        → (fault.kind ≡ Trailing → more ≡ []) → IsUnended file front.rest → IsFaultAfter file records front.rest fault
         → ⊥
     no_fault_behind records front fault few all unended (inl (inr c, o)) =
         let same = same_front records front (behind_stops records front.rest fault (inl (inr c, o))) in

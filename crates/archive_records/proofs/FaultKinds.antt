@@ -9,7 +9,7 @@ use Rattle.archive_records.specs.declared.fault.RecordFaultKind.TheVariants.{Not
 use Rattle.archive_records.specs.declared.fault.RecordFaultKind.TheVariants.{BadCount, Trailing, OutOfMemory, Covered}
 use Rattle.archive_records.specs.declared.fault.RecordFault.{RecordFault}
 use Rattle.archive_core.specs.declared.faults.SliceFault.{SliceFault}
-use Rattle.archive_records.specs.Layout.{head_length, body_length, framed, framed_behind}
+use Rattle.archive_records.specs.Layout.{head_length, body_length, framed, framed_after}
 use Rattle.archive_records.specs.Kind.{allows, may_follow}
 use Rattle.archive_records.specs.Text.{last_of}
 use Rattle.archive_records.specs.Fault.{RefusesSlice, is_end, tested, next, FailsNext, IsMagicFault, IsUnended, IsOperationsFault, IsSummaryFault, IsOfText}
@@ -33,7 +33,7 @@ cut_off file low count rest (inr r) = absurd (refused_slice file (take r.0 rest)
 -- bytes too many are no fault of a record, nor is that it is covered told by the tests that know the last record alone
 next_kind : (file : Format) (low : List ℕ) (count : ℕ) (rest : List ℕ) (kind : RecordFaultKind)
     → next file low count rest ≡ Err kind → (kind ≢ Trailing) × (kind ≢ Covered)
-unfolding next framed framed_behind tested
+unfolding next framed framed_after tested
 next_kind file low count rest kind e = grind arith
 
 slice_kind : (bytes : List ℕ) (kind : RecordFaultKind) → RefusesSlice bytes kind → (kind ≢ Trailing) × (kind ≢ Covered)
@@ -80,7 +80,7 @@ unended_behind file low count b kind within some f known =
 -- it has no order, and no end record
 next_operations : (low : List ℕ) (count : ℕ) (rest : List ℕ) (kind : RecordFaultKind) → next Operations low count rest
     ≡ Err kind → (kind ≢ NotAscending) × (kind ≢ BadCount)
-unfolding next framed framed_behind tested head_length is_end may_follow allows
+unfolding next framed framed_after tested head_length is_end may_follow allows
 next_operations low count rest kind e = grind (arith, nat_tests)
 
 magic_kind : (file : Format) (text : List ℕ) (kind : RecordFaultKind) → IsMagicFault file text kind → (kind ≡ BadMagic) ⊎ (kind ≡ Truncated)
@@ -104,7 +104,7 @@ operations_faults text fault (inr (records, front, more, inr t)) =
 
 next_summary : (low : List ℕ) (count : ℕ) (rest : List ℕ) (kind : RecordFaultKind) → next Summary low count rest
     ≡ Err kind → (kind ≢ TooLarge) × ((why : SliceFault) → kind ≢ BadSlice why) × (kind ≢ KeyMismatch)
-unfolding next framed framed_behind tested body_length
+unfolding next framed framed_after tested body_length
 next_summary low count rest kind e = grind (arith, nat_tests)
 
 -- it has no slices

@@ -16,7 +16,7 @@ use Rattle.archive_core.proofs.Compare.{length_key_bytes}
 use Rattle.archive_core.proofs.Records.{length-key_of}
 use Rattle.archive_records.specs.declared.fault.RecordFaultKind.{RecordFaultKind}
 use Rattle.archive_records.specs.declared.fault.RecordFaultKind.TheVariants.{BadSlice, KeyMismatch}
-use Rattle.archive_records.specs.Layout.{head_length, slice_length, largest_slice, admission_body, body_length, framed, framed_behind}
+use Rattle.archive_records.specs.Layout.{head_length, slice_length, largest_slice, admission_body, body_length, framed, framed_after}
 use Rattle.archive_records.specs.Kind.{IsItem, kind_of, admission_length}
 use Rattle.archive_records.specs.Entry.{IsEntry}
 use Rattle.archive_records.specs.Fault.{is_end, RefusesSlice, Refuses}
@@ -187,7 +187,7 @@ record-framed file head behind r (inr t) =
 
 -- an entry is whole, and no end record
 pub entry-framed : (item : List ℕ) → IsEntry item → framed Summary item ≡ Ok (length item)
-unfolding framed framed_behind head_length body_length
+unfolding framed framed_after head_length body_length
 entry-framed item is = grind (arith, nat_tests)
 
 entry-no_end : (item : List ℕ) → IsEntry item → is_end item ≡ false
@@ -196,7 +196,7 @@ entry-no_end item is = grind (arith, nat_tests)
 
 -- whole bytes of a summary that are no end record are an entry
 pub entry-of : (bytes : List ℕ) → framed Summary bytes ≡ Ok (length bytes) → is_end bytes ≡ false → IsEntry bytes
-unfolding framed framed_behind head_length is_end body_length
+unfolding framed framed_after head_length is_end body_length
 entry-of bytes whole no_end = grind (arith, nat_tests)
 
 -- an item is whole, is no end record, and is not refused for what it holds
@@ -220,7 +220,7 @@ refused_slice _ bytes kind refused = refused
 -- whole records of operations are framed as in an archive, of either version
 pub archive_framed : (file : Format) → (file ≡ Archive) ⊎ (file ≡ OldArchive) ⊎ (file ≡ Operations) → (bytes : List ℕ)
     → framed file bytes ≡ Ok (length bytes) → is_end bytes ≡ false → framed Archive bytes ≡ Ok (length bytes)
-unfolding framed framed_behind head_length is_end body_length
+unfolding framed framed_after head_length is_end body_length
 archive_framed file is bytes whole no_end = grind (arith, nat_tests)
 
 -- whole bytes with a retirement's tag are a retirement's record

@@ -6,7 +6,7 @@ use Rattle.std.specs.Int.{w64, from_be_bytes}
 use Rattle.std.proofs.lemmas.Bool.Decides.{nat_tests}
 use Rattle.std.proofs.lemmas.Bool.{le-ltb, lt-ltb}
 use Rattle.archive_records.specs.declared.fault.RecordFaultKind.TheVariants.{Truncated, BadTag, TooLarge}
-use Rattle.archive_records.specs.Layout.{head_length, admission_body, body_length, slice_length, largest_slice, framed, framed_behind}
+use Rattle.archive_records.specs.Layout.{head_length, admission_body, body_length, slice_length, largest_slice, framed, framed_after}
 use Rattle.archive_records.specs.Kind.{admission_length}
 use Rattle.archive_records.specs.declared.format.Format.{Format}
 use Rattle.archive_records.specs.declared.format.Format.TheVariants.{Archive, OldArchive, Operations, Summary}
@@ -39,19 +39,19 @@ module _ (file : Format) where
   framed-bad bytes le h = rw (le-ltb _ _ le, h) refl
 
   pub framed-tag : (bytes : List ℕ) (head : ℕ) → 1 ≤ length bytes → head_length file (get_or bytes 0 0) ≡ Some head
-      → framed file bytes ≡ framed_behind file head bytes
+      → framed file bytes ≡ framed_after file head bytes
   unfolding framed
   framed-tag bytes head le h = rw (le-ltb _ _ le, h) refl
 
   pub framed-large : (bytes : List ℕ) (head : ℕ) → 1 ≤ length bytes → head_length file (get_or bytes 0 0) ≡ Some head
       → head ≤ length bytes → largest_slice < body_length file bytes → framed file bytes ≡ Err TooLarge
-  unfolding framed_behind
+  unfolding framed_after
   framed-large bytes head le h long large = framed-tag bytes head le h ∙ rw (le-ltb _ _ long, lt-ltb _ _ large) refl
 
   pub framed-whole : (bytes : List ℕ) (head : ℕ) → 1 ≤ length bytes → head_length file (get_or bytes 0 0) ≡ Some head
       → head ≤ length bytes → body_length file bytes ≤ largest_slice → head + body_length file bytes ≤ length bytes
       → framed file bytes ≡ Ok (head + body_length file bytes)
-  unfolding framed_behind
+  unfolding framed_after
   framed-whole bytes head le h long small le' = framed-tag bytes head le h ∙ rw (le-ltb _ _ long, le-ltb _ _ small, le-ltb _ _ le') refl
 
   pub same_body : (bytes more : List ℕ) (head : ℕ) → 1 ≤ length bytes → head_length file (get_or bytes 0 0) ≡ Some head
@@ -73,7 +73,7 @@ module _ (file : Format) where
     long_kept = rw grows (omega (arith, length-append bytes more))
 
     pub grown-head : length grown < head → framed file grown ≡ Err Truncated
-    unfolding framed_behind
+    unfolding framed_after
     grown-head lt = framed-tag grown head long_kept tag_kept ∙ rw (lt-ltb _ _ lt) refl
 
     body_kept : head ≤ length bytes → body_length file grown ≡ body_length file bytes
@@ -81,7 +81,7 @@ module _ (file : Format) where
 
     pub grown-body : head ≤ length bytes → body_length file bytes ≤ largest_slice
         → length grown < head + body_length file bytes → framed file grown ≡ Err Truncated
-    unfolding framed_behind
+    unfolding framed_after
     grown-body long small lt =
         let b : body_length file grown ≡ body_length file bytes = body_kept long in
         let all : head ≤ length grown = rw grows (omega (arith, length-append bytes more)) in

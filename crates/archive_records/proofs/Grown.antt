@@ -7,7 +7,7 @@ use Rattle.std.proofs.lemmas.Bool.Decides.{nat_tests}
 use Rattle.std.specs.Int.{w64, from_be_bytes}
 use Rattle.archive_records.specs.declared.fault.RecordFaultKind.{RecordFaultKind}
 use Rattle.archive_records.specs.declared.fault.RecordFaultKind.TheVariants.{Truncated, BadTag, TooLarge}
-use Rattle.archive_records.specs.Layout.{head_length, body_length, record_count, largest_slice, framed, framed_behind}
+use Rattle.archive_records.specs.Layout.{head_length, body_length, record_count, largest_slice, framed, framed_after}
 use Rattle.archive_records.specs.Fault.{is_end, tested, next, next_by, FailsNext, IsTrailing, Refuses}
 use Rattle.archive_records.proofs.Framed.{same_tag, same_body, framed-bad, framed-large}
 use Rattle.archive_records.proofs.Holds.{holds, Holds-end, done, next-is, next-framed}
@@ -32,7 +32,7 @@ module _ (file : Format) where
       → (kind ≡ Truncated) ⊎ ((kind ≡ BadTag) × (1 ≤ length bytes) × (head_length file (get_or bytes 0 0) ≡ None))
       ⊎ ((kind ≡ TooLarge) × (head : ℕ) × (1 ≤ length bytes) × (head_length file (get_or bytes 0 0) ≡ Some head)
       × (head ≤ length bytes) × (largest_slice < body_length file bytes))
-  unfolding framed framed_behind
+  unfolding framed framed_after
   framed_why bytes kind e = grind (arith, nat_tests)
 
   framed-stays : (bytes more : List ℕ) (kind : RecordFaultKind) → kind ≢ Truncated → framed file bytes ≡ failed kind → framed file (bytes ++ more) ≡ failed kind

@@ -2,7 +2,7 @@
 use Rattle.std.proofs.Common.{◌≡◌, ℕ, ◌+◌, ◌≤◌, Bool, true, false, eqb, List, length, get_or, take, Some, Result, Ok, Err, refl, ap, ◌∙◌, arith}
 use Rattle.std.proofs.lemmas.Bool.Decides.{nat_tests}
 use Rattle.archive_records.specs.declared.fault.RecordFaultKind.{RecordFaultKind}
-use Rattle.archive_records.specs.Layout.{head_length, admission_body, body_length, record_count, largest_slice, framed, framed_behind}
+use Rattle.archive_records.specs.Layout.{head_length, admission_body, body_length, record_count, largest_slice, framed, framed_after}
 use Rattle.archive_records.specs.Reader.{seen_as}
 use Rattle.archive_records.specs.Kind.{may_follow, admission_length}
 use Rattle.archive_records.specs.Fault.{is_end, tested, next, next_by}
@@ -32,7 +32,7 @@ module _ (file : Format) where
     pub is : n ≡ head + body_length file bytes
 
   pub holds : (bytes : List ℕ) (n : ℕ) → framed file bytes ≡ Ok n → Holds bytes n
-  unfolding framed framed_behind
+  unfolding framed framed_after
   holds bytes n e = grind (arith, nat_tests)
 
   pub Holds-nine : (bytes : List ℕ) (n : ℕ) → Holds bytes n → 9 ≤ n

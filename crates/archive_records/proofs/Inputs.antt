@@ -21,7 +21,7 @@ use Rattle.archive_records.specs.declared.fault.RecordFaultKind.TheVariants.{Bad
 use Rattle.archive_records.specs.declared.fault.RecordFault.{RecordFault}
 use Rattle.archive_records.specs.Kind.{magic_of, kind_of, archive_format, format_for}
 use Rattle.archive_records.specs.Text.{ending, text_of, InOrder, AreApart, last_of, kept, taken_of, IsArchiveOf, summary_text, IsOperationsText}
-use Rattle.archive_records.specs.Fault.{is_end, FailsBehind, Fails, IsMagicFault, IsFaultBehind, IsUnended}
+use Rattle.archive_records.specs.Fault.{is_end, FailsBehind, Fails, IsMagicFault, IsFaultAfter, IsUnended}
 use Rattle.archive_records.specs.Fault.{IsOperationsFault, IsSummaryFault, IsFaultOf, IsCutAtMost, IsOfText}
 use Rattle.archive_records.specs.Front.{IsGoodFront, IsLongestFront, IsFrontLength, IsLongestLength, front_length}
 use Rattle.archive_records.specs.Reading.{Blames, DecidesNoFault, HoldsOfTaken, IsMeaning, IsOfMachine, IsReadFront}
@@ -159,7 +159,7 @@ module _ (file : Format) where
   magic_stop bytes kind known (inr (inr d)) = absurd (known.1 d.0)
 
   pub record_stop : (records : List (List ℕ)) (rest : List ℕ) (fault : RecordFault) → IsOfText fault.kind
-      → Stops file records rest fault → IsFaultBehind file records rest fault
+      → Stops file records rest fault → IsFaultAfter file records rest fault
   record_stop records rest fault known (inl f) = inl (rw (as_itself fault.kind known) at (f.1 known.1), f.0)
   record_stop records rest fault known (inr (inl t)) = inr t
   record_stop records rest fault known (inr (inr d)) = absurd (known.0 d.0)
@@ -169,7 +169,7 @@ module _ (file : Format) where
   FewFault t fault =
       (IsMagicFault file t fault.kind × (fault.offset ≡ 0))
       ⊎ ((records : List (List ℕ)) × (front : IsGoodFront file t records) × (length records < 2 ^ 63)
-      × IsUnended file front.rest × IsFaultBehind file records front.rest fault)
+      × IsUnended file front.rest × IsFaultAfter file records front.rest fault)
 
   pub grown_magic : (t bytes more : List ℕ) (kind : RecordFaultKind) → t ≡ bytes ++ more
       → (kind ≡ Truncated → more ≡ []) → IsMagicFault file bytes kind → IsMagicFault file t kind
@@ -180,11 +180,11 @@ module _ (file : Format) where
   grown_magic t bytes more _ e end b = b
 
   pub grown_behind : (records : List (List ℕ)) (rest more : List ℕ) (fault : RecordFault)
-      → (fault.kind ≡ Truncated → more ≡ []) → IsFaultBehind file records rest fault
-      → IsFaultBehind file records (rest ++ more) fault
+      → (fault.kind ≡ Truncated → more ≡ []) → IsFaultAfter file records rest fault
+      → IsFaultAfter file records (rest ++ more) fault
   grown_behind records rest more fault end f =
       elim (part_or_not fault.kind) [
-        | inl p ↦ subst (λ (b : List ℕ). IsFaultBehind file records b fault) (sym (ap (λ (y : List ℕ). rest ++ y) (end p) ∙ append-nil rest)) f
+        | inl p ↦ subst (λ (b : List ℕ). IsFaultAfter file records b fault) (sym (ap (λ (y : List ℕ). rest ++ y) (end p) ∙ append-nil rest)) f
         | inr p ↦ elim f [
           | inl g ↦ inl (fails_grow records rest more fault.kind p g.0, g.1)
           | inr g ↦ inr (g.0, IsTrailing-grows file (last_of [] records) (length records) rest more g.1, g.2)

@@ -16,7 +16,7 @@ pub mod Shared
 pub mod Grown
 pub mod FaultKinds
 pub mod Undecided
-pub mod Steps
+pub mod RecordSteps
 pub mod Listed
 pub mod Contents
 pub mod Summarised

@@ -9,11 +9,11 @@ use Rattle.archive_records.specs.declared.format.Format.{Format}
 use Rattle.archive_records.specs.declared.format.Format.TheVariants.{Archive, OldArchive}
 use Rattle.archive_records.specs.declared.kind.TextKind.TheVariants.{Archive as Archive_text}
 use Rattle.archive_records.specs.Kind.{magic, old_magic, magic_of, kind_of, archive_format}
-use Rattle.archive_records.specs.Fault.{IsFault, IsFaultOf, IsFaultBehind, IsMagicFault}
+use Rattle.archive_records.specs.Fault.{IsFault, IsFaultOf, IsFaultAfter, IsMagicFault}
 use Rattle.archive_records.proofs.Formats.{format_magic, kind_archive, same_fronts, length-magic}
 
 -- no fault after a magic stands at its beginning
-behind : (file : Format) (records : List (List ℕ)) (rest : List ℕ) (fault : RecordFault) → fault.offset ≡ 0 → IsFaultBehind file records rest fault → ⊥
+behind : (file : Format) (records : List (List ℕ)) (rest : List ℕ) (fault : RecordFault) → fault.offset ≡ 0 → IsFaultAfter file records rest fault → ⊥
 behind file records rest fault e (inl f) = omega (arith, e, f.1)
 behind file records rest fault e (inr f) = omega (arith, e, f.2)
 

@@ -88,8 +88,8 @@ IsMagicFault file text Truncated = (length text < 8) × (text ≡ take (length t
 IsMagicFault file text _ = ⊥
 
 -- what is wrong after a good front, and where
-abbrev pub IsFaultBehind : Format → List (List ℕ) → List ℕ → RecordFault → Type 0
-IsFaultBehind file records rest fault =
+abbrev pub IsFaultAfter : Format → List (List ℕ) → List ℕ → RecordFault → Type 0
+IsFaultAfter file records rest fault =
     (Fails file records rest fault.kind × (fault.offset ≡ front_length records))
     ⊎ ((fault.kind ≡ Trailing) × IsTrailing file (last_of [] records) (length records) rest
     × (fault.offset ≡ front_length records + 9))
@@ -104,7 +104,7 @@ abbrev pub IsFaultOf : Format → List ℕ → RecordFault → Type 0
 IsFaultOf file text fault =
     (IsMagicFault file text fault.kind × (fault.offset ≡ 0))
     ⊎ ((records : List (List ℕ)) × (front : IsGoodFront file text records) × IsUnended file front.rest
-    × IsFaultBehind file records front.rest fault)
+    × IsFaultAfter file records front.rest fault)
 
 -- the fault of what should be an archive's text: of the version that its first bytes tell
 abbrev pub IsFault : List ℕ → RecordFault → Type 0

@@ -36,8 +36,8 @@ abbrev pub largest_slice : ℕ
 largest_slice = 4294967295
 
 -- what a head of this length and the bytes after it are
-unfoldable pub framed_behind : Format → ℕ → List ℕ → Result ℕ RecordFaultKind
-framed_behind file head bytes =
+unfoldable pub framed_after : Format → ℕ → List ℕ → Result ℕ RecordFaultKind
+framed_after file head bytes =
     if nat_lt (length bytes) head then Err Truncated
     else if nat_lt largest_slice (body_length file bytes) then Err TooLarge
     else if nat_lt (length bytes) (head + body_length file bytes) then Err Truncated
@@ -45,7 +45,7 @@ framed_behind file head bytes =
 
 abbrev pub framed_by : Format → Option ℕ → List ℕ → Result ℕ RecordFaultKind
 framed_by file None bytes = Err BadTag
-framed_by file (Some head) bytes = framed_behind file head bytes
+framed_by file (Some head) bytes = framed_after file head bytes
 
 -- the length of the whole record or end record in front of the bytes, or else the first fault of its form
 unfoldable pub framed : Format → List ℕ → Result ℕ RecordFaultKind

@@ -60,8 +60,8 @@ Blames left failures old new kind =
     × (kind ≡ Truncated → IsAtEnd (left new))
 
 -- The offset is the one that this relation has of the bytes that were taken.
-abbrev pub StandsBehind : (List ℕ → ℕ → Type 0) → Option (List ℕ) → Option (List ℕ) → ℕ → Type 0
-StandsBehind IsOffsetOf a b offset = (bytes : List ℕ) × Consumes a b bytes × IsOffsetOf bytes offset
+abbrev pub IsOffsetAfter : (List ℕ → ℕ → Type 0) → Option (List ℕ) → Option (List ℕ) → ℕ → Type 0
+IsOffsetAfter IsOffsetOf a b offset = (bytes : List ℕ) × Consumes a b bytes × IsOffsetOf bytes offset
 
 -- no text is at fault
 abbrev pub IsOfMachine : RecordFaultKind → Type 0
@@ -81,8 +81,8 @@ pub record IsRefused {R : Type 0} (file : TextKind) (left : R → Option (List �
     (fault : RecordFault) : Type 0 where
   pub blames : Blames left failures old new fault.kind
   pub faulty : IsOfText fault.kind → IfSome (left old) (λ text. IsFaultOf (format_for file text) text fault)
-  pub device : fault.kind ≡ Device → StandsBehind (IsLongestLength file) (left old) (left new) fault.offset
-  pub memory : fault.kind ≡ OutOfMemory → StandsBehind (IsFrontLength file) (left old) (left new) fault.offset
+  pub device : fault.kind ≡ Device → IsOffsetAfter (IsLongestLength file) (left old) (left new) fault.offset
+  pub memory : fault.kind ≡ OutOfMemory → IsOffsetAfter (IsFrontLength file) (left old) (left new) fault.offset
   pub undecided : IsOfMachine fault.kind → HoldsOfTaken (DecidesNoFault file) (left old) (left new)
 
 -- The whole input is a text of this meaning, and of no other.

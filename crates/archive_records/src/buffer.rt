@@ -74,7 +74,7 @@ fn lengthen(bytes: &mut Vec<u8, Heap>, count: usize)
 }
 
 /// Pulls a piece of a record of which the last one differs straight after what came of it.
-fn pull_behind<R: Source>(r: &mut R, want: usize, buffer: &mut Buffer) -> Result<usize, Failed>
+fn pull_after<R: Source>(r: &mut R, want: usize, buffer: &mut Buffer) -> Result<usize, Failed>
     requires within { buffer.old.at ≤ length buffer.old.bytes.items }
     requires room { buffer.old.at + want ≤ vec_capacity buffer.old.bytes }
     requires differs { buffer.old.order ≢ Equal }
@@ -95,7 +95,7 @@ fn pull_piece<R: Source>(r: &mut R, chunk: &mut [u8], buffer: &mut Buffer) -> Re
 {
     match buffer.order {
         Ordering::Equal => pull_over(r, chunk, buffer),
-        _ => pull_behind(r, chunk.len(), buffer),
+        _ => pull_after(r, chunk.len(), buffer),
     }
 }
 

@@ -33,7 +33,7 @@ impl Format {
     }
 
     /// Whether these bytes are as the magic begins.
-    pub fn begins(self, bytes: &[u8]) -> bool
+    pub fn magic_begins_with(self, bytes: &[u8]) -> bool
         requires { length bytes.now ≤ 8 }
         ensures { IsTrue result ↔ (bytes.now ≡ take (length bytes.now) (magic_of self)) }
     {

@@ -40,15 +40,15 @@ impl TextKind {
 
     /// Whether these bytes, fewer than a magic has, are as each format of the kind begins: the magics of archives
     /// differ in their last byte alone.
-    pub fn begins(self, bytes: &[u8]) -> bool
+    pub fn magic_begins_with(self, bytes: &[u8]) -> bool
         requires { length bytes.now < 8 }
         ensures { (format : Format) → kind_of format ≡ self
             → IsTrue result ↔ (bytes.now ≡ take (length bytes.now) (magic_of format)) }
     {
         match self {
-            TextKind::Archive => Format::Archive.begins(bytes),
-            TextKind::Operations => Format::Operations.begins(bytes),
-            TextKind::Summary => Format::Summary.begins(bytes),
+            TextKind::Archive => Format::Archive.magic_begins_with(bytes),
+            TextKind::Operations => Format::Operations.magic_begins_with(bytes),
+            TextKind::Summary => Format::Summary.magic_begins_with(bytes),
         }
     }
 

@@ -59,7 +59,7 @@ pub use head::{
 pub use kind::TextKind;
 pub use next::NextRecord;
 pub use reader::{MOST, RecordReader};
-pub use records::{FromRecords, read_text, tell_text};
+pub use records::{FromRecords, read_answer, read_text};
 pub use summary::{Summary, read_summary};
 pub use writing::{
     Sizes, put_end, put_missing_record, put_record, write_archive, write_delta, write_summary,

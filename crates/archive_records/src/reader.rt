@@ -95,7 +95,7 @@ fn read_magic<R: Source>(
             None => Err(RecordFaultKind::BadMagic),
         },
         Err(RecordFaultKind::Truncated) => {
-            if file.begins(&buffer.bytes[..buffer.at]) {
+            if file.magic_begins_with(&buffer.bytes[..buffer.at]) {
                 Err(RecordFaultKind::Truncated)
             } else {
                 Err(RecordFaultKind::BadMagic)

@@ -136,7 +136,7 @@ fn read_records<T: FromRecords + Drop, R: Source>(
 
 /// Reads a whole input as the text of a file, and tells what is asked of it. Memory that is wanted after the last
 /// record is reported after the magic, a good front of every text.
-pub fn tell_text<T: FromRecords + Drop, R: Source>(
+pub fn read_answer<T: FromRecords + Drop, R: Source>(
     heap: &Heap,
     file: TextKind,
     question: T::Question,

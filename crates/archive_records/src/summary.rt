@@ -14,7 +14,7 @@ use crate::entry::{Entry, entry_in};
 use crate::fault::RecordFault;
 use crate::kind::TextKind;
 use crate::reader::RecordReader;
-use crate::records::{FromRecords, tell_text};
+use crate::records::{FromRecords, read_answer};
 use archive_core::Archive;
 use byte_device::Source;
 use memory::{Heap, NoMemory};
@@ -146,5 +146,5 @@ impl FromRecords for Named {
 pub fn read_summary<R: Source>(heap: Heap, r: &mut R) -> Result<Summary, RecordFault>
     ensures { ReadsWhole SummaryFile (λ summary. summary) R.left R.failures r.old r.new result }
 {
-    tell_text::<Named, R>(&heap, TextKind::Summary, (), r)
+    read_answer::<Named, R>(&heap, TextKind::Summary, (), r)
 }

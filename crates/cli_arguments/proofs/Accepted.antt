@@ -14,7 +14,7 @@ use Rattle.cli_arguments.specs.{Commands.symarch_command, declared.commands.Form
 use Rattle.cli_arguments.specs.Lines.{all_values, are_accepted, asked_of, has_form, have_forms, is_set, line_at}
 use Rattle.cli_arguments.specs.Lines.{line_in, named_command, values_at, values_spelled, words_by}
 use Rattle.cli_arguments.specs.Table.{Signature, signature_named}
-use Rattle.cli_arguments.proofs.Filled.{are_filled, found_passes, is_filled, lets_name, lets_stop, level, want_values}
+use Rattle.cli_arguments.proofs.FilledRows.{are_filled, found_passes, is_filled, lets_name, lets_stop, level, want_values}
 
 -- ---- tests
 

@@ -23,7 +23,7 @@ use Rattle.clap.specs.Walk.{trailing, value, values_or_missing, walk, walk_from,
 use Rattle.clap.specs.declared.builder.{action.ArgAction.ArgAction, value_parser.ValueParser.ValueParser}
 use Rattle.clap.proofs.WalkLemmas.{both}
 use Rattle.cli_arguments.specs.{Commands.symarch_command, Lines.are_accepted, Lines.error_kinds}
-use Rattle.cli_arguments.proofs.{Filled.found_passes, Simple.symarch_free}
+use Rattle.cli_arguments.proofs.{FilledRows.found_passes, SimpleCommand.symarch_free}
 
 -- no kind of error
 abbrev none : Kinds → Bool

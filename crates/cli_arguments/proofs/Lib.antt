@@ -1,7 +1,7 @@
-pub mod Filled
+pub mod FilledRows
 pub mod KeptInputs
 pub mod OnWords
-pub mod Simple
+pub mod SimpleCommand
 pub mod Accepted
 pub mod LineFaultLemmas
 pub mod Exactly

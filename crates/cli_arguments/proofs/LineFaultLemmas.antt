@@ -14,7 +14,7 @@ use Rattle.cli_arguments.specs.Lines.{Line, all_spelled, all_values, amount_spel
 use Rattle.cli_arguments.specs.Lines.{inputs_of, is_path_among, out_of, values_spelled, words_by}
 use Rattle.cli_arguments.specs.{Table.Signature, Table.signature_named, declared.commands.Form.Form}
 use Rattle.cli_arguments.specs.{Commands.symarch_command, Lines.error_kinds}
-use Rattle.cli_arguments.proofs.Simple.{symarch_free}
+use Rattle.cli_arguments.proofs.SimpleCommand.{symarch_free}
 use Rattle.cli_arguments.specs.declared.line_faults.LineFault.{LineFault, TheVariants.OutOfMemory, TheVariants.Refused}
 use Rattle.cli_arguments.specs.declared.commands.Form.TheVariants as forms
 use Rattle.clap.specs.Words.{App, HasKind, IsAmong, Kinds, Row, Text, fault_of, is_simple_and_free, kind_of}

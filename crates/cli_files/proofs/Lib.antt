@@ -1,4 +1,4 @@
-pub mod Accounts
+pub mod OutAccounts
 pub mod Same
 pub mod Publishings
 pub mod Asked

@@ -5,8 +5,8 @@ use Rattle.std.specs.List.{AllByRecursion, AllZip}
 use Rattle.std.specs.IoError.{error_kind}
 use Rattle.std.specs.declared.io.ErrorKind.TheVariants.{OutOfMemory}
 use Rattle.byte_device.specs.Disks.{At, FileAt, Holding, IsOpened, Missing, Path, Unknown, opened_with}
-use Rattle.byte_openings.specs.declared.openings.Opening.{Opening}
-use Rattle.byte_openings.specs.declared.openings.Opening.TheVariants as openings
+use Rattle.byte_lazy_inputs.specs.declared.openings.Opening.{Opening}
+use Rattle.byte_lazy_inputs.specs.declared.openings.Opening.TheVariants as openings
 use Rattle.cli_files.specs.declared.input_state.InputState.{InputState}
 use Rattle.cli_files.specs.declared.input_state.InputState.TheVariants as state
 use Rattle.cli_files.specs.declared.input_state.Unopened.{Unopened as Reason}

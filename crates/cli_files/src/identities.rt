@@ -27,7 +27,7 @@ fn is_same_file<F: Files>(
 }
 
 /// Whether none of these paths names the regular file that `path` names. They are asked of up to the first that does.
-pub fn are_other_files<F: Files>(
+pub fn none_is_same_file<F: Files>(
     system: &System<'_, F>,
     path: &str,
     inputs: &[&str],

@@ -12,7 +12,7 @@ ghost use Rattle.cli_files.specs.InputStates.{places_in, stage_of, unopened_in, 
 
 use crate::disks::Disk;
 use byte_device::{CannotOpen, Failed, Placed, Source};
-use byte_openings::{Opening, Opens};
+use byte_lazy_inputs::{Opening, Opens};
 use memory::NoMemory;
 
 /// How far an input is.
@@ -254,6 +254,7 @@ impl<'l, D: Disk> Opens for LazyInput<'l, D> {
 
 impl<'l, D: Disk> Placed for LazyInput<'l, D> {
     ghost use Rattle.byte_device.specs.Devices.{FailedIn};
+
     ghost whole = { λ s. bytes_at (D.file_at s.disk s.path.now) };
 
     ghost failures = { λ s. s.failures };

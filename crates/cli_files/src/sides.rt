@@ -24,7 +24,7 @@ pub fn side_of<'p, R: Read + Drop>(
     ensures memory { IfErr result (λ error. error_kind error ≡ ErrorKind.OutOfMemory) }
 {
     let path = opened.path();
-    let reader = BufReader::with_capacity(alloc, PIECE_LEN, opened.into_reader())?;
+    let reader = BufReader::with_capacity(alloc, PIECE_LEN, opened.into_file())?;
     Ok(ArchiveSide {
         reading: Reading::new(reader),
         path,

@@ -217,7 +217,7 @@ impl<'p, T: Read> Opened<'p, T> {
     }
 
     /// The file alone.
-    pub fn into_reader(self) -> T
+    pub fn into_file(self) -> T
         ensures { result ≡ self.entry.file }
     {
         self.file

@@ -9,7 +9,7 @@ ghost use Rattle.cli_files.specs.Publishing.{IsPath};
 
 use crate::call_log::CallLog;
 use crate::file_calls::FileCalls;
-use crate::identities::are_other_files;
+use crate::identities::none_is_same_file;
 use crate::inputs::{SystemInput, make_inputs};
 use crate::out_file::OutFile;
 use crate::out_path::OutTarget;
@@ -75,7 +75,7 @@ impl<'a, F: Files> SystemFiles<'a, F> {
     {
         self.out.draft.set_rule(replaces);
         let system = System::new(self.files);
-        if are_other_files(&system, path, inputs, &mut self.compared) {
+        if none_is_same_file(&system, path, inputs, &mut self.compared) {
             let path = String::from_str(self.alloc, path)?;
             self.out.draft.set_path(path);
         }

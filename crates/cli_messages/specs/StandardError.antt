@@ -93,12 +93,12 @@ SaysEnd standard_error asked (Ok _) notes = SaysNotes standard_error notes
 SaysEnd standard_error asked (Err failure) notes = SaysFailure standard_error asked failure
 
 -- a text without the word at its front
-abbrev pub behind_error : Text → Text
-behind_error text = if starts_with nat_eq text (codes "error: ") then drop 7 text else text
+abbrev pub after_error : Text → Text
+after_error text = if starts_with nat_eq text (codes "error: ") then drop 7 text else text
 
 -- the reason in the text of a refused line, which begins with `error: ` and ends with a line feed
 abbrev pub reason_in : Text → Text
-reason_in text = behind_error (without_line_feed text)
+reason_in text = after_error (without_line_feed text)
 
 -- This reason is said for which words are refused.
 abbrev pub SaysRefused : Writer → Text → Type 0

@@ -6,7 +6,7 @@ ghost use Rattle.command_common.specs.Outputs.{writer};
 ghost use Rattle.command_common.specs.Statuses.{exit_status};
 ghost use Rattle.cli_arguments.specs.LineView.{line_view};
 ghost use Rattle.cli_messages.specs.Ending.{EndsLine, IsUnreadable, WantsMemory};
-ghost use Rattle.cli_messages.specs.StandardError.{SaysFailure, SaysNotes, behind_error, reason_in};
+ghost use Rattle.cli_messages.specs.StandardError.{SaysFailure, SaysNotes, after_error, reason_in};
 
 use crate::hints::{Seen, second_line_of};
 use crate::standard_error::{
@@ -68,7 +68,7 @@ fn say_failure<E: Sink>(alloc: Global, line: &Line, failure: Failure, seen: Seen
 }
 
 /// Ends where the words ask for nothing.
-pub fn end_without_line<P: Sink, E: Sink>(
+pub fn end_with_line_fault<P: Sink, E: Sink>(
     alloc: Global,
     fault: LineFault,
     report: &mut P,
@@ -97,11 +97,11 @@ pub fn end_without_line<P: Sink, E: Sink>(
 fn reason_in(text: &str) -> &str
     ensures { result.now ≡ reason_in text.now }
 {
-    behind_error(without_line_feed(text))
+    after_error(without_line_feed(text))
 }
 
-fn behind_error(text: &str) -> &str
-    ensures { result.now ≡ behind_error text.now }
+fn after_error(text: &str) -> &str
+    ensures { result.now ≡ after_error text.now }
 {
     match text.strip_prefix("error: ") {
         Some(reason) => reason,
@@ -124,7 +124,7 @@ pub fn refuse_words<P: Sink, E: Sink>(
         (writer E.held E.failures errors.old errors.new) result }
 {
     if error.kind() == ErrorKind::OutOfMemory {
-        end_without_line(alloc, LineFault::OutOfMemory, report, errors)
+        end_with_line_fault(alloc, LineFault::OutOfMemory, report, errors)
     } else {
         say(
             alloc,

@@ -20,7 +20,7 @@ mod laws;
 mod second_lines;
 mod standard_error;
 
-pub use ending::{end, end_without_line, refuse_words};
+pub use ending::{end, end_with_line_fault, refuse_words};
 pub use hints::Seen;
 pub use input_names::input_at;
 pub use standard_error::print_report_fault;

@@ -4,7 +4,7 @@ use Rattle.command_common.specs.{Inputs.Reader, Outputs.Outs, Outputs.Writer}
 use Rattle.command_common.specs.declared.faults.{CommandFault.CommandFault, Status.Status}
 use Rattle.cli_arguments.specs.{Inputs.Inputs, declared.plan.Plan.Plan}
 use Rattle.cli_arguments.specs.declared.plan.Plan.TheVariants as plan
-use Rattle.byte_openings.specs.declared.openings.Opening.{Opening}
+use Rattle.byte_lazy_inputs.specs.declared.openings.Opening.{Opening}
 use Rattle.cli_run.specs.Plans.{Answers, Deed, EndsAsked, EndsDeed, Executes, answers, asked_of}
 
 kept : {D T : Type 0} (deed : Deed) (out : Outs D T) (report : Writer) (r : Result Status CommandFault)

@@ -12,7 +12,7 @@ use Rattle.command_common.specs.declared.faults.CommandFault.TheVariants.{Input,
 use Rattle.command_common.specs.declared.faults.Why.TheVariants.{CannotOpen}
 use Rattle.cli_arguments.specs.{Inputs.Inputs, Inputs.of_kind, declared.commands.Kind.Kind}
 use Rattle.cli_messages.specs.Names.{input_at, kind_of, number_of}
-use Rattle.cli_run.specs.Unopened.{Tells, fault_at, unopened_of}
+use Rattle.cli_run.specs.Unopened.{ReportsUnopened, fault_at, unopened_of}
 use Rattle.cli_run.specs.Openings.{HaveOneFile, IsRefusedByDisk}
 
 -- one of inputs that keep their rules does
@@ -66,7 +66,7 @@ module _ {S : Type 0} (told : Told S) (inputs : Inputs S) (all : AllAreLazy told
   by_option at name why None is spares same = let reason : why ≡ CannotOpen = cc in absurd (spares reason)
   by_option at name why (Some input) is spares same = by_stage at name why input (told.stage input) is refl spares same
 
-  pub refused_so : (name : InputName) (ended result : Result Status CommandFault) → Tells told inputs ended result
+  pub refused_so : (name : InputName) (ended result : Result Status CommandFault) → ReportsUnopened told inputs ended result
       → result ≡ Err (Input name CannotOpen) → ((at : InputName) → ended ≡ Err (Input at CannotOpen) → ⊥)
       → (there : S) × (input_at inputs name ≡ Some there) × IsRefusedByDisk told there
   refused_so name (Err (Input at why)) result tells same spares =
@@ -97,7 +97,7 @@ module _ {S : Type 0} (told : Told S) (inputs : Inputs S) (name : InputName) (wh
       let seen_so : seen name ≡ Some (reasons.Refused refused) = ap seen (sym here) ∙ is in (λ _ _. so, λ some. cc)
   by_seen at reason (Some reasons.OutOfMemory) is same = cc
 
-  pub told_as : (ended result : Result Status CommandFault) → Tells told inputs ended result
+  pub told_as : (ended result : Result Status CommandFault) → ReportsUnopened told inputs ended result
       → result ≡ Err (Input name why) → IsToldAs
   told_as (Err (Input at reason)) result tells same =
       let one : fault_at (seen at) at reason ≡ Input name why = cc in by_seen at reason (seen at) refl one

@@ -18,7 +18,7 @@ use Rattle.command_common.specs.declared.notes.Note.{Note}
 use Rattle.cli_files.specs.declared.input_state.Unopened.TheVariants as unopened
 use Rattle.cli_run.specs.Disks.{Carried}
 use Rattle.cli_messages.specs.Names.{input_at}
-use Rattle.cli_run.specs.Unopened.{Tells, fault_at, unopened_of}
+use Rattle.cli_run.specs.Unopened.{ReportsUnopened, fault_at, unopened_of}
 use Rattle.cli_run.specs.Plans.{Deed, EndsDeed, EndsQuery, answers, changes, deed_of, empties, extracts, none, passes, readers_by, streams}
 use Rattle.cli_run.specs.Files.{IsNotPut, IsOutcome}
 use Rattle.cli_arguments.specs.declared.plan.Plan.{Plan}
@@ -145,7 +145,7 @@ module _ {S D T : Type 0} (told : Told S) (behind : Inputs S) (out : Outs D T) w
   by_fault (Some unopened.OutOfMemory) name why o =
       not_put out (Err OutOfMemory) o.bytes o.took o.kept (λ n h. cc)
 
-  told_outcome : (ended result : Result Status CommandFault) → Tells told behind ended result → IsOutcome out ended
+  told_outcome : (ended result : Result Status CommandFault) → ReportsUnopened told behind ended result → IsOutcome out ended
       → IsOutcome out result
   told_outcome (Err (Input name why)) result tells o =
       subst (IsOutcome out) (sym tells)

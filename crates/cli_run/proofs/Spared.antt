@@ -34,7 +34,7 @@ use Rattle.command_frames.specs.Asking.{AreRefusedAsking, IsTableRefused}
 use Rattle.command_frames.specs.Frames.{frames_at, frames_by_indexes, symbolicate_at}
 use Rattle.command_index_queries.specs.Find.{find_by}
 use Rattle.command_extract.specs.{Entries.IsRefusedSlice, Extract.Extraction, Extract.Extracts, Indexed.AreRefusedBefore, Indexed.extract_at}
-use Rattle.byte_openings.specs.declared.openings.Opening.{Opening}
+use Rattle.byte_lazy_inputs.specs.declared.openings.Opening.{Opening}
 use Rattle.command_write.specs.PassedOver.{admit_passing_as_it_comes}
 use Rattle.cli_run.specs.Plans.{Deed, EndsDeed, Executes, answers, listed_of, none, of_first, passes, streams}
 use Rattle.cli_run.specs.Plans.{summarized_of, summary_of}

@@ -5,7 +5,7 @@ use Rattle.cli_arguments.specs.{Inputs.Inputs, Inputs.of_kind, Lines.Line, decla
 use Rattle.command_common.specs.declared.faults.{CommandFault.CommandFault, Status.Status}
 use Rattle.command_common.specs.Outputs.{Outs, Writer}
 use Rattle.cli_messages.specs.Names.{AreOfLine}
-use Rattle.cli_run.specs.Unopened.{Tells}
+use Rattle.cli_run.specs.Unopened.{ReportsUnopened}
 use Rattle.command_common.specs.declared.notes.Note.{Note}
 use Rattle.cli_arguments.specs.{Plan.IsPlanOf, declared.plan.Plan.Plan}
 use Rattle.cli_run.specs.Plans.{Executes, Notes, readers_by}
@@ -27,4 +27,4 @@ pub record Carried {S D T : Type 0} (told : Told S) (line : Line) (plan : Plan) 
       (readers_by told.whole told.failures before behind) out report ended
   pub notes_are : OnOk ended (Notes (opening_told told) plan
       (readers_by told.left told.failures before behind) notes noted)
-  pub tells : Tells told behind ended result
+  pub tells : ReportsUnopened told behind ended result

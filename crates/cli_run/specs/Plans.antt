@@ -14,7 +14,7 @@ use Rattle.cli_files.specs.declared.replaceable.ReplaceRule.TheVariants.{Archive
 use Rattle.command_write.specs.{Admit.admit_as_it_comes, Apply.apply_as_it_comes, Delta.delta_as_it_comes}
 use Rattle.command_write.specs.{Summary.summary, Notes.NotesMissing, Retire.retire_as_it_comes}
 use Rattle.command_write.specs.PassedOver.{EndsPassing, NotesAdmit, Passing, admit_passing_as_it_comes}
-use Rattle.byte_openings.specs.declared.openings.Opening.{Opening}
+use Rattle.byte_lazy_inputs.specs.declared.openings.Opening.{Opening}
 use Rattle.command_write.specs.{MergeStreams.merge_as_it_comes, Migrate.migrate_as_it_comes}
 use Rattle.command_common.specs.declared.notes.Note.{Note}
 use Rattle.command_index_queries.specs.Summary.{summary_at}

@@ -22,10 +22,10 @@ fault_at (Some unopened.OutOfMemory) name why = OutOfMemory
 
 -- This is told of a command that ended so, after which its inputs are these: where it is refused for an input that was
 -- not opened, why that was not, and else how it ended.
-abbrev pub Tells : {S : Type 0} → Told S → Inputs S → Result Status CommandFault → Result Status CommandFault → Type 0
-Tells told inputs (Ok status) result = result ≡ Ok status
-Tells told inputs (Err (Input name why)) result =
+abbrev pub ReportsUnopened : {S : Type 0} → Told S → Inputs S → Result Status CommandFault → Result Status CommandFault → Type 0
+ReportsUnopened told inputs (Ok status) result = result ≡ Ok status
+ReportsUnopened told inputs (Err (Input name why)) result =
     result ≡ Err (fault_at (unopened_of told (input_at inputs name)) name why)
-Tells told inputs (Err (Output n)) result = result ≡ Err (Output n)
-Tells told inputs (Err (Report n)) result = result ≡ Err (Report n)
-Tells told inputs (Err OutOfMemory) result = result ≡ Err OutOfMemory
+ReportsUnopened told inputs (Err (Output n)) result = result ≡ Err (Output n)
+ReportsUnopened told inputs (Err (Report n)) result = result ≡ Err (Report n)
+ReportsUnopened told inputs (Err OutOfMemory) result = result ≡ Err OutOfMemory

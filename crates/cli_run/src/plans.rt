@@ -11,7 +11,7 @@ use crate::queries::answer;
 use crate::updates::{extract, merge, summary, write};
 use archive_core::Archive;
 use byte_device::{Output, Placed, Sink, Source, Target};
-use byte_openings::Opens;
+use byte_lazy_inputs::Opens;
 use cli_arguments::{Inputs, Plan};
 use cli_files::ReplaceRule;
 use command_common::{CommandFault, Note, Status};

@@ -16,7 +16,7 @@ ghost use Rattle.cli_run.specs.Queries.{IsAlone, find_of, frames_of, symbolicate
 use archive_core::{Archive, SliceKey};
 use archive_exchange::run_rehearse;
 use byte_device::{Placed, Sink, Source};
-use byte_openings::Opens;
+use byte_lazy_inputs::Opens;
 use cli_arguments::{Inputs, Plan};
 use command_common::{
     CommandFault, InputName, Note, Records, Status, Why, first_and_rest, write_report,

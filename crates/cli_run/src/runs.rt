@@ -14,7 +14,7 @@ use crate::files::execute_line;
 use byte_device::{Placed, Sink, Source, Target};
 use cli_arguments::{Plan, parse_command_line};
 use cli_files::{Disk, OpenedFile, OutFile, OutTarget, PlacedFile, SystemDisk, SystemFiles};
-use cli_messages::{Seen, end, end_without_line, refuse_words};
+use cli_messages::{Seen, end, end_with_line_fault, refuse_words};
 use std::io::{self, BufReader, ErrorKind};
 use std::rt::Files;
 
@@ -70,6 +70,6 @@ fn run_words<'f, F: Files, P: Sink, E: Sink>(
             let ended = execute_line(files, &line, &Plan::of(&line), report, &mut seen);
             end(alloc, &line, ended, seen, errors)
         }
-        Err(fault) => end_without_line(alloc, fault, report, errors),
+        Err(fault) => end_with_line_fault(alloc, fault, report, errors),
     }
 }

@@ -4,7 +4,7 @@ ghost use Rattle.std.specs.Prelude.{◌≡◌};
 ghost use Rattle.cli_files.specs.LazyInputs.{told};
 ghost use Rattle.cli_arguments.specs.Inputs.{inputs_view};
 ghost use Rattle.cli_messages.specs.Names.{input_at};
-ghost use Rattle.cli_run.specs.Unopened.{Tells, fault_at, unopened_of};
+ghost use Rattle.cli_run.specs.Unopened.{ReportsUnopened, fault_at, unopened_of};
 
 use cli_arguments::Inputs;
 use cli_files::{Disk, LazyInput, Unopened};
@@ -36,7 +36,7 @@ pub fn with_opening_fault<D: Disk>(
     inputs: &Inputs<LazyInput<'_, D>>,
     ended: Result<Status, CommandFault>,
 ) -> Result<Status, CommandFault>
-    ensures { Tells told (inputs_view inputs.now) ended result }
+    ensures { ReportsUnopened told (inputs_view inputs.now) ended result }
 {
     match ended {
         Err(CommandFault::Input(name, why)) => {

@@ -14,7 +14,7 @@ ghost use Rattle.command_extract.specs.Extract.{Extracts};
 use crate::queries::check_pairs;
 use archive_core::{Archive, Digest, SliceKey};
 use byte_device::{Output, Placed, Sink, Source, Target};
-use byte_openings::Opens;
+use byte_lazy_inputs::Opens;
 use cli_arguments::{Inputs, Plan};
 use command_common::{CommandFault, Note, Records, Status, first_and_rest};
 use command_extract::run_extract;

@@ -232,19 +232,19 @@ pub record IsFirstRefused {S : Type 0} (asked_of : ℕ → InputName) (IsGood : 
 -- The first input of a command is refused, and what is after it is untouched; or it is an archive's text, its reader
 -- does not fail, and after it this one is refused.
 abbrev pub IsRefusedInOrder : {S : Type 0} → Reader S → Type 0 → (InputName → Why → Type 0) → InputName → Why → Type 0
-IsRefusedInOrder input Untouched IsRefusedBehind at why =
+IsRefusedInOrder input Untouched IsRefusedLater at why =
     (IsRefusedArchive 0 input at why × Untouched)
-    ⊎ (IsArchive input × Unfailed input × IsRefusedBehind at why)
+    ⊎ (IsArchive input × Unfailed input × IsRefusedLater at why)
 
 -- The same of a command that reads what is after its first input before that one, and tests that one to its end before
 -- it tells of a refusal after it.
 abbrev pub IsRefusedInTurn : {S : Type 0} → Reader S → (InputName → Why → Type 0) → InputName → Why → Type 0
-IsRefusedInTurn input IsRefusedBehind at why =
-    IsRefusedArchive 0 input at why ⊎ (IsArchive input × Unfailed input × IsRefusedBehind at why)
+IsRefusedInTurn input IsRefusedLater at why =
+    IsRefusedArchive 0 input at why ⊎ (IsArchive input × Unfailed input × IsRefusedLater at why)
 
 -- An input after the first one was refused, and the first one, which was being tested, did not fail.
 abbrev pub IsWantedInTurn : {S : Type 0} → Reader S → (InputName → Why → Type 0) → Type 0
-IsWantedInTurn input IsRefusedBehind = Unfailed input × ((at : InputName) × (why : Why) × IsRefusedBehind at why)
+IsWantedInTurn input IsRefusedLater = Unfailed input × ((at : InputName) × (why : Why) × IsRefusedLater at why)
 
 -- The fault is that of an input, of which this holds, or a lack of memory, where this does.
 abbrev pub IsRefusal : (InputName → Why → Type 0) → Type 0 → CommandFault → Type 0

@@ -17,7 +17,7 @@ pub enum Status {
     /// The answer is empty or has no single symbol: exit status 1.
     Partial,
     /// Files were passed over, as the report says; everything else was done: exit status 2.
-    Refused,
+    SomeRefused,
 }
 
 /// Which input of a command. Archives, files and indexes are counted from 0, in the order of the command line.

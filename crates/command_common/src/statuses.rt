@@ -13,7 +13,7 @@ pub fn exit_status(ended: &Result<Status, Failure>) -> u8
     match ended {
         Ok(Status::Done) => 0,
         Ok(Status::Partial) => 1,
-        Ok(Status::Refused) => 2,
+        Ok(Status::SomeRefused) => 2,
         Err(Failure::Command(CommandFault::OutOfMemory)) => 4,
         Err(_) => 2,
     }

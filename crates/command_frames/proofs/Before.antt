@@ -20,11 +20,11 @@ use Rattle.command_common.specs.declared.faults.Why.{Why}
 use Rattle.command_queries.specs.Places.{IsPlaceTold}
 use Rattle.command_queries.specs.Symbolicate.{asked_of}
 use Rattle.command_frames.specs.InnerPlaces.{AreKeysOf, key_cmp}
-use Rattle.command_frames.specs.InnerTold.{AreTold, IsKeyTold, IsToldUnder}
+use Rattle.command_frames.specs.InnerKeyReplies.{AreTold, IsKeyReply, IsToldUnder}
 use Rattle.command_frames.specs.declared.places.AskedKey.{AskedKey}
-use Rattle.command_frames.specs.declared.tables.KeyTold.{KeyTold}
-use Rattle.command_frames.specs.declared.tables.KeyTold.TheVariants.{Told, Refused}
-use Rattle.command_frames.specs.declared.told.KeyAnswers.{KeyAnswers}
+use Rattle.command_frames.specs.declared.tables.KeyReply.{KeyReply}
+use Rattle.command_frames.specs.declared.tables.KeyReply.TheVariants.{Told, Refused}
+use Rattle.command_frames.specs.declared.key_answers.KeyAnswers.{KeyAnswers}
 use Rattle.command_frames.proofs.Runs.{keys_total, not_same}
 
 zip_left : {X Y : Type 0} (R : X → Y → Type 0) (xs : List X) (ys : List Y) (x : X) → AllZip R xs ys → Contains xs x → (y : Y) × R x y
@@ -65,8 +65,8 @@ module _ (IsSaid : SliceKey → Where → AnswerRecord → List (List FrameRecor
     pub frames : List (List FrameRecord)
     pub said : IsSaid key place answer frames
 
-  said_of : (bytes : List ℕ) (key : SliceKey) (places : List Where) (told : KeyTold) (place : Where) → key_bytes key ≡ bytes
-      → IsKeyTold (IsSaid key) (IsRefused key) false places told → Contains places place → IsSaidUnder bytes place
+  said_of : (bytes : List ℕ) (key : SliceKey) (places : List Where) (told : KeyReply) (place : Where) → key_bytes key ≡ bytes
+      → IsKeyReply (IsSaid key) (IsRefused key) false places told → Contains places place → IsSaidUnder bytes place
   said_of bytes key places (Told answers) place key_is is there =
       let one = zip_left (IsPlaceTold (IsSaid key)) places answers.items place is there in
       record { key = key; key_is = key_is; answer = answer_view one.1.row.answer; frames = one.1.row.frames; said = one.1.is_said }

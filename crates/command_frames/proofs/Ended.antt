@@ -34,10 +34,10 @@ use Rattle.command_frames.specs.Frames.{AreToldAt}
 use Rattle.command_frames.specs.InnerAsking.{IsKeyFault, IsOfKey, IsRefusedUnder, IsUntoldBy, NoneFailed, RefusesAll, command_fault}
 use Rattle.command_frames.specs.InnerPlaces.{AreKeysOf}
 use Rattle.command_frames.specs.InnerReplies.{PrintsFrames}
-use Rattle.command_frames.specs.InnerTold.{AreTold, IsRefusedAfter, IsRefusedAt}
+use Rattle.command_frames.specs.InnerKeyReplies.{AreTold, IsRefusedAfter, IsRefusedAt}
 use Rattle.command_frames.specs.Refusals.{IsKeyRefused, IsRefusedBySlice, IsRefusedByTable, KeyRefusal}
 use Rattle.command_frames.specs.declared.places.AskedKey.{AskedKey}
-use Rattle.command_frames.specs.declared.told.KeyAnswers.{KeyAnswers}
+use Rattle.command_frames.specs.declared.key_answers.KeyAnswers.{KeyAnswers}
 use Rattle.command_frames.proofs.Archives.{HaveBytesOf, bytes_kept, kept_then, same_bytes, slices_same, stale_same}
 use Rattle.command_frames.proofs.Before.{said_below}
 use Rattle.command_frames.proofs.Followed.{followed}

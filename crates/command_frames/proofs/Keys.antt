@@ -17,9 +17,9 @@ use Rattle.command_index_queries.proofs.Groups.{unfailed_through}
 use Rattle.index_lookup.specs.AmongAsked.{HaveTexts, each_known}
 use Rattle.command_frames.specs.Asking.{IsAnsweredAt, IsAnsweredBySlices, IsAnsweredByTables}
 use Rattle.command_frames.specs.InnerAsking.{AsksKeys, AsksSlices, IsKeyFault, IsUnreadBy, IsUntoldBy, NoneFailed}
-use Rattle.command_frames.specs.InnerTold.{IsKeyStale, IsKeyTold, IsRefusedAt, IsToldUnder}
-use Rattle.command_frames.specs.declared.tables.KeyTold.{KeyTold}
-use Rattle.command_frames.specs.declared.told.KeyAnswers.{KeyAnswers}
+use Rattle.command_frames.specs.InnerKeyReplies.{IsKeyStale, IsKeyReply, IsRefusedAt, IsToldUnder}
+use Rattle.command_frames.specs.declared.tables.KeyReply.{KeyReply}
+use Rattle.command_frames.specs.declared.key_answers.KeyAnswers.{KeyAnswers}
 use Rattle.command_frames.proofs.Archives.{HaveBytesOf, bytes_kept, kept_then, kept_unfailed, same_bytes, slices_same, stale_same}
 use Rattle.command_frames.proofs.Shown.{fault_first, key_as, tables_first, under_as, untold_first}
 
@@ -101,23 +101,23 @@ module _ {D P : Type 0} (whole : D → Option (List ℕ)) (failures : D → ℕ)
   abbrev known : List (Reader P)
   known = readers whole_at failures_at old_at old_at
 
-  abbrev IsTold : KeyTold → Type 0
-  IsTold told = IsKeyTold (IsAnsweredAt (HaveTexts whole old) known all lines key) (IsRefusedAt (HaveTexts whole old) known all lines key) slices places told
+  abbrev IsTold : KeyReply → Type 0
+  IsTold told = IsKeyReply (IsAnsweredAt (HaveTexts whole old) known all lines key) (IsRefusedAt (HaveTexts whole old) known all lines key) slices places told
 
-  pub by_tables : (told : KeyTold) → IsKeyTold (IsAnsweredByTables (HaveTexts whole old) all lines key)
+  pub by_tables : (told : KeyReply) → IsKeyReply (IsAnsweredByTables (HaveTexts whole old) all lines key)
       (IsKeyFault (HaveTexts whole old) all lines (key_bytes key)) slices places told → IsTold told
   by_tables told is = key_as (IsAnsweredByTables (HaveTexts whole old) all lines key) (IsAnsweredAt (HaveTexts whole old) known all lines key)
       (IsKeyFault (HaveTexts whole old) all lines (key_bytes key)) (IsRefusedAt (HaveTexts whole old) known all lines key)
       (λ place answer frames is. inl is) (λ at why is. inl is) slices places told is
 
-  by_slices : (told : KeyTold) → IsKeyTold (IsAnsweredBySlices known all lines key) (IsKeyStale known all key) slices places told → IsTold told
+  by_slices : (told : KeyReply) → IsKeyReply (IsAnsweredBySlices known all lines key) (IsKeyStale known all key) slices places told → IsTold told
   by_slices told is = key_as (IsAnsweredBySlices known all lines key) (IsAnsweredAt (HaveTexts whole old) known all lines key)
       (IsKeyStale known all key) (IsRefusedAt (HaveTexts whole old) known all lines key)
       (λ place answer frames is. inr is) (λ at why is. inr is) slices places told is
 
-  pub slices_asked : (result : Result KeyTold CommandFault) → each_known whole new ≡ each_known whole old → NoneFailed failures old new
+  pub slices_asked : (result : Result KeyReply CommandFault) → each_known whole new ≡ each_known whole old → NoneFailed failures old new
       → AsksSlices whole_at failures_at slices (key_bytes key ∷ []) all old_at new_at result
-      (IsKeyTold (IsAnsweredBySlices known all lines key) (IsKeyStale known all key) slices places)
+      (IsKeyReply (IsAnsweredBySlices known all lines key) (IsKeyStale known all key) slices places)
       → AsksKeys whole failures whole_at failures_at lines slices (key_bytes key ∷ []) all old new old_at new_at result IsTold
   slices_asked (Ok told) texts none r = record { is = (by_slices told r.is.0, texts, r.is.1); unfailed = (none, r.unfailed) }
   slices_asked (Err (Input at why)) texts none r = inr (none, r)

@@ -19,12 +19,12 @@ use Rattle.dwarf_source_frames.specs.Frames.{FrameRecord}
 use Rattle.text_inputs.specs.declared.frame.Frame.{Frame}
 use Rattle.command_common.specs.declared.faults.Status.{Status}
 use Rattle.command_queries.specs.Frames.{TellsFrames}
-use Rattle.command_queries.specs.Sources.{IsSourced}
-use Rattle.command_queries.proofs.Sourced.{sourced_as}
+use Rattle.command_queries.specs.SourceFrames.{IsAnswerWithFrames}
+use Rattle.command_queries.proofs.AnswersWithFrames.{sourced_as}
 use Rattle.command_frames.specs.InnerPlaces.{AreKeysOf, is_asked}
-use Rattle.command_frames.specs.InnerTold.{AreTold, AreToldSoFar, HaveEachTold, IsToldUnder, NoneRefused, ShowsFrames, asked_in}
+use Rattle.command_frames.specs.InnerKeyReplies.{AreTold, AreToldSoFar, HaveEachTold, IsToldUnder, NoneRefused, ShowsFrames, asked_in}
 use Rattle.command_frames.specs.declared.places.AskedKey.{AskedKey}
-use Rattle.command_frames.specs.declared.told.KeyAnswers.{KeyAnswers}
+use Rattle.command_frames.specs.declared.key_answers.KeyAnswers.{KeyAnswers}
 use Rattle.command_frames.proofs.Refused.{records_tell}
 use Rattle.command_frames.proofs.Shown.{even_told, key_as}
 
@@ -50,27 +50,27 @@ none_told IsSaid asked told none = rw none (record { asked_is = refl; are_true =
 -- one more is told by a content that answers under its key as another one
 pub told_next : (content o : Operations) (lines wanted : Bool) (asked before left : List AskedKey) (told next : List KeyAnswers) (one : KeyAnswers)
     → wanted ≡ lines → next ≡ told ++ one ∷ [] → before ≡ one.asked.now ∷ left
-    → IsToldUnder (λ key. IsSourced content key wanted) NoneRefused false one
+    → IsToldUnder (λ key. IsAnswerWithFrames content key wanted) NoneRefused false one
     → ForSome (first_key (map (λ (a : AskedKey). a.key) before)) (λ key. AnswersAs key content o)
-    → AreToldSoFar (λ key. IsSourced o key lines) asked before told → AreToldSoFar (λ key. IsSourced o key lines) asked left next
+    → AreToldSoFar (λ key. IsAnswerWithFrames o key lines) asked before told → AreToldSoFar (λ key. IsAnswerWithFrames o key lines) asked left next
 told_next content o lines wanted asked before left told next one same more first its answers so =
     let key : SliceKey = one.asked.now.key in
     let alike : AnswersAs key content o = answers key (ap (λ (l : List AskedKey). first_key (map key_in l)) first) in
-    let wants : IsToldUnder (λ k. IsSourced content k lines) NoneRefused false one =
-    subst (λ (w : Bool). IsToldUnder (λ k. IsSourced content k w) NoneRefused false one) same its in
+    let wants : IsToldUnder (λ k. IsAnswerWithFrames content k lines) NoneRefused false one =
+    subst (λ (w : Bool). IsToldUnder (λ k. IsAnswerWithFrames content k w) NoneRefused false one) same its in
     record {
       asked_is = ap (λ (l : List KeyAnswers). asked_in l ++ left) more
           ∙ ap (λ (l : List AskedKey). l ++ left) (map-append (λ (k : KeyAnswers). k.asked.now) told (one ∷ []))
           ∙ append_assoc (asked_in told) (one.asked.now ∷ []) left
           ∙ ap (λ (l : List AskedKey). asked_in told ++ l) (sym first) ∙ so.asked_is;
-      are_true = rw more (All-push (IsToldUnder (λ k. IsSourced o k lines) NoneRefused false) told one so.are_true
+      are_true = rw more (All-push (IsToldUnder (λ k. IsAnswerWithFrames o k lines) NoneRefused false) told one so.are_true
           (told_as content o lines one alike wants));
     }
   where
     told_as : (content o : Operations) (lines : Bool) (one : KeyAnswers) → AnswersAs one.asked.now.key content o
-        → IsToldUnder (λ k. IsSourced content k lines) NoneRefused false one → IsToldUnder (λ k. IsSourced o k lines) NoneRefused false one
+        → IsToldUnder (λ k. IsAnswerWithFrames content k lines) NoneRefused false one → IsToldUnder (λ k. IsAnswerWithFrames o k lines) NoneRefused false one
     told_as content o lines one alike its =
-        key_as (IsSourced content one.asked.now.key lines) (IsSourced o one.asked.now.key lines) (NoneRefused one.asked.now.key)
+        key_as (IsAnswerWithFrames content one.asked.now.key lines) (IsAnswerWithFrames o one.asked.now.key lines) (NoneRefused one.asked.now.key)
         (NoneRefused one.asked.now.key) (λ place answer frames is. sourced_as content o one.asked.now.key lines place answer frames alike is)
         (λ at why is. is) false one.asked.now.places.items one.told its
 
@@ -87,15 +87,15 @@ all_told IsSaid asked left told none so =
 -- what was told is printed of frames with these keys, and is what the content tells of them
 pub answered : (lines wanted : Bool) (o : Operations) (frames : List Frame) (asked start left : List AskedKey) (told : List KeyAnswers)
     → wanted ≡ lines → start ≡ asked → AreKeysOf frames asked → map (λ (one : AskedKey). one.key) left ≡ []
-    → AreToldSoFar (λ key. IsSourced o key wanted) start left told
+    → AreToldSoFar (λ key. IsAnswerWithFrames o key wanted) start left told
     → AreKeysOf frames (asked_in told) × HaveEachTold told
     × ((status : Status) (text : List ℕ) → ShowsFrames told frames status text → TellsFrames lines o frames status text)
 answered lines wanted o frames asked start left told same begins of none so =
-    let all = all_told (λ key. IsSourced o key wanted) start left told none so in
-    let are : AreTold (λ key. IsSourced o key lines) NoneRefused false asked told =
-    subst (λ (w : Bool). AreTold (λ key. IsSourced o key w) NoneRefused false asked told) same
-    (subst (λ (l : List AskedKey). AreTold (λ key. IsSourced o key wanted) NoneRefused false l told) begins all) in (
+    let all = all_told (λ key. IsAnswerWithFrames o key wanted) start left told none so in
+    let are : AreTold (λ key. IsAnswerWithFrames o key lines) NoneRefused false asked told =
+    subst (λ (w : Bool). AreTold (λ key. IsAnswerWithFrames o key w) NoneRefused false asked told) same
+    (subst (λ (l : List AskedKey). AreTold (λ key. IsAnswerWithFrames o key wanted) NoneRefused false l told) begins all) in (
       subst (AreKeysOf frames) (sym are.asked_is) of,
-      even_told (λ key. IsSourced o key lines) NoneRefused false asked told are,
+      even_told (λ key. IsAnswerWithFrames o key lines) NoneRefused false asked told are,
       λ status text shown. records_tell lines o frames asked told status text of are shown,
     )

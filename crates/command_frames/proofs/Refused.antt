@@ -19,21 +19,21 @@ use Rattle.command_queries.specs.Symbolicate.{Answered, answers_text, asked_of, 
 use Rattle.text_inputs.specs.declared.frame.Frame.{Frame}
 use Rattle.command_common.specs.declared.faults.InputName.{InputName}
 use Rattle.command_common.specs.declared.faults.Status.{Status}
-use Rattle.command_common.specs.declared.faults.Status.TheVariants.{Done, Partial, Refused as RefusedStatus}
+use Rattle.command_common.specs.declared.faults.Status.TheVariants.{Done, Partial, SomeRefused as RefusedStatus}
 use Rattle.command_common.specs.declared.faults.Why.{Why}
 use Rattle.command_queries.specs.Frames.{IsFrameSaid, TellFrames, TellsFrames}
-use Rattle.command_queries.specs.Sources.{IsSourced}
+use Rattle.command_queries.specs.SourceFrames.{IsAnswerWithFrames}
 use Rattle.command_frames.specs.Asking.{keys_of}
 use Rattle.command_frames.specs.Frames.{IsAnsweredOrRefused, IsFrameReplied, TellFramesBesides}
 use Rattle.command_frames.specs.InnerPlaces.{AreKeysOf, key_cmp}
-use Rattle.command_frames.specs.InnerTold.{AreTold, IsFrameTold, IsKeyTold, IsPrintedOf, IsToldUnder, Printed, ShowsFrames, StandsAt}
-use Rattle.command_frames.specs.InnerTold.{NoneRefused, asked_in, refusals_in, status_with}
+use Rattle.command_frames.specs.InnerKeyReplies.{AreTold, IsFrameTold, IsKeyReply, IsPrintedOf, IsToldUnder, Printed, ShowsFrames, StandsAt}
+use Rattle.command_frames.specs.InnerKeyReplies.{NoneRefused, asked_in, refusals_in, status_with}
 use Rattle.command_frames.specs.InnerReplies.{TellFramesPart}
 use Rattle.command_frames.specs.Refusals.{AreRefusing, KeyRefusal, Reply, is_found, is_refused, refusal_lines, replies_text, replies_status, reply_text}
 use Rattle.command_frames.specs.declared.places.AskedKey.{AskedKey}
-use Rattle.command_frames.specs.declared.tables.KeyTold.{KeyTold}
-use Rattle.command_frames.specs.declared.tables.KeyTold.TheVariants.{Told, Refused}
-use Rattle.command_frames.specs.declared.told.KeyAnswers.{KeyAnswers}
+use Rattle.command_frames.specs.declared.tables.KeyReply.{KeyReply}
+use Rattle.command_frames.specs.declared.tables.KeyReply.TheVariants.{Told, Refused}
+use Rattle.command_frames.specs.declared.key_answers.KeyAnswers.{KeyAnswers}
 use Rattle.command_frames.proofs.Runs.{keys_total, not_same, once, told_ascend}
 use Rattle.command_frames.proofs.Shown.{of_told, refusals_ascend, to_refusals}
 
@@ -170,8 +170,8 @@ module _ {IsSaid : SliceKey → Where → AnswerRecord → List (List FrameRecor
   refusal_so refusal there =
       let r = of_told told refusal there in
       let one : AskedKey = r.one.asked.now in
-      let is : IsKeyTold (IsSaid one.key) (IsRefused one.key) slices one.places.items (Refused refusal.at refusal.why) =
-      subst (IsKeyTold (IsSaid one.key) (IsRefused one.key) slices one.places.items) r.told_is (own r.one r.is_one) in
+      let is : IsKeyReply (IsSaid one.key) (IsRefused one.key) slices one.places.items (Refused refusal.at refusal.why) =
+      subst (IsKeyReply (IsSaid one.key) (IsRefused one.key) slices one.places.items) r.told_is (own r.one r.is_one) in
       (is.0, subst (λ (key : SliceKey). IsRefused key refusal.at refusal.why) r.key_is is.1)
 
   refusal_of_frame : (refusal : KeyRefusal) → Contains refusals refusal → Contains (keys_of frames) (key_bytes refusal.key)
@@ -211,11 +211,11 @@ module _ {IsSaid : SliceKey → Where → AnswerRecord → List (List FrameRecor
         (ap key_bytes r.key_is ∙ sym found.2 ∙ sym (ap key_bytes stands.key_is)) in
         never found.0.at found.0.why (sym (ap (λ (k : KeyAnswers). k.told) same) ∙ r.told_is)
 
-    reply_so : (t : KeyTold) → one.told ≡ t → IsPrintedOf t frame.address number printed → HasReply frame printed
+    reply_so : (t : KeyReply) → one.told ≡ t → IsPrintedOf t frame.address number printed → HasReply frame printed
     reply_so (Told answers) is h =
         let key : AskedKey = one.asked.now in
-        let it : IsKeyTold (IsSaid key.key) (IsRefused key.key) slices key.places.items (Told answers) =
-        subst (IsKeyTold (IsSaid key.key) (IsRefused key.key) slices key.places.items) is (own one stands.is_one) in
+        let it : IsKeyReply (IsSaid key.key) (IsRefused key.key) slices key.places.items (Told answers) =
+        subst (IsKeyReply (IsSaid key.key) (IsRefused key.key) slices key.places.items) is (own one stands.is_one) in
         let place : Where = asked_of frame.load frame.address in
         let p = zip_get (IsPlaceTold (IsSaid key.key)) key.places.items answers.items number place h.0 it stands.place_is h.1 in
         let address_is : p.row.address ≡ frame.address = p.address_is ∙ address_asked frame.load frame.address in
@@ -353,6 +353,6 @@ part_told true {told = told} are frames of status text refused shown is = (refus
 
 -- and so it is of what records tell, by which no key is refused
 pub records_tell : (lines : Bool) (o : Operations) (frames : List Frame) (asked : List AskedKey) (told : List KeyAnswers) (status : Status) (text : List ℕ)
-    → AreKeysOf frames asked → AreTold (λ key. IsSourced o key lines) NoneRefused false asked told
+    → AreKeysOf frames asked → AreTold (λ key. IsAnswerWithFrames o key lines) NoneRefused false asked told
     → ShowsFrames told frames status text → TellsFrames lines o frames status text
 records_tell lines o frames asked told status text of are shown = part_told false are frames of status text (refusal_lines (refusals_in told)) shown refl

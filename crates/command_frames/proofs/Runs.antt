@@ -36,10 +36,10 @@ use Rattle.command_common.proofs.Readers.{all_more, all_take}
 use Rattle.command_frames.specs.Asking.{keys_of}
 use Rattle.command_frames.specs.declared.places.AskedKey.{AskedKey}
 use Rattle.command_frames.specs.declared.places.AskedPlace.{AskedPlace}
-use Rattle.command_frames.specs.declared.told.KeyAnswers.{KeyAnswers}
+use Rattle.command_frames.specs.declared.key_answers.KeyAnswers.{KeyAnswers}
 use Rattle.command_frames.specs.InnerPlaces.{AreAskedOf, AreGrouped, AreGroupedSoFar, AreInOrder, AreKeysOf, HasAsked}
 use Rattle.command_frames.specs.InnerPlaces.{asked_cmp, has_key, key_cmp, numbers_of, place_cmp, place_of}
-use Rattle.command_frames.specs.InnerTold.{StandsAt, asked_in}
+use Rattle.command_frames.specs.InnerKeyReplies.{StandsAt, asked_in}
 
 -- ---- lists that ascend, each element once
 

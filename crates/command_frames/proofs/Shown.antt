@@ -42,14 +42,14 @@ use Rattle.index_lookup.specs.declared.fault.AnswerFault.TheVariants as faults
 use Rattle.command_frames.specs.Asking.{IsAnsweredByTables}
 use Rattle.command_frames.specs.InnerAsking.{IsKeyFault, IsOfKey, IsUntoldBy, NoneFailed, RefusesAll, command_fault}
 use Rattle.command_frames.specs.InnerPlaces.{key_cmp}
-use Rattle.command_frames.specs.InnerTold.{AreTold, AreToldOf, HasNumber, HaveEach, HaveEachTold, IsAnswerIn, IsFrameTold, IsKeyTold, IsPrinted}
-use Rattle.command_frames.specs.InnerTold.{IsToldUnder, Printed, ShowsFrames, StandsAt, answer_at, refusal_in, refusals_in}
-use Rattle.command_frames.specs.InnerTold.{shown_at, status_with, told_fault}
+use Rattle.command_frames.specs.InnerKeyReplies.{AreTold, AreToldOf, HasNumber, HaveEach, HaveEachTold, IsAnswerIn, IsFrameTold, IsKeyReply, IsPrinted}
+use Rattle.command_frames.specs.InnerKeyReplies.{IsToldUnder, Printed, ShowsFrames, StandsAt, answer_at, refusal_in, refusals_in}
+use Rattle.command_frames.specs.InnerKeyReplies.{shown_at, status_with, reply_to_fault}
 use Rattle.command_frames.specs.Refusals.{KeyRefusal, refusal_lines}
 use Rattle.command_frames.specs.declared.places.AskedKey.{AskedKey}
-use Rattle.command_frames.specs.declared.tables.KeyTold.{KeyTold}
-use Rattle.command_frames.specs.declared.tables.KeyTold.TheVariants.{Told, Refused}
-use Rattle.command_frames.specs.declared.told.KeyAnswers.{KeyAnswers}
+use Rattle.command_frames.specs.declared.tables.KeyReply.{KeyReply}
+use Rattle.command_frames.specs.declared.tables.KeyReply.TheVariants.{Told, Refused}
+use Rattle.command_frames.specs.declared.key_answers.KeyAnswers.{KeyAnswers}
 
 -- one key is among one
 pub one_key : (key : List ℕ) → Contains (key ∷ []) key
@@ -82,7 +82,7 @@ places_as IsSaid IsMore more places answers zip =
 pub key_as : (IsSaid IsMore : Where → AnswerRecord → List (List FrameRecord) → Type 0) (IsRefused IsNot : InputName → Why → Type 0)
     → ((place : Where) (answer : AnswerRecord) (frames : List (List FrameRecord)) → IsSaid place answer frames → IsMore place answer frames)
     → ((at : InputName) (why : Why) → IsRefused at why → IsNot at why)
-    → (slices : Bool) (places : List Where) (told : KeyTold) → IsKeyTold IsSaid IsRefused slices places told → IsKeyTold IsMore IsNot slices places told
+    → (slices : Bool) (places : List Where) (told : KeyReply) → IsKeyReply IsSaid IsRefused slices places told → IsKeyReply IsMore IsNot slices places told
 key_as IsSaid IsMore IsRefused IsNot more also slices places (Told answers) is = places_as IsSaid IsMore more places answers.items is
 key_as IsSaid IsMore IsRefused IsNot more also slices places (Refused at why) (wanted, is) = (wanted, also at why is)
 
@@ -97,12 +97,12 @@ under_as IsSaid IsMore IsRefused IsNot more also slices one is =
 
 -- there are as many answers as places
 pub even_of : (IsSaid : Where → AnswerRecord → List (List FrameRecord) → Type 0) (IsRefused : InputName → Why → Type 0)
-    (slices : Bool) (places : List Where) (told : KeyTold) → IsKeyTold IsSaid IsRefused slices places told → HaveEach told places
+    (slices : Bool) (places : List Where) (told : KeyReply) → IsKeyReply IsSaid IsRefused slices places told → HaveEach told places
 even_of IsSaid IsRefused slices places (Told answers) is = AllZip-long (IsPlaceTold IsSaid) places answers.items is
 even_of IsSaid IsRefused slices places (Refused at why) is = tt
 
 -- and one of the number of each
-pub numbered_there : (told : KeyTold) (places : List Where) (number : ℕ) (place : Where) → HaveEach told places
+pub numbered_there : (told : KeyReply) (places : List Where) (number : ℕ) (place : Where) → HaveEach told places
     → slice_get places number ≡ Some place → HasNumber told number
 numbered_there (Told answers) places number place even at = omega (arith, even, slice_get_within places number place at)
 numbered_there (Refused at why) places number place even there = tt
@@ -144,9 +144,9 @@ module _ {D : Type 0} (whole : D → Option (List ℕ)) (failures : D → ℕ) (
       (asks.says texts have) (slice_get_within places number place at))
 
   -- a fault refuses all keys, or the key alone if slices are wanted
-  abbrev IsKeyOutcome : Bool → Option KeyTold → Type 0
+  abbrev IsKeyOutcome : Bool → Option KeyReply → Type 0
   IsKeyOutcome slices told = MatchOption told (AreTied (key_bytes key) all)
-      (IsKeyTold (IsAnsweredByTables (HaveTexts whole old) all lines key) (IsKeyFault (HaveTexts whole old) all lines (key_bytes key)) slices places)
+      (IsKeyReply (IsAnsweredByTables (HaveTexts whole old) all lines key) (IsKeyFault (HaveTexts whole old) all lines (key_bytes key)) slices places)
       × (each_known whole new ≡ each_known whole old)
 
   refuses_all : (slices : Bool) (fault : AnswerFault) (at : InputName) (why : Why) → command_fault fault ≡ Input at why
@@ -174,7 +174,7 @@ module _ {D : Type 0} (whole : D → Option (List ℕ)) (failures : D → ℕ) (
   }
 
   pub fault_told : (slices : Bool) (fault : AnswerFault) → AsksAmong whole failures lines answering old new (Err fault) AreColumns
-      → ReadsInputs (told_fault slices fault) (IsKeyOutcome slices)
+      → ReadsInputs (reply_to_fault slices fault) (IsKeyOutcome slices)
       (IsUntoldBy whole failures lines slices (key_bytes key ∷ []) all old new) (NoneFailed failures old new)
   fault_told false (faults.Damaged input number) asks = refuses_all false (faults.Damaged input number) (Index input) (why.Damaged number) refl tt asks
   fault_told false (faults.NoLines input number) asks = refuses_all false (faults.NoLines input number) (Index input) (why.NoLines number) refl tt asks
@@ -264,7 +264,7 @@ refused_after : (key : SliceKey) (told : List KeyAnswers)
 refused_after key [] all = tt
 refused_after key (one ∷ told) all = by one.told (refused_after key told all.1)
   where
-    by : (t : KeyTold) → AllByRecursion (λ (refusal : KeyRefusal). key_cmp key refusal.key ≡ Less) (refusals_in told)
+    by : (t : KeyReply) → AllByRecursion (λ (refusal : KeyRefusal). key_cmp key refusal.key ≡ Less) (refusals_in told)
         → AllByRecursion (λ (refusal : KeyRefusal). key_cmp key refusal.key ≡ Less) (cons_option (refusal_in one.asked.now.key t) (refusals_in told))
     by (Told answers) more = more
     by (Refused at why) more = (all.0, more)
@@ -275,7 +275,7 @@ unfolding IsStrictlySortedBy
 refusals_ascend [] up = tt
 refusals_ascend (one ∷ told) up = by one.told (refusals_ascend told up.1)
   where
-    by : (t : KeyTold) → IsStrictlySortedBy (λ a b. key_cmp a.key b.key) (refusals_in told)
+    by : (t : KeyReply) → IsStrictlySortedBy (λ a b. key_cmp a.key b.key) (refusals_in told)
         → IsStrictlySortedBy (λ a b. key_cmp a.key b.key) (cons_option (refusal_in one.asked.now.key t) (refusals_in told))
     by (Told answers) more = more
     by (Refused at why) more = (refused_after one.asked.now.key told up.0, more)
@@ -294,7 +294,7 @@ of_told (one ∷ told) refusal there = by one.told refl (λ more. of_told told r
     later : IsRefusedIn told refusal → IsRefusedIn (one ∷ told) refusal
     later r = record { one = r.one; is_one = in_rest one told r.one r.is_one; key_is = r.key_is; told_is = r.told_is }
 
-    by : (t : KeyTold) → one.told ≡ t → (Contains (refusals_in told) refusal → IsRefusedIn told refusal)
+    by : (t : KeyReply) → one.told ≡ t → (Contains (refusals_in told) refusal → IsRefusedIn told refusal)
         → Contains (cons_option (refusal_in one.asked.now.key t) (refusals_in told)) refusal → IsRefusedIn (one ∷ told) refusal
     by (Told answers) is rest more = later (rest more)
     by (Refused at why) is rest more = elim (in_cons (record { key = one.asked.now.key; at = at; why = why }) (refusals_in told) refusal more) [
@@ -319,7 +319,7 @@ to_refusals (first ∷ told) one at why there is = elim (in_cons first told one 
   | inr later ↦ by first.told (to_refusals told one at why later is)
 ]
   where
-    by : (t : KeyTold) → Contains (refusals_in told) (record { key = one.asked.now.key; at = at; why = why })
+    by : (t : KeyReply) → Contains (refusals_in told) (record { key = one.asked.now.key; at = at; why = why })
         → Contains (cons_option (refusal_in first.asked.now.key t) (refusals_in told))
         (record { key = one.asked.now.key; at = at; why = why })
     by (Told answers) more = more

@@ -40,7 +40,7 @@ use Rattle.command_queries.specs.Slices.{AreUuidsOf, IsAnsweringRow, TellsSlices
 use Rattle.command_frames.specs.InnerSlices.{AreRowsUnder, TellsRowsAfter, is_under_one}
 use Rattle.command_queries.specs.Symbolicate.{Answered, asked_of}
 use Rattle.command_frames.proofs.RowsAnswering.{answer_answers, answers_answer}
-use Rattle.command_queries.proofs.Sourced.{sourced_as}
+use Rattle.command_queries.proofs.AnswersWithFrames.{sourced_as}
 
 -- ---- whether a record is under one of the UUIDs
 

@@ -13,7 +13,7 @@ use Rattle.archive_core.specs.Lookup.{AnswerRecord}
 use Rattle.archive_core.specs.declared.keys.SliceKey.{SliceKey}
 use Rattle.archive_core.specs.declared.lookup.Where.{Where}
 use Rattle.dwarf_source_frames.specs.Frames.{FrameRecord}
-use Rattle.command_queries.specs.Sources.{IsSourced}
+use Rattle.command_queries.specs.SourceFrames.{IsAnswerWithFrames}
 use Rattle.command_queries.specs.Symbolicate.{asked_of}
 use Rattle.text_inputs.specs.declared.frame.Frame.{Frame}
 use Rattle.index_format.specs.declared.index_fault.IndexFaultKind.TheVariants.{Device}
@@ -53,7 +53,7 @@ pub record IsAnsweredBySlices {P : Type 0} (archives : List (Reader P)) (all : L
   pub tied : AreTied (key_bytes key) all
   pub content : Operations
   pub held : HoldNamed (key_bytes key ∷ []) archives all content
-  pub answered : IsSourced content key lines asked answer frames
+  pub answered : IsAnswerWithFrames content key lines asked answer frames
 
 -- tables tell the answer, or slices do, if two are tied
 abbrev pub IsAnsweredAt : {P : Type 0} → (List (List ℕ) → Type 0) → List (Reader P) → List (List (List ℕ)) → Bool

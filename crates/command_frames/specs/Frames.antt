@@ -15,7 +15,7 @@ use Rattle.text_reports.specs.Slices.{TellsSlices, slice_key_cmp}
 use Rattle.command_common.specs.Ends.{Query}
 use Rattle.command_common.specs.Inputs.{Reader, EachUntouched}
 use Rattle.command_common.specs.declared.faults.Status.{Status}
-use Rattle.command_common.specs.declared.faults.Status.TheVariants.{Refused}
+use Rattle.command_common.specs.declared.faults.Status.TheVariants.{SomeRefused}
 use Rattle.command_index_queries.specs.Several.{AreUnfailedTogether}
 use Rattle.command_index_queries.specs.Together.{AreReadWith}
 use Rattle.command_frames.specs.Asking.{AreGiven, AreRefusedAsking, IsAnsweredAt, keys_of}
@@ -37,7 +37,7 @@ IsFrameReplied IsSaid refusals frame reply =
     (reply.address ≡ frame.address) × IsAnsweredOrRefused IsSaid refusals frame reply.answered
 
 -- Frames have replies, one a frame and in their order, and these keys of theirs are refused, by the bytes of the keys
--- and each once, of each of which this is true. The status is `Refused` exactly if a key is.
+-- and each once, of each of which this is true. The status is `SomeRefused` exactly if a key is.
 pub record TellFramesBesides (IsSaid : SliceKey → Where → AnswerRecord → List (List FrameRecord) → Type 0)
     (IsRefused : KeyRefusal → Type 0) (frames : List Frame) (refusals : List KeyRefusal) (status : Status)
     (text : List ℕ) : Type 0 where
@@ -47,7 +47,7 @@ pub record TellFramesBesides (IsSaid : SliceKey → Where → AnswerRecord → L
   pub of_frames : All (λ refusal. Contains (keys_of frames) (key_bytes refusal.key)) refusals
   pub refused : All IsRefused refusals
   pub status_is : status ≡ replies_status replies
-  pub status_refused : (status ≡ Refused) ↔ (refusals ≢ [])
+  pub status_refused : (status ≡ SomeRefused) ↔ (refusals ≢ [])
   pub text_is : text ≡ replies_text replies
 
 -- The same, and after it the lines of the slices that answer under these keys, as entries have them, and of the keys

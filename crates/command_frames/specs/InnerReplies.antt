@@ -7,11 +7,11 @@ use Rattle.archive_core.specs.declared.lookup.Where.{Where}
 use Rattle.dwarf_source_frames.specs.Frames.{FrameRecord}
 use Rattle.text_inputs.specs.declared.frame.Frame.{Frame}
 use Rattle.command_common.specs.declared.faults.Status.{Status}
-use Rattle.command_frames.specs.declared.told.KeyAnswers.{KeyAnswers}
+use Rattle.command_frames.specs.declared.key_answers.KeyAnswers.{KeyAnswers}
 use Rattle.command_queries.specs.Frames.{TellFrames}
 use Rattle.command_frames.specs.Frames.{TellFramesBesides}
 use Rattle.command_frames.specs.InnerSlices.{AreFollowed}
-use Rattle.command_frames.specs.InnerTold.{ShowsFrames, refusals_in}
+use Rattle.command_frames.specs.InnerKeyReplies.{ShowsFrames, refusals_in}
 use Rattle.command_frames.specs.Refusals.{KeyRefusal, refusal_lines}
 
 -- frames are answered, and if slices are wanted these are the lines of the keys that are refused

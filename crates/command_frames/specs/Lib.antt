@@ -3,7 +3,7 @@ pub mod Slices
 pub mod Refusals
 pub mod Frames
 pub mod InnerPlaces
-pub mod InnerTold
+pub mod InnerKeyReplies
 pub mod InnerAsking
 pub mod InnerReplies
 pub mod InnerSlices

@@ -16,7 +16,7 @@ use Rattle.command_common.specs.declared.faults.CommandFault.TheVariants.{Input}
 use Rattle.command_common.specs.declared.faults.InputName.{InputName}
 use Rattle.command_common.specs.declared.faults.InputName.TheVariants.{Index}
 use Rattle.command_common.specs.declared.faults.Status.{Status}
-use Rattle.command_common.specs.declared.faults.Status.TheVariants.{Done, Partial, Refused}
+use Rattle.command_common.specs.declared.faults.Status.TheVariants.{Done, Partial, SomeRefused}
 use Rattle.command_common.specs.declared.faults.Why.{Why}
 use Rattle.command_common.specs.declared.faults.Why.TheVariants.{Stale}
 use Rattle.command_queries.specs.Symbolicate.{Answered, is_symbol}
@@ -102,7 +102,7 @@ is_found (Some row) = is_symbol row.answer
 -- refused where one is, and else done where each answer is one symbol
 abbrev pub replies_status : List Reply → Status
 replies_status replies =
-    if list_any (λ reply. is_refused reply.answered) replies then Refused
+    if list_any (λ reply. is_refused reply.answered) replies then SomeRefused
     else if list_all (λ reply. is_found reply.answered) replies then Done else Partial
 
 -- one of these refusals is of a key with these bytes

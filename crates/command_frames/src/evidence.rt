@@ -7,7 +7,7 @@ ghost use Rattle.command_common.specs.Inputs.{ReadsInputs, readers};
 ghost use Rattle.command_queries.specs.Frames.{AskedOfFrames, frames_by_records};
 ghost use Rattle.command_frames.specs.Frames.{frames_by_indexes};
 
-use crate::frames::tell_frames;
+use crate::frames::answer_by_indexes;
 use crate::records::answer_by_records;
 use archive_core::{Archive, SliceKey};
 use byte_device::{Placed, Source};
@@ -95,7 +95,7 @@ impl<'a, I: Placed, P: Placed> FrameEvidence for Indexes<'a, I, P> {
         keys: &[SliceKey],
         frames: &[Frame],
     ) -> Result<(Status, Vec<u8, Heap>), CommandFault> {
-        tell_frames::<A, I, P>(
+        answer_by_indexes::<A, I, P>(
             heap,
             lines,
             slices,

@@ -10,14 +10,14 @@ ghost use Rattle.command_frames.specs.Asking.{AreRefusedAsking};
 ghost use Rattle.command_frames.specs.Frames.{AreToldAt};
 ghost use Rattle.command_frames.specs.InnerReplies.{PrintsFrames};
 ghost use Rattle.command_frames.specs.InnerPlaces.{AreKeysOf};
-ghost use Rattle.command_frames.specs.InnerTold.{HaveEachTold, asked_in};
+ghost use Rattle.command_frames.specs.InnerKeyReplies.{HaveEachTold, asked_in};
 
 use crate::evidence::FrameEvidence;
+use crate::key_answers::{KeyAnswers, answer_keys};
 use crate::named::frame_keys;
 use crate::places::asked_keys;
 use crate::replies::{answer_frames_by_keys, refused_lines};
 use crate::slices::with_slices;
-use crate::told::{KeyAnswers, tell_keys};
 use archive_core::{Archive, SliceKey};
 use byte_device::{Placed, Sink, Source};
 use command_common::{CommandFault, Status, read_frames_input, write_report_bytes};
@@ -57,8 +57,8 @@ fn print_frames(
 ///
 /// With `slices` a key whose table was changed, or has no lines, or of whose slices one that is read was changed, is
 /// refused alone: its frames have a mark in place of an answer, a line after all others names the key and the fault, and
-/// the status is `Refused`.
-pub(crate) fn tell_frames<A: Archive + Drop, I: Placed, P: Placed>(
+/// the status is `SomeRefused`.
+pub(crate) fn answer_by_indexes<A: Archive + Drop, I: Placed, P: Placed>(
     heap: &Heap,
     lines: bool,
     slices: bool,
@@ -76,7 +76,7 @@ pub(crate) fn tell_frames<A: Archive + Drop, I: Placed, P: Placed>(
 {
     let read = read_indexes(heap, indexes, archives)?;
     let asked = asked_keys(heap, frames)?;
-    let told = tell_keys::<A, I, P>(heap, &read, indexes, archives, lines, slices, &asked)?;
+    let told = answer_keys::<A, I, P>(heap, &read, indexes, archives, lines, slices, &asked)?;
     let shown = print_frames(heap, slices, keys, &read, &told, frames)?;
     Ok(shown)
 }
@@ -87,7 +87,7 @@ pub(crate) fn tell_frames<A: Archive + Drop, I: Placed, P: Placed>(
 /// `slices`, the lines of the slices that answer under the UUIDs of the frames follow, and of the keys under which none
 /// does.
 ///
-/// The status is `Done` where each answer is one symbol, `Refused` where a key is refused alone, and else `Partial`.
+/// The status is `Done` where each answer is one symbol, `SomeRefused` where a key is refused alone, else `Partial`.
 ///
 /// # Errors
 ///

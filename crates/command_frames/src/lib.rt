@@ -2,7 +2,7 @@
 //!
 //! - `named`, `places`: the keys that frames name, and the places that they mean under these, each once;
 //! - `tables`, `tied`: what the tables of indexes tell under a key, or the slices that these name under it;
-//! - `told`: what is told of keys, one after another; `replies`: the lines of it, for records too;
+//! - `key_answers`: what is told of keys, one after another; `replies`: the lines of it, for records too;
 //! - `slices`: the lines of the slices that answer under keys, by entries; `record_slices`: by records;
 //! - `questions`: keys, as questions to records; `records`: the answers of records to frames;
 //! - `frames`: the command that answers frames, and the answers of indexes to them; `symbolicate`: the command that
@@ -23,6 +23,7 @@
 
 mod evidence;
 mod frames;
+mod key_answers;
 mod named;
 mod places;
 mod questions;
@@ -33,7 +34,6 @@ mod slices;
 mod symbolicate;
 mod tables;
 mod tied;
-mod told;
 
 pub use evidence::FrameEvidence;
 pub use frames::run_frames;

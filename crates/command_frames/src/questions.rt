@@ -6,9 +6,9 @@ ghost use Rattle.std.specs.Ordering.{nat_cmp};
 ghost use Rattle.std.specs.Cmp.Lexicographic.{slice_cmp};
 ghost use Rattle.archive_core.specs.Key.{key_bytes};
 
+use crate::key_answers::KeyAnswers;
 use crate::places::AskedKey;
-use crate::tables::KeyTold;
-use crate::told::KeyAnswers;
+use crate::tables::KeyReply;
 use archive_core::{Archive, SliceKey};
 use archive_read::{Questions, Selects};
 use archive_records::key_prefix;
@@ -63,13 +63,13 @@ impl<'k> KeyQuestions<'k> {
 
 impl<'k> Questions for KeyQuestions<'k> {
     ghost use Rattle.std.specs.Prelude.{◌≡◌, map};
-    ghost use Rattle.command_queries.specs.Sources.{IsSourced};
-    ghost use Rattle.command_frames.specs.InnerTold.{AreToldSoFar};
+    ghost use Rattle.command_queries.specs.SourceFrames.{IsAnswerWithFrames};
+    ghost use Rattle.command_frames.specs.InnerKeyReplies.{AreToldSoFar};
 
     ghost left = { λ questions. map (λ one. one.key) questions.left.now };
 
     ghost answered = { λ start content now. (now.lines ≡ start.lines)
-        × AreToldSoFar (λ key. IsSourced content key start.lines) start.left.now now.left.now now.told.items };
+        × AreToldSoFar (λ key. IsAnswerWithFrames content key start.lines) start.left.now now.left.now now.told.items };
 
     fn next_key(&self) -> Option<SliceKey> {
         Some(self.left.first()?.key)
@@ -82,7 +82,7 @@ impl<'k> Questions for KeyQuestions<'k> {
         let answers = answer_places(&self.heap, archive, &one.key, self.lines, &one.places)?;
         self.told.push(KeyAnswers {
             asked: one,
-            told: KeyTold::Told(answers),
+            told: KeyReply::Told(answers),
         })?;
         self.left = left;
         Ok(())

@@ -5,14 +5,14 @@ ghost use Rattle.std.specs.Option.{option_to_list};
 ghost use Rattle.archive_core.specs.Key.{key_bytes};
 ghost use Rattle.command_queries.specs.Symbolicate.{asked_of};
 ghost use Rattle.command_frames.specs.InnerPlaces.{AreInOrder, AreKeysOf, HasAsked};
-ghost use Rattle.command_frames.specs.InnerTold.{HasNumber, HaveEachTold, IsPrinted, ShowsFrames, StandsAt};
-ghost use Rattle.command_frames.specs.InnerTold.{asked_in, refusal_in, refusals_in, status_with};
+ghost use Rattle.command_frames.specs.InnerKeyReplies.{HasNumber, HaveEachTold, IsPrinted, ShowsFrames, StandsAt};
+ghost use Rattle.command_frames.specs.InnerKeyReplies.{asked_in, refusal_in, refusals_in, status_with};
 ghost use Rattle.command_frames.specs.Refusals.{refusal_lines};
 
+use crate::key_answers::KeyAnswers;
 use crate::named::whole_key;
 use crate::places::{AskedPlace, compare_places};
-use crate::tables::KeyTold;
-use crate::told::KeyAnswers;
+use crate::tables::KeyReply;
 use archive_core::{SliceKey, compare_keys};
 use command_common::{CommandFault, Status};
 use memory::{Heap, NoMemory};
@@ -21,7 +21,7 @@ use text_reports::Text;
 use text_values::Address;
 
 /// Where what is told of a frame stands: under its key, and the number of its place there.
-fn told_at<'t, 'k>(told: &'t [KeyAnswers<'k>], frame: &Frame) -> (&'t KeyAnswers<'k>, usize)
+fn reply_at<'t, 'k>(told: &'t [KeyAnswers<'k>], frame: &Frame) -> (&'t KeyAnswers<'k>, usize)
     requires order { AreInOrder (asked_in told.now) }
     requires there { HasAsked (asked_in told.now) (key_bytes frame.now.key)
         (asked_of frame.now.load frame.now.address) }
@@ -53,9 +53,9 @@ fn status_with(status: Status, other: Status) -> Status
         Status::Partial => match other {
             Status::Done => Status::Partial,
             Status::Partial => Status::Partial,
-            Status::Refused => Status::Refused,
+            Status::SomeRefused => Status::SomeRefused,
         },
-        Status::Refused => Status::Refused,
+        Status::SomeRefused => Status::SomeRefused,
     }
 }
 
@@ -65,7 +65,7 @@ fn push_reply(
     text: &mut String<Heap>,
     status: Status,
     address: u64,
-    told: &KeyTold,
+    told: &KeyReply,
     number: usize,
 ) -> Result<Status, NoMemory>
     requires { HasNumber told.now number }
@@ -73,15 +73,15 @@ fn push_reply(
         (string_bytes text.new)) }
 {
     match told {
-        KeyTold::Told(answers) => {
+        KeyReply::Told(answers) => {
             let answer = &answers[number];
             text.push_str(&answer.text)?;
             Ok(status_with(status, answer.status))
         }
-        KeyTold::Refused(_, _) => {
+        KeyReply::Refused(_, _) => {
             let address = Address(address);
             writeln!(text, "{address} !")?;
-            Ok(status_with(status, Status::Refused))
+            Ok(status_with(status, Status::SomeRefused))
         }
     }
 }
@@ -99,20 +99,20 @@ pub(crate) fn answer_frames_by_keys(
     let mut status = Status::Done;
     let mut text = String::new(heap);
     'frames: for frame in frames {
-        let (one, number) = told_at(told, frame);
+        let (one, number) = reply_at(told, frame);
         status = push_reply(&mut text, status, frame.address, &one.told, number)?;
     }
     Ok((status, text.into_bytes()))
 }
 
 /// Writes the line of a key that is refused.
-fn push_refusal(text: &mut String<Heap>, key: SliceKey, told: &KeyTold) -> Result<(), NoMemory>
+fn push_refusal(text: &mut String<Heap>, key: SliceKey, told: &KeyReply) -> Result<(), NoMemory>
     ensures { OnOk result (string_bytes text.new ≡ string_bytes text.old
         ++ refusal_lines (option_to_list (refusal_in key told.now))) }
 {
     match told {
-        KeyTold::Told(_) => Ok(()),
-        KeyTold::Refused(at, why) => {
+        KeyReply::Told(_) => Ok(()),
+        KeyReply::Refused(at, why) => {
             let key = Text(key);
             let fault = CommandFault::Input(*at, *why);
             writeln!(text, "{key} refused {fault}")?;

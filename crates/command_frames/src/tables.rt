@@ -11,16 +11,16 @@ ghost use Rattle.index_lookup.specs.AmongAsked.{HaveTexts};
 ghost use Rattle.index_lookup.specs.Views.{borrowed_in};
 ghost use Rattle.command_frames.specs.Asking.{IsAnsweredByTables};
 ghost use Rattle.command_frames.specs.InnerAsking.{AsksTables, IsKeyFault, command_fault};
-ghost use Rattle.command_frames.specs.InnerTold.{IsAnswerAt, IsAnswerIn, IsKeyTold, shown_at, told_fault};
+ghost use Rattle.command_frames.specs.InnerKeyReplies.{IsAnswerAt, IsAnswerIn, IsKeyReply, shown_at, reply_to_fault};
 
 use archive_core::{Answer, SliceKey, Where};
 use byte_device::Placed;
 use command_common::{CommandFault, InputName, Status, Why};
 use command_queries::{PlaceAnswer, address_in, status_after};
-use dwarf_source_frames::Frame;
+use dwarf_source_frames::SourceFrame;
 use index_format::{Index, IndexFault, IndexFaultKind};
 use index_lookup::laws::each_told;
-use index_lookup::{AnswerFault, Answers, answer_among, answering_among};
+use index_lookup::{AnswerFault, Answers, answer_among, answering_entries};
 use memory::{Heap, NoMemory};
 use text_reports::push_answer;
 
@@ -48,7 +48,7 @@ fn refusal(fault: AnswerFault) -> CommandFault
 
 /// What came of asking under a key.
 #[derive(Drop)]
-pub(crate) enum KeyTold {
+pub(crate) enum KeyReply {
     /// The answers to the places that were asked for, in their order.
     Told(Vec<PlaceAnswer, Heap>),
     /// The key is refused: a table was changed, or has no lines; or a slice was changed.
@@ -56,18 +56,18 @@ pub(crate) enum KeyTold {
 }
 
 /// What comes of a fault of asking tables. If slices are wanted, a fault of the key alone refuses the key.
-fn told_fault(slices: bool, fault: AnswerFault) -> Result<Option<KeyTold>, CommandFault>
-    ensures { result ≡ told_fault slices fault }
+fn reply_to_fault(slices: bool, fault: AnswerFault) -> Result<Option<KeyReply>, CommandFault>
+    ensures { result ≡ reply_to_fault slices fault }
 {
     if !slices {
         return Err(refusal(fault));
     }
     match fault {
-        AnswerFault::Damaged { input, entry } => Ok(Some(KeyTold::Refused(
+        AnswerFault::Damaged { input, entry } => Ok(Some(KeyReply::Refused(
             InputName::Index(input),
             Why::Damaged(entry),
         ))),
-        AnswerFault::NoLines { input, entry } => Ok(Some(KeyTold::Refused(
+        AnswerFault::NoLines { input, entry } => Ok(Some(KeyReply::Refused(
             InputName::Index(input),
             Why::NoLines(entry),
         ))),
@@ -82,8 +82,8 @@ fn told_fault(slices: bool, fault: AnswerFault) -> Result<Option<KeyTold>, Comma
 /// Lists of frames, borrowed.
 fn borrowed_lists<'l, 'f>(
     heap: Heap,
-    lists: &'l [Vec<Frame<'f>, Heap>],
-) -> Result<Vec<&'l [Frame<'f>], Heap>, NoMemory>
+    lists: &'l [Vec<SourceFrame<'f>, Heap>],
+) -> Result<Vec<&'l [SourceFrame<'f>], Heap>, NoMemory>
     ensures { IfOk result (λ borrowed. lists_view borrowed.items ≡ map borrowed_in lists.now) }
 {
     let mut borrowed = Vec::with_capacity(heap, lists.len())?;
@@ -94,7 +94,7 @@ fn borrowed_lists<'l, 'f>(
 }
 
 /// Writes an answer to an address, which stands at this number of what is told, and if lines are wanted its frames.
-fn push_told(
+fn push_table_answer(
     heap: &Heap,
     text: &mut String<Heap>,
     address: u64,
@@ -123,7 +123,7 @@ fn table_answer(
 {
     let answer = answers.answer(heap.share(), number)?;
     let mut text = String::new(heap.share());
-    push_told(
+    push_table_answer(
         heap,
         &mut text,
         address_in(place),
@@ -156,7 +156,7 @@ fn table_answers(
 /// What the tables of indexes that were read tell of places under a key, and if lines are wanted their frames; or none,
 /// if of two slices in two archives no entry says which comes first. If slices are wanted, a table that was changed, or
 /// has no lines, refuses the key alone.
-pub(crate) fn tell_by_tables<I: Placed>(
+pub(crate) fn answer_by_tables<I: Placed>(
     heap: &Heap,
     read: &[Index],
     indexes: &mut [I],
@@ -164,22 +164,22 @@ pub(crate) fn tell_by_tables<I: Placed>(
     lines: bool,
     slices: bool,
     places: &[Where],
-) -> Result<Option<KeyTold>, CommandFault>
+) -> Result<Option<KeyReply>, CommandFault>
     requires { length read.now ≡ length indexes.old }
     ensures { AsksTables I.whole I.failures lines slices (key_bytes key.now ∷ []) read.now indexes.old indexes.new
         result (λ told. MatchOption told (AreTied (key_bytes key.now) read.now)
-        (IsKeyTold (IsAnsweredByTables (HaveTexts I.whole indexes.old) read.now lines key.now)
+        (IsKeyReply (IsAnsweredByTables (HaveTexts I.whole indexes.old) read.now lines key.now)
         (IsKeyFault (HaveTexts I.whole indexes.old) read.now lines (key_bytes key.now)) slices places.now)) }
 {
     each_told();
-    let Some(answering) = answering_among(heap, key, read)? else {
+    let Some(answering) = answering_entries(heap, key, read)? else {
         return Ok(None);
     };
     match answer_among(heap, indexes, &answering, lines, places) {
         Ok(answers) => {
             let told = table_answers(heap, &answers, lines, places)?;
-            Ok(Some(KeyTold::Told(told)))
+            Ok(Some(KeyReply::Told(told)))
         }
-        Err(fault) => told_fault(slices, fault),
+        Err(fault) => reply_to_fault(slices, fault),
     }
 }

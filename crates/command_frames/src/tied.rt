@@ -6,9 +6,9 @@ ghost use Rattle.command_common.specs.Inputs.{readers};
 ghost use Rattle.index_lookup.specs.Among.{AreTied};
 ghost use Rattle.command_frames.specs.Asking.{IsAnsweredBySlices, is_stale_entry};
 ghost use Rattle.command_frames.specs.InnerAsking.{AsksSlices};
-ghost use Rattle.command_frames.specs.InnerTold.{IsKeyStale, IsKeyTold, told_unread};
+ghost use Rattle.command_frames.specs.InnerKeyReplies.{IsKeyStale, IsKeyReply, reply_to_unread};
 
-use crate::tables::KeyTold;
+use crate::tables::KeyReply;
 use archive_core::{Archive, SliceKey, Where};
 use byte_device::Placed;
 use command_common::{CommandFault, Why};
@@ -28,13 +28,13 @@ fn is_stale_entry(why: Why) -> bool
 }
 
 /// What comes of a fault of reading slices. If slices are wanted, one that changed refuses the key alone.
-fn told_unread(slices: bool, fault: CommandFault) -> Result<KeyTold, CommandFault>
-    ensures { result ≡ told_unread slices fault }
+fn reply_to_unread(slices: bool, fault: CommandFault) -> Result<KeyReply, CommandFault>
+    ensures { result ≡ reply_to_unread slices fault }
 {
     match fault {
         CommandFault::Input(at, why) => {
             if slices && is_stale_entry(why) {
-                Ok(KeyTold::Refused(at, why))
+                Ok(KeyReply::Refused(at, why))
             } else {
                 Err(CommandFault::Input(at, why))
             }
@@ -48,7 +48,7 @@ fn told_unread(slices: bool, fault: CommandFault) -> Result<KeyTold, CommandFaul
 /// What the slices that indexes name under a key tell of places, and if lines are wanted their frames. No slice of
 /// another key is read. If slices are wanted, one that changed refuses the key alone; an archive of another length, and
 /// a device, refuse all.
-pub(crate) fn tell_by_slices<A: Archive + Drop, P: Placed>(
+pub(crate) fn answer_by_slices<A: Archive + Drop, P: Placed>(
     heap: &Heap,
     read: &[Index],
     archives: &mut [P],
@@ -56,19 +56,19 @@ pub(crate) fn tell_by_slices<A: Archive + Drop, P: Placed>(
     lines: bool,
     slices: bool,
     places: &[Where],
-) -> Result<KeyTold, CommandFault>
+) -> Result<KeyReply, CommandFault>
     requires many { length read.now ≡ length archives.old }
     requires tied { AreTied (key_bytes key.now) read.now }
     ensures { let known = readers P.whole P.failures archives.old archives.old in
         AsksSlices P.whole P.failures slices (key_bytes key.now ∷ []) read.now archives.old archives.new result
-        (IsKeyTold (IsAnsweredBySlices known read.now lines key.now) (IsKeyStale known read.now key.now) slices
+        (IsKeyReply (IsAnsweredBySlices known read.now lines key.now) (IsKeyStale known read.now key.now) slices
         places.now) }
 {
     match read_prefixes::<A, P>(heap, &[KeyPrefix::Key(*key)], read, archives) {
         Ok(kept) => {
             let told = answer_places(heap, &kept, key, lines, places)?;
-            Ok(KeyTold::Told(told))
+            Ok(KeyReply::Told(told))
         }
-        Err(fault) => told_unread(slices, fault),
+        Err(fault) => reply_to_unread(slices, fault),
     }
 }

@@ -4,7 +4,7 @@ ghost use Rattle.std.specs.Prelude.{◌≡◌, ◌<◌, [], length};
 ghost use Rattle.command_common.specs.Inputs.{ReadsInputs, reader, readers};
 ghost use Rattle.command_index_queries.specs.Answered.{of_first_pair, rows_at, rows_by, rows_joined, summary_told};
 
-use crate::inputs::read_index_of;
+use crate::inputs::read_first_index;
 use crate::prefixes::KeyPrefix;
 use crate::rows::rows_under;
 use crate::summaries::summary_of;
@@ -37,7 +37,7 @@ fn rows_at<I: Placed, P: Placed>(
         (reader P.whole P.failures archive.old archive.new) prefix.now in
         ReadsInputs result (λ rows. asked.Has rows.items) asked.Refuses asked.Unfailed }
 {
-    let entries = read_index_of(&heap, index, archive)?;
+    let entries = read_first_index(&heap, index, archive)?;
     Ok(rows_under(&heap, prefix, &entries)?)
 }
 
@@ -106,7 +106,7 @@ fn summary_at<I: Placed, P: Placed>(
         (reader P.whole P.failures archive.old archive.new) in
         ReadsInputs result asked.Has asked.Refuses asked.Unfailed }
 {
-    let entries = read_index_of(&heap, index, archive)?;
+    let entries = read_first_index(&heap, index, archive)?;
     Ok(summary_of(heap, &entries)?)
 }
 

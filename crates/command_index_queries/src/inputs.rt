@@ -44,7 +44,11 @@ pub(crate) fn unread(number: u64, offset: u64) -> CommandFault
 }
 
 /// Reads the index with this number on the command line.
-fn read_tables<I: Placed>(heap: Heap, number: u64, index: &mut I) -> Result<Index, CommandFault>
+fn read_index_input<I: Placed>(
+    heap: Heap,
+    number: u64,
+    index: &mut I,
+) -> Result<Index, CommandFault>
     ensures read { ReadsInput (reader I.whole I.failures index.old index.new) result HoldsTables
         (λ index at why. (at ≡ IndexPlace number) × IsUnreadIndex index why) }
     ensures kept { OnOk result (IsKept I.whole I.failures index.old index.new) }
@@ -77,7 +81,7 @@ fn check_length<P: Placed>(number: u64, tables: &Index, archive: &mut P) -> Resu
 
 /// Reads the index of an archive, and tests that this has the length that it tells. Both have this number on the
 /// command line.
-pub(crate) fn read_with_tables<I: Placed, P: Placed>(
+pub(crate) fn read_matching_index<I: Placed, P: Placed>(
     heap: &Heap,
     number: u64,
     index: &mut I,
@@ -90,13 +94,13 @@ pub(crate) fn read_with_tables<I: Placed, P: Placed>(
     ensures kept { OnOk result (IsKept I.whole I.failures index.old index.new
         × IsKept P.whole P.failures archive.old archive.new) }
 {
-    let tables = read_tables(heap.share(), number, index)?;
+    let tables = read_index_input(heap.share(), number, index)?;
     check_length(number, &tables, archive)?;
     Ok(tables)
 }
 
 /// Reads the index of the first archive, and tests that this has the length that it tells.
-pub(crate) fn read_index_of<I: Placed, P: Placed>(
+pub(crate) fn read_first_index<I: Placed, P: Placed>(
     heap: &Heap,
     index: &mut I,
     archive: &mut P,
@@ -106,7 +110,7 @@ pub(crate) fn read_index_of<I: Placed, P: Placed>(
         ReadsInputs result (λ index. IsIndexOf named known (placed_of index)) (IsRefusedByIndex 0 named known)
         (Unfailed named × Unfailed known) }
 {
-    let tables = read_with_tables(heap, 0, index, archive)?;
+    let tables = read_matching_index(heap, 0, index, archive)?;
     let _count = tables.len();
     Ok(tables)
 }

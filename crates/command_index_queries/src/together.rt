@@ -8,7 +8,7 @@ ghost use Rattle.command_index_queries.specs.Several.{AreRefusedTogether, AreUnf
 ghost use Rattle.command_index_queries.specs.Together.{AreAllKept, AreReadWith, HoldNamed, IsFirstRefusedAtPlaces};
 ghost use Rattle.command_index_queries.specs.Together.{HaveSameBytes, IsFirstRefusedByIndex};
 
-use crate::inputs::read_with_tables;
+use crate::inputs::read_matching_index;
 use crate::parts::join_archive;
 use crate::prefixes::KeyPrefix;
 use archive_core::Archive;
@@ -38,7 +38,7 @@ pub fn read_indexes<I: Placed, P: Placed>(
 {
     let mut read = Vec::new(heap.share());
     'indexes: for number in 0..indexes.len() {
-        let tables = read_with_tables(
+        let tables = read_matching_index(
             heap,
             number as u64,
             &mut indexes[number],

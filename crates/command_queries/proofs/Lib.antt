@@ -1,6 +1,6 @@
 mod Found
 pub mod NamesTogether
 pub mod Placed
-pub mod Sourced
+pub mod AnswersWithFrames
 pub mod Answered
 pub mod Unread

@@ -10,13 +10,13 @@ use Rattle.text_inputs.specs.Frames.{frames_of}
 use Rattle.text_inputs.specs.declared.frame.Frame.{Frame}
 use Rattle.command_common.specs.declared.faults.InputName.{InputName}
 use Rattle.command_common.specs.declared.faults.Status.{Status}
-use Rattle.command_common.specs.declared.faults.Status.TheVariants.{Done, Partial, Refused}
+use Rattle.command_common.specs.declared.faults.Status.TheVariants.{Done, Partial, SomeRefused}
 use Rattle.command_common.specs.declared.faults.Why.{Why}
 use Rattle.command_common.specs.Archives.{AreRefused, AreUnfailed, HoldTogether}
 use Rattle.command_common.specs.Ends.{Query}
 use Rattle.command_common.specs.Inputs.{Reader, Gives, Unfailed, IsUntouched, EachUntouched, IsFrames, IsRefusedFrames}
 use Rattle.command_queries.specs.Slices.{IsAnsweringRow, WithSlices}
-use Rattle.command_queries.specs.Sources.{IsSourced}
+use Rattle.command_queries.specs.SourceFrames.{IsAnswerWithFrames}
 use Rattle.command_queries.specs.Symbolicate.{Answered, MakesAnswered, answers_status, answers_text, asked_of}
 
 -- the row is that of the frame's address, and this is true of its answer
@@ -36,11 +36,11 @@ pub record TellFrames (IsSaid : SliceKey → Where → AnswerRecord → List (Li
 
 -- the row has what the content tells of the frame's address under its key
 abbrev pub IsFrameAnswered : Bool → Operations → Frame → Answered → Type 0
-IsFrameAnswered lines content frame row = IsFrameSaid (λ key. IsSourced content key lines) frame row
+IsFrameAnswered lines content frame row = IsFrameSaid (λ key. IsAnswerWithFrames content key lines) frame row
 
 -- what a content tells of frames: the status, and the lines
 abbrev pub TellsFrames : Bool → Operations → List Frame → Status → List ℕ → Type 0
-TellsFrames lines content frames status text = TellFrames (λ key. IsSourced content key lines) frames status text
+TellsFrames lines content frames status text = TellFrames (λ key. IsAnswerWithFrames content key lines) frames status text
 
 -- the key of each frame
 abbrev pub frame_keys : List Frame → List SliceKey
@@ -139,7 +139,7 @@ IsToldAlone lines archive others frame told =
 abbrev pub is_done : Status → Bool
 is_done Done = true
 is_done Partial = false
-is_done Refused = false
+is_done SomeRefused = false
 
 -- What `symbolicate` tells over the archives of the frames, asked once for each and in their order: done if it is each
 -- time, and one text after the other.

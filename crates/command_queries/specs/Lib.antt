@@ -2,9 +2,9 @@ pub mod Find
 pub mod List
 pub mod Name
 pub mod InnerNames
-pub mod Sources
+pub mod SourceFrames
 pub mod Slices
 pub mod Symbolicate
 pub mod Places
 pub mod Frames
-pub mod InnerSources
+pub mod InnerSourceFrames

@@ -16,7 +16,7 @@ use Rattle.command_common.specs.Archives.{AreRefused, AreUnfailed, HoldTogether}
 use Rattle.command_common.specs.Ends.{Query}
 use Rattle.command_common.specs.Inputs.{Reader}
 use Rattle.command_queries.specs.Slices.{IsAnsweringRow, WithSlices}
-use Rattle.command_queries.specs.Sources.{IsSourced}
+use Rattle.command_queries.specs.SourceFrames.{IsAnswerWithFrames}
 
 -- the place that an address argument means: one of the image where it was loaded, if the words say where, and else one
 -- of its file
@@ -40,7 +40,7 @@ pub record Answered : Type 0 where
 -- the answer is what the content tells of the address, and so are the frames, if lines are wanted
 abbrev pub IsAnswered : Operations → SliceKey → Option ℕ → Bool → Answered → Type 0
 IsAnswered content key load lines row =
-    IsSourced content key lines (asked_of load row.address) (answer_view row.answer) row.frames
+    IsAnswerWithFrames content key lines (asked_of load row.address) (answer_view row.answer) row.frames
 
 -- done where each answer is one symbol
 abbrev pub answers_status : List Answered → Status

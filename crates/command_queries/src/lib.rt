@@ -1,7 +1,7 @@
 //! The commands that ask an archive, or several as their join, and print an answer, over any sources and sinks.
 //!
 //! - `find`, `list`, `name`: the commands that ask which slices it has;
-//! - `sources`: the source frames of places in the slices that answer under a key;
+//! - `source_frames`: the source frames of places in the slices that answer under a key;
 //! - `places`: the answers of an archive to places under a key, each with its lines;
 //! - `addresses`: the address that an argument means, and the status after an answer.
 #![tactic(auto)]
@@ -11,7 +11,7 @@ mod find;
 mod list;
 mod name;
 mod places;
-mod sources;
+mod source_frames;
 
 pub use addresses::{asked_of, status_after};
 pub use find::run_find;

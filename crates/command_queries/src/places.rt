@@ -1,12 +1,12 @@
 //! The answers of an archive to places under a key, each with its lines.
 ghost use Rattle.std.specs.Prelude.{◌≡◌, Bool, IfOk};
 ghost use Rattle.std.specs.List.{AllZip};
-ghost use Rattle.command_queries.specs.InnerSources.{AreSourcesOf};
+ghost use Rattle.command_queries.specs.InnerSourceFrames.{AreSourceFramesOf};
 ghost use Rattle.command_queries.specs.Places.{IsPlaceTold, address_in};
-ghost use Rattle.command_queries.specs.Sources.{IsSourced};
+ghost use Rattle.command_queries.specs.SourceFrames.{IsAnswerWithFrames};
 
 use crate::addresses::status_after;
-use crate::sources::Sources;
+use crate::source_frames::SourceFrames;
 use archive_core::{Archive, SliceKey, Where};
 use command_common::Status;
 use memory::{Heap, NoMemory};
@@ -34,12 +34,12 @@ fn answer_place<A: Archive>(
     heap: &Heap,
     archive: &A,
     key: &SliceKey,
-    sources: &Sources<'_>,
+    sources: &SourceFrames<'_>,
     place: Where,
 ) -> Result<PlaceAnswer, NoMemory>
     ensures { IfOk result (λ told. (lines : Bool)
-        → AreSourcesOf (A.content archive.now) key.now lines place sources.now.found.items
-        → IsPlaceTold (IsSourced (A.content archive.now) key.now lines) place told) }
+        → AreSourceFramesOf (A.content archive.now) key.now lines place sources.now.found.items
+        → IsPlaceTold (IsAnswerWithFrames (A.content archive.now) key.now lines) place told) }
 {
     let answer = archive.lookup(key, place)?;
     let frames = sources.at(heap.share(), place)?;
@@ -59,9 +59,9 @@ pub fn answer_places<A: Archive>(
     places: &[Where],
 ) -> Result<Vec<PlaceAnswer, Heap>, NoMemory>
     ensures { IfOk result (λ told.
-        AllZip (IsPlaceTold (IsSourced (A.content archive.now) key.now lines)) places.now told.items) }
+        AllZip (IsPlaceTold (IsAnswerWithFrames (A.content archive.now) key.now lines)) places.now told.items) }
 {
-    let sources = Sources::wanted(heap, archive, key, lines, places)?;
+    let sources = SourceFrames::wanted(heap, archive, key, lines, places)?;
     let mut told = Vec::with_capacity(heap.share(), places.len())?;
     'places: for place in places {
         told.push(answer_place(heap, archive, key, &sources, *place)?)?;

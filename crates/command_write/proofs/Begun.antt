@@ -18,7 +18,7 @@ use Rattle.command_common.specs.Inputs.{Reader, EachKnown, Gives, IsKnown, IsRef
 use Rattle.command_common.specs.Inputs.{reader}
 use Rattle.command_common.specs.Outputs.{Out, Publishes, Takes, Writer, IsKept}
 use Rattle.byte_device.specs.Writes.{WritesFirst}
-use Rattle.command_write.specs.Begun.{BeginsGood, EndsBegun, HasBegun, IsUnfinished, begins_alone, begins_behind}
+use Rattle.command_write.specs.Begun.{BeginsGood, EndsBegun, HasBegun, IsUnfinished, begins_alone, begins_after}
 use Rattle.archive_core.specs.Content.{Operations}
 use Rattle.command_common.specs.declared.faults.InputName.{InputName}
 use Rattle.command_common.specs.declared.faults.Why.{Why}
@@ -97,9 +97,9 @@ module _ (out : Out) (report : Writer) where
   pub begun : {R : Type 0} (input : Reader R) (Accepted : Type 0) (command : Reader R → Command) (Known : Type 0)
       (streamed : Streamed) → IsUnfinished input Accepted command Known out.draft → (r : Result Status CommandFault)
       → EndsStreamed streamed out report r
-      → EndsStreamed (begins_behind input Accepted command Known out.draft streamed) out report r
+      → EndsStreamed (begins_after input Accepted command Known out.draft streamed) out report r
   begun input Accepted command Known streamed u =
-      ends_so streamed (begins_behind input Accepted command Known out.draft streamed) (λ text told m. m) (λ f. f) (λ fault s. (s, u))
+      ends_so streamed (begins_after input Accepted command Known out.draft streamed) (λ text told m. m) (λ f. f) (λ fault s. (s, u))
 
 -- what makes no more of content and lines makes no more of their texts
 makes_alike : (P Q : Operations → List ℕ → Type 0) → ((o : Operations) (lines : List ℕ) → P o lines → Q o lines)
@@ -114,32 +114,32 @@ makes_alike P Q makes text told m = record {
 }
 
 module _ {R : Type 0} (Makes : Reader R → Operations → List ℕ → Type 0) (input : Reader R)
-    (IsRefusedBehind : InputName → Why → Type 0) (OthersUnfailed Known Accepted : Type 0) (out : Out)
+    (IsRefusedLater : InputName → Why → Type 0) (OthersUnfailed Known Accepted : Type 0) (out : Out)
     (report : Writer) where
   abbrev command : Reader R → Command
   command given = record {
     Makes = MakesArchive (Makes given);
-    Refuses = IsRefusedInTurn given IsRefusedBehind;
+    Refuses = IsRefusedInTurn given IsRefusedLater;
     Unfailed = Unfailed given × OthersUnfailed;
   }
 
   abbrev streamed : Streamed
-  streamed = writes_in_turn (command input) (IsWantedInTurn input IsRefusedBehind) (IsKnown input × Known) out.draft
+  streamed = writes_in_turn (command input) (IsWantedInTurn input IsRefusedLater) (IsKnown input × Known) out.draft
 
   abbrev EndsSo : Result Status CommandFault → Type 0
-  EndsSo result = EndsStreamed (begins_behind input Accepted command Known out.draft streamed) out report result
+  EndsSo result = EndsStreamed (begins_after input Accepted command Known out.draft streamed) out report result
 
-  ends : (fault : CommandFault) → IsRefusal (IsRefusedInTurn input IsRefusedBehind)
-      ((Unfailed input × OthersUnfailed) ⊎ IsWantedInTurn input IsRefusedBehind) fault → IsKept out → Takes report []
+  ends : (fault : CommandFault) → IsRefusal (IsRefusedInTurn input IsRefusedLater)
+      ((Unfailed input × OthersUnfailed) ⊎ IsWantedInTurn input IsRefusedLater) fault → IsKept out → Takes report []
       → EndsSo (Err fault)
   ends fault refusal kept unreported =
       begun out report input Accepted command Known streamed
       (untouched input Accepted command Known out.draft
       (λ sound text told m. nothing_first (Makes sound) out.draft.old out.draft.new text told kept.0.0 m) kept.0) (Err fault)
-      (refused_in_turn (Makes input) (IsRefusedInTurn input IsRefusedBehind) (Unfailed input × OthersUnfailed)
-      (IsWantedInTurn input IsRefusedBehind) (IsKnown input × Known) out report fault refusal kept unreported)
+      (refused_in_turn (Makes input) (IsRefusedInTurn input IsRefusedLater) (Unfailed input × OthersUnfailed)
+      (IsWantedInTurn input IsRefusedLater) (IsKnown input × Known) out report fault refusal kept unreported)
 
-  refused : (at : InputName) (why : Why) → IsRefusedBehind at why → (fault : CommandFault)
+  refused : (at : InputName) (why : Why) → IsRefusedLater at why → (fault : CommandFault)
       → IsRefusal (IsRefusedInTurn input (λ place reason. (place ≡ at) × (reason ≡ why))) (Unfailed input) fault
       → IsKept out → Takes report [] → EndsSo (Err fault)
   refused at why is (Input place reason) (inl first) = ends (Input place reason) (inl first)
@@ -152,7 +152,7 @@ module _ {R : Type 0} (Makes : Reader R → Operations → List ℕ → Type 0) 
   wanting unfailed others = ends OutOfMemory (inl (unfailed, others))
 
   -- what is after it was refused, or memory wanted for it
-  pub told_behind : (fault told : CommandFault) → IsRefusal IsRefusedBehind OthersUnfailed fault
+  pub told_behind : (fault told : CommandFault) → IsRefusal IsRefusedLater OthersUnfailed fault
       → TellsInTurn input fault told → IsKept out → Takes report [] → EndsSo (Err told)
   told_behind (Input at why) told r t = refused at why r told t
   told_behind OutOfMemory told r t = rw t.0 (wanting (ap input.failures t.1) r)
@@ -167,7 +167,7 @@ module _ {R : Type 0} (Makes : Reader R → Operations → List ℕ → Type 0) 
       out report result → EndsSo result
   read_behind Others unfailed all forth back =
       ends_so out report (begins_alone input other out.draft)
-      (begins_behind input Accepted command Known out.draft streamed)
+      (begins_after input Accepted command Known out.draft streamed)
       (makes_alike (Others input) (Makes input) forth) (λ u. (u, unfailed))
       (λ fault s. (stops fault s.0, accepted input Accepted command Known out.draft (Unit {0}) other (Unit {0}) all (λ k. tt) alike s.1))
     where
@@ -182,7 +182,7 @@ module _ {R : Type 0} (Makes : Reader R → Operations → List ℕ → Type 0) 
       first n f k text told m = f k.0 text told (alike k.1 input text told m).1
 
       stops : (fault : CommandFault) → StopsAmidst (other input) (IsKnown input) out.draft fault
-          → StopsInTurn (command input) (IsWantedInTurn input IsRefusedBehind) (IsKnown input × Known) out.draft fault
+          → StopsInTurn (command input) (IsWantedInTurn input IsRefusedLater) (IsKnown input × Known) out.draft fault
       stops (Input at why) s = (inl s.0, s.1, (s.2.0, first s.2.0 s.2.1))
       stops (Output n) s = ((s.0, unfailed), s.1, first n s.2)
       stops (Report n) s = absurd s

@@ -14,7 +14,7 @@ use Rattle.archive_admission.specs.Take.{admitted, taken_of, taken_rows}
 use Rattle.archive_admission.specs.declared.taken.Taken.{Taken}
 use Rattle.archive_admission.proofs.RowPlaces.{rows_number}
 use Rattle.text_reports.specs.declared.rows.AdmitRow.{AdmitRow}
-use Rattle.byte_openings.specs.declared.openings.Opening.{Opening}
+use Rattle.byte_lazy_inputs.specs.declared.openings.Opening.{Opening}
 use Rattle.command_write.specs.Admit.{admit_rows, file_rows, images_of, MakesAdmitted, admit_as_it_comes}
 use Rattle.command_write.specs.FileRows.{file_lines, file_row_text}
 use Rattle.command_write.specs.InnerArriving.{images_in, record_in, records_by, records_in, records_of, updated_row}
@@ -43,7 +43,7 @@ use Rattle.command_common.specs.declared.faults.Why.{Why}
 use Rattle.command_common.specs.Ends.{EndsStreamed}
 use Rattle.command_common.specs.Outputs.{Out, Writer}
 use Rattle.command_write.specs.Begun.{EndsBegun}
-use Rattle.command_write.specs.InnerTelling.{MakesTold, telling}
+use Rattle.command_write.specs.InnerArrivalJoins.{MakesTold, telling}
 use Rattle.command_write.proofs.Begun.{all_given, read_behind}
 
 -- ---- what changes a join

@@ -41,7 +41,7 @@ use Rattle.archive_core.specs.declared.operations.Operation.{Operation}
 use Rattle.archive_core.specs.Record.{record_bytes, retirement_record}
 use Rattle.archive_records.specs.declared.format.Format.TheVariants.{OldArchive}
 use Rattle.archive_merge.specs.declared.arrivals.Arrival.{Arrival}
-use Rattle.command_write.specs.InnerTelling.{IsJoinedTelling, MakesTold, telling, HasNewOf, counts_of, IsRetired}
+use Rattle.command_write.specs.InnerArrivalJoins.{IsJoinedWithArrivals, MakesTold, telling, HasNewOf, counts_of, IsRetired}
 use Rattle.std.proofs.lemmas.List.{length-map}
 use Rattle.archive_core.proofs.Taken.{taken_are_joined, new_within}
 use Rattle.archive_records.proofs.Inputs.{one_operations}
@@ -190,7 +190,7 @@ module _ {R : Type 0} (input : Reader R) (operations : Operations) (lines_of : (
 
   -- and what it makes is published
   pub told_published : {W : Type 0} (draft : Stream W) (sizes : Sizes) (arrived : List Arrival) (withdraws : Bool)
-      (j : IsJoinedTelling input operations draft sizes arrived withdraws) (lines : List ℕ) → lines
+      (j : IsJoinedWithArrivals input operations draft sizes arrived withdraws) (lines : List ℕ) → lines
       ≡ lines_of (changes j.joined.content) → (out : Out) (report : Writer) (result : Result Status CommandFault)
       → Publishes out report (written (joined j.joined.content (content_of operations))) (lines ++ archive_line sizes)
       result → EndsBegun input (λ given. telling given operations lines_of) out report result
@@ -263,7 +263,7 @@ module _ (key : SliceKey) (digest : Digest) where
 
   module _ {R : Type 0} (input : Reader R) where
     pub retired : {W : Type 0} (draft : Stream W) (sizes : Sizes) (arrived : List Arrival) (had changed : Bool)
-        (j : IsJoinedTelling input alone draft sizes arrived had)
+        (j : IsJoinedWithArrivals input alone draft sizes arrived had)
         → ((x : Arrival) → arrived ≡ x ∷ [] → changed ≡ is_new x) → IsRetired input key digest draft sizes changed had
     retired draft sizes arrived had changed j first =
         let o : Operations = j.joined.content in

@@ -9,21 +9,21 @@ use Rattle.archive_admission.specs.Take.{admitted}
 use Rattle.archive_admission.specs.declared.fault.TakeFault.{TakeFault}
 use Rattle.archive_admission.specs.declared.fault.TakeFault.TheVariants.{OutOfMemory as TakeOutOfMemory}
 use Rattle.byte_device.specs.Devices.{FailedIn, most_failures}
-use Rattle.byte_openings.specs.declared.openings.Opening.{Opening}
+use Rattle.byte_lazy_inputs.specs.declared.openings.Opening.{Opening}
 use Rattle.command_common.specs.declared.faults.CommandFault.{CommandFault}
 use Rattle.command_common.specs.declared.faults.CommandFault.TheVariants.{Input, Output, Report, OutOfMemory}
 use Rattle.command_common.specs.declared.faults.Status.{Status}
-use Rattle.command_common.specs.declared.faults.Status.TheVariants.{Done, Refused}
+use Rattle.command_common.specs.declared.faults.Status.TheVariants.{Done, SomeRefused}
 use Rattle.command_common.specs.declared.faults.Why.{Why}
 use Rattle.command_common.specs.Ends.{Command, EndsStreamed, HasFirst, MakesArchive, StopsAmidst, writes_amidst}
 use Rattle.command_common.specs.Inputs.{EachUnfailed, Reader, Holds, IsFileRefused, IsKnown, Unfailed, reader}
 use Rattle.command_common.specs.Outputs.{IsKept, Out, Takes, Writer, report_of}
 use Rattle.command_common.proofs.Amidst.{nothing_first}
 use Rattle.command_write.specs.Admit.{MakesAdmitted, admit_rows}
-use Rattle.command_write.specs.Begun.{EndsBegun, begins_alone, begins_behind}
+use Rattle.command_write.specs.Begun.{EndsBegun, begins_alone, begins_after}
 use Rattle.command_write.specs.FileRows.{file_lines}
 use Rattle.command_write.specs.InnerArriving.{HasCome, is_passed, lines_again, records_of, with_status}
-use Rattle.command_write.specs.InnerTelling.{MakesTold, telling}
+use Rattle.command_write.specs.InnerArrivalJoins.{MakesTold, telling}
 use Rattle.command_write.specs.PassedOver.{Becomes, BecomeSome, EachCounted, EndsPassing, IsCounted, MakesPassing}
 use Rattle.command_write.specs.PassedOver.{Outcome, admit_passing, admit_passing_as_it_comes}
 use Rattle.command_write.specs.PassedOver.{images_by, images_from, rows_of, status_over}
@@ -37,7 +37,7 @@ pub passed_more : (xs : List Outcome) (x : Outcome) → list_any is_passed (xs +
 passed_more [] x = grind arith
 passed_more (y ∷ xs) x = grind (arith, passed_more xs x)
 
-status_is : (xs : List Outcome) → (if list_any is_passed xs then Refused else Done) ≡ status_over xs
+status_is : (xs : List Outcome) → (if list_any is_passed xs then SomeRefused else Done) ≡ status_over xs
 unfolding status_over
 status_is [] = refl
 status_is (Ok bytes ∷ xs) = status_is xs
@@ -213,11 +213,11 @@ module _ {R S : Type 0} (opening : S → Opening) (input : Reader R) (files : Li
     stops OutOfMemory s = (s.0, s.1, (s.2.0, first s.2.0 s.2.1))
 
     stopped : (fault : CommandFault) → EndsBegun input other out report (Err fault)
-        → EndsStreamed (begins_behind input (BecomeSome opening files) command (EachCounted files) out.draft
+        → EndsStreamed (begins_after input (BecomeSome opening files) command (EachCounted files) out.draft
         (writes_amidst (command input) Known out.draft)) out report (Err fault)
     stopped fault =
         ends_so out report (begins_alone input other out.draft)
-        (begins_behind input (BecomeSome opening files) command (EachCounted files) out.draft (writes_amidst (command input) Known out.draft))
+        (begins_after input (BecomeSome opening files) command (EachCounted files) out.draft (writes_amidst (command input) Known out.draft))
         archive_any (λ u. u) (λ fault s. (
           stops fault s.0,
           accepted input (BecomeSome opening files) command (EachCounted files) out.draft (Unit {0}) other (Unit {0})
@@ -232,7 +232,7 @@ module _ {R S : Type 0} (opening : S → Opening) (input : Reader R) (files : Li
 
     pub passing : (passed : Bool) → passed ≡ list_any is_passed outcomes → (result : Result Status CommandFault) → EndsBegun input other out report result
         → EndsPassing (admit_passing_as_it_comes opening input files out.draft) out report (with_status passed result)
-    passing passed is (Ok was) e = done _ was (ap (λ (b : Bool). if b then Refused else Done) is ∙ status_is outcomes) e
+    passing passed is (Ok was) e = done _ was (ap (λ (b : Bool). if b then SomeRefused else Done) is ∙ status_is outcomes) e
     passing passed is (Err fault) e = stopped fault e
 
 -- ---- where no file is passed over

@@ -34,11 +34,11 @@ use Rattle.command_write.proofs.Begun.{accepted, begun, published, taken_begun}
 use Rattle.join_core.specs.Listing.{listing}
 use Rattle.std.specs.List.{list_any}
 use Rattle.archive_records.proofs.Versions.{made_content, one_content}
-use Rattle.archive_merge.specs.Telling.{HasOperations, IsMergedTelling}
+use Rattle.archive_merge.specs.ArrivalMerge.{HasOperations, IsMergedWithArrivals}
 use Rattle.archive_merge.specs.Arrivals.{arrival_of}
 use Rattle.archive_merge.specs.declared.arrivals.Arrival.{Arrival}
 use Rattle.archive_merge.proofs.Tellings.{one_set}
-use Rattle.command_write.specs.InnerTelling.{HoldsVersion1Text, IsJoinedTelling}
+use Rattle.command_write.specs.InnerArrivalJoins.{HoldsVersion1Text, IsJoinedWithArrivals}
 use Rattle.command_write.specs.Merge.{MakesMerged, merge_in_turn}
 use Rattle.command_common.proofs.Readers.{by_device}
 
@@ -254,8 +254,8 @@ module _ {S : Type 0} (left2 : S → Option (List ℕ)) (failures2 : S → ℕ) 
     (at : HoldsVersion1Text (stream left2 failures2 r r') operations)
     {R W : Type 0} (left : R → Option (List ℕ)) (failures : R → ℕ) (l l' : R) (held : W → Option (List ℕ)) (draft_failures : W → ℕ) (w w' : W) where
   pub told_opened : (sizes : Sizes) (arrived : List Arrival) (withdraws : Bool)
-      → IsMergedTelling (stream left failures l l') (stream left2 failures2 r r') (stream held draft_failures w w')
-      sizes arrived withdraws → IsJoinedTelling (reader left failures l l') operations (stream held draft_failures w w')
+      → IsMergedWithArrivals (stream left failures l l') (stream left2 failures2 r r') (stream held draft_failures w w')
+      sizes arrived withdraws → IsJoinedWithArrivals (reader left failures l l') operations (stream held draft_failures w w')
       sizes arrived withdraws
   unfolding joined_opened
   told_opened sizes arrived withdraws t =

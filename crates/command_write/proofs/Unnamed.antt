@@ -28,7 +28,7 @@ use Rattle.byte_device.specs.Devices.{FailedIn, stream}
 use Rattle.byte_device.specs.Writes.{WritesFirst}
 use Rattle.byte_device.proofs.Known.{Appends-then, Consumes-then}
 use Rattle.byte_device.proofs.Gains.{stopped}
-use Rattle.command_write.specs.Copying.{BlamesDevices, BlamesOne, HasDraft, IsCause, IsCopied, IsCopiedUpTo, IsCopiedWhole, ReadsBehindMagic, StopsEnd}
+use Rattle.command_write.specs.Copying.{BlamesDevices, BlamesOne, HasDraft, IsCause, IsCopied, IsCopiedUpTo, IsCopiedWhole, ReadsAfterMagic, StopsEnd}
 use Rattle.command_write.specs.Copying.{StopsRecords, copy_of, CopiesUnnamed, IsCopiedToEnd, StopsCopy, StopsCopyBy}
 use Rattle.archive_core.specs.Content.{Operations, IsContent, content_of}
 use Rattle.archive_core.proofs.Summaries.{delta_content}
@@ -117,7 +117,7 @@ begun_copied s w0 w1 n is p = record { gained = p; bytes_are = is; records_are =
 
 -- and so the magic was read
 pub read_behind_magic : (file : Format) → kind_of file ≡ Archive_text → (a b : Option (List ℕ)) (position : Position)
-    → HasRead file a b [] position → ReadsBehindMagic a b
+    → HasRead file a b [] position → ReadsAfterMagic a b
 read_behind_magic file k a b position read = (file, k, [], read.taken)
 
 pub cause_of : (file : Format) → kind_of file ≡ Archive_text

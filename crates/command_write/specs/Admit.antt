@@ -12,7 +12,7 @@ use Rattle.command_common.specs.Ends.{Command, MakesArchive, Streamed, writes_in
 use Rattle.command_common.specs.Inputs.{Reader, Holds, Unfailed, EachUnfailed, EachKnown, IsAccepted, IsKnown}
 use Rattle.command_common.specs.Inputs.{HoldsArchive, IsFileRefused, IsFirstRefused, IsRefusedInTurn, IsWantedInTurn}
 use Rattle.command_common.specs.Outputs.{Writer}
-use Rattle.command_write.specs.Begun.{begins_behind}
+use Rattle.command_write.specs.Begun.{begins_after}
 
 -- the images of files: those of their parts that are one, in their order
 abbrev pub images_of : List (List ℕ) → List (List ℕ)
@@ -54,7 +54,7 @@ admit input files = record {
 -- the same as it comes, the files before IN
 abbrev pub admit_as_it_comes : {R S : Type 0} → Reader R → List (Reader S) → Writer → Streamed
 admit_as_it_comes input files draft =
-    begins_behind input (AllByRecursion IsAccepted files × EachUnfailed files) (λ given. admit given files)
+    begins_after input (AllByRecursion IsAccepted files × EachUnfailed files) (λ given. admit given files)
     (EachKnown files) draft
     (writes_in_turn (admit input files) (IsWantedInTurn input (IsFirstRefused File IsAccepted IsFileRefused files))
     (IsKnown input × EachKnown files) draft)

@@ -9,7 +9,7 @@ use Rattle.command_common.specs.Ends.{Command, MakesArchive, Streamed, writes_in
 use Rattle.command_common.specs.Inputs.{Reader, Gives, Unfailed, IsRefusedOps, IsRefusedInTurn, IsWantedInTurn}
 use Rattle.command_common.specs.Inputs.{HoldsArchive, IsKnown}
 use Rattle.command_common.specs.Outputs.{Writer}
-use Rattle.command_write.specs.Begun.{begins_behind}
+use Rattle.command_write.specs.Begun.{begins_after}
 
 -- IN is the text of a content and OPS that of operations; this is the content with their records, and this is the line
 -- that counts the new and the known ones.
@@ -40,5 +40,5 @@ GivesOperations ops = (operations : List Operation) × Gives ops (λ text. IsOpe
 -- the same as it comes, OPS before IN
 abbrev pub apply_as_it_comes : {R S : Type 0} → Reader R → Reader S → Writer → Streamed
 apply_as_it_comes input ops draft =
-    begins_behind input (GivesOperations ops × Unfailed ops) (λ given. apply given ops) (IsKnown ops) draft
+    begins_after input (GivesOperations ops × Unfailed ops) (λ given. apply given ops) (IsKnown ops) draft
     (writes_in_turn (apply input ops) (IsWantedInTurn input (IsRefusedOps ops)) (IsKnown input × IsKnown ops) draft)

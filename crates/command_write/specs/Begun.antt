@@ -39,9 +39,9 @@ pub record IsUnfinished {R : Type 0} (input : Reader R) (Accepted : Type 0) (com
   pub good : Known → BeginsGood command input draft
 
 -- a command that leaves its draft so
-abbrev pub begins_behind : {R : Type 0} → Reader R → Type 0 → (Reader R → Command) → Type 0 → Writer → Streamed
+abbrev pub begins_after : {R : Type 0} → Reader R → Type 0 → (Reader R → Command) → Type 0 → Writer → Streamed
     → Streamed
-begins_behind input Accepted command Known draft streamed = record {
+begins_after input Accepted command Known draft streamed = record {
   Makes = streamed.Makes;
   Stops = λ fault. streamed.Stops fault × IsUnfinished input Accepted command Known draft;
   Unfailed = streamed.Unfailed;
@@ -50,7 +50,7 @@ begins_behind input Accepted command Known draft streamed = record {
 -- the same of one that has no other input
 abbrev pub begins_alone : {R : Type 0} → Reader R → (Reader R → Command) → Writer → Streamed
 begins_alone input command draft =
-    begins_behind input (Unit {0}) command (Unit {0}) draft (writes_amidst (command input) (IsKnown input) draft)
+    begins_after input (Unit {0}) command (Unit {0}) draft (writes_amidst (command input) (IsKnown input) draft)
 
 -- How such a command ends.
 abbrev pub EndsBegun : {R : Type 0} → Reader R → (Reader R → Command) → Out → Writer → Result Status CommandFault

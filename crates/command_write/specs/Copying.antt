@@ -90,15 +90,15 @@ HasDraft s a b w0 w1 n =
     × (IsCopiedUpTo file s a b w0 w1 n ⊎ IsCopiedToEnd file s a b w0 w1 n))
 
 -- the magic of an archive was read, and what stands after it so far
-abbrev pub ReadsBehindMagic : Option (List ℕ) → Option (List ℕ) → Type 0
-ReadsBehindMagic a b = (file : Format) × (kind_of file ≡ Archive_text) × (rest : List ℕ)
+abbrev pub ReadsAfterMagic : Option (List ℕ) → Option (List ℕ) → Type 0
+ReadsAfterMagic a b = (file : Format) × (kind_of file ≡ Archive_text) × (rest : List ℕ)
     × Consumes a b (magic_of file ++ rest)
 
 -- what stopped it: reading, or, after the magic, writing
 abbrev pub IsCause : Option (List ℕ) → Option (List ℕ) → MergeCause → Type 0
 IsCause a b (Left fault) = HasStopped Archive_text a b fault
 IsCause a b (Right fault) = ⊥
-IsCause a b Write = ReadsBehindMagic a b
+IsCause a b Write = ReadsAfterMagic a b
 
 -- what stopped it in or after the end record: more bytes, or the device; or the writer
 abbrev pub StopsEnd : Position → Option (List ℕ) → Option (List ℕ) → Option (List ℕ) → Option (List ℕ) → Sizes

@@ -9,7 +9,7 @@ use Rattle.command_common.specs.Ends.{Command, MakesArchive, Streamed, writes_in
 use Rattle.command_common.specs.Inputs.{Reader, Holds, Unfailed, IsRefusedSummary, IsRefusedInTurn, IsWantedInTurn}
 use Rattle.command_common.specs.Inputs.{HoldsArchive, IsKnown}
 use Rattle.command_common.specs.Outputs.{Writer}
-use Rattle.command_write.specs.Begun.{begins_behind}
+use Rattle.command_write.specs.Begun.{begins_after}
 
 -- ARCHIVE is the text of a content and SUMMARY that of entries; this is the content of the operations that they do not
 -- name, and there are no lines but the sizes.
@@ -39,7 +39,7 @@ GivesSummary summary = (entries : Entries) × AreEntries entries × Holds summar
 -- the same as it comes, SUMMARY before ARCHIVE
 abbrev pub delta_as_it_comes : {R S : Type 0} → Reader R → Reader S → Writer → Streamed
 delta_as_it_comes archive summary draft =
-    begins_behind archive (GivesSummary summary × Unfailed summary) (λ given. delta given summary) (IsKnown summary)
+    begins_after archive (GivesSummary summary × Unfailed summary) (λ given. delta given summary) (IsKnown summary)
     draft
     (writes_in_turn (delta archive summary) (IsWantedInTurn archive (IsRefusedSummary summary))
     (IsKnown archive × IsKnown summary) draft)

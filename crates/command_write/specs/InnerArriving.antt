@@ -13,10 +13,10 @@ use Rattle.archive_admission.specs.File.{parts, slice_in}
 use Rattle.archive_admission.specs.Take.{admitted, taken_of}
 use Rattle.archive_admission.specs.declared.taken.Taken.{Taken}
 use Rattle.archive_admission.specs.declared.taken.Taken.TheVariants.{Added, Known, Skipped}
-use Rattle.byte_openings.specs.declared.openings.Opening.{Opening}
+use Rattle.byte_lazy_inputs.specs.declared.openings.Opening.{Opening}
 use Rattle.command_common.specs.declared.faults.CommandFault.{CommandFault}
 use Rattle.command_common.specs.declared.faults.Status.{Status}
-use Rattle.command_common.specs.declared.faults.Status.TheVariants.{Done, Refused}
+use Rattle.command_common.specs.declared.faults.Status.TheVariants.{Done, SomeRefused}
 use Rattle.command_common.specs.declared.faults.Why.{Why}
 use Rattle.command_common.specs.Inputs.{Reader}
 use Rattle.command_write.specs.FileRows.{file_lines}
@@ -59,7 +59,7 @@ is_passed (Err why) = true
 
 -- how a command ends, by whether a file was passed over
 abbrev pub with_status : Bool → Result Status CommandFault → Result Status CommandFault
-with_status passed (Ok _) = Ok (if passed then Refused else Done)
+with_status passed (Ok _) = Ok (if passed then SomeRefused else Done)
 with_status passed (Err fault) = Err fault
 
 -- the records of the rows of files

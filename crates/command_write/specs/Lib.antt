@@ -11,7 +11,7 @@ pub mod Delta
 pub mod Begun
 pub mod Joining
 pub mod Copying
-pub mod InnerTelling
+pub mod InnerArrivalJoins
 pub mod FileRows
 pub mod PassedOver
 pub mod InnerArriving

@@ -8,7 +8,7 @@ use Rattle.command_common.specs.Ends.{Command, MakesArchive, Streamed, writes_in
 use Rattle.command_common.specs.Inputs.{Reader, Unfailed, EachUnfailed, IsArchive, HoldsArchive, IsKnown, EachKnown}
 use Rattle.command_common.specs.Inputs.{IsArchiveRefused, IsFirstRefused, IsRefusedInTurn, IsWantedInTurn}
 use Rattle.command_common.specs.Outputs.{Writer}
-use Rattle.command_write.specs.Begun.{begins_behind}
+use Rattle.command_write.specs.Begun.{begins_after}
 
 -- the operations of all these contents
 abbrev pub operations_of : List Operations → Operations
@@ -44,7 +44,7 @@ merge input files = record {
 -- the same as IN comes, the files before it
 abbrev pub merge_in_turn : {R S : Type 0} → Reader R → List (Reader S) → Writer → Streamed
 merge_in_turn input files draft =
-    begins_behind input (AllByRecursion IsArchive files × EachUnfailed files) (λ given. merge given files)
+    begins_after input (AllByRecursion IsArchive files × EachUnfailed files) (λ given. merge given files)
     (EachKnown files) draft
     (writes_in_turn (merge input files)
     (IsWantedInTurn input (IsFirstRefused further_name IsArchive IsArchiveRefused files))

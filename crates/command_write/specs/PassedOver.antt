@@ -7,11 +7,11 @@ use Rattle.archive_admission.specs.File.{parts, admissible, IsAcceptedFile}
 use Rattle.archive_admission.specs.Take.{admitted, taken_rows}
 use Rattle.archive_admission.specs.declared.taken.Taken.{Taken}
 use Rattle.byte_device.specs.Devices.{most_failures}
-use Rattle.byte_openings.specs.declared.openings.Opening.{Opening}
-use Rattle.byte_openings.specs.declared.openings.Opening.TheVariants.{Fine, Refused as NotOpened, OutOfMemory}
+use Rattle.byte_lazy_inputs.specs.declared.openings.Opening.{Opening}
+use Rattle.byte_lazy_inputs.specs.declared.openings.Opening.TheVariants.{Fine, Refused as NotOpened, OutOfMemory}
 use Rattle.command_common.specs.declared.faults.CommandFault.{CommandFault}
 use Rattle.command_common.specs.declared.faults.Status.{Status}
-use Rattle.command_common.specs.declared.faults.Status.TheVariants.{Done, Refused}
+use Rattle.command_common.specs.declared.faults.Status.TheVariants.{Done, SomeRefused}
 use Rattle.command_common.specs.declared.faults.Why.{Why}
 use Rattle.command_common.specs.declared.faults.Why.TheVariants.{CannotOpen}
 use Rattle.command_common.specs.Ends.{Carries, Command, EndsStreamed, MakesArchive, Streamed, writes_amidst}
@@ -19,7 +19,7 @@ use Rattle.command_common.specs.Inputs.{Reader, Holds, HoldsArchive, IsFileRefus
 use Rattle.command_common.specs.Inputs.{IsKnown}
 use Rattle.command_common.specs.Outputs.{Out, Writer}
 use Rattle.command_write.specs.Admit.{admit_as_it_comes, file_rows}
-use Rattle.command_write.specs.Begun.{begins_behind}
+use Rattle.command_write.specs.Begun.{begins_after}
 use Rattle.command_write.specs.FileRows.{file_lines}
 use Rattle.command_write.specs.Notes.{NotesRetired, retired_notes}
 use Rattle.command_write.specs.declared.file_rows.FileRow.{FileRow}
@@ -76,7 +76,7 @@ images_from outcomes = flat_map images_by outcomes
 unfoldable pub status_over : List Outcome → Status
 status_over [] = Done
 status_over (Ok bytes ∷ rest) = status_over rest
-status_over (Err why ∷ rest) = Refused
+status_over (Err why ∷ rest) = SomeRefused
 
 -- Something becomes of each file.
 abbrev pub BecomeSome : {S : Type 0} → (S → Opening) → List (Reader S) → Type 0
@@ -126,7 +126,7 @@ EndsPassing command out report (Err fault) = EndsStreamed command.streamed out r
 abbrev pub admit_passing_as_it_comes : {R S : Type 0} → (S → Opening) → Reader R → List (Reader S) → Writer → Passing
 admit_passing_as_it_comes opening input files draft = record {
   Makes = λ status. MakesArchive (MakesPassing opening input files status);
-  streamed = begins_behind input (BecomeSome opening files) (λ given. admit_passing opening given files)
+  streamed = begins_after input (BecomeSome opening files) (λ given. admit_passing opening given files)
       (EachCounted files) draft
       (writes_amidst (admit_passing opening input files) (IsKnown input × EachCounted files) draft);
 }

@@ -3,7 +3,7 @@ ghost use Rattle.std.specs.Prelude.{◌≡◌, ◌≢◌, ◌++◌, ℕ, List, l
 ghost use Rattle.std.specs.List.{list_any};
 ghost use Rattle.join_core.specs.Listing.{listing};
 ghost use Rattle.archive_admission.specs.File.{parts, slice_in, IsAcceptedFile, IsTakeFault};
-ghost use Rattle.byte_openings.specs.declared.openings.Opening.TheVariants.{Fine, OutOfMemory};
+ghost use Rattle.byte_lazy_inputs.specs.declared.openings.Opening.TheVariants.{Fine, OutOfMemory};
 ghost use Rattle.command_common.specs.declared.faults.Why.{Why};
 ghost use Rattle.command_write.specs.Admit.{admit_as_it_comes};
 ghost use Rattle.command_write.specs.PassedOver.{Becomes, EndsAdmit, EndsPassing, NotesAdmit, NotesRetiredPassing};
@@ -12,7 +12,7 @@ ghost use Rattle.command_write.specs.InnerArriving.{AreFirstRows, Brings, HasCom
 ghost use Rattle.archive_core.specs.Content.{Operations, changes};
 ghost use Rattle.archive_merge.specs.Arrivals.{arrival_of};
 ghost use Rattle.command_write.specs.InnerNotes.{IsNoted};
-ghost use Rattle.command_write.specs.InnerTelling.{telling};
+ghost use Rattle.command_write.specs.InnerArrivalJoins.{telling};
 ghost use Rattle.command_write.specs.Notes.{NotesRetired, retired_notes};
 ghost use Rattle.command_common.specs.declared.faults.CommandFault.TheVariants.{Input};
 ghost use Rattle.command_common.specs.declared.faults.InputName.{InputName};
@@ -33,7 +33,7 @@ use archive_admission::{TakeFault, slice_file};
 use archive_core::Slice;
 use archive_merge::Arrival;
 use byte_device::{Output, Sink, Source, Target};
-use byte_openings::{Opening, Opens};
+use byte_lazy_inputs::{Opening, Opens};
 use command_common::{
     CommandFault, InputName, Note, Status, Why, first_refusal, publish_draft, read_file,
 };
@@ -264,7 +264,7 @@ fn with_status(passed: bool, ended: Result<Status, CommandFault>) -> Result<Stat
     ensures { result ≡ with_status passed ended }
 {
     match ended {
-        Ok(_) if passed => Ok(Status::Refused),
+        Ok(_) if passed => Ok(Status::SomeRefused),
         Ok(_) => Ok(Status::Done),
         Err(fault) => Err(fault),
     }

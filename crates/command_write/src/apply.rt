@@ -8,7 +8,7 @@ ghost use Rattle.std.specs.Ordering.{nat_cmp};
 ghost use Rattle.archive_core.specs.Content.{Operations, IsMade, changes};
 ghost use Rattle.archive_core.specs.Record.{IsOperation, record_bytes};
 ghost use Rattle.command_write.specs.Apply.{apply_as_it_comes};
-ghost use Rattle.command_write.specs.InnerTelling.{HasNewOf, counts_of, telling};
+ghost use Rattle.command_write.specs.InnerArrivalJoins.{HasNewOf, counts_of, telling};
 ghost use Rattle.command_write.specs.Begun.{EndsBegun};
 ghost use Rattle.command_common.specs.Ends.{EndsStreamed};
 ghost use Rattle.command_common.specs.Inputs.{IsRefusedOps, ReadsInput, reader};
@@ -16,7 +16,7 @@ ghost use Rattle.command_common.specs.Outputs.{out_of, outs, writer};
 
 use crate::merging::merge_operations;
 use archive_core::Operation;
-use archive_index::new_in_turn;
+use archive_index::sort_with_same_effect;
 use archive_merge::number_of_new;
 use byte_device::{Output, Sink, Source, Target};
 use command_common::{CommandFault, Status, first_refusal, publish_draft, read_operations};
@@ -56,7 +56,7 @@ fn read_new<S: Source>(heap: Heap, ops: &mut S) -> Result<(Vec<Operation, Heap>,
 {
     let operations = read_operations(heap, ops)?;
     let number = operations.len() as u64;
-    let sorted = new_in_turn(operations)?;
+    let sorted = sort_with_same_effect(operations)?;
     Ok((sorted, number))
 }
 

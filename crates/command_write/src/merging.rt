@@ -9,12 +9,12 @@ ghost use Rattle.archive_core.specs.Content.{content_of};
 ghost use Rattle.archive_core.specs.Record.{IsOperation, record_bytes};
 ghost use Rattle.byte_device.specs.Devices.{stream};
 ghost use Rattle.command_common.specs.Inputs.{reader};
-ghost use Rattle.command_write.specs.InnerTelling.{IsJoinedTelling};
+ghost use Rattle.command_write.specs.InnerArrivalJoins.{IsJoinedWithArrivals};
 ghost use Rattle.command_write.specs.Joining.{WritesAmidst, joining};
 
 use crate::joining::command_fault_of;
 use archive_core::Operation;
-use archive_merge::{BorrowedSide, BorrowedText, Told, merge_telling};
+use archive_merge::{BorrowedSide, BorrowedText, MergeReport, merge_with_arrivals};
 use archive_records::Sizes;
 use byte_device::{Sink, Source};
 use command_common::CommandFault;
@@ -26,16 +26,18 @@ pub fn merge_operations<R: Source, W: Sink>(
     input: &mut R,
     operations: &[Operation],
     draft: &mut W,
-) -> Result<(Sizes, Told), CommandFault>
+) -> Result<(Sizes, MergeReport), CommandFault>
     requires ascending { IsStrictlySortedBy (slice_cmp nat_cmp) (map record_bytes operations.now) }
     requires are { AllByRecursion IsOperation operations.now }
     ensures { let operations = set.from_list (map record_bytes operations.now) in
         WritesAmidst (λ input. joining input (content_of operations))
-        (λ input draft both. IsJoinedTelling input operations draft both.0 both.1.arrivals.items both.1.withdraws)
+        (λ input draft both. IsJoinedWithArrivals input operations draft both.0 both.1.arrivals.items both.1.withdraws)
         (reader R.left R.failures input.old input.new) (stream W.held W.failures draft.old draft.new) result }
 {
     let mut text = BorrowedText::new(operations);
-    match merge_telling::<R, BorrowedText<'_>, BorrowedSide<'_>, W>(heap, input, &mut text, draft) {
+    match merge_with_arrivals::<R, BorrowedText<'_>, BorrowedSide<'_>, W>(
+        heap, input, &mut text, draft,
+    ) {
         Ok(told) => Ok(told),
         Err(fault) => Err(command_fault_of(fault)),
     }

@@ -4,7 +4,7 @@ ghost use Rattle.byte_device.specs.Devices.{stream};
 ghost use Rattle.command_common.specs.Ends.{EndsStreamed};
 ghost use Rattle.command_common.specs.Inputs.{reader};
 ghost use Rattle.command_common.specs.Outputs.{out_of, outs, writer};
-ghost use Rattle.command_write.specs.InnerTelling.{IsRetired};
+ghost use Rattle.command_write.specs.InnerArrivalJoins.{IsRetired};
 ghost use Rattle.command_write.specs.Joining.{WritesAmidst};
 ghost use Rattle.command_write.specs.Notes.{NotesMissing};
 ghost use Rattle.command_write.specs.Retire.{retire, retire_as_it_comes};

@@ -13,7 +13,7 @@ use crate::found::Found;
 use crate::unit_frames::find_unit;
 use dwarf_asked_addresses::sorted_once;
 use dwarf_encoding::Units;
-use dwarf_source_frames::{ByUnit, DebugInfo, Frame, by_unit, take_unit};
+use dwarf_source_frames::{ByUnit, DebugInfo, SourceFrame, by_unit, take_unit};
 use macho_image::Image;
 use memory::{Heap, NoMemory};
 use std::collections::BTreeMap;
@@ -67,7 +67,7 @@ fn find<'a>(heap: Heap, info: &DebugInfo<'a>, addresses: &[u64]) -> Result<Found
 
 impl<'a> AddressFrames<'a> {
     /// The frames of an address, the innermost first. It has none if this is `None`, or has no element.
-    pub fn get(&self, address: u64) -> Option<&[Frame<'a>]>
+    pub fn get(&self, address: u64) -> Option<&[SourceFrame<'a>]>
         ensures { option_map_or (λ frames. map (λ f. frame_view f) frames.now) result []
             ≡ frames_under self.now address }
     {

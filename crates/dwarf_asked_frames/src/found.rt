@@ -4,14 +4,14 @@ ghost use Rattle.std.specs.Prelude.{◌≡◌, ◌≢◌, ℕ, OnOk, Some};
 ghost use Rattle.std.specs.Ordering.{nat_cmp};
 ghost use Rattle.std.specs.BTreeMap as tree_map;
 
-use dwarf_source_frames::Frame;
+use dwarf_source_frames::SourceFrame;
 use memory::{Heap, NoMemory};
 use std::collections::BTreeMap;
 
 /// The frames of an address, the innermost first.
 #[derive(Drop)]
 pub(crate) struct FrameList<'a> {
-    pub frames: Vec<Frame<'a>, Heap>,
+    pub frames: Vec<SourceFrame<'a>, Heap>,
 }
 
 /// The frames that were found, under their addresses.

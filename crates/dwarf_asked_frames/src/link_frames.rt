@@ -10,14 +10,14 @@ ghost use Rattle.dwarf_source_frames.specs.FrameViews.{frame_view, lines_view};
 use crate::found::FrameList;
 use dwarf_functions::{Link, Links};
 use dwarf_lines::Row;
-use dwarf_source_frames::{Frame, SourceLocation, UnitLines};
+use dwarf_source_frames::{SourceFrame, SourceLocation, UnitLines};
 use memory::{Heap, NoMemory};
 
 /// The frame of a link at a place.
-fn frame_at<'a>(lines: &UnitLines<'a>, link: &Link<'a>, place: SourceLocation) -> Frame<'a>
+fn frame_at<'a>(lines: &UnitLines<'a>, link: &Link<'a>, place: SourceLocation) -> SourceFrame<'a>
     ensures { frame_view result ≡ frame_at_place (lines_view lines.now) (link_view link.now).name place }
 {
-    Frame {
+    SourceFrame {
         name: link.name,
         path: lines.path_in(place.file),
         line: place.line,
@@ -32,7 +32,7 @@ fn frames_of_link<'a>(
     links: &Links<'a>,
     number: usize,
     innermost: SourceLocation,
-) -> Result<Vec<Frame<'a>, Heap>, NoMemory>
+) -> Result<Vec<SourceFrame<'a>, Heap>, NoMemory>
     requires callers { AreCallersBefore (links_view links.now.links.items) }
     requires within { number ≤ length links.now.links.items }
     ensures { IfOk result (λ frames. AreFramesOfLink (lines_view lines.now) (links_view links.now.links.items)

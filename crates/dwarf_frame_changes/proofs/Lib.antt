@@ -3,7 +3,7 @@ mod GivenLemmas
 mod MergeLemmas
 mod NumberLemmas
 mod ProgramLemmas
-mod StartLemmas
-mod StayLemmas
+mod StepWalks
+mod FramesStay
 mod UnitStepLemmas
 mod UnitTurnLemmas

@@ -1,4 +1,4 @@
--- The numbers that a taker gave to names, paths and links.
+-- The numbers that a sink gave to names, paths and links.
 use Rattle.std.proofs.Common.{◌≡◌, ◌≢◌, ◌∙◌, ℕ, zero, suc, ◌<◌, List, [], ◌∷◌, get_or, length, set, slice_get, Option, Some, refl, sym, ap, subst, inl, inr}
 use Rattle.std.proofs.Common.{arith, length-set, ◌+◌, ◌-◌, ◌≤◌, ◌++◌, None, option_map, nat_cmp}
 use Rattle.std.specs.BTreeMap as tree_map
@@ -15,7 +15,7 @@ use Rattle.dwarf_lines.specs.declared.registers.Row.{Row}
 use Rattle.dwarf_source_frames.specs.Frames.{FrameRecord, path_in, location_of_row}
 use Rattle.dwarf_source_frames.specs.UnitLines.{LinesRecord}
 use Rattle.dwarf_source_frames.specs.declared.frame.SourceLocation.{SourceLocation}
-use Rattle.dwarf_frame_changes.specs.Taking.{StillTells}
+use Rattle.dwarf_frame_changes.specs.Taking.{KeepsNumbers}
 use Rattle.dwarf_frame_changes.specs.UnitNumbers.{AreNameNumbers, AreLinked, ArePartsTold, ArePathNumbers, IsLinked, IsLinkedAt, row_frames}
 use Rattle.dwarf_frame_changes.specs.Given.{Takes, TurnRecord}
 use Rattle.dwarf_frame_changes.specs.declared.names.Names.{Names}
@@ -55,7 +55,7 @@ number_within links i link numbered there =
 
 -- one more is kept
 pub names_more : (P Q : ℕ → Option (List ℕ) → Type 0) (links : Links) (names next : Names) (i number : ℕ) (link : Link)
-    → AreNamesNumbered links.name_count links.links.items → StillTells P Q → AreNameNumbers P links names
+    → AreNamesNumbered links.name_count links.links.items → KeepsNumbers P Q → AreNameNumbers P links names
     → slice_get links.links.items i ≡ Some link
     → Q number (link_view link).name → next.by_number.items ≡ set names.by_number.items link.name_number (Some number) → AreNameNumbers Q links next
 names_more P Q links names next i number link numbered still are there tells wrote = record {
@@ -105,17 +105,17 @@ known_name P links names index known link slot numbered are there read is =
     (slot_within P links names index link numbered are there) read in
     are.each index link known there (at_slot ∙ ap (λ (s : Option ℕ). Some s) is)
 
--- ---- the numbers that a taker gave to paths and links
+-- ---- the numbers that a sink gave to paths and links
 
 pub takes_nothing : (P Q R : List TurnRecord → Type 0) → Takes P Q [] → Takes Q R [] → Takes P R []
 takes_nothing P Q R first then = takes_more P Q R [] [] first then
 
 -- ---- what is told still
 
-pub still_more : {N A : Type 0} (P Q R : N → A → Type 0) → StillTells P Q → StillTells Q R → StillTells P R
+pub still_more : {N A : Type 0} (P Q R : N → A → Type 0) → KeepsNumbers P Q → KeepsNumbers Q R → KeepsNumbers P R
 still_more P Q R first then number told h = then number told (first number told h)
 
-pub paths_still : (P Q : ℕ → Option PathRecord → Type 0) (lines : LinesRecord) (paths : Paths) → StillTells P Q
+pub paths_still : (P Q : ℕ → Option PathRecord → Type 0) (lines : LinesRecord) (paths : Paths) → KeepsNumbers P Q
     → ArePathNumbers P lines paths → ArePathNumbers Q lines paths
 paths_still P Q lines paths still are =
     record {
@@ -123,15 +123,15 @@ paths_still P Q lines paths still are =
       last = IfSome_then paths.last are.last (λ k h. still k.1 (path_in lines (Some k.0)) h);
     }
 
-pub names_still : (P Q : ℕ → Option (List ℕ) → Type 0) (links : Links) (names : Names) → StillTells P Q
+pub names_still : (P Q : ℕ → Option (List ℕ) → Type 0) (links : Links) (names : Names) → KeepsNumbers P Q
     → AreNameNumbers P links names → AreNameNumbers Q links names
 names_still P Q links names still are = record {
   count = are.count;
   each = λ i link number there is. still number (link_view link).name (are.each i link number there is);
 }
 
-module _ (P P' : ℕ → Option (List ℕ) → Type 0) (F F' : ℕ → List FrameRecord → Type 0) (names : StillTells P P')
-    (frames : StillTells F F') (lines : LinesRecord) (links : List LinkRecord) where
+module _ (P P' : ℕ → Option (List ℕ) → Type 0) (F F' : ℕ → List FrameRecord → Type 0) (names : KeepsNumbers P P')
+    (frames : KeepsNumbers F F') (lines : LinesRecord) (links : List LinkRecord) where
   pub is_linked_still : (link : LinkRecord) (linked : Linked) → IsLinked P F lines links link linked → IsLinked P' F' lines links link linked
   is_linked_still link linked is =
       record { name = names linked.name link.name is.name; outer = is.outer; are_outer = is.are_outer; callers = frames linked.callers is.outer is.callers }
@@ -169,8 +169,8 @@ numbers_of P F lines links count all i linked are within here inside =
     (there.0, there.1, are.each i linked (slice_get_read all (length all) i linked refl within here) there.0 there.1)
 
 pub parts_still : (P P' : ℕ → Option (List ℕ) → Type 0) (Q Q' : ℕ → Option PathRecord → Type 0)
-    (F F' : ℕ → List FrameRecord → Type 0) (lines : LinesRecord) (parts : UnitParts) → StillTells P P'
-    → StillTells Q Q' → StillTells F F'
+    (F F' : ℕ → List FrameRecord → Type 0) (lines : LinesRecord) (parts : UnitParts) → KeepsNumbers P P'
+    → KeepsNumbers Q Q' → KeepsNumbers F F'
     → ArePartsTold P Q F lines parts → ArePartsTold P' Q' F' lines parts
 parts_still P P' Q Q' F F' lines parts names paths frames told =
     record {

@@ -10,7 +10,7 @@ use Rattle.dwarf_asked_addresses.specs.Rising.{AreRising}
 use Rattle.dwarf_frame_changes.specs.Turns.{boundaries}
 use Rattle.dwarf_frame_changes.specs.UnitSteps.{AreUnitSteps}
 use Rattle.dwarf_source_frames.specs.ByUnit.{IsPlaced}
-use Rattle.dwarf_frame_changes.proofs.StayLemmas.{IsFree, unit_none_before, unit_stays}
+use Rattle.dwarf_frame_changes.proofs.FramesStay.{IsFree, unit_none_before, unit_stays}
 
 pub own_is : (s : DebugSectionsRecord) (a place own : ℕ) → IsUnitOf s a (Some own) → IsUnitOf s a (Some place) → own ≡ place
 own_is s a place own is other = same_Some own place (one_place s a (Some own) (Some place) is other)

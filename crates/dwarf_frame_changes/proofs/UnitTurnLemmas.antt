@@ -22,9 +22,9 @@ use Rattle.dwarf_frame_changes.specs.Given.{AreTurnsIn, IsTurnWithFrames, TurnRe
 use Rattle.dwarf_frame_changes.specs.Turns.{IsTurnBy, boundaries, ends_of, unit_turns}
 use Rattle.dwarf_frame_changes.specs.UnitSteps.{AreUnitSteps}
 use Rattle.dwarf_source_frames.specs.ByUnit.{IsPlaced}
-use Rattle.dwarf_frame_changes.proofs.StayLemmas.{IsFree, unit_stays}
+use Rattle.dwarf_frame_changes.proofs.FramesStay.{IsFree, unit_stays}
 use Rattle.dwarf_frame_changes.proofs.UnitStepLemmas.{own_is, step_boundary, step_unit, last_step, none_after_last}
-use Rattle.dwarf_frame_changes.proofs.StartLemmas.{count_at_start, step_some}
+use Rattle.dwarf_frame_changes.proofs.StepWalks.{count_at_start, step_some}
 
 module _ (s : DebugSectionsRecord) (unit : UnitRecord) (parts : PartsRecord) (lines_are : parts.lines ≡ lines_of s unit)
     (row_steps : AreRowSteps (rows_of parts.lines) parts.row_starts parts.rows)
@@ -70,7 +70,9 @@ module _ (s : DebugSectionsRecord) (unit : UnitRecord) (parts : PartsRecord) (li
       step_some 0 (get_or parts.numbers i 0) parts.link_starts parts.numbers start (i + 1) i link_steps.count refl h
       (get_or_default parts.numbers i 0 (get_or parts.numbers i 0) h) to in
       let link : IsLinkOf s unit parts.links start (at_step 0 parts.link_starts parts.numbers start) = link_steps.each start in
-      let w = number_within s unit parts.links (at_step 0 parts.link_starts parts.numbers start) (calls_of (reverse link.chain)) link.are_entries in omega (arith, here, w)
+      let w = number_within s unit parts.links (at_step 0 parts.link_starts parts.numbers start)
+      (calls_of (reverse link.chain)) link.are_entries in
+      omega (arith, here, w)
 
   pub are_steps : AreSteps parts
   are_steps = record {

@@ -1,4 +1,4 @@
--- The frames at the turns of an image, as they are given to a taker.
+-- The frames at the turns of an image, as they are given to a sink.
 use Rattle.std.specs.Prelude.{ℕ, List, [], ◌++◌, ◌≡◌, ◌<◌, length, map, slice_index_or, Option, Some, All, Contains}
 use Rattle.dwarf_source_frames.specs.AddressFrames.{AreFramesBy}
 use Rattle.dwarf_source_frames.specs.DebugSections.{DebugSectionsRecord, debug_sections}

@@ -1,4 +1,4 @@
--- The numbers that a taker gave to the paths and the links of a unit: the words of inner functions. No contract of a
+-- The numbers that a sink gave to the paths and the links of a unit: the words of inner functions. No contract of a
 -- public one has them.
 use Rattle.std.specs.Prelude.{ℕ, List, [], ◌∷◌, ◌≡◌, Option, None, Some, IfSome, length, slice_get}
 use Rattle.std.specs.Ordering.{nat_cmp}
@@ -54,11 +54,11 @@ pub record AreLinked (names : ℕ → Option (List ℕ) → Type 0) (frames : �
       → IsLinkedAt names frames lines links i linked
 
 -- the paths that are kept and the links of a unit have their numbers
-pub record ArePartsTold (tells_name : ℕ → Option (List ℕ) → Type 0) (tells_path : ℕ → Option PathRecord → Type 0)
-    (tells_frames : ℕ → List FrameRecord → Type 0) (lines : LinesRecord) (parts : UnitParts) : Type 0 where
-  pub paths : ArePathNumbers tells_path lines parts.paths
+pub record ArePartsTold (numbers_name : ℕ → Option (List ℕ) → Type 0) (numbers_path : ℕ → Option PathRecord → Type 0)
+    (numbers_frames : ℕ → List FrameRecord → Type 0) (lines : LinesRecord) (parts : UnitParts) : Type 0 where
+  pub paths : ArePathNumbers numbers_path lines parts.paths
   pub callers : AreCallersBefore (links_view parts.links.links.items)
-  pub linked : AreLinked tells_name tells_frames lines (links_view parts.links.links.items)
+  pub linked : AreLinked numbers_name numbers_frames lines (links_view parts.links.links.items)
       (length parts.links.links.items) parts.linked.items
 
 -- the frame of a row alone, if there is one

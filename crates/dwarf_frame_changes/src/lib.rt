@@ -7,9 +7,9 @@
 //! each unit those of these addresses whose unit it is.
 //!
 //! The modules in reading order: `unit_boundaries`, where the units change; `unit_steps`, the unit of each address;
-//! `taker`, [`FrameTaker`], what takes turns with their frames, told by number; `names` and `numbers`, those of the
+//! `sink`, [`FrameSink`], what takes turns with their frames, told by number; `names` and `numbers`, those of the
 //! names, paths and links of a unit; `next_start` and `merging`, the turns of a unit from one boundary to the next;
-//! `unit_by_unit`, [`give_turns`], all turns of an image; `laws`, that the frames stay the same between two turns.
+//! `unit_by_unit`, [`push_turns`], all turns of an image; `laws`, that the frames stay the same between two turns.
 #![tactic(auto)]
 
 pub mod laws;
@@ -17,10 +17,10 @@ mod merging;
 mod names;
 mod next_start;
 mod numbers;
-mod taker;
+mod sink;
 mod unit_boundaries;
 mod unit_by_unit;
 mod unit_steps;
 
-pub use taker::FrameTaker;
-pub use unit_by_unit::give_turns;
+pub use sink::FrameSink;
+pub use unit_by_unit::push_turns;

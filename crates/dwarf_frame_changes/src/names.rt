@@ -1,14 +1,14 @@
-//! The numbers that a taker gave to the names of the links of a unit.
+//! The numbers that a sink gave to the names of the links of a unit.
 
 ghost use Rattle.std.specs.Prelude.{[], ◌≡◌, ◌<◌, ℕ, IfOk, OnOk, Some, length, slice_get};
 ghost use Rattle.dwarf_frame_changes.specs.Given.{Takes};
-ghost use Rattle.dwarf_frame_changes.specs.Taking.{StillTells};
+ghost use Rattle.dwarf_frame_changes.specs.Taking.{KeepsNumbers};
 ghost use Rattle.dwarf_frame_changes.specs.UnitNumbers.{AreNameNumbers};
 ghost use Rattle.dwarf_functions.specs.LinkViews.{link_view};
 ghost use Rattle.dwarf_functions.specs.NameNumbers.{AreNamesNumbered};
 ghost use Rattle.dwarf_functions.specs.declared.links.Link.{Link};
 
-use crate::taker::FrameTaker;
+use crate::sink::FrameSink;
 use dwarf_functions::{Link, Links};
 use memory::{Heap, NoMemory};
 
@@ -31,28 +31,28 @@ impl Names {
     }
 
     /// The number of the name of the link of an index, which is kept.
-    pub fn name_of<'a, T: FrameTaker<'a>>(
+    pub fn number_of_name<'a, T: FrameSink<'a>>(
         &mut self,
         links: &Links<'a>,
         index: usize,
-        taker: &mut T,
+        sink: &mut T,
     ) -> Result<u32, NoMemory>
         requires index { index < length links.now.links.items }
         requires numbered { AreNamesNumbered links.now.name_count links.now.links.items }
-        requires known { AreNameNumbers (T.tells_name taker.old) links.now self.old }
+        requires known { AreNameNumbers (T.numbers_name sink.old) links.now self.old }
         ensures is { IfOk result (λ number. (link : Link) → slice_get links.now.links.items index ≡ Some link
-            → T.tells_name taker.new number (link_view link).name) }
-        ensures known { OnOk result (AreNameNumbers (T.tells_name taker.new) links.now self.new) }
-        ensures names { StillTells (T.tells_name taker.old) (T.tells_name taker.new) }
-        ensures paths { StillTells (T.tells_path taker.old) (T.tells_path taker.new) }
-        ensures frames { StillTells (T.tells_frames taker.old) (T.tells_frames taker.new) }
-        ensures taken { Takes (T.has_taken taker.old) (T.has_taken taker.new) [] }
+            → T.numbers_name sink.new number (link_view link).name) }
+        ensures known { OnOk result (AreNameNumbers (T.numbers_name sink.new) links.now self.new) }
+        ensures names { KeepsNumbers (T.numbers_name sink.old) (T.numbers_name sink.new) }
+        ensures paths { KeepsNumbers (T.numbers_path sink.old) (T.numbers_path sink.new) }
+        ensures frames { KeepsNumbers (T.numbers_frames sink.old) (T.numbers_frames sink.new) }
+        ensures taken { Takes (T.has_received sink.old) (T.has_received sink.new) [] }
     {
         let link: Link<'a> = links.links[index];
         if let Some(known) = self.by_number[link.name_number] {
             return Ok(known);
         }
-        let number = taker.name(link.name)?;
+        let number = sink.name(link.name)?;
         self.by_number[link.name_number] = Some(number);
         Ok(number)
     }

@@ -1,10 +1,10 @@
-//! The numbers that a taker gave to the paths and the links of a unit.
+//! The numbers that a sink gave to the paths and the links of a unit.
 
 ghost use Rattle.std.specs.Prelude.{[], ◌≡◌, ◌≢◌, ◌<◌, ◌+◌, ℕ, IfOk, OnOk, Some, None, length};
 ghost use Rattle.std.specs.Ordering.{nat_cmp};
 ghost use Rattle.std.specs.BTreeMap as tree_map;
 ghost use Rattle.dwarf_frame_changes.specs.Given.{Takes};
-ghost use Rattle.dwarf_frame_changes.specs.Taking.{StillTells};
+ghost use Rattle.dwarf_frame_changes.specs.Taking.{KeepsNumbers};
 ghost use Rattle.dwarf_frame_changes.specs.UnitNumbers.{AreLinked, AreNameNumbers, ArePathNumbers, IsPathNumber};
 ghost use Rattle.dwarf_frame_changes.specs.UnitNumbers.{row_frames};
 ghost use Rattle.dwarf_functions.specs.Links.{AreCallersBefore};
@@ -13,7 +13,7 @@ ghost use Rattle.dwarf_functions.specs.NameNumbers.{AreNamesNumbered};
 ghost use Rattle.dwarf_source_frames.specs.FrameViews.{lines_view};
 
 use crate::names::Names;
-use crate::taker::FrameTaker;
+use crate::sink::FrameSink;
 use dwarf_functions::{Link, Links};
 use dwarf_lines::Row;
 use dwarf_source_frames::{SourceLocation, UnitLines};
@@ -51,52 +51,52 @@ impl Paths {
     }
 
     /// The number of the path of a file, which is kept.
-    fn find<'a, T: FrameTaker<'a>>(
+    fn find<'a, T: FrameSink<'a>>(
         &mut self,
         lines: &UnitLines<'a>,
-        taker: &mut T,
+        sink: &mut T,
         index: u64,
     ) -> Result<u32, NoMemory>
-        requires { ArePathNumbers (T.tells_path taker.old) (lines_view lines.now) self.old }
+        requires { ArePathNumbers (T.numbers_path sink.old) (lines_view lines.now) self.old }
         ensures is { IfOk result (λ number.
-            IsPathNumber (T.tells_path taker.new) (lines_view lines.now) (Some index) number) }
-        ensures kept { OnOk result (ArePathNumbers (T.tells_path taker.new) (lines_view lines.now) self.new) }
-        ensures names { StillTells (T.tells_name taker.old) (T.tells_name taker.new) }
-        ensures frames { StillTells (T.tells_frames taker.old) (T.tells_frames taker.new) }
-        ensures taken { Takes (T.has_taken taker.old) (T.has_taken taker.new) [] }
+            IsPathNumber (T.numbers_path sink.new) (lines_view lines.now) (Some index) number) }
+        ensures kept { OnOk result (ArePathNumbers (T.numbers_path sink.new) (lines_view lines.now) self.new) }
+        ensures names { KeepsNumbers (T.numbers_name sink.old) (T.numbers_name sink.new) }
+        ensures frames { KeepsNumbers (T.numbers_frames sink.old) (T.numbers_frames sink.new) }
+        ensures taken { Takes (T.has_received sink.old) (T.has_received sink.new) [] }
     {
         if let Some(number) = self.by_index.get(&index) {
             return Ok(*number);
         }
-        let number = taker.path(lines.path_in(Some(index)))?;
+        let number = sink.path(lines.path_in(Some(index)))?;
         self.keep(index, number)?;
         Ok(number)
     }
 
     /// The number of the path of a file, or of none.
-    pub fn number<'a, T: FrameTaker<'a>>(
+    pub fn number<'a, T: FrameSink<'a>>(
         &mut self,
         lines: &UnitLines<'a>,
-        taker: &mut T,
+        sink: &mut T,
         file: Option<u64>,
     ) -> Result<u32, NoMemory>
-        requires { ArePathNumbers (T.tells_path taker.old) (lines_view lines.now) self.old }
+        requires { ArePathNumbers (T.numbers_path sink.old) (lines_view lines.now) self.old }
         ensures is { IfOk result (λ number.
-            IsPathNumber (T.tells_path taker.new) (lines_view lines.now) file number) }
-        ensures kept { OnOk result (ArePathNumbers (T.tells_path taker.new) (lines_view lines.now) self.new) }
-        ensures names { StillTells (T.tells_name taker.old) (T.tells_name taker.new) }
-        ensures frames { StillTells (T.tells_frames taker.old) (T.tells_frames taker.new) }
-        ensures taken { Takes (T.has_taken taker.old) (T.has_taken taker.new) [] }
+            IsPathNumber (T.numbers_path sink.new) (lines_view lines.now) file number) }
+        ensures kept { OnOk result (ArePathNumbers (T.numbers_path sink.new) (lines_view lines.now) self.new) }
+        ensures names { KeepsNumbers (T.numbers_name sink.old) (T.numbers_name sink.new) }
+        ensures frames { KeepsNumbers (T.numbers_frames sink.old) (T.numbers_frames sink.new) }
+        ensures taken { Takes (T.has_received sink.old) (T.has_received sink.new) [] }
     {
         let Some(index) = file else {
-            return taker.path(None);
+            return sink.path(None);
         };
         if let Some((known, number)) = self.last {
             if known == index {
                 return Ok(number);
             }
         }
-        let number = self.find(lines, taker, index)?;
+        let number = self.find(lines, sink, index)?;
         self.last = Some((index, number));
         Ok(number)
     }
@@ -110,39 +110,39 @@ pub(crate) struct Linked {
 }
 
 /// Adds the numbers of the next link, those of the links before it being known.
-fn push_linked<'a, T: FrameTaker<'a>>(
+fn push_linked<'a, T: FrameSink<'a>>(
     lines: &UnitLines<'a>,
     paths: &mut Paths,
     links: &Links<'a>,
     names: &mut Names,
     all: &mut Vec<Linked, Heap>,
-    taker: &mut T,
+    sink: &mut T,
 ) -> Result<(), NoMemory>
     requires within { length all.old.items < length links.now.links.items }
     requires callers { AreCallersBefore (links_view links.now.links.items) }
     requires numbered { AreNamesNumbered links.now.name_count links.now.links.items }
-    requires names { AreNameNumbers (T.tells_name taker.old) links.now names.old }
-    requires paths { ArePathNumbers (T.tells_path taker.old) (lines_view lines.now) paths.old }
-    requires linked { AreLinked (T.tells_name taker.old) (T.tells_frames taker.old) (lines_view lines.now)
+    requires names { AreNameNumbers (T.numbers_name sink.old) links.now names.old }
+    requires paths { ArePathNumbers (T.numbers_path sink.old) (lines_view lines.now) paths.old }
+    requires linked { AreLinked (T.numbers_name sink.old) (T.numbers_frames sink.old) (lines_view lines.now)
         (links_view links.now.links.items) (length all.old.items) all.old.items }
     ensures count { OnOk result (length all.new.items ≡ length all.old.items + 1) }
-    ensures linked { OnOk result (AreLinked (T.tells_name taker.new) (T.tells_frames taker.new) (lines_view lines.now)
+    ensures linked { OnOk result (AreLinked (T.numbers_name sink.new) (T.numbers_frames sink.new) (lines_view lines.now)
         (links_view links.now.links.items) (length all.new.items) all.new.items) }
-    ensures names { OnOk result (AreNameNumbers (T.tells_name taker.new) links.now names.new) }
-    ensures kept { OnOk result (ArePathNumbers (T.tells_path taker.new) (lines_view lines.now) paths.new) }
-    ensures taken { Takes (T.has_taken taker.old) (T.has_taken taker.new) [] }
+    ensures names { OnOk result (AreNameNumbers (T.numbers_name sink.new) links.now names.new) }
+    ensures kept { OnOk result (ArePathNumbers (T.numbers_path sink.new) (lines_view lines.now) paths.new) }
+    ensures taken { Takes (T.has_received sink.old) (T.has_received sink.new) [] }
 {
     let index = all.len();
     let link: Link<'a> = links.links[index];
-    let name = names.name_of(links, index, taker)?;
+    let name = names.number_of_name(links, index, sink)?;
     if link.caller == 0 {
-        let callers = taker.no_frames();
+        let callers = sink.no_frames();
         all.push(Linked { name, callers })?;
         return Ok(());
     }
     let outer = all[link.caller - 1];
-    let path = paths.number(lines, taker, link.call.file)?;
-    let callers = taker.frames(
+    let path = paths.number(lines, sink, link.call.file)?;
+    let callers = sink.frames(
         outer.name,
         path,
         link.call.line,
@@ -154,50 +154,50 @@ fn push_linked<'a, T: FrameTaker<'a>>(
 }
 
 /// The numbers of all links of a unit.
-pub(crate) fn all_linked<'a, T: FrameTaker<'a>>(
+pub(crate) fn number_links<'a, T: FrameSink<'a>>(
     heap: Heap,
     lines: &UnitLines<'a>,
     paths: &mut Paths,
     links: &Links<'a>,
-    taker: &mut T,
+    sink: &mut T,
 ) -> Result<Vec<Linked, Heap>, NoMemory>
     requires callers { AreCallersBefore (links_view links.now.links.items) }
     requires numbered { AreNamesNumbered links.now.name_count links.now.links.items }
-    requires paths { ArePathNumbers (T.tells_path taker.old) (lines_view lines.now) paths.old }
-    ensures is { IfOk result (λ all. AreLinked (T.tells_name taker.new) (T.tells_frames taker.new)
+    requires paths { ArePathNumbers (T.numbers_path sink.old) (lines_view lines.now) paths.old }
+    ensures is { IfOk result (λ all. AreLinked (T.numbers_name sink.new) (T.numbers_frames sink.new)
         (lines_view lines.now) (links_view links.now.links.items) (length links.now.links.items) all.items) }
-    ensures kept { OnOk result (ArePathNumbers (T.tells_path taker.new) (lines_view lines.now) paths.new) }
-    ensures taken { OnOk result (Takes (T.has_taken taker.old) (T.has_taken taker.new) []) }
+    ensures kept { OnOk result (ArePathNumbers (T.numbers_path sink.new) (lines_view lines.now) paths.new) }
+    ensures taken { OnOk result (Takes (T.has_received sink.old) (T.has_received sink.new) []) }
 {
     let mut names = Names::new(heap.share(), links.name_count)?;
     let mut all: Vec<Linked, Heap> = Vec::new(heap);
     'links: while all.len() < links.links.len() {
-        push_linked(lines, paths, links, &mut names, &mut all, taker)?;
+        push_linked(lines, paths, links, &mut names, &mut all, sink)?;
     }
     Ok(all)
 }
 
 /// The number of the frames of a row alone.
-pub(crate) fn frames_of_row<'a, T: FrameTaker<'a>>(
+pub(crate) fn frames_of_row<'a, T: FrameSink<'a>>(
     lines: &UnitLines<'a>,
     paths: &mut Paths,
     row: Option<Row>,
-    taker: &mut T,
+    sink: &mut T,
 ) -> Result<u32, NoMemory>
-    requires { ArePathNumbers (T.tells_path taker.old) (lines_view lines.now) paths.old }
-    ensures is { IfOk result (λ found. T.tells_frames taker.new found (row_frames (lines_view lines.now) row)) }
-    ensures kept { OnOk result (ArePathNumbers (T.tells_path taker.new) (lines_view lines.now) paths.new) }
-    ensures names { StillTells (T.tells_name taker.old) (T.tells_name taker.new) }
-    ensures frames { StillTells (T.tells_frames taker.old) (T.tells_frames taker.new) }
-    ensures taken { Takes (T.has_taken taker.old) (T.has_taken taker.new) [] }
+    requires { ArePathNumbers (T.numbers_path sink.old) (lines_view lines.now) paths.old }
+    ensures is { IfOk result (λ found. T.numbers_frames sink.new found (row_frames (lines_view lines.now) row)) }
+    ensures kept { OnOk result (ArePathNumbers (T.numbers_path sink.new) (lines_view lines.now) paths.new) }
+    ensures names { KeepsNumbers (T.numbers_name sink.old) (T.numbers_name sink.new) }
+    ensures frames { KeepsNumbers (T.numbers_frames sink.old) (T.numbers_frames sink.new) }
+    ensures taken { Takes (T.has_received sink.old) (T.has_received sink.new) [] }
 {
     let Some(row) = row else {
-        return Ok(taker.no_frames());
+        return Ok(sink.no_frames());
     };
     let place = SourceLocation::of_row(Some(row));
-    let path = paths.number(lines, taker, place.file)?;
-    let none = taker.name(None)?;
-    let callers = taker.no_frames();
-    let alone = taker.frames(none, path, place.line, place.column, callers)?;
+    let path = paths.number(lines, sink, place.file)?;
+    let none = sink.name(None)?;
+    let callers = sink.no_frames();
+    let alone = sink.frames(none, path, place.line, place.column, callers)?;
     Ok(alone)
 }

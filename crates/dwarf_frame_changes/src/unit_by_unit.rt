@@ -16,7 +16,7 @@ ghost use Rattle.dwarf_asked_addresses.specs.Rising.{AreRising};
 ghost use Rattle.dwarf_source_frames.specs.SectionsViews.{sections_view};
 
 use crate::merging::UnitParts;
-use crate::taker::FrameTaker;
+use crate::sink::FrameSink;
 use crate::unit_steps::UnitSteps;
 use dwarf_asked_addresses::sorted_once;
 use dwarf_encoding::Units;
@@ -41,14 +41,17 @@ struct LastRows {
 }
 
 /// Gives addresses without frames.
-fn give_without<'a, T: FrameTaker<'a>>(taker: &mut T, addresses: &[u64]) -> Result<(), NoMemory>
+fn push_without_frames<'a, T: FrameSink<'a>>(
+    sink: &mut T,
+    addresses: &[u64],
+) -> Result<(), NoMemory>
     ensures fits { OnOk result ((a : ℕ) → Contains addresses.now a → a < 2 ^ 64) }
-    ensures given { OnOk result (Takes (T.has_taken taker.old) (T.has_taken taker.new)
+    ensures given { OnOk result (Takes (T.has_received sink.old) (T.has_received sink.new)
         (map (λ a. without_frames a) addresses.now)) }
 {
-    let none = taker.no_frames();
+    let none = sink.no_frames();
     for address in addresses {
-        taker.take(*address, none)?;
+        sink.push(*address, none)?;
     }
     Ok(())
 }
@@ -76,14 +79,14 @@ impl LastRows {
 }
 
 /// Gives the turns whose unit is the one at an offset, with their frames. Its boundaries are given.
-fn give_unit<'a, T: FrameTaker<'a>>(
+fn push_unit_turns<'a, T: FrameSink<'a>>(
     heap: Heap,
     info: &DebugInfo<'a>,
     line_units: &Units<'a>,
     steps: &UnitSteps,
     of: &UnitBoundaries,
     last: &mut LastRows,
-    taker: &mut T,
+    sink: &mut T,
 ) -> Result<(), NoMemory>
     requires lines { line_units.now ≡ info.now.sections.debug_line.now }
     requires steps { AreUnitSteps (sections_view info.now.sections) steps.now.starts.items steps.now.places.items }
@@ -92,18 +95,18 @@ fn give_unit<'a, T: FrameTaker<'a>>(
         ↔ IsPlaced steps.now.starts.items steps.now.places.items a (Some of.now.place) }
     requires last { AreRowsOfLast (sections_view info.now.sections) last.old }
     ensures given { OnOk result ((given : List TurnRecord)
-        × Takes (T.has_taken taker.old) (T.has_taken taker.new) given
+        × Takes (T.has_received sink.old) (T.has_received sink.new) given
         × AreTurnsIn (sections_view info.now.sections) (Some of.now.place) given) }
     ensures last { OnOk result (AreRowsOfLast (sections_view info.now.sections) last.new) }
 {
     let Some(unit) = info.unit_at(of.place) else {
-        give_without(taker, &of.boundaries)?;
+        push_without_frames(sink, &of.boundaries)?;
         return Ok(());
     };
     let lines = UnitLines::read(heap.share(), &info.sections, line_units, &unit)?;
     last.run(heap.share(), &lines, unit.program_offset())?;
-    let mut parts = UnitParts::read(heap, info, &unit, &lines, taker)?;
-    parts.give_all(&lines, &last.rows, steps, &of.boundaries, taker)?;
+    let mut parts = UnitParts::read(heap, info, &unit, &lines, sink)?;
+    parts.push_all_turns(&lines, &last.rows, steps, &of.boundaries, sink)?;
     Ok(())
 }
 
@@ -136,20 +139,20 @@ fn by_program(
 }
 
 /// Gives the turns that have a unit, one unit after another, with their frames. The boundaries are given.
-fn give_units<'a, T: FrameTaker<'a>>(
+fn push_turns_of_units<'a, T: FrameSink<'a>>(
     heap: Heap,
     info: &DebugInfo<'a>,
     line_units: &Units<'a>,
     steps: &UnitSteps,
     by_unit: ByUnit,
-    taker: &mut T,
+    sink: &mut T,
 ) -> Result<(), NoMemory>
     requires lines { line_units.now ≡ info.now.sections.debug_line.now }
     requires steps { AreUnitSteps (sections_view info.now.sections) steps.now.starts.items steps.now.places.items }
     requires boundaries { (place a : ℕ) → Contains (addresses_under by_unit place) a
         ↔ IsPlaced steps.now.starts.items steps.now.places.items a (Some place) }
     ensures { OnOk result ((given : List TurnRecord)
-        × Takes (T.has_taken taker.old) (T.has_taken taker.new) given
+        × Takes (T.has_received sink.old) (T.has_received sink.new) given
         × AreTurnsWithUnits (sections_view info.now.sections) given) }
 {
     let all = by_program(heap.share(), info, by_unit)?;
@@ -158,15 +161,7 @@ fn give_units<'a, T: FrameTaker<'a>>(
         rows: RowSteps::none(heap.share()),
     };
     for unit in all.iter() {
-        give_unit(
-            heap.share(),
-            info,
-            line_units,
-            steps,
-            unit,
-            &mut last,
-            taker,
-        )?;
+        push_unit_turns(heap.share(), info, line_units, steps, unit, &mut last, sink)?;
     }
     Ok(())
 }
@@ -176,20 +171,20 @@ fn give_units<'a, T: FrameTaker<'a>>(
 /// together. Each unit that has a turn is read once. Units come in the order of their programs, and each program is run
 /// twice, however many units have it. It takes the memory of the boundaries of units, of the links of one unit, and of
 /// the rows of one program.
-pub fn give_turns<'a, T: FrameTaker<'a>>(
+pub fn push_turns<'a, T: FrameSink<'a>>(
     heap: Heap,
     image: &Image<'a>,
-    taker: &mut T,
+    sink: &mut T,
 ) -> Result<(), NoMemory>
     ensures { OnOk result ((given : List TurnRecord)
-        × Takes (T.has_taken taker.old) (T.has_taken taker.new) given × AreTurnsOf image.now given) }
+        × Takes (T.has_received sink.old) (T.has_received sink.new) given × AreTurnsOf image.now given) }
 {
     let info = DebugInfo::read(heap.share(), image)?;
     let line_units = Units::read(heap.share(), info.sections.debug_line)?;
     let steps = UnitSteps::read(heap.share(), &info)?;
     let (without, by_unit) = steps.by_unit(heap.share())?;
     let without = sorted_once(without);
-    give_without(taker, &without)?;
-    give_units(heap, &info, &line_units, &steps, by_unit, taker)?;
+    push_without_frames(sink, &without)?;
+    push_turns_of_units(heap, &info, &line_units, &steps, by_unit, sink)?;
     Ok(())
 }

@@ -252,7 +252,16 @@ is_pushed functions old new last outer index number count of caller made within 
   within = within;
   of = of;
   there = slice_get-get_or functions index of inside ∙ ap Some (sym is_of);
-  link = record { name = of.name; name_number = of.name_number; call = of.call; caller = caller; outer = outer; function = index; child = 0; count = count + 1 };
+  link = record {
+    name = of.name;
+    name_number = of.name_number;
+    call = of.call;
+    caller = caller;
+    outer = outer;
+    function = index;
+    child = 0;
+    count = count + 1;
+  };
   is = is;
   is_in = refl;
   function = refl;

@@ -171,7 +171,8 @@ module _ (s : DebugSectionsRecord) (unit : UnitRecord) (all : List FunctionRecor
             so.others
             ∙ ap (λ (fs : List FunctionRecord). so.done ++ fs) (from_with (length functions) scope rest some ∙ ap (λ (fs : List FunctionRecord). x ∷ fs) next)
             ∙ sym (append_assoc so.done (x ∷ []) (functions_from (length (functions ++ f ∷ [])) rest));
-        so_far = so_far_with s unit so.done functions ranges next_ranges x f more end (record { name = is.name; call = is.call; is_subprogram = is.is_subprogram }) so.so_far;
+        so_far = so_far_with s unit so.done functions ranges next_ranges x f more end
+            (record { name = is.name; call = is.call; is_subprogram = is.is_subprogram }) so.so_far;
         open_to = open_with so.done functions opened scope rest f some so.so_far.count shallow so.open_to;
       }
 

@@ -7,7 +7,7 @@ use Rattle.dwarf_lines.specs.Views.{program_view}
 use Rattle.dwarf_source_frames.specs.UnitLines.{LinesRecord}
 use Rattle.dwarf_source_frames.specs.Frames.{FrameRecord}
 use Rattle.dwarf_source_frames.specs.declared.unit_lines.UnitLines.{UnitLines}
-use Rattle.dwarf_source_frames.specs.declared.frame.Frame.{Frame}
+use Rattle.dwarf_source_frames.specs.declared.frame.SourceFrame.{SourceFrame}
 
 -- a unit's texts, names and program, without where they lie
 abbrev pub lines_view : UnitLines → LinesRecord
@@ -20,7 +20,7 @@ lines_view l =
     }
 
 -- a frame, without where its texts lie
-abbrev pub frame_view : Frame → FrameRecord
+abbrev pub frame_view : SourceFrame → FrameRecord
 frame_view f =
     record {
       name = option_map (λ n. n.now) f.name;

@@ -9,7 +9,7 @@ use Rattle.dwarf_source_frames.specs.DebugSections.{DebugSectionsRecord}
 use Rattle.dwarf_source_frames.specs.UnitAddresses.{place_by_tuple}
 
 -- the set has the offsets of the units that sets of __debug_aranges name
-pub record AreNamed (section : List ℕ) (named : tree_set.BTreeSet ℕ) : Type 0 where
+pub record AreNamedUnits (section : List ℕ) (named : tree_set.BTreeSet ℕ) : Type 0 where
   pub each : (offset : ℕ) → tree_set.contains nat_cmp named offset ≡ is_named section offset
 
 -- each of the addresses has the place that its tuple names, and is pending if that names none

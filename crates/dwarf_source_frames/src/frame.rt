@@ -28,7 +28,7 @@ pub struct SourceLocation {
 
 /// A frame.
 #[derive(Clone, Copy)]
-pub struct Frame<'a> {
+pub struct SourceFrame<'a> {
     /// The name of its function.
     pub name: Option<&'a [u8]>,
     /// The path of its file.
@@ -110,10 +110,10 @@ impl<'a> UnitLines<'a> {
 
 impl<'a> UnitLines<'a> {
     /// The frame of a row alone.
-    pub fn frame_of_row(&self, row: &Row) -> Frame<'a>
+    pub fn frame_of_row(&self, row: &Row) -> SourceFrame<'a>
         ensures { frame_view result ≡ frame_of_row (lines_view self.now) row.now }
     {
-        Frame {
+        SourceFrame {
             name: None,
             path: self.path_in(Some(row.registers.file)),
             line: known_number(row.registers.line),

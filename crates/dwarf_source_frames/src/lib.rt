@@ -23,7 +23,7 @@ mod unit_lists;
 pub use debug_info::DebugInfo;
 pub use debug_sections::DebugSections;
 pub use debug_unit::{DebugUnit, UnitEntry};
-pub use frame::{Frame, SourceLocation};
+pub use frame::{SourceFrame, SourceLocation};
 pub use scopes::{is_function, is_subprogram, scope_ranges};
 pub use unit_code::range_attributes;
 pub use unit_lines::UnitLines;

@@ -9,7 +9,7 @@ ghost use Rattle.std.specs.BTreeSet as tree_set;
 ghost use Rattle.dwarf_ranges.specs.Aranges.{is_named};
 ghost use Rattle.dwarf_ranges.specs.Assigned.{AssignsRanges};
 ghost use Rattle.dwarf_source_frames.specs.SectionsViews.{sections_view};
-ghost use Rattle.dwarf_source_frames.specs.Inner.{AreNamed, ArePlacesByTuples};
+ghost use Rattle.dwarf_source_frames.specs.Inner.{AreNamedUnits, ArePlacesByTuples};
 ghost use Rattle.dwarf_source_frames.specs.UnitAddresses.{AreUnitsOf, own_ranges, place_by_ranges, place_by_tuple};
 ghost use Rattle.dwarf_source_frames.specs.UnitAddresses.{read_unit};
 ghost use Rattle.dwarf_source_frames.specs.UnitViews.{unit_view};
@@ -94,7 +94,7 @@ impl<'a> DebugInfo<'a> {
         offset: u64,
         bytes: &'a [u8],
     ) -> Result<(), NoMemory>
-        requires { AreNamed self.now.sections.debug_aranges.now named.now }
+        requires { AreNamedUnits self.now.sections.debug_aranges.now named.now }
         ensures { OnOk result (AssignsRanges (own_ranges (sections_view self.now.sections) offset bytes.now) offset
             pending.old places.old pending.new places.new) }
     {
@@ -130,7 +130,7 @@ impl<'a> DebugInfo<'a> {
         places: &mut BTreeMap<u64, u64, Heap>,
         mut pending: BTreeSet<u64, Heap>,
     ) -> Result<(), NoMemory>
-        requires named { AreNamed self.now.sections.debug_aranges.now named.now }
+        requires named { AreNamedUnits self.now.sections.debug_aranges.now named.now }
         requires blank { (a : ℕ) → tree_set.contains nat_cmp pending a ≡ true →
             tree_map.get nat_cmp places.now a ≡ None }
         ensures found { OnOk result ((a : ℕ) → tree_set.contains nat_cmp pending a ≡ true →

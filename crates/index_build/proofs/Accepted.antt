@@ -18,7 +18,7 @@ use Rattle.std.proofs.lemmas.Slice.Eq.{bytes_eq-Decides}
 use Rattle.sha2.proofs.Facts256.{length-sha256}
 use Rattle.join_core.specs.Listing.{ascending_of, listing}
 use Rattle.join_core.proofs.Listing.{listed}
-use Rattle.table_checked_pages.specs.Pages.{DigestsTellPages, height, level_of, stored}
+use Rattle.table_checked_pages.specs.Pages.{DigestsDecidePages, height, level_of, stored}
 use Rattle.index_format.specs.Entry.{zeros, claim_at, claim_bytes, claim_in, has_claim, no_claim, stored_size}
 use Rattle.archive_core.specs.Content.{IsContent, Operations, is_admission}
 use Rattle.archive_core.specs.Record.{IsRecord}
@@ -275,7 +275,7 @@ of_the_content o index text entries is content short fits read alike tell =
     same_list entries others (long_each (8 + length read.tables) [] entries read.pass) (long_each (8 + length made.tables) [] others made.pass) (tell digests)
 
 pub told_over : (index text r : List ℕ) (entries : List (List ℕ)) (address : ℕ) (found : Option NearestSymbol)
-    (table : HasTable index entries r) → DigestsTellPages text (claim_in table.e) table.table → AreBytes (drop 33 r)
+    (table : HasTable index entries r) → DigestsDecidePages text (claim_in table.e) table.table → AreBytes (drop 33 r)
     → IsToldBy text table.e address found → IsSaid (drop 33 r) address found
 told_over index text r entries address found table tell bytes says =
     says (drop 33 r) table.table bytes (table_of_symbols (drop 33 r) table.table table.is_table)

@@ -17,7 +17,7 @@ use Rattle.archive_records.specs.Reader.{Finishes, HasRead, Passes, Position, St
 use Rattle.archive_records.specs.Text.{text_of}
 use Rattle.archive_records.specs.declared.fault.RecordFault.{RecordFault}
 use Rattle.archive_records.specs.declared.format.Format.TheVariants.{Archive}
-use Rattle.archive_records.proofs.Steps.{HasRead-grows, HasReadAll-grows, Stopped-fails, Stopped-unkept}
+use Rattle.archive_records.proofs.RecordSteps.{HasRead-grows, HasReadAll-grows, Stopped-fails, Stopped-unkept}
 use Rattle.index_format.specs.Text.{index_magic}
 use Rattle.index_build.specs.Content.{IsTableOf, front_of, table_entries, table_entry, tables_text}
 use Rattle.index_format.specs.Entry.{entry_bytes}

@@ -5,7 +5,7 @@ ghost use Rattle.std.specs.List.{concat};
 ghost use Rattle.sha2.specs.Sha256.{sha256};
 ghost use Rattle.std.specs.FinSet as set;
 ghost use Rattle.join_core.specs.Listing.{listing};
-ghost use Rattle.table_checked_pages.specs.Pages.{AreStored, DigestsTellPages};
+ghost use Rattle.table_checked_pages.specs.Pages.{AreStored, DigestsDecidePages};
 ghost use Rattle.table_symbols.specs.Found.{IsSaid};
 ghost use Rattle.table_symbols.specs.Steps.{AreBytes};
 ghost use Rattle.table_symbols.specs.Table.{IsTableText};
@@ -45,7 +45,7 @@ pub fn never_too_long()
 
 /// The index of a content has an entry for each of its slices, and the table of the slice stands where the entry says.
 /// What such an entry tells of an address is the nearest symbol of its slice. Nothing is supposed of SHA-256.
-pub fn right()
+pub fn index_answers_right()
     ensures table { (o : Operations) (text : List ℕ) → (index : IsIndexOf o text) → IsContent o
         → length text < 2 ^ 64 → (r : List ℕ) → set.contains o r ≡ true → is_admission r ≡ true
         → HasTable text (entries_of (listing o) index.tables) r }
@@ -64,6 +64,6 @@ pub fn answers_are_of_the_content()
         → (let others = entries_of (listing o) is.tables in
         (sha256 (concat entries) ≡ sha256 (concat others) → concat entries ≡ concat others) → entries ≡ others) }
     ensures told { (index text r : List ℕ) (entries : List (List ℕ)) (address : ℕ) (found : Option NearestSymbol)
-        → (table : HasTable index entries r) → DigestsTellPages text (claim_in table.e) table.table
+        → (table : HasTable index entries r) → DigestsDecidePages text (claim_in table.e) table.table
         → AreBytes (drop 33 r) → IsToldBy text table.e address found → IsSaid (drop 33 r) address found }
 {}

@@ -25,7 +25,7 @@ use Rattle.index_format.specs.InnerGathering.{AreGathered, FailsOf, IsGathered, 
 use Rattle.index_format.specs.Gathering.{AreGatheredUnder, IsEntryFault, ReadsPlaces}
 use Rattle.index_format.specs.Runs.{is_tagged}
 use Rattle.index_format.proofs.RunLemmas.{past}
-use Rattle.index_format.proofs.Ordered.{not_second, one_of_two, two_runs}
+use Rattle.index_format.proofs.EntryOrder.{not_second, one_of_two, two_runs}
 
 module _ (R : List ℕ → List ℕ → Type 0) where
   picked : (p : List ℕ → Bool) (xs : List (List ℕ)) (i : ℕ) (x : List ℕ) (ys : List (List ℕ)) (y : List ℕ)

@@ -10,7 +10,7 @@ use Rattle.std.proofs.lemmas.List.Elements.{All-from_recursion, All-contains}
 use Rattle.std.proofs.lemmas.List.Kept.{Contains-dedup, Contains-from_dedup}
 use Rattle.std.proofs.lemmas.List.Sorted.{IsPermutation-map}
 use Rattle.join_core.proofs.Members.{from_list_same}
-use Rattle.join_core.proofs.Merge.{map_dedup, from_list_permuted}
+use Rattle.join_core.proofs.SortedUnion.{map_dedup, from_list_permuted}
 use Rattle.archive_core.proofs.Members.{in_listing, in_order}
 use Rattle.archive_core.proofs.Taken.{tied_is}
 use Rattle.archive_core.proofs.Made.{bytes_same}

@@ -12,7 +12,7 @@ pub mod Versions
 pub mod Blamed
 pub mod RunLemmas
 pub mod NamedRecord
-pub mod Ordered
+pub mod EntryOrder
 pub mod Gathered
 pub mod IndexTexts
 pub mod Fields

@@ -19,12 +19,12 @@ err_as : {D T U : Type 0} (whole : D → Option (List ℕ)) (failures : D → �
 err_as whole failures old new f A B A' B' to h = record { says = λ text is. to text is (h.says text is); keeps = h.keeps; counts = h.counts }
 
 -- a refusal is passed on
-pub passed_on : {D T U : Type 0} (whole : D → Option (List ℕ)) (failures : D → ℕ) (old new : D) (f : IndexFault)
-    (r : Result T IndexFault) (s : Result U IndexFault)
-    (A : List ℕ → T → Type 0) (B : List ℕ → IndexFault → Type 0) (A' : List ℕ → U → Type 0) (B' : List ℕ → IndexFault → Type 0)
+pub passed_on : {D T U : Type 0} {whole : D → Option (List ℕ)} {failures : D → ℕ} {old new : D} {f : IndexFault}
+    {r : Result T IndexFault} {s : Result U IndexFault}
+    {A : List ℕ → T → Type 0} {B : List ℕ → IndexFault → Type 0} {A' : List ℕ → U → Type 0} {B' : List ℕ → IndexFault → Type 0}
     → r ≡ Err f → s ≡ Err f → ((text : List ℕ) → whole old ≡ Some text → IsRefused B text f → IsRefused B' text f)
     → ReadsText whole failures old new r A B → ReadsText whole failures old new s A' B'
-passed_on whole failures old new f r s A B A' B' was is to h =
+passed_on {whole = whole} {failures = failures} {old = old} {new = new} {f = f} {r = r} {s = s} {A = A} {B = B} {A' = A'} {B' = B'} was is to h =
     subst (λ t. ReadsText whole failures old new t A' B') (sym is)
     (err_as whole failures old new f A B A' B' to (subst (λ t. ReadsText whole failures old new t A B) was h))
 
@@ -34,23 +34,25 @@ said_as (Ok value) A A' B B' of to h = of value h
 said_as (Err f) A A' B B' of to h = to f h
 
 -- what is read is read
-pub read_as : {D T : Type 0} (whole : D → Option (List ℕ)) (failures : D → ℕ) (old new : D) (r : Result T IndexFault)
-    (A : List ℕ → T → Type 0) (B : List ℕ → IndexFault → Type 0) (A' : List ℕ → T → Type 0) (B' : List ℕ → IndexFault → Type 0)
-    → ((text : List ℕ) → whole old ≡ Some text → (value : T) → A text value → A' text value)
+pub read_as : {D T : Type 0} {whole : D → Option (List ℕ)} {failures : D → ℕ} {old new : D}
+    {r : Result T IndexFault} {A : List ℕ → T → Type 0} {B : List ℕ → IndexFault → Type 0} {A' : List ℕ → T
+    → Type 0} {B' : List ℕ → IndexFault → Type 0} → ((text : List ℕ) → whole old ≡ Some text → (value : T)
+    → A text value → A' text value)
     → ((text : List ℕ) → whole old ≡ Some text → (f : IndexFault) → IsRefused B text f → IsRefused B' text f)
     → ReadsText whole failures old new r A B → ReadsText whole failures old new r A' B'
-read_as whole failures old new r A B A' B' of to h = record {
-  says = λ text is. said_as r (A text) (A' text) (IsRefused B text) (IsRefused B' text) (of text is) (to text is)
-      (h.says text is);
-  keeps = h.keeps;
-  counts = h.counts;
-}
+read_as {whole = whole} {failures = failures} {old = old} {new = new} {r = r} {A = A} {B = B} {A' = A'}
+    {B' = B'} of to h = record {
+      says = λ text is. said_as r (A text) (A' text) (IsRefused B text) (IsRefused B' text) (of text is) (to text is)
+          (h.says text is);
+      keeps = h.keeps;
+      counts = h.counts;
+    }
 
 -- what is read after a call that did not fail
-pub after_ok : {D T : Type 0} (whole : D → Option (List ℕ)) (failures : D → ℕ) (old mid new : D)
-    (r : Result T IndexFault) (A : List ℕ → T → Type 0) (B : List ℕ → IndexFault → Type 0)
+pub after_ok : {D T : Type 0} {whole : D → Option (List ℕ)} {failures : D → ℕ} {old mid new : D}
+    {r : Result T IndexFault} {A : List ℕ → T → Type 0} {B : List ℕ → IndexFault → Type 0}
     → whole mid ≡ whole old → failures mid ≡ failures old → ReadsText whole failures mid new r A B → ReadsText whole failures old new r A B
-after_ok whole failures old mid new r A B same unfailed h = record {
+after_ok {whole = whole} {failures = failures} {old = old} {mid = mid} {new = new} {r = r} {A = A} {B = B} same unfailed h = record {
   says = λ text is. h.says text (same ∙ is);
   keeps = h.keeps ∙ same;
   counts = subst (λ n. MatchResult r (λ _. failures new ≡ n) (λ f. Blames n (failures new) f.kind)) unfailed h.counts;

@@ -50,5 +50,5 @@ pub record AreReadOf (text : List ℕ) (entries : List IndexEntry) : Type 0 wher
   pub laid : AreLaid (start_in text) (map entry_bytes entries)
 
 -- what is wrong with the entries of a text
-abbrev pub FailsBehindEnds : List ℕ → IndexFault → Type 0
-FailsBehindEnds text fault = FailsDigest text fault ⊎ FailsInEntries text fault ⊎ FailsInPlaces text fault
+abbrev pub FailsAfterEnds : List ℕ → IndexFault → Type 0
+FailsAfterEnds text fault = FailsDigest text fault ⊎ FailsInEntries text fault ⊎ FailsInPlaces text fault

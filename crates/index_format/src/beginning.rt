@@ -45,7 +45,7 @@ fn test_magic(came: &[u8]) -> Result<(), IndexingFault>
     ensures { MagicTested came.now result }
 {
     if came.len() < MAGIC_LEN {
-        let kind = if TextKind::Archive.begins(came) {
+        let kind = if TextKind::Archive.magic_begins_with(came) {
             RecordFaultKind::Truncated
         } else {
             RecordFaultKind::BadMagic

@@ -16,7 +16,7 @@ ghost use Rattle.index_format.specs.declared.index_fault.IndexFault.{IndexFault}
 
 /// With the index of the archive whose text this is, what is named under a UUID or a key is what the content has there.
 /// Nothing is supposed of SHA-256.
-pub fn right()
+pub fn index_answers_right()
     ensures { (front : List ℕ) (o p : Operations) → length front ≤ 24 → IsContent o → length (written o) < 2 ^ 64
         → AreNamed front (index o) (written o) p → p ≡ part o (is_under front) }
 {}

@@ -3,7 +3,7 @@
 ghost use Rattle.std.specs.Prelude.{◌≡◌, ◌≢◌, ◌⊎◌, ◌+◌, ◌*◌, ◌<◌, ◌^◌, ◌↔◌, ℕ, List, IfOk, IfErr, IsTrue, length};
 ghost use Rattle.sha2.specs.Sha256.{sha256};
 ghost use Rattle.index_format.specs.Entry.{AreOrderedEntries};
-ghost use Rattle.index_format.specs.InnerReading.{AreEndsOf, AreEntriesOf, AreReadOf, FailsBehindEnds};
+ghost use Rattle.index_format.specs.InnerReading.{AreEndsOf, AreEntriesOf, AreReadOf, FailsAfterEnds};
 ghost use Rattle.index_format.specs.Fault.{FailsDigest, FailsInEntries, FailsInPlaces};
 ghost use Rattle.index_format.specs.Reading.{IsRefused, ReadsIndex, ReadsText};
 ghost use Rattle.index_format.specs.declared.index_fault.IndexFaultKind.TheVariants.{Device, OutOfMemory};
@@ -80,7 +80,7 @@ fn read_entries<P: Placed>(
     ensures sorted { IfOk result (λ entries. AreOrderedEntries entries.items) }
     ensures read { ReadsText P.whole P.failures device.old device.new result
         (λ text entries. AreEndsOf text ends.now → AreReadOf text entries.items)
-        (λ text fault. AreEndsOf text ends.now → IsRefused FailsBehindEnds text fault) }
+        (λ text fault. AreEndsOf text ends.now → IsRefused FailsAfterEnds text fault) }
 {
     let bytes = read_bytes(heap.share(), device, ends)?;
     check_entries(heap, &bytes, ends)

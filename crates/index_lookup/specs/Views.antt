@@ -6,7 +6,7 @@ use Rattle.std.specs.Option.{option_map}
 use Rattle.macho_symbols.specs.Found.{FoundRecord}
 use Rattle.dwarf_source_frames.specs.Frames.{FrameRecord}
 use Rattle.dwarf_source_frames.specs.FrameViews.{frame_view}
-use Rattle.dwarf_source_frames.specs.declared.frame.Frame.{Frame}
+use Rattle.dwarf_source_frames.specs.declared.frame.SourceFrame.{SourceFrame}
 use Rattle.table_symbols.specs.Found.{owned_view}
 use Rattle.table_symbols.specs.declared.found.OwnedFound.{OwnedFound}
 use Rattle.table_source_frames.specs.FrameViews.{owned_frames}
@@ -27,7 +27,7 @@ abbrev pub list_in : {A : Type 0} → Vec OwnedFrame A → List FrameRecord
 list_in list = owned_frames list.items
 
 -- the same, borrowed
-abbrev pub borrowed_in : {A : Type 0} → Vec Frame A → List FrameRecord
+abbrev pub borrowed_in : {A : Type 0} → Vec SourceFrame A → List FrameRecord
 borrowed_in list = map (λ frame. frame_view frame) list.items
 
 -- the frames of places

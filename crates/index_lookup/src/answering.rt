@@ -4,7 +4,7 @@ ghost use Rattle.std.specs.Prelude.{IfOk, MatchOption, map};
 ghost use Rattle.archive_core.specs.Key.{key_bytes};
 ghost use Rattle.index_lookup.specs.Among.{AreAnsweringAmong, AreTied};
 
-use crate::live::answering_under;
+use crate::live::answering_entries_under;
 use crate::numbered::Numbered;
 use crate::order::{are_tied, keep_first_index, sort_by_rank};
 use archive_core::{SliceKey, key_prefix};
@@ -54,7 +54,7 @@ impl Answering {
 ///
 /// `None` if the entries do not tell the order: two slices of one length answer that stand in two archives. Refused for
 /// want of memory alone.
-pub fn answering_among(
+pub fn answering_entries(
     heap: &Heap,
     key: &SliceKey,
     indexes: &[Index],
@@ -62,7 +62,7 @@ pub fn answering_among(
     ensures { IfOk result (λ found. MatchOption found (AreTied (key_bytes key.now) indexes.now)
         (λ answering. AreAnsweringAmong (key_bytes key.now) indexes.now answering)) }
 {
-    let mut entries = answering_under(heap, &key_prefix(key), indexes)?;
+    let mut entries = answering_entries_under(heap, &key_prefix(key), indexes)?;
     sort_by_rank(&mut entries);
     if are_tied(&entries) {
         return Ok(None);

@@ -6,7 +6,7 @@ ghost use Rattle.table_source_frames.specs.FrameViews.{owned_frames};
 ghost use Rattle.index_lookup.specs.Views.{answer_of, frames_at, borrowed_in, row_at, shown_of, told_view};
 
 use archive_core::{Answer, Digest, Own};
-use dwarf_source_frames::Frame;
+use dwarf_source_frames::SourceFrame;
 use memory::{Heap, NoMemory};
 use table_source_frames::OwnedFrame;
 use table_symbols::OwnedFound;
@@ -41,7 +41,7 @@ impl EntryAnswers {
     }
 
     /// The frames of the place of this number, borrowed.
-    fn frames(&self, heap: Heap, number: usize) -> Result<Vec<Frame<'_>, Heap>, NoMemory>
+    fn frames(&self, heap: Heap, number: usize) -> Result<Vec<SourceFrame<'_>, Heap>, NoMemory>
         ensures { IfOk result (λ frames. borrowed_in frames ≡ frames_at number self.now) }
     {
         match self.frames.get(number) {
@@ -52,7 +52,7 @@ impl EntryAnswers {
 }
 
 /// Frames, borrowed.
-fn borrowed_each(heap: Heap, frames: &[OwnedFrame]) -> Result<Vec<Frame<'_>, Heap>, NoMemory>
+fn borrowed_each(heap: Heap, frames: &[OwnedFrame]) -> Result<Vec<SourceFrame<'_>, Heap>, NoMemory>
     ensures { IfOk result (λ borrowed. borrowed_in borrowed ≡ owned_frames frames.now) }
 {
     let mut borrowed = Vec::with_capacity(heap, frames.len())?;
@@ -92,7 +92,7 @@ fn frames_of_each<'c>(
     heap: &Heap,
     columns: &'c [EntryAnswers],
     number: usize,
-) -> Result<Vec<Vec<Frame<'c>, Heap>, Heap>, NoMemory>
+) -> Result<Vec<Vec<SourceFrame<'c>, Heap>, Heap>, NoMemory>
     ensures { IfOk result (λ lists. map borrowed_in lists.items
         ≡ map (frames_at number) columns.now) }
 {
@@ -124,7 +124,7 @@ impl Answers {
         heap: &Heap,
         lines: bool,
         number: usize,
-    ) -> Result<Vec<Vec<Frame<'_>, Heap>, Heap>, NoMemory>
+    ) -> Result<Vec<Vec<SourceFrame<'_>, Heap>, Heap>, NoMemory>
         ensures { IfOk result (λ lists. map borrowed_in lists.items
             ≡ shown_of lines number self.now.columns.items) }
     {

@@ -6,7 +6,7 @@
 //! - `fault`: why nothing is told;
 //! - `numbered`: an entry of one of several indexes, and what it says;
 //! - `retired`: what the retirements under a key are of; `live`: the entries that none of these covers;
-//! - `order`: the order of their records; `answering`: [`answering_among`], those that answer;
+//! - `order`: the order of their records; `answering`: [`answering_entries`], those that answer;
 //! - `named`: [`NamedSlice`], a slice that an entry names, and which of them answer or have a digest;
 //! - `own`: what a table tells of a place; `lines`: its frames in the slice;
 //! - `answers`: [`Answers`], what the tables of entries tell of several places; `told`: [`answer_among`], which makes
@@ -27,7 +27,7 @@ mod own;
 mod retired;
 mod told;
 
-pub use answering::{Answering, answering_among};
+pub use answering::{Answering, answering_entries};
 pub use answers::{Answers, EntryAnswers};
 pub use fault::AnswerFault;
 pub use named::{NamedSlice, named_among, named_with};

@@ -94,7 +94,7 @@ fn keep_companions(live: &mut Vec<Numbered, Heap>)
 }
 
 /// The entries of several indexes that answer under these bytes, in their order.
-pub(crate) fn answering_under(
+pub(crate) fn answering_entries_under(
     heap: &Heap,
     prefix: &[u8],
     indexes: &[Index],

@@ -7,7 +7,7 @@ ghost use Rattle.index_lookup.specs.Among.{AreTied, EntryAt};
 ghost use Rattle.index_lookup.specs.InnerAnswering.{entry_at};
 ghost use Rattle.index_lookup.specs.Named.{LivesAmong, Names, NamesAmong, digest_at, state_at};
 
-use crate::answering::answering_among;
+use crate::answering::answering_entries;
 use crate::live::live_under;
 use crate::numbered::{Numbered, is_companion};
 use archive_core::{Digest, FindRow, FindState, SliceKey, key_prefix};
@@ -76,7 +76,7 @@ fn named_by_each(heap: Heap, entries: &[Numbered]) -> Result<Vec<NamedSlice, Hea
 
 /// The slices that answer under a key, as the entries of these indexes name them, in the order of their records.
 ///
-/// `None` where [`answering_among`] says it. Refused for want of memory alone.
+/// `None` where [`answering_entries`] says it. Refused for want of memory alone.
 pub fn named_among(
     heap: &Heap,
     key: &SliceKey,
@@ -85,7 +85,7 @@ pub fn named_among(
     ensures { IfOk result (λ found. MatchOption found (AreTied (key_bytes key.now) indexes.now)
         (λ named. NamesAmong (key_bytes key.now) indexes.now named.items)) }
 {
-    match answering_among(heap, key, indexes)? {
+    match answering_entries(heap, key, indexes)? {
         Some(answering) => {
             let named = named_by_each(heap.share(), answering.entries())?;
             Ok(Some(named))

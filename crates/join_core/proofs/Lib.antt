@@ -4,5 +4,5 @@ pub mod Members
 pub mod Place
 pub mod Listing
 pub mod Search
-pub mod Merge
+pub mod SortedUnion
 pub mod Retain

@@ -34,7 +34,7 @@ use Rattle.archive_records.proofs.Forms.{IsBytes, IsBytes-take, IsBytes-drop, re
 use Rattle.archive_records.proofs.Ends.{ends, is_three, ending_is}
 use Rattle.archive_records.proofs.Puts.{concat-push}
 use Rattle.archive_records.proofs.Longest.{Takes, is_end-grows}
-use Rattle.archive_records.proofs.Steps.{InOrder-push}
+use Rattle.archive_records.proofs.RecordSteps.{InOrder-push}
 use Rattle.archive_records.proofs.Listed.{operations_in, IsOperationsText-text}
 use Rattle.archive_records.proofs.Contents.{AreEntries-entries, text_of_summary, summary_text-entries}
 use Rattle.archive_records.specs.declared.format.Format.{Format}

@@ -14,7 +14,7 @@ use Rattle.archive_records.specs.declared.fault.RecordFaultKind.TheVariants.{Cov
 use Rattle.archive_records.specs.declared.fault.RecordFault.{RecordFault}
 use Rattle.archive_records.specs.Kind.{magic, old_magic, archive_format, may_follow}
 use Rattle.archive_records.specs.Text.{last_of}
-use Rattle.archive_records.specs.Fault.{IsFault, IsFaultOf, IsFaultBehind, FailsNext, FailsBehind, Fails, IsMagicFault}
+use Rattle.archive_records.specs.Fault.{IsFault, IsFaultOf, IsFaultAfter, FailsNext, FailsBehind, Fails, IsMagicFault}
 use Rattle.archive_records.specs.Front.{IsGoodFront, IsLongestFront, front_length}
 use Rattle.archive_records.specs.Reader.{set_of}
 use Rattle.archive_records.proofs.Apart.{in_set, from_set, not_covering}
@@ -33,7 +33,7 @@ by_behind file records rest kind e (inr f) = f
 
 -- only an archive's text has such a fault
 behind_covered : (file : Format) (records : List (List ℕ)) (rest : List ℕ) (fault : RecordFault) → fault.kind ≡ Covered
-    → IsFaultBehind file records rest fault → FailsBehind file records rest fault.kind
+    → IsFaultAfter file records rest fault → FailsBehind file records rest fault.kind
     × (fault.offset ≡ front_length records)
 behind_covered file records rest fault e (inl f) = (by_behind file records rest fault.kind e f.0, f.1)
 behind_covered file records rest fault e (inr t) = cc (sym e ∙ t.0)
@@ -65,7 +65,7 @@ IsCoveredThere text fault = (records : List (List ℕ)) × (slice : List ℕ) ×
     × (fault.offset ≡ front_length records)
 
 covered_behind : (text : List ℕ) (fault : RecordFault) (records : List (List ℕ))
-    (front : IsGoodFront Archive text records) → IsFaultBehind Archive records front.rest fault → fault.kind ≡ Covered
+    (front : IsGoodFront Archive text records) → IsFaultAfter Archive records front.rest fault → fault.kind ≡ Covered
     → IsCoveredThere text fault
 covered_behind text fault records front f e =
     let behind = behind_covered Archive records front.rest fault e f in

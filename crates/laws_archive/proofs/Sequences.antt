@@ -24,7 +24,7 @@ use Rattle.archive_records.proofs.Versions.{made_content}
 use Rattle.archive_admission.specs.File.{IsAcceptedFile, admissible}
 use Rattle.archive_admission.specs.Take.{admitted}
 use Rattle.archive_exchange.proofs.Content.{joined_made, taken_gain, union_nothing}
-use Rattle.byte_openings.specs.declared.openings.Opening.{Opening}
+use Rattle.byte_lazy_inputs.specs.declared.openings.Opening.{Opening}
 use Rattle.command_common.specs.Archives.{merged}
 use Rattle.command_common.specs.Inputs.{HoldsArchive, IsGiven, IsGivenArchive, Reader}
 use Rattle.command_write.specs.Admit.{admit, images_of}

@@ -18,7 +18,7 @@ use Rattle.command_common.specs.Ends.{Command, HasFirst, IsStopped, StopsAmidst,
 use Rattle.command_common.specs.Ends.{writes_in_turn}
 use Rattle.command_common.specs.Inputs.{EachKnown, HoldsArchive, IsGiven, IsGivenArchive, IsKnown, Reader}
 use Rattle.command_common.specs.Outputs.{Out, Outs, Writer, draft_of, out_of}
-use Rattle.command_write.specs.Begun.{BeginsGood, TakesNoText, begins_behind}
+use Rattle.command_write.specs.Begun.{BeginsGood, TakesNoText, begins_after}
 use Rattle.command_write.proofs.Beginnings.{first_of_good, good_content}
 use Rattle.command_write.specs.Merge.{merge}
 use Rattle.command_write.specs.MergeStreams.{merge_of_one}
@@ -81,7 +81,7 @@ amidst command Known draft OutOfMemory s = s.2
 module _ {R : Type 0} (command : Reader R → Command) (input : Reader R) (Accepted Known All : Type 0)
     (all : IsKnown input × Known → All) (out : Out) (report : Writer) where
   pub stopped_amidst : (fault : CommandFault)
-      → IsStopped (begins_behind input Accepted command Known out.draft (writes_amidst (command input) All out.draft))
+      → IsStopped (begins_after input Accepted command Known out.draft (writes_amidst (command input) All out.draft))
       out report fault
       → LeavesBeginning command input Known out report
   stopped_amidst fault stopped =
@@ -106,7 +106,7 @@ module _ {R : Type 0} (command : Reader R → Command) (input : Reader R) (Accep
   in_turn OutOfMemory (inr wanted) = (0, λ known text told m. nothing text told wanted.1.0 m)
 
   pub stopped_in_turn : (fault : CommandFault)
-      → IsStopped (begins_behind input Accepted command Known out.draft (writes_in_turn (command input) Wants All out.draft))
+      → IsStopped (begins_after input Accepted command Known out.draft (writes_in_turn (command input) Wants All out.draft))
       out report fault
       → LeavesBeginning command input Known out report
   stopped_in_turn fault stopped =

@@ -24,8 +24,8 @@ use Rattle.command_common.specs.declared.faults.Status.{Status}
 use Rattle.command_common.specs.declared.faults.Status.TheVariants.{Done, Partial}
 use Rattle.dwarf_source_frames.specs.AddressFrames.{AreFramesOf}
 use Rattle.dwarf_source_frames.specs.Frames.{FrameRecord}
-use Rattle.command_queries.proofs.Sourced.{answer_of, one_answering}
-use Rattle.command_queries.specs.Sources.{AreFramesAt, AreShown, IsSourced}
+use Rattle.command_queries.proofs.AnswersWithFrames.{answer_of, one_answering}
+use Rattle.command_queries.specs.SourceFrames.{AreFramesAt, AreShown, IsAnswerWithFrames}
 use Rattle.command_queries.specs.Symbolicate.{asked_of, is_symbol, Answered, IsAnswered, answers_status, answers_text, TellsAddresses}
 use Rattle.laws_archive.proofs.Given.{one_zipped}
 
@@ -159,8 +159,8 @@ module _ (one : (o : Operations) (key : SliceKey) (place : Where) (answer other 
       → seen row ≡ seen other
   one_seen content key load lines row other address a b =
       let place : Where = asked_of load other.address in
-      let moved : IsSourced content key lines place (answer_view row.answer) row.frames =
-      subst (λ n. IsSourced content key lines (asked_of load n) (answer_view row.answer) row.frames) address a in
+      let moved : IsAnswerWithFrames content key lines place (answer_view row.answer) row.frames =
+      subst (λ n. IsAnswerWithFrames content key lines (asked_of load n) (answer_view row.answer) row.frames) address a in
       let answer = one content key place (answer_view row.answer) (answer_view other.answer)
       (answer_of content key lines place (answer_view row.answer) row.frames moved)
       (answer_of content key lines place (answer_view other.answer) other.frames b) in

@@ -13,7 +13,7 @@ use Rattle.archive_core.specs.declared.operations.Operation.{Operation}
 use Rattle.archive_core.specs.declared.operations.Operation.TheVariants.{Admit, Retire}
 use Rattle.archive_records.specs.Entry.{AreEntries}
 use Rattle.archive_records.specs.Text.{AreOperations, IsOperationsText, old_written, summary_text, written}
-use Rattle.byte_openings.specs.declared.openings.Opening.{Opening}
+use Rattle.byte_lazy_inputs.specs.declared.openings.Opening.{Opening}
 use Rattle.command_common.specs.Ends.{Command}
 use Rattle.command_common.specs.Inputs.{IsGiven, Reader}
 use Rattle.command_common.specs.Outputs.{Out}

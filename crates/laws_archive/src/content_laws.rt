@@ -19,7 +19,7 @@ ghost use Rattle.archive_core.specs.Content.{Operations, is_admission, is_covere
 ghost use Rattle.archive_core.specs.Content.{IsBelow};
 ghost use Rattle.archive_core.specs.Content.{with_record, with_records};
 ghost use Rattle.archive_core.specs.Content.{changes, new_among, joined, HaveSameMembers, IsLive, IsTakenInPart};
-ghost use Rattle.archive_core.specs.Summary.{Entries, entry, summary, is_known, delta, DigestsTell};
+ghost use Rattle.archive_core.specs.Summary.{Entries, entry, summary, is_known, delta, DigestsDiffer};
 ghost use Rattle.archive_core.specs.Find.{IsFinds, AreAnswering, answering_count};
 ghost use Rattle.archive_core.specs.Lists.{IsList, rows_under};
 ghost use Rattle.archive_core.specs.Lookup.{AnswerRecord, IsAnswer, IsConflict};
@@ -245,11 +245,11 @@ pub fn one_entry()
 
 /// Where no slice of the one content has the SHA-256 of a different slice of the other, operations of the two with
 /// one entry are one operation.
-pub fn digests_tell()
+pub fn digests_differ()
     ensures { (o p : Operations) (r s : List ℕ)
         → IsContent o
         → IsContent p
-        → DigestsTell o p
+        → DigestsDiffer o p
         → set.contains o r ≡ true
         → set.contains p s ≡ true
         → entry r ≡ entry s
@@ -277,13 +277,13 @@ pub fn delta_brings_above()
     ensures above { (o p : Operations) (s : Entries)
         → IsContent o
         → IsContent p
-        → DigestsTell o p
+        → DigestsDiffer o p
         → ((e : List ℕ) → set.contains s e ≡ true → is_known p e ≡ true)
         → IsBelow o (joined p (delta o s)) }
     ensures own { (o p : Operations)
         → IsContent o
         → IsContent p
-        → DigestsTell o p
+        → DigestsDiffer o p
         → IsBelow o (joined p (delta o (summary p))) }
     ensures within { (o p : Operations) (s : Entries)
         → IsContent o

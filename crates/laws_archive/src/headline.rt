@@ -18,7 +18,9 @@ ghost use Rattle.archive_exchange.specs.SiteState.{IsArchiveTextOf};
 ghost use Rattle.archive_exchange.specs.Alike.{TookTheSame};
 
 use crate::content_laws::{contents_join, one_answer};
-use archive_exchange::model_laws::{reaching_in_words, records_make_contents, same_reached};
+use archive_exchange::model_laws::{
+    reaching_in_words, records_make_contents, same_operations_same_content,
+};
 
 /// After any list of events, sites that took the same operations, in any orders, with any repeats and through any
 /// merges, write out the same bytes and answer every lookup alike: the nearest symbol as defined, a conflict or none;
@@ -98,7 +100,7 @@ pub fn headline<F>()
     ensures least { (o p : Operations) → IsContent o → IsContent p → IsLeastAbove IsContent IsBelow o p (joined o p) }
 {
     reaching_in_words::<F>();
-    same_reached::<F>();
+    same_operations_same_content::<F>();
     records_make_contents::<F>();
     one_answer();
     contents_join();

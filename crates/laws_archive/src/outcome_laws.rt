@@ -13,7 +13,7 @@ ghost use Rattle.archive_records.specs.Text.{IsOperationsText, summary_text, Are
 ghost use Rattle.archive_merge.specs.Merging.{AreGoodRecords, of_both};
 ghost use Rattle.byte_device.specs.Writes.{WritesFirst};
 ghost use Rattle.archive_admission.specs.File.{IsAcceptedFile, parts};
-ghost use Rattle.byte_openings.specs.declared.openings.Opening.{Opening};
+ghost use Rattle.byte_lazy_inputs.specs.declared.openings.Opening.{Opening};
 ghost use Rattle.command_common.specs.declared.faults.Status.TheVariants.{Done};
 ghost use Rattle.command_write.specs.Admit.{MakesAdmitted, admit, admit_as_it_comes, admit_rows, file_rows};
 ghost use Rattle.command_write.specs.Admit.{images_of};

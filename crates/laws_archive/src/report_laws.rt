@@ -31,7 +31,7 @@ ghost use Rattle.archive_exchange.specs.ModelEvent.{ModelEvent};
 use crate::content_laws::{one_answer, one_find, one_find_name, one_list};
 use archive_admission::TakeFault;
 use archive_exchange::laws::one_meaning;
-use archive_exchange::model_laws::same_reached;
+use archive_exchange::model_laws::same_operations_same_content;
 use byte_device::Source;
 use dwarf_source_frames::laws::one_list_of_frames;
 
@@ -211,5 +211,5 @@ pub fn same_operations_same_line()
         → held_line number ((state sites seen (length seen)).held i)
         ≡ held_line number ((state others later (length later)).held j) }
 {
-    same_reached::<TakeFault>();
+    same_operations_same_content::<TakeFault>();
 }

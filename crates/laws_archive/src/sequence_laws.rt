@@ -12,7 +12,7 @@ ghost use Rattle.archive_records.specs.Text.{AreOperations, written};
 ghost use Rattle.archive_exchange.specs.Reached.{reached};
 ghost use Rattle.archive_exchange.specs.SiteState.{IsArchiveTextOf};
 ghost use Rattle.archive_exchange.specs.World.{Event, state};
-ghost use Rattle.byte_openings.specs.declared.openings.Opening.{Opening};
+ghost use Rattle.byte_lazy_inputs.specs.declared.openings.Opening.{Opening};
 ghost use Rattle.command_common.specs.declared.faults.Status.{Status};
 ghost use Rattle.command_common.specs.Ends.{EndsStreamed};
 ghost use Rattle.command_common.specs.Inputs.{IsGiven, IsGivenArchive, Reader};

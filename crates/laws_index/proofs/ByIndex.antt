@@ -22,11 +22,11 @@ use Rattle.command_common.specs.Archives.{merged}
 use Rattle.command_common.specs.Inputs.{IsGiven, Reader}
 use Rattle.laws_index.specs.Indexes.{IsIndexFile, all_joined}
 use Rattle.laws_index.proofs.Joined.{empty_content, to_any}
-use Rattle.laws_index.proofs.Right.{zip_right}
+use Rattle.laws_index.proofs.IndexesAreRight.{zip_right}
 use Rattle.command_index_queries.specs.Prefixes.{AreNamedUnder, HoldsNamed}
 use Rattle.command_index_queries.specs.Several.{HoldTogether}
 use Rattle.command_index_queries.specs.Together.{IsLater, IsReadWith, merged_each}
-use Rattle.laws_index.specs.Contents.{AreIndexed, DigestsTellOver, IsIndexed}
+use Rattle.laws_index.specs.Contents.{AreIndexed, DigestsDifferOver, IsIndexed}
 use Rattle.laws_index.proofs.Accepted.{still_given, held_tables, of_given, for_first, third_fourth, with_fourth}
 
 -- a record is under one of these prefixes
@@ -59,7 +59,7 @@ module _ (o : Operations) (content : IsContent o) where
 
 -- ---- what was named is what the content has
 
-found_tells : (o : Operations) (prefix bytes : List ℕ) (entries : Entries) (p : Operations) → DigestsTellOver o bytes
+found_tells : (o : Operations) (prefix bytes : List ℕ) (entries : Entries) (p : Operations) → DigestsDifferOver o bytes
     → (n : AreNamed prefix entries bytes p) → TellsFound o n.records
 found_tells o prefix bytes entries p tells n = λ a b in_o found same.
     let named = zip_right (IsNamedBy bytes) _ n.records (admission_record b) n.named found in
@@ -82,7 +82,7 @@ module _ (o : Operations) (content : IsContent o) where
       (λ f q. q ≡ part o (is_under f)) prefixes parts short (λ f q le n. right f o q le content fits n) named
 
   -- in any bytes
-  pub parts_told : (prefixes : List (List ℕ)) (parts : List Operations) (bytes : List ℕ) → DigestsTellOver o bytes
+  pub parts_told : (prefixes : List (List ℕ)) (parts : List Operations) (bytes : List ℕ) → DigestsDifferOver o bytes
       → AllByRecursion (λ (f : List ℕ). length f ≤ 24) prefixes → AreNamedUnder prefixes (index o) bytes parts
       → AllZip (λ (f : List ℕ) (q : Operations). q ≡ part o (is_under f)) prefixes parts
   parts_told prefixes parts bytes tells short named = zip_along (λ f q. AreNamed f (index o) bytes q)
@@ -135,7 +135,7 @@ record IsHeldAs {P : Type 0} (archive : Reader P) (all : List (List ℕ)) (o : O
   text : List ℕ
   file : IsIndexFile o text
   entries : placed_of all ≡ index o
-  known : IsGiven archive (written o) ⊎ ((bytes : List ℕ) × IsGiven archive bytes × DigestsTellOver o bytes)
+  known : IsGiven archive (written o) ⊎ ((bytes : List ℕ) × IsGiven archive bytes × DigestsDifferOver o bytes)
 
 held_as : {I P : Type 0} (input : Reader I) (archive : Reader P) (o : Operations) (all : List (List ℕ))
     → IsIndexed input archive o → IsReadWith input archive all → IsHeldAs archive all o
@@ -149,8 +149,8 @@ held_as input archive o all ((text, given, file), known) read =
     }
 
 module _ {P : Type 0} (archive later : Reader P) (all : List (List ℕ)) (o : Operations) (is : IsLater archive later) where
-  still_known : IsGiven archive (written o) ⊎ ((bytes : List ℕ) × IsGiven archive bytes × DigestsTellOver o bytes)
-      → IsGiven later (written o) ⊎ ((bytes : List ℕ) × IsGiven later bytes × DigestsTellOver o bytes)
+  still_known : IsGiven archive (written o) ⊎ ((bytes : List ℕ) × IsGiven archive bytes × DigestsDifferOver o bytes)
+      → IsGiven later (written o) ⊎ ((bytes : List ℕ) × IsGiven later bytes × DigestsDifferOver o bytes)
   still_known (inl own) = inl (still_given archive later (written o) is own)
   still_known (inr (bytes, given, tells)) = inr (bytes, still_given archive later bytes is given, tells)
 
@@ -165,7 +165,7 @@ record IsGroupOf (prefixes : List (List ℕ)) (w : Operations) (parts : List Ope
 module _ (prefixes : List (List ℕ)) (short : AllByRecursion (λ (f : List ℕ). length f ≤ 24) prefixes) where
   named_in : {P : Type 0} (archive : Reader P) (w : Operations) (text : List ℕ) (parts : List Operations)
       → IsIndexFile w text → HoldsNamed prefixes archive (index w) parts
-      → IsGiven archive (written w) ⊎ ((bytes : List ℕ) × IsGiven archive bytes × DigestsTellOver w bytes)
+      → IsGiven archive (written w) ⊎ ((bytes : List ℕ) × IsGiven archive bytes × DigestsDifferOver w bytes)
       → AllZip (λ (f : List ℕ) (q : Operations). q ≡ part w (is_under f)) prefixes parts
   named_in archive w text parts file named (inl own) =
       let both = of_given archive (written w) (λ t. HasIndexedLength (index w) t × AreNamedUnder prefixes (index w) t parts) own named in

@@ -16,10 +16,10 @@ use Rattle.archive_core.proofs.Members.{in_cons, in_front, in_map, in_rest}
 use Rattle.dwarf_source_frames.specs.Frames.{FrameRecord}
 use Rattle.command_queries.specs.Frames.{IsFrameAnswered, IsFrameSaid, TellFrames, TellsFrames, TellsFramesWith, frame_keys, frames_under_key}
 use Rattle.command_queries.specs.Slices.{IsAnsweringRow, WithSlices}
-use Rattle.command_queries.specs.Sources.{IsSourced}
+use Rattle.command_queries.specs.SourceFrames.{IsAnswerWithFrames}
 use Rattle.command_queries.specs.Symbolicate.{Answered, TellsAddressesWith, asked_of}
 use Rattle.command_queries.proofs.Answered.{addresses_told_with, under_key}
-use Rattle.command_queries.proofs.Sourced.{sourced_as}
+use Rattle.command_queries.proofs.AnswersWithFrames.{sourced_as}
 use Rattle.command_common.proofs.Alike.{answers_alike}
 use Rattle.command_common.specs.Inputs.{EachUnfailed, IsDeviceFault, IsGiven, Reader, Unfailed}
 use Rattle.command_common.specs.declared.faults.InputName.{InputName}
@@ -29,9 +29,9 @@ use Rattle.command_common.specs.declared.faults.Why.{Why}
 use Rattle.command_common.specs.declared.faults.Why.TheVariants.{NoLines}
 use Rattle.text_inputs.specs.declared.frame.Frame.{Frame}
 use Rattle.index_format.specs.Text.{IsIndexText}
-use Rattle.laws_index.specs.Indexes.{AreIndexes, AreTiedSlices, DigestsTell, IsIndexFile, all_joined}
+use Rattle.laws_index.specs.Indexes.{AreIndexes, AreTiedSlices, DigestsDiffer, IsIndexFile, all_joined}
 use Rattle.laws_index.proofs.Joined.{joined_alone, tells_alone}
-use Rattle.laws_index.proofs.Right as told
+use Rattle.laws_index.proofs.IndexesAreRight as told
 use Rattle.index_lookup.specs.Among.{AreAnsweringAmong, AreTied, EntryAt}
 use Rattle.index_lookup.specs.AmongAsked.{IsLinelessAt}
 use Rattle.text_reports.specs.Slices.{TellsSlices}
@@ -86,10 +86,10 @@ module _ {I P : Type 0} (inputs : List (Reader I)) (archives : List (Reader P)) 
     itself_later ones,
   )
 
-  pub said_by_tables : (its : AreTextsOf inputs os) → DigestsTell os → (lines : Bool) (key : SliceKey) (asked : Where)
+  pub said_by_tables : (its : AreTextsOf inputs os) → DigestsDiffer os → (lines : Bool) (key : SliceKey) (asked : Where)
       (answer : AnswerRecord) (frames : List (List FrameRecord)) → IsKey key
       → IsAnsweredByTables (AreGiven inputs) all lines key asked answer frames
-      → IsSourced (all_joined os) key lines asked answer frames
+      → IsAnswerWithFrames (all_joined os) key lines asked answer frames
   said_by_tables its tell lines key asked answer frames is_key is =
       told.right os its.texts all (indexes_are inputs archives all read os its.texts its.given its.files) key is_key lines
       asked answer frames tell (is.answer_is its.texts its.given)
@@ -97,7 +97,7 @@ module _ {I P : Type 0} (inputs : List (Reader I)) (archives : List (Reader P)) 
   pub said_by_slices : AreIndexed inputs archives os → (lines : Bool) (key : SliceKey) (asked : Where)
       (answer : AnswerRecord) (frames : List (List FrameRecord)) → length (key_bytes key) ≤ 24
       → IsAnsweredBySlices archives all lines key asked answer frames
-      → IsSourced (all_joined os) key lines asked answer frames
+      → IsAnswerWithFrames (all_joined os) key lines asked answer frames
   said_by_slices are lines key asked answer frames short is =
       let held : HoldTogether (key_bytes key ∷ []) inputs archives is.content =
       record { all = all; read = read; later = archives; are_later = itself_later archives; named = is.held } in
@@ -239,7 +239,7 @@ module _ {I P : Type 0} (inputs : List (Reader I)) (archives : List (Reader P)) 
     (keyed : (frame : Frame) → Contains listed frame → IsKey frame.key)
     (said : (frame : Frame) → Contains listed frame → (answer : AnswerRecord) (frames : List (List FrameRecord))
     → IsAnsweredAt (AreGiven inputs) archives all lines frame.key (asked_of frame.load frame.address) answer frames
-    → IsSourced (all_joined os) frame.key lines (asked_of frame.load frame.address) answer frames) where
+    → IsAnswerWithFrames (all_joined os) frame.key lines (asked_of frame.load frame.address) answer frames) where
   abbrev o : Operations
   o = all_joined os
 
@@ -247,7 +247,7 @@ module _ {I P : Type 0} (inputs : List (Reader I)) (archives : List (Reader P)) 
   Entries = IsAnsweredAt (AreGiven inputs) archives all lines
 
   abbrev Sourced : SliceKey → Where → AnswerRecord → List (List FrameRecord) → Type 0
-  Sourced key asked answer frames = IsSourced o key lines asked answer frames
+  Sourced key asked answer frames = IsAnswerWithFrames o key lines asked answer frames
 
   its : AreTextsOf inputs os
   its = texts_of inputs os given
@@ -255,7 +255,7 @@ module _ {I P : Type 0} (inputs : List (Reader I)) (archives : List (Reader P)) 
   row_told : (frame : Frame) (row : Answered) → Contains listed frame → IsFrameSaid Entries frame row → IsFrameAnswered lines o frame row
   row_told frame row there (address_is, is) = (
     address_is,
-    subst (λ (a : ℕ). IsSourced o frame.key lines (asked_of frame.load a) (answer_view row.answer) row.frames) (sym address_is)
+    subst (λ (a : ℕ). IsAnswerWithFrames o frame.key lines (asked_of frame.load a) (answer_view row.answer) row.frames) (sym address_is)
         (said frame there (answer_view row.answer) row.frames
         (subst (λ (a : ℕ). Entries frame.key (asked_of frame.load a) (answer_view row.answer) row.frames) address_is is)),
   )
@@ -364,10 +364,10 @@ none_tied key all few tied =
 -- ---- the laws
 
 module _ {I P : Type 0} (inputs : List (Reader I)) (archives : List (Reader P)) (os : List Operations) where
-  said_untied : (given : AreIndexesGiven inputs os) → DigestsTell os → (all : List (List (List ℕ))) → AreReadWith inputs archives all
+  said_untied : (given : AreIndexesGiven inputs os) → DigestsDiffer os → (all : List (List (List ℕ))) → AreReadWith inputs archives all
       → (lines : Bool) (key : SliceKey) → IsKey key → (AreTied (key_bytes key) all → ⊥) → (asked : Where) (answer : AnswerRecord)
       (frames : List (List FrameRecord)) → IsAnsweredAt (AreGiven inputs) archives all lines key asked answer frames
-      → IsSourced (all_joined os) key lines asked answer frames
+      → IsAnswerWithFrames (all_joined os) key lines asked answer frames
   said_untied given tell all read lines key is_key untied asked answer frames (inl is) =
       said_by_tables inputs archives os all read (texts_of inputs os given) tell lines key asked answer frames is_key is
   said_untied given tell all read lines key is_key untied asked answer frames (inr is) = absurd (untied is.tied)
@@ -381,10 +381,10 @@ module _ {I P : Type 0} (inputs : List (Reader I)) (archives : List (Reader P)) 
   pub given_indexes : AreIndexed inputs archives os → AreIndexesGiven inputs os
   given_indexes are = first_third IsIndexed IsIndexGiven inputs archives os (λ x y z is. is.0) are
 
-  said_either : (are : AreIndexed inputs archives os) → DigestsTell os → (all : List (List (List ℕ))) → AreReadWith inputs archives all
+  said_either : (are : AreIndexed inputs archives os) → DigestsDiffer os → (all : List (List (List ℕ))) → AreReadWith inputs archives all
       → (lines : Bool) (key : SliceKey) → IsKey key → (asked : Where) (answer : AnswerRecord)
       (frames : List (List FrameRecord)) → IsAnsweredAt (AreGiven inputs) archives all lines key asked answer frames
-      → IsSourced (all_joined os) key lines asked answer frames
+      → IsAnswerWithFrames (all_joined os) key lines asked answer frames
   said_either are tell all read lines key is_key asked answer frames (inl is) =
       said_by_tables inputs archives os all read (texts_of inputs os (given_indexes are)) tell lines key asked answer frames is_key is
   said_either are tell all read lines key is_key asked answer frames (inr is) =
@@ -397,7 +397,7 @@ module _ {I P : Type 0} (inputs : List (Reader I)) (archives : List (Reader P)) 
 
   -- of frames
   pub framed_untied : (lines slices : Bool) (keys : List SliceKey) (listed : List Frame) (status : Status) (text : List ℕ)
-      → AreIndexesGiven inputs os → DigestsTell os → ((key : SliceKey) → Contains keys key → length key.uuid ≡ 16)
+      → AreIndexesGiven inputs os → DigestsDiffer os → ((key : SliceKey) → Contains keys key → length key.uuid ≡ 16)
       → ((frame : Frame) → Contains listed frame → IsKey frame.key × (AreTiedSlices os frame.key → ⊥))
       → AreToldAt lines slices inputs archives keys listed status text → Besides lines slices keys listed status text
   framed_untied lines slices keys listed status text given tell long keyed by =
@@ -407,7 +407,7 @@ module _ {I P : Type 0} (inputs : List (Reader I)) (archives : List (Reader P)) 
       slices status text by.told
 
   pub framed_either : (lines slices : Bool) (keys : List SliceKey) (listed : List Frame) (status : Status) (text : List ℕ)
-      → AreIndexed inputs archives os → DigestsTell os → ((key : SliceKey) → Contains keys key → length key.uuid ≡ 16)
+      → AreIndexed inputs archives os → DigestsDiffer os → ((key : SliceKey) → Contains keys key → length key.uuid ≡ 16)
       → ((frame : Frame) → Contains listed frame → IsKey frame.key)
       → AreToldAt lines slices inputs archives keys listed status text → Besides lines slices keys listed status text
   framed_either lines slices keys listed status text are tell long keyed by =
@@ -416,7 +416,7 @@ module _ {I P : Type 0} (inputs : List (Reader I)) (archives : List (Reader P)) 
       (asked_of frame.load frame.address) answer frames is) slices status text by.told
 
   pub frames_untied : (lines slices : Bool) (listed : List Frame) (status : Status) (text : List ℕ)
-      → AreIndexesGiven inputs os → DigestsTell os
+      → AreIndexesGiven inputs os → DigestsDiffer os
       → ((frame : Frame) → Contains listed frame → IsKey frame.key × (AreTiedSlices os frame.key → ⊥))
       → AreToldAt lines slices inputs archives (frame_keys listed) listed status text
       → TellsFramesOrBesides lines slices archives os listed status text
@@ -425,7 +425,7 @@ module _ {I P : Type 0} (inputs : List (Reader I)) (archives : List (Reader P)) 
       (λ key there. keys_long listed (λ f t. (keyed f t).0) key there) keyed by
 
   pub frames_either : (lines slices : Bool) (listed : List Frame) (status : Status) (text : List ℕ)
-      → AreIndexed inputs archives os → DigestsTell os
+      → AreIndexed inputs archives os → DigestsDiffer os
       → ((frame : Frame) → Contains listed frame → IsKey frame.key)
       → AreToldAt lines slices inputs archives (frame_keys listed) listed status text
       → TellsFramesOrBesides lines slices archives os listed status text
@@ -442,14 +442,14 @@ module _ {I P : Type 0} (inputs : List (Reader I)) (archives : List (Reader P)) 
     as_addresses (inl told) = inl (addresses_told_with slices (all_joined os) key load lines addresses status text told)
     as_addresses (inr besides) = inr besides
 
-    pub told_untied : AreIndexesGiven inputs os → DigestsTell os → (AreTiedSlices os key → ⊥)
+    pub told_untied : AreIndexesGiven inputs os → DigestsDiffer os → (AreTiedSlices os key → ⊥)
         → (symbolicate_at inputs archives key load lines slices addresses).Makes status text
         → TellsAddressesOrBesides archives os key load lines slices addresses status text
     told_untied given tell none by = as_addresses (framed_untied lines slices (key ∷ []) (frames_under_key key load addresses) status text given tell
         (λ other there. one_long key other is_key there)
         (λ frame there. (of_key frame there, λ tied. none (subst (λ (k : SliceKey). AreTiedSlices os k) (under_key key load addresses frame there) tied))) by)
 
-    pub told_either : AreIndexed inputs archives os → DigestsTell os
+    pub told_either : AreIndexed inputs archives os → DigestsDiffer os
         → (symbolicate_at inputs archives key load lines slices addresses).Makes status text
         → TellsAddressesOrBesides archives os key load lines slices addresses status text
     told_either are tell by = as_addresses (framed_either lines slices (key ∷ []) (frames_under_key key load addresses) status text are tell

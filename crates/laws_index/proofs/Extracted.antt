@@ -23,10 +23,10 @@ use Rattle.archive_records.specs.Text.{end_record, written}
 use Rattle.index_format.specs.Entry.{offset_in}
 use Rattle.command_common.specs.Inputs.{IsGiven, Reader}
 use Rattle.command_common.specs.Outputs.{Writer}
-use Rattle.laws_index.specs.Indexes.{AreIndexes, DigestsTell, all_joined}
+use Rattle.laws_index.specs.Indexes.{AreIndexes, DigestsDiffer, all_joined}
 use Rattle.laws_index.proofs.Among.{IsOfSlice, admission_if, lives_if, slice_of_entry, entry_if_live, lives_then}
 use Rattle.laws_index.proofs.Joined.{joined_alone, tells_alone}
-use Rattle.laws_index.proofs.Right.{IsAnsweringSlice, slices_right, zip_empty, zip_through}
+use Rattle.laws_index.proofs.IndexesAreRight.{IsAnsweringSlice, slices_right, zip_empty, zip_through}
 use Rattle.index_lookup.specs.Among.{EntryAt}
 use Rattle.command_index_queries.specs.Together.{AreLater, IsOneOf}
 use Rattle.command_extract.specs.Entries.{HoldsSlice, IsChosen, StandFor, AreUnchosen}
@@ -121,7 +121,7 @@ only_slice os texts all key x (s ∷ (r ∷ ss)) zip are = absurd zip.1
 
 -- the entry that is chosen is that of the wanted slice
 wanted_of : (os : List Operations) (texts : List (List ℕ)) (all : List (List (List ℕ))) (key : SliceKey)
-    (digest : Option Digest) (x : EntryAt) → AreIndexes os texts all → IsKey key → DigestsTell os
+    (digest : Option Digest) (x : EntryAt) → AreIndexes os texts all → IsKey key → DigestsDiffer os
     → IsChosen key digest all x
     → (slice : List ℕ) × IsOfSlice os texts all x slice × IsWanted (all_joined os) key digest slice
 wanted_of os texts all key None x files is_key tell chosen =
@@ -153,7 +153,7 @@ module _ {I P : Type 0} (inputs : List (Reader I)) (archives : List (Reader P)) 
       (omega (arith, holds.of.long, of.is.length_is))
       (of_given archive (written of.of.o) (StandFor x sent) given holds.stands)
 
-  pub extracted_by_entry : (key : SliceKey) (digest : Option Digest) (slice told : List ℕ) → DigestsTell os → IsKey key
+  pub extracted_by_entry : (key : SliceKey) (digest : Option Digest) (slice told : List ℕ) → DigestsDiffer os → IsKey key
       → MakesEntry inputs archives key digest slice told → IsWanted (all_joined os) key digest slice
       × (told ≡ slice_line slice)
   extracted_by_entry key digest slice told tell is_key makes =
@@ -166,7 +166,7 @@ module _ {I P : Type 0} (inputs : List (Reader I)) (archives : List (Reader P)) 
 
   -- also where entries are tied
   pub extracted_either : (key : SliceKey) (digest : Option Digest) (draft : Writer) (slice told : List ℕ)
-      → DigestsTell os → IsKey key → (extract_at inputs archives key digest draft).writes.Makes slice told
+      → DigestsDiffer os → IsKey key → (extract_at inputs archives key digest draft).writes.Makes slice told
       → IsWanted (all_joined os) key digest slice × (told ≡ slice_line slice)
   extracted_either key digest draft slice told tell is_key (inl makes) = extracted_by_entry key digest slice told tell is_key makes
   extracted_either key digest draft slice told tell is_key (inr (none, (held, told_is))) =
@@ -239,7 +239,7 @@ none_live os texts all key digest files is_key none slice live same =
 
 undecided_of : (os : List Operations) (texts : List (List ℕ)) (all : List (List (List ℕ))) (key : SliceKey)
     (digest : Option Digest) (xs : List EntryAt) (rows : List FindRow) (told : List ℕ) → AreIndexes os texts all
-    → IsKey key → DigestsTell os
+    → IsKey key → DigestsDiffer os
     → AreUnchosen key digest all xs → AllZip IsRowAt xs rows → told ≡ find_lines rows → TellsUndecided (all_joined os) key digest told
 undecided_of os texts all key None xs rows told files is_key tell are rows_are told_is =
     let right = slices_right os texts all files key is_key xs tell are.0 in
@@ -259,7 +259,7 @@ undecided_of os texts all key (Some digest) xs rows told files is_key tell are r
 }
 
 module _ {I P : Type 0} (inputs : List (Reader I)) (archives : List (Reader P)) (os : List Operations) (given : AreIndexesGiven inputs os) where
-  pub undecided_by_entries : (key : SliceKey) (digest : Option Digest) (told : List ℕ) → DigestsTell os → IsKey key
+  pub undecided_by_entries : (key : SliceKey) (digest : Option Digest) (told : List ℕ) → DigestsDiffer os → IsKey key
       → LacksEntry inputs archives key digest told → TellsUndecided (all_joined os) key digest told
   undecided_by_entries key digest told tell is_key lacks =
       let its_texts = texts_of inputs os given in
@@ -278,7 +278,7 @@ module _ {I P : Type 0} (inputs : List (Reader I)) (archives : List (Reader P)) 
 -- also where entries are tied
 pub undecided_either : {I P : Type 0} (inputs : List (Reader I)) (archives : List (Reader P)) (os : List Operations)
     (key : SliceKey) (digest : Option Digest) (draft : Writer) (told : List ℕ) → AreOwnIndexes inputs archives os
-    → DigestsTell os → IsKey key
+    → DigestsDiffer os → IsKey key
     → (extract_at inputs archives key digest draft).Lacks told → TellsUndecided (all_joined os) key digest told
 undecided_either inputs archives os key digest draft told own tell is_key (inl lacks) =
     undecided_by_entries inputs archives os (first_third IsOwnIndex IsIndexGiven inputs archives os (λ x y z is. is.0) own) key digest told tell is_key lacks

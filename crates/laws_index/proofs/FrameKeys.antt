@@ -18,7 +18,7 @@ use Rattle.archive_core.specs.Key.{IsKey}
 use Rattle.archive_core.specs.declared.keys.ArchKey.{ArchKey}
 use Rattle.archive_core.proofs.Members.{in_cons}
 use Rattle.text_values.specs.Lines.{Field, Line, counting, fields}
-use Rattle.text_values.specs.Words.{NamedArch, arch_key, arch_key_of, arch_named, arch_of, cpu_of, named_archs, number_of}
+use Rattle.text_values.specs.Words.{NamedArch, arch_key, arch_key_of, arch_named, arch_of, arch_in_cpu_form, named_archs, number_of}
 use Rattle.text_inputs.specs.Frames.{fields_frame, frame_then, frame_with, frames_in, frames_of, line_frame}
 use Rattle.text_inputs.specs.declared.frame.Frame.{Frame}
 
@@ -63,7 +63,7 @@ either : {X : Type 0} (b : Bool) (x z : Option X) (y : X) → cond b x z ≡ Som
 either true x z y h = inl h
 either false x z y h = inr h
 
-numbered : (text : List ℕ) (arch : ArchKey) → cpu_of text ≡ Some arch → IsArch arch
+numbered : (text : List ℕ) (arch : ArchKey) → arch_in_cpu_form text ≡ Some arch → IsArch arch
 numbered text arch h =
     two_numbers (number_of (slice_range text 4 12)) (number_of (slice_range text 13 21)) arch
     (λ n is. short_number (slice_range text 4 12) n (eight (drop 4 text)) is)
@@ -93,7 +93,7 @@ one_of (Some x) b arch f g h = f h
 one_of None b arch f g h = g h
 
 arch_read : (text : List ℕ) (arch : ArchKey) → arch_of text ≡ Some arch → IsArch arch
-arch_read text arch h = one_of (arch_named text) (cpu_of text) arch (named text arch) (numbered text arch) h
+arch_read text arch h = one_of (arch_named text) (arch_in_cpu_form text) arch (named text arch) (numbered text arch) h
 
 -- ---- UUIDs
 

@@ -16,7 +16,7 @@ use Rattle.archive_core.specs.declared.keys.SliceKey.{SliceKey}
 use Rattle.archive_core.proofs.Entries.{covering_admission}
 use Rattle.archive_core.proofs.Made.{bytes_same, contains_made, joined_content, kept, made_again, made_empty}
 use Rattle.archive_core.proofs.Members.{in_front, in_rest}
-use Rattle.laws_index.specs.Indexes.{DigestsTell, all_joined}
+use Rattle.laws_index.specs.Indexes.{DigestsDiffer, all_joined}
 
 -- ---- what passes a test
 
@@ -82,7 +82,7 @@ joined_alone o made = same_set nat_list_cmp_total bytes_same (joined set.empty o
     ∙ ap (λ s. contains s r) made)
 
 -- and of it alone nothing is supposed of SHA-256
-pub tells_alone : (o : Operations) → DigestsTell (o ∷ [])
+pub tells_alone : (o : Operations) → DigestsDiffer (o ∷ [])
 tells_alone o several = absurd (omega (arith, several))
 
 -- ---- it is a content

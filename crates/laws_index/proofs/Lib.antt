@@ -1,7 +1,7 @@
 pub mod OfContent
 pub mod Joined
 pub mod Among
-pub mod Right
+pub mod IndexesAreRight
 pub mod OtherBytes
 pub mod Ascent
 pub mod IndexRows

@@ -1,6 +1,6 @@
 -- What is told over bytes of an index that are not those of its tables.
 use Rattle.std.proofs.Common.{ℕ, List, Option, drop}
-use Rattle.table_checked_pages.specs.Pages.{DigestsTellPages, MayBeStored}
+use Rattle.table_checked_pages.specs.Pages.{DigestsDecidePages, MayBeStored}
 use Rattle.macho_symbols.specs.Found.{FoundRecord}
 use Rattle.dwarf_source_frames.specs.Frames.{FrameRecord}
 use Rattle.table_symbols.specs.Steps.{AreBytes}
@@ -12,7 +12,7 @@ use Rattle.index_lookup.specs.Told.{AreFramesOfPlace, AreFramesToldBy, HasNoLine
 use Rattle.index_build.specs.Content.{HasTable}
 
 may_still : (index text r : List ℕ) (entries : List (List ℕ)) (table : HasTable index entries r)
-    → DigestsTellPages text (claim_in table.e) table.table → MayBeStored text (claim_in table.e) table.table
+    → DigestsDecidePages text (claim_in table.e) table.table → MayBeStored text (claim_in table.e) table.table
 may_still index text r entries table tell = record {
   size = table.stored.size;
   root = table.stored.root;
@@ -20,7 +20,7 @@ may_still index text r entries table tell = record {
 }
 
 module _ (index text r : List ℕ) (entries : List (List ℕ)) (table : HasTable index entries r)
-    (tell : DigestsTellPages text (claim_in table.e) table.table) (bytes : AreBytes (drop 33 r)) where
+    (tell : DigestsDecidePages text (claim_in table.e) table.table) (bytes : AreBytes (drop 33 r)) where
   pub symbols_over : (asked : Where) (own : Option FoundRecord) → IsToldBy text (claim_in table.e) asked own → IsOwn (drop 33 r) asked own
   symbols_over asked own told = told.of_slice (drop 33 r) table.table bytes table.is_table (may_still index text r entries table tell)
 

@@ -40,14 +40,14 @@ abbrev pub AreOwnIndexes : {I P : Type 0} → List (Reader I) → List (Reader P
 AreOwnIndexes indexes archives os = AllThree IsOwnIndex indexes archives os
 
 -- no slice of the content has the SHA-256 of a different slice whose admission stands somewhere in the bytes
-abbrev pub DigestsTellOver : Operations → List ℕ → Type 0
-DigestsTellOver o bytes = (a b : List ℕ) (offset : ℕ) → set.contains o (admission_record a) ≡ true
+abbrev pub DigestsDifferOver : Operations → List ℕ → Type 0
+DigestsDifferOver o bytes = (a b : List ℕ) (offset : ℕ) → set.contains o (admission_record a) ≡ true
     → take (length (admission_record b)) (drop offset bytes) ≡ admission_record b → sha256 a ≡ sha256 b → a ≡ b
 
 -- INDEX is that of this content. ARCHIVE is the text of the content; or it has any bytes, over which digests tell.
 abbrev pub IsIndexed : {I P : Type 0} → Reader I → Reader P → Operations → Type 0
 IsIndexed index archive o = IsIndexGiven index o
-    × (IsGiven archive (written o) ⊎ ((bytes : List ℕ) × IsGiven archive bytes × DigestsTellOver o bytes))
+    × (IsGiven archive (written o) ⊎ ((bytes : List ℕ) × IsGiven archive bytes × DigestsDifferOver o bytes))
 
 -- so it is with each of several
 abbrev pub AreIndexed : {I P : Type 0} → List (Reader I) → List (Reader P) → List Operations → Type 0

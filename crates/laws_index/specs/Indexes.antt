@@ -29,8 +29,8 @@ abbrev pub IsHeld : List Operations → List ℕ → Type 0
 IsHeld os slice = (o : Operations) × Contains os o × (set.contains o (admission_record slice) ≡ true)
 
 -- no two different slices of several contents have one SHA-256; of one content nothing is supposed
-abbrev pub DigestsTell : List Operations → Type 0
-DigestsTell os = 2 ≤ length os → (a b : List ℕ) → IsHeld os a → IsHeld os b → sha256 a ≡ sha256 b → a ≡ b
+abbrev pub DigestsDiffer : List Operations → Type 0
+DigestsDiffer os = 2 ≤ length os → (a b : List ℕ) → IsHeld os a → IsHeld os b → sha256 a ≡ sha256 b → a ≡ b
 
 -- the content that all of these make together
 abbrev pub all_joined : List Operations → Operations

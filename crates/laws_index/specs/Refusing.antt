@@ -11,7 +11,7 @@ use Rattle.command_common.specs.Inputs.{IsGiven, Reader}
 use Rattle.command_common.specs.declared.faults.Status.{Status}
 use Rattle.command_queries.specs.Frames.{TellsFramesWith, frame_keys, frames_under_key}
 use Rattle.command_queries.specs.Slices.{IsAnsweringRow}
-use Rattle.command_queries.specs.Sources.{IsSourced}
+use Rattle.command_queries.specs.SourceFrames.{IsAnswerWithFrames}
 use Rattle.command_queries.specs.Symbolicate.{TellsAddressesWith}
 use Rattle.command_frames.specs.Asking.{is_stale_entry}
 use Rattle.command_frames.specs.Frames.{TellFramesBesides}
@@ -48,7 +48,7 @@ pub record TellsFramesBesides {P : Type 0} (lines : Bool) (archives : List (Read
   pub refusals : List KeyRefusal
   pub some : refusals ≢ []
   pub answers : List ℕ
-  pub told : TellFramesBesides (λ key. IsSourced (all_joined os) key lines) (IsRefusedFor lines archives os) frames
+  pub told : TellFramesBesides (λ key. IsAnswerWithFrames (all_joined os) key lines) (IsRefusedFor lines archives os) frames
       refusals status answers
   pub slices : List ℕ
   pub tells_slices : TellsSlices (IsAnsweringRow (all_joined os) keys) keys slices

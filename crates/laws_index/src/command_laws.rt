@@ -19,7 +19,7 @@ ghost use Rattle.archive_records.specs.Text.{summary_text, written};
 ghost use Rattle.index_format.specs.Index.{index};
 ghost use Rattle.command_common.specs.Records.{TellsFound, TellsListed};
 ghost use Rattle.command_queries.specs.Frames.{TellsFramesWith, frame_keys, frames_under_key};
-ghost use Rattle.command_queries.specs.Sources.{IsSourced};
+ghost use Rattle.command_queries.specs.SourceFrames.{IsAnswerWithFrames};
 ghost use Rattle.command_queries.specs.Symbolicate.{TellsAddressesWith};
 ghost use Rattle.text_inputs.specs.Frames.{frames_of};
 ghost use Rattle.text_inputs.specs.declared.frame.Frame.{Frame};
@@ -29,7 +29,7 @@ ghost use Rattle.command_common.specs.declared.faults.InputName.{InputName};
 ghost use Rattle.command_common.specs.declared.faults.Status.{Status};
 ghost use Rattle.command_common.specs.declared.faults.Why.{Why};
 ghost use Rattle.index_build.specs.Index.{MakesIndex};
-ghost use Rattle.laws_index.specs.Indexes.{AreTiedSlices, DigestsTell, IsIndexFile, all_joined};
+ghost use Rattle.laws_index.specs.Indexes.{AreTiedSlices, DigestsDiffer, IsIndexFile, all_joined};
 ghost use Rattle.command_index_queries.specs.Find.{find_at, find_together};
 ghost use Rattle.command_index_queries.specs.Indexes.{IsRefusedByIndex};
 ghost use Rattle.command_index_queries.specs.List.{list_at};
@@ -122,7 +122,7 @@ pub fn found_by_indexes<I: Placed, P: Placed>()
 pub fn answered_by_indexes<I: Placed, P: Placed>()
     ensures untied { (inputs : List (Reader I)) (archives : List (Reader P)) (os : List Operations) (key : SliceKey)
         (load : Option ℕ) (lines slices : Bool) (addresses : List ℕ) (status : Status) (text : List ℕ)
-        → AreIndexesGiven inputs os → DigestsTell os → IsKey key → (AreTiedSlices os key → ⊥)
+        → AreIndexesGiven inputs os → DigestsDiffer os → IsKey key → (AreTiedSlices os key → ⊥)
         → (symbolicate_at inputs archives key load lines slices addresses).Makes status text
         → TellsAddressesOrBesides archives os key load lines slices addresses status text }
     ensures alone { (input : Reader I) (archive : Reader P) (o : Operations) (key : SliceKey) (load : Option ℕ)
@@ -135,10 +135,10 @@ pub fn answered_by_indexes<I: Placed, P: Placed>()
         (all : List (List (List ℕ))) (lines : Bool) (key : SliceKey) (asked : Where) (answer : AnswerRecord)
         (frames : List (List FrameRecord)) → length (key_bytes key) ≤ 24 → AreIndexed inputs archives os
         → AreReadWith inputs archives all → IsAnsweredBySlices archives all lines key asked answer frames
-        → IsSourced (all_joined os) key lines asked answer frames }
+        → IsAnswerWithFrames (all_joined os) key lines asked answer frames }
     ensures either { (inputs : List (Reader I)) (archives : List (Reader P)) (os : List Operations) (key : SliceKey)
         (load : Option ℕ) (lines slices : Bool) (addresses : List ℕ) (status : Status) (text : List ℕ)
-        → AreIndexed inputs archives os → DigestsTell os → IsKey key
+        → AreIndexed inputs archives os → DigestsDiffer os → IsKey key
         → (symbolicate_at inputs archives key load lines slices addresses).Makes status text
         → TellsAddressesOrBesides archives os key load lines slices addresses status text }
 {}
@@ -148,7 +148,7 @@ pub fn answered_by_indexes<I: Placed, P: Placed>()
 pub fn framed_by_indexes<I: Placed, P: Placed>()
     ensures untied { (inputs : List (Reader I)) (archives : List (Reader P)) (os : List Operations)
         (lines slices : Bool)
-        (listed : List Frame) (status : Status) (text : List ℕ) → AreIndexesGiven inputs os → DigestsTell os
+        (listed : List Frame) (status : Status) (text : List ℕ) → AreIndexesGiven inputs os → DigestsDiffer os
         → ((frame : Frame) → Contains listed frame → IsKey frame.key × (AreTiedSlices os frame.key → ⊥))
         → AreToldAt lines slices inputs archives (frame_keys listed) listed status text
         → TellsFramesOrBesides lines slices archives os listed status text }
@@ -161,7 +161,7 @@ pub fn framed_by_indexes<I: Placed, P: Placed>()
         × TellsFramesBesides lines (archive ∷ []) (o ∷ []) (frame_keys listed) listed status text) }
     ensures either { (inputs : List (Reader I)) (archives : List (Reader P)) (os : List Operations)
         (lines slices : Bool)
-        (listed : List Frame) (status : Status) (text : List ℕ) → AreIndexed inputs archives os → DigestsTell os
+        (listed : List Frame) (status : Status) (text : List ℕ) → AreIndexed inputs archives os → DigestsDiffer os
         → ((frame : Frame) → Contains listed frame → IsKey frame.key)
         → AreToldAt lines slices inputs archives (frame_keys listed) listed status text
         → TellsFramesOrBesides lines slices archives os listed status text }
@@ -174,7 +174,7 @@ pub fn framed_by_indexes<I: Placed, P: Placed>()
 /// and nothing is supposed of SHA-256.
 pub fn extracted_by_indexes<I: Placed, P: Placed>()
     ensures entry { (inputs : List (Reader I)) (archives : List (Reader P)) (os : List Operations) (key : SliceKey)
-        (digest : Option Digest) (slice told : List ℕ) → AreOwnIndexes inputs archives os → DigestsTell os
+        (digest : Option Digest) (slice told : List ℕ) → AreOwnIndexes inputs archives os → DigestsDiffer os
         → IsKey key → MakesEntry inputs archives key digest slice told
         → IsWanted (all_joined os) key digest slice × (told ≡ slice_line slice) }
     ensures alone { (input : Reader I) (archive : Reader P) (o : Operations) (key : SliceKey) (digest : Option Digest)
@@ -183,7 +183,7 @@ pub fn extracted_by_indexes<I: Placed, P: Placed>()
         → IsWanted o key digest slice × (told ≡ slice_line slice) }
     ensures either { (inputs : List (Reader I)) (archives : List (Reader P)) (os : List Operations) (key : SliceKey)
         (digest : Option Digest) (draft : Writer) (slice told : List ℕ) → AreOwnIndexes inputs archives os
-        → DigestsTell os → IsKey key → (extract_at inputs archives key digest draft).writes.Makes slice told
+        → DigestsDiffer os → IsKey key → (extract_at inputs archives key digest draft).writes.Makes slice told
         → IsWanted (all_joined os) key digest slice × (told ≡ slice_line slice) }
 {}
 
@@ -197,13 +197,13 @@ pub fn undecided_by_indexes<I: Placed, P: Placed>()
         → LacksEntry inputs archives key (Some digest) told
         → AreUndecided (all_joined os) key (Some digest) [] × (told ≡ slices_text []) }
     ensures entry { (inputs : List (Reader I)) (archives : List (Reader P)) (os : List Operations) (key : SliceKey)
-        (digest : Option Digest) (told : List ℕ) → AreIndexesGiven inputs os → DigestsTell os → IsKey key
+        (digest : Option Digest) (told : List ℕ) → AreIndexesGiven inputs os → DigestsDiffer os → IsKey key
         → LacksEntry inputs archives key digest told → TellsUndecided (all_joined os) key digest told }
     ensures alone { (input : Reader I) (archive : Reader P) (o : Operations) (key : SliceKey) (digest : Option Digest)
         (told : List ℕ) → IsIndexGiven input o → IsKey key → LacksEntry (input ∷ []) (archive ∷ []) key digest told
         → TellsUndecided o key digest told }
     ensures either { (inputs : List (Reader I)) (archives : List (Reader P)) (os : List Operations) (key : SliceKey)
-        (digest : Option Digest) (draft : Writer) (told : List ℕ) → AreOwnIndexes inputs archives os → DigestsTell os
+        (digest : Option Digest) (draft : Writer) (told : List ℕ) → AreOwnIndexes inputs archives os → DigestsDiffer os
         → IsKey key → (extract_at inputs archives key digest draft).Lacks told
         → TellsUndecided (all_joined os) key digest told }
 {}

@@ -9,19 +9,19 @@ ghost use Rattle.archive_core.specs.declared.keys.SliceKey.{SliceKey};
 ghost use Rattle.archive_core.specs.declared.lookup.Where.{Where};
 ghost use Rattle.dwarf_source_frames.specs.Frames.{FrameRecord};
 ghost use Rattle.macho_symbols.specs.Found.{FoundRecord};
-ghost use Rattle.table_checked_pages.specs.Pages.{DigestsTellPages};
+ghost use Rattle.table_checked_pages.specs.Pages.{DigestsDecidePages};
 ghost use Rattle.table_source_frames.specs.SliceTable.{HasNoLines};
 ghost use Rattle.table_symbols.specs.Steps.{AreBytes};
 ghost use Rattle.index_build.specs.Content.{HasTable};
 ghost use Rattle.index_format.specs.Entry.{claim_in};
 ghost use Rattle.index_lookup.specs.Told.{AreFramesOfPlace, AreFramesToldBy, HasNoLinesBy, IsToldBy};
 ghost use Rattle.index_format.specs.Text.{IsIndexText};
-ghost use Rattle.command_queries.specs.Sources.{IsSourced};
+ghost use Rattle.command_queries.specs.SourceFrames.{IsAnswerWithFrames};
 ghost use Rattle.index_lookup.specs.Among.{AreAnsweringAmong, AreTied, EntryAt, IsAmong, all_of, answers_among};
 ghost use Rattle.index_lookup.specs.AmongTold.{IsAnswerAmong};
 ghost use Rattle.index_lookup.specs.AmongAsked.{HasNoTable, IsUntoldAmong};
 ghost use Rattle.index_lookup.specs.declared.fault.AnswerFault.TheVariants.{Damaged, NoLines};
-ghost use Rattle.laws_index.specs.Indexes.{AnswersUnder, AreIndexes, AreTiedSlices, DigestsTell, IsIndexFile};
+ghost use Rattle.laws_index.specs.Indexes.{AnswersUnder, AreIndexes, AreTiedSlices, DigestsDiffer, IsIndexFile};
 ghost use Rattle.laws_index.specs.Indexes.{all_joined};
 
 /// The answer of several indexes under a key is that of the content that their contents make together, with the frames
@@ -30,14 +30,14 @@ ghost use Rattle.laws_index.specs.Indexes.{all_joined};
 pub fn right_among()
     ensures several { (os : List Operations) (texts : List (List ℕ)) (indexes : List (List (List ℕ))) (key : SliceKey)
         (lines : Bool) (asked : Where) (answer : AnswerRecord) (frames : List (List FrameRecord))
-        → AreIndexes os texts indexes → DigestsTell os → IsKey key
+        → AreIndexes os texts indexes → DigestsDiffer os → IsKey key
         → IsAnswerAmong texts indexes (key_bytes key) lines asked answer frames
-        → IsSourced (all_joined os) key lines asked answer frames }
+        → IsAnswerWithFrames (all_joined os) key lines asked answer frames }
     ensures alone { (o : Operations) (text : List ℕ) (entries : List (List ℕ)) (key : SliceKey) (lines : Bool)
         (asked : Where) (answer : AnswerRecord) (frames : List (List FrameRecord)) → IsIndexFile o text
         → IsIndexText text entries → IsKey key
         → IsAnswerAmong (text ∷ []) (entries ∷ []) (key_bytes key) lines asked answer frames
-        → IsSourced o key lines asked answer frames }
+        → IsAnswerWithFrames o key lines asked answer frames }
 {}
 
 /// No entry that answers is damaged: its table is stored where it says. One whose table has no lines is that of a slice
@@ -67,13 +67,13 @@ pub fn tied_among()
 /// of lines; unless other bytes at the place of a page of the table, or of its digests, have the digest of that page.
 pub fn right_over_any_bytes()
     ensures symbols { (index text r : List ℕ) (entries : List (List ℕ)) (asked : Where) (own : Option FoundRecord)
-        → (table : HasTable index entries r) → DigestsTellPages text (claim_in table.e) table.table
+        → (table : HasTable index entries r) → DigestsDecidePages text (claim_in table.e) table.table
         → AreBytes (drop 33 r) → IsToldBy text (claim_in table.e) asked own → IsOwn (drop 33 r) asked own }
     ensures frames { (index text r : List ℕ) (entries : List (List ℕ)) (asked : Where) (frames : List FrameRecord)
-        → (table : HasTable index entries r) → DigestsTellPages text (claim_in table.e) table.table
+        → (table : HasTable index entries r) → DigestsDecidePages text (claim_in table.e) table.table
         → AreBytes (drop 33 r) → AreFramesToldBy text (claim_in table.e) asked frames
         → AreFramesOfPlace asked (drop 33 r) frames }
     ensures lines { (index text r : List ℕ) (entries : List (List ℕ)) → (table : HasTable index entries r)
-        → DigestsTellPages text (claim_in table.e) table.table → AreBytes (drop 33 r)
+        → DigestsDecidePages text (claim_in table.e) table.table → AreBytes (drop 33 r)
         → HasNoLinesBy text (claim_in table.e) → HasNoLines (drop 33 r) }
 {}

@@ -4,9 +4,9 @@ use Rattle.std.specs.Option.{option_map, option_map_or}
 use Rattle.std.proofs.lemmas.Bool.{cases_lt}
 use Rattle.std.proofs.lemmas.Option.{slice_get_past, slice_get_within, get_or_from_slice_get, cond_some}
 use Rattle.macho_symbols.specs.Symbols.{Tuple, strings_of, entries_of, entry_of}
-use Rattle.macho_symbols.specs.Nearest.{tuple_cmp, can_stand_for, StandsFor, IsNearest}
+use Rattle.macho_symbols.specs.Nearest.{tuple_cmp, is_eligible, IsEligible, IsNearest}
 use Rattle.macho_symbols.specs.Views.{tuple_of}
-use Rattle.macho_symbols.specs.InnerCandidates.{IsAt, IsLeastOrNone, first_of, numbered_at, numbered_in, standing_at}
+use Rattle.macho_symbols.specs.InnerCandidates.{IsAt, IsLeastOrNone, first_of, numbered_at, numbered_in, eligible_at}
 use Rattle.macho_symbols.specs.declared.candidate.Candidate.{Candidate}
 use Rattle.macho_symbols.proofs.Members.{candidate_from, candidate_to}
 use Rattle.macho_symbols.proofs.Numbered.{contained_at, entry_there, numbered, tupled}
@@ -51,27 +51,27 @@ module _ (strings : List ℕ) (at : ℕ → Option Candidate) where
 
 module _ (image : List ℕ) (address : ℕ) where
   abbrev standing : Option Candidate → Option Candidate
-  standing o = option_map_or (λ c. cond (can_stand_for image address (tuple_of (strings_of image) c)) (Some c) None) o None
+  standing o = option_map_or (λ c. cond (is_eligible image address (tuple_of (strings_of image) c)) (Some c) None) o None
 
   standing_parts : (o : Option Candidate) (r : Candidate) → standing o ≡ Some r → (o ≡ Some r)
-      × (can_stand_for image address (tuple_of (strings_of image) r) ≡ true)
+      × (is_eligible image address (tuple_of (strings_of image) r) ≡ true)
   standing_parts o r h =
-      let w = chosen (λ c. cond (can_stand_for image address (tuple_of (strings_of image) c)) (Some c) None) o r h in
-      let p = cond_some (can_stand_for image address (tuple_of (strings_of image) w.0)) w.0 r w.2 in
+      let w = chosen (λ c. cond (is_eligible image address (tuple_of (strings_of image) c)) (Some c) None) o r h in
+      let p = cond_some (is_eligible image address (tuple_of (strings_of image) w.0)) w.0 r w.2 in
       (w.1 ∙ ap Some p.1, rw (← p.1) p.0)
 
   -- no entry comes after the last one
-  pub none_past : (i : ℕ) → length (entries_of image) ≤ i → standing_at image address i ≡ None
+  pub none_past : (i : ℕ) → length (entries_of image) ≤ i → eligible_at image address i ≡ None
   none_past i l = ap (λ o. standing (option_map_or (numbered_in image) o None)) (slice_get_past (entries_of image) i l)
 
-  standing_from : (c : Tuple) → StandsFor image address c → (r : Candidate) × IsAt (standing_at image address) r × (tuple_of (strings_of image) r ≡ c)
+  standing_from : (c : Tuple) → IsEligible image address c → (r : Candidate) × IsAt (eligible_at image address) r × (tuple_of (strings_of image) r ≡ c)
   standing_from c h =
       let from = candidate_from image c h.0 in
       let is = numbered image (entry_of image from.0) c from.2 in
       let here : numbered_at image from.0 ≡ Some is.0 = ap (λ o. option_map_or (numbered_in image) o None) (entry_there image from.0 from.1) ∙ is.1 in
-      (is.0, (from.0, ap standing here ∙ ap (λ t. cond t (Some is.0) None) (ap (can_stand_for image address) is.2 ∙ h.1)), is.2)
+      (is.0, (from.0, ap standing here ∙ ap (λ t. cond t (Some is.0) None) (ap (is_eligible image address) is.2 ∙ h.1)), is.2)
 
-  standing_to : (r : Candidate) → IsAt (standing_at image address) r → StandsFor image address (tuple_of (strings_of image) r)
+  standing_to : (r : Candidate) → IsAt (eligible_at image address) r → IsEligible image address (tuple_of (strings_of image) r)
   standing_to r h =
       let p = standing_parts (numbered_at image h.0) r h.1 in
       let e = chosen (numbered_in image) (slice_get (entries_of image) h.0) r p.0 in
@@ -79,7 +79,7 @@ module _ (image : List ℕ) (address : ℕ) where
       (candidate_to image at.0 (tuple_of (strings_of image) r) at.1 (tupled image (entry_of image at.0) r (ap (numbered_in image) at.2 ∙ e.2)), p.1)
 
   -- the first of those that can stand for an address is the nearest candidate
-  pub nearest_standing : (o : Option Candidate) → IsLeastOrNone (strings_of image) (IsAt (standing_at image address)) o
+  pub nearest_standing : (o : Option Candidate) → IsLeastOrNone (strings_of image) (IsAt (eligible_at image address)) o
       → IsNearest image address (option_map (tuple_of (strings_of image)) o)
   nearest_standing None none = λ c k. let w = standing_from c k in none w.0 w.1
   nearest_standing (Some r) h = record {

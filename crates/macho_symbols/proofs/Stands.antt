@@ -5,21 +5,21 @@ use Rattle.std.proofs.lemmas.List.{get_or-take, get_or-drop}
 use Rattle.std.proofs.lemmas.Bool.Decides.{nat_tests}
 use Rattle.std.proofs.lemmas.Option.{cond_some}
 use Rattle.macho_symbols.specs.Symbols.{Tuple, is_in_section, table_of, is_candidate, tuple_in, candidate_in, candidates, entry_of}
-use Rattle.macho_symbols.specs.Nearest.{can_stand_for, StandsFor}
+use Rattle.macho_symbols.specs.Nearest.{is_eligible, IsEligible}
 use Rattle.macho_symbols.proofs.Members.{candidate_from}
 
 -- what it takes to stand for an address
-stands_in : (image : List ℕ) (address : ℕ) (c : Tuple) → can_stand_for image address c ≡ true → (c.value ≤ address)
+stands_in : (image : List ℕ) (address : ℕ) (c : Tuple) → is_eligible image address c ≡ true → (c.value ≤ address)
     × (is_in_section image c.sect address ≡ true)
-unfolding can_stand_for
+unfolding is_eligible
 stands_in image address c h = grind (arith, nat_tests)
 
 -- it is not above the address
-pub stands_below : (image : List ℕ) (address : ℕ) (c : Tuple) → StandsFor image address c → c.value ≤ address
+pub stands_below : (image : List ℕ) (address : ℕ) (c : Tuple) → IsEligible image address c → c.value ≤ address
 stands_below image address c h = (stands_in image address c h.1).0
 
 -- before the first section none stands for an address
-pub none_at_start : (image : List ℕ) (address : ℕ) (c : Tuple) → StandsFor image address c × (c.sect ≤ 0) → ⊥
+pub none_at_start : (image : List ℕ) (address : ℕ) (c : Tuple) → IsEligible image address c × (c.sect ≤ 0) → ⊥
 unfolding is_in_section
 none_at_start image address c h =
     let none : c.sect ≡ 0 = omega (arith, h.1) in

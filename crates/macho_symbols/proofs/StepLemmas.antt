@@ -14,7 +14,7 @@ use Rattle.std.proofs.lemmas.List.Elements.{Contains-append_left, Contains-appen
 use Rattle.std.proofs.lemmas.Option.{slice_get_within, get_or_from_slice_get}
 use Rattle.macho_image.specs.Sections.{SectionRecord, sections, is_inside}
 use Rattle.macho_symbols.specs.Symbols.{Tuple, candidates, is_in_section}
-use Rattle.macho_symbols.specs.Nearest.{can_stand_for, IsNearest}
+use Rattle.macho_symbols.specs.Nearest.{is_eligible, IsNearest}
 use Rattle.macho_symbols.specs.Rows.{IsRowFor}
 use Rattle.macho_symbols.specs.declared.row.Row.{Row}
 use Rattle.macho_symbols.specs.Steps.{turns, ends_of, AreSteps, SaysNearest}
@@ -76,8 +76,8 @@ module _ (image : List ℕ) (b a : ℕ) (l : b ≤ a) (none : (t : ℕ) → Cont
           ) in
           ap (λ o. option_map_or (is_inside b) o false) e ∙ inside_same s stands ∙ sym (ap (λ o. option_map_or (is_inside a) o false) e)
 
-  stands_same : (c : Tuple) → c.sect < 256 → Contains (candidates image) c → can_stand_for image b c ≡ can_stand_for image a c
-  unfolding can_stand_for
+  stands_same : (c : Tuple) → c.sect < 256 → Contains (candidates image) c → is_eligible image b c ≡ is_eligible image a c
+  unfolding is_eligible
   stands_same c n h =
       let value = le_same c.value b a l (none c.value (value_turns image c h)) in
       let section = section_same c.sect n in

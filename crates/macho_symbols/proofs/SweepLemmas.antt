@@ -18,11 +18,11 @@ use Rattle.macho_image.specs.Sections.{is_inside}
 use Rattle.macho_image.specs.SectionViews.{section_view}
 use Rattle.macho_image.specs.declared.section.Section.{Section}
 use Rattle.macho_symbols.specs.Symbols.{strings_of, is_in_section, entry_of}
-use Rattle.macho_symbols.specs.Nearest.{can_stand_for, tuple_cmp}
+use Rattle.macho_symbols.specs.Nearest.{is_eligible, tuple_cmp}
 use Rattle.macho_symbols.proofs.Order.{upto_other, not_before, not_itself, earlier, tuples_total}
 use Rattle.macho_symbols.specs.Steps.{AreSteps, SaysNearest}
 use Rattle.macho_symbols.specs.InnerCandidates.{AreAbove, AreByValue, AreCandidates, AreFirstsOf, AreNumbered, AreTurns}
-use Rattle.macho_symbols.specs.InnerCandidates.{AreUpTo, IsLeast, IsLeastOrNone, IsNoted, StandsAt, entry_cmp, first_of}
+use Rattle.macho_symbols.specs.InnerCandidates.{AreUpTo, IsLeast, IsLeastOrNone, IsNoted, IsEligibleAmong, entry_cmp, first_of}
 use Rattle.macho_symbols.specs.InnerCandidates.{is_before, numbered_in, row_saying}
 use Rattle.macho_symbols.specs.Views.{tuple_of}
 use Rattle.macho_symbols.specs.SectionNumbers.{AreSectionsOf}
@@ -164,13 +164,13 @@ names_sections image all cs are of k h =
 -- ---- the first of all that can stand for an address
 
 can_stand : (image : List ℕ) (address : ℕ) (c : Candidate) → c.value ≤ address → is_in_section image c.sect address
-    ≡ true → can_stand_for image address (tuple_of (strings_of image) c) ≡ true
-unfolding can_stand_for tuple_of
+    ≡ true → is_eligible image address (tuple_of (strings_of image) c) ≡ true
+unfolding is_eligible tuple_of
 can_stand image address c l h = grind (arith, nat_tests)
 
-stands_in : (image : List ℕ) (address : ℕ) (c : Candidate) → can_stand_for image address (tuple_of (strings_of image) c)
+stands_in : (image : List ℕ) (address : ℕ) (c : Candidate) → is_eligible image address (tuple_of (strings_of image) c)
     ≡ true → (c.value ≤ address) × (is_in_section image c.sect address ≡ true)
-unfolding can_stand_for tuple_of
+unfolding is_eligible tuple_of
 stands_in image address c h = grind (arith, nat_tests)
 
 module _ (image : List ℕ) (all : List Section) (cs : List Candidate) (address : ℕ) (of : AreSectionsOf image all) (are : AreCandidates image cs) where
@@ -179,7 +179,7 @@ module _ (image : List ℕ) (all : List Section) (cs : List Candidate) (address 
 
   -- those of the first sections, and one more
   abbrev pub Seen : Option Candidate → ℕ → Candidate → Type 0
-  Seen best k c = StandsAt image cs address c × ((c.sect ≤ k) ⊎ (best ≡ Some c))
+  Seen best k c = IsEligibleAmong image cs address c × ((c.sect ≤ k) ⊎ (best ≡ Some c))
 
   pub seen_none : (best : Option Candidate) → IfSome best (λ c. Contains cs c × (c.value ≡ address)) → IsLeastOrNone (strings_of image) (Seen best 0) best
   seen_none None h = λ c seen. elim seen.1 [ inl l ↦ omega (arith, l, (named c seen.0.0).0) | inr e ↦ absurd (cc e) ]
@@ -200,8 +200,8 @@ module _ (image : List ℕ) (all : List Section) (cs : List Candidate) (address 
 
   pub seen_all : (first best : Option Candidate) (k : ℕ) → length all ≤ k
       → IsLeastOrNone (strings_of image) (Seen first k) best
-      → IsLeastOrNone (strings_of image) (StandsAt image cs address) best
-  seen_all first best k end h = least_same (strings_of image) (Seen first k) (StandsAt image cs address) best
+      → IsLeastOrNone (strings_of image) (IsEligibleAmong image cs address) best
+  seen_all first best k end h = least_same (strings_of image) (Seen first k) (IsEligibleAmong image cs address) best
       (λ c s. s.0) (λ c s. (s, inl (omega (arith, (named c s.0).1, end)))) h
 
   at_number : (k : ℕ) (d : Section) → k < length all → is_in_section image (k + 1) address ≡ is_inside address (section_view (get_or all k d))
@@ -236,12 +236,12 @@ module _ (image : List ℕ) (all : List Section) (cs : List Candidate) (address 
       (first_of (strings_of image) best (get_or firsts k None))
   seen_inside first best firsts k n d l long in_it firsts_of up above h =
       let here : is_in_section image (k + 1) address ≡ true = at_number k d l ∙ in_it in
-      let own : IsLeastOrNone (strings_of image) (λ c. StandsAt image cs address c × (c.sect ≡ k + 1)) (get_or firsts k None) =
-      least_same (strings_of image) (λ c. IsNoted cs n c × (c.sect ≡ k + 1)) (λ c. StandsAt image cs address c × (c.sect ≡ k + 1)) (get_or firsts k None)
+      let own : IsLeastOrNone (strings_of image) (λ c. IsEligibleAmong image cs address c × (c.sect ≡ k + 1)) (get_or firsts k None) =
+      least_same (strings_of image) (λ c. IsNoted cs n c × (c.sect ≡ k + 1)) (λ c. IsEligibleAmong image cs address c × (c.sect ≡ k + 1)) (get_or firsts k None)
       (λ c m. ((noted_member cs n c m.0, can_stand image address c (up m.0.0 c m.0.1 m.0.2) (ap (λ j. is_in_section image j address) m.1 ∙ here)), m.1))
       (λ c s. (noted c s.0, s.1))
       (firsts_of k (omega (arith, l, long))) in
-      least_same (strings_of image) (λ c. Seen first k c ⊎ (StandsAt image cs address c × (c.sect ≡ k + 1)))
+      least_same (strings_of image) (λ c. Seen first k c ⊎ (IsEligibleAmong image cs address c × (c.sect ≡ k + 1)))
       (Seen first (k + 1)) (first_of (strings_of image) best (get_or firsts k None))
       (λ c e. elim e [
         | inl s ↦ (s.0, elim s.1 [ inl m ↦ inl (omega (arith, m)) | inr q ↦ inr q ])
@@ -251,9 +251,9 @@ module _ (image : List ℕ) (all : List Section) (cs : List Candidate) (address 
         | inl m ↦ elim (cases_lt k c.sect) [ inl o ↦ inr (s.0, omega (arith, m, o)) | inr o ↦ inl (s.0, inl o) ]
         | inr q ↦ inl (s.0, inr q)
       ])
-      (least_of_both (strings_of image) (Seen first k) (λ c. StandsAt image cs address c × (c.sect ≡ k + 1)) best (get_or firsts k None) h own)
+      (least_of_both (strings_of image) (Seen first k) (λ c. IsEligibleAmong image cs address c × (c.sect ≡ k + 1)) best (get_or firsts k None) h own)
     where
-      noted : (c : Candidate) → StandsAt image cs address c → IsNoted cs n c
+      noted : (c : Candidate) → IsEligibleAmong image cs address c → IsNoted cs n c
       noted c s =
           let at = slice_get-get_or cs s.0.0 c s.0.1 ∙ ap Some s.0.2 in
           elim (cases_lt s.0.0 n) [
@@ -273,12 +273,12 @@ same_tuple s c d e h =
     grind (arith, nat_tests)
 
 pub row_says : (image : List ℕ) (cs : List Candidate) (address : ℕ) (found : Option Candidate) → AreCandidates image cs
-    → IsLeastOrNone (strings_of image) (StandsAt image cs address) found
+    → IsLeastOrNone (strings_of image) (IsEligibleAmong image cs address) found
     → SaysNearest image address (row_saying address found)
 unfolding tuple_of
 row_says image cs address None are h = (
   None,
-  λ c s. let is = counted_from image cs are c s.0 in h is.0 (is.1, ap (can_stand_for image address) is.2 ∙ s.1),
+  λ c s. let is = counted_from image cs are c s.0 in h is.0 (is.1, ap (is_eligible image address) is.2 ∙ s.1),
   (refl, refl, refl),
 )
 row_says image cs address (Some k) are h = (
@@ -288,7 +288,7 @@ row_says image cs address (Some k) are h = (
     first = λ c s less.
         let is = counted_from image cs are c s.0 in
         cc (
-          h.least is.0 (is.1, ap (can_stand_for image address) is.2 ∙ s.1),
+          h.least is.0 (is.1, ap (is_eligible image address) is.2 ∙ s.1),
           tuple_less (strings_of image) is.0 k (ap (λ t. tuple_cmp t (tuple_of (strings_of image) k)) is.2 ∙ less),
         );
   },
@@ -306,7 +306,7 @@ row_says image cs address (Some k) are h = (
           let at = contained_at image e m in
           let own = numbered image e (tuple_of (strings_of image) k) is in
           let in_list = are.each at.0 own.0 at.1 (ap (numbered_in image) at.2 ∙ own.1) in
-          let not_first = h.least own.0 (in_list, ap (can_stand_for image address) own.2 ∙ h.member.1) in
+          let not_first = h.least own.0 (in_list, ap (is_eligible image address) own.2 ∙ h.member.1) in
           omega (arith, same_tuple (strings_of image) own.0 k own.2 not_first, place_in image e own.0 own.1);
     },
     refl,
@@ -336,7 +336,7 @@ start_said address (Some k) = refl
 
 -- the row of a turn says the nearest candidate there
 pub turn_says : (image : List ℕ) (cs : List Candidate) (address : ℕ) (found : Option Candidate) (row : Row)
-    → AreCandidates image cs → IsLeastOrNone (strings_of image) (StandsAt image cs address) found
+    → AreCandidates image cs → IsLeastOrNone (strings_of image) (IsEligibleAmong image cs address) found
     → row ≡ row_saying address found → SaysNearest image row.start row
 turn_says image cs address found row are h is =
     subst (λ (r : Row). SaysNearest image r.start r) (sym is)

@@ -10,7 +10,7 @@ use Rattle.macho_image.specs.Sections.{SectionRecord}
 use Rattle.macho_image.specs.declared.section.Section.{Section}
 use Rattle.macho_symbols.specs.Nlist.{n_strx, n_type, n_sect, n_value}
 use Rattle.macho_symbols.specs.Symbols.{table_of, entry_of, entries_of, is_candidate, is_in_section, strings_of}
-use Rattle.macho_symbols.specs.Nearest.{can_stand_for, tuple_cmp}
+use Rattle.macho_symbols.specs.Nearest.{is_eligible, tuple_cmp}
 use Rattle.macho_symbols.specs.Views.{tuple_of}
 use Rattle.macho_symbols.specs.SectionNumbers.{AreSectionsOf}
 use Rattle.macho_symbols.specs.Steps.{turns}
@@ -40,9 +40,9 @@ abbrev pub numbered_at : List ℕ → ℕ → Option Candidate
 numbered_at image i = option_map_or (numbered_in image) (slice_get (entries_of image) i) None
 
 -- the candidate that the entry of an index is, if it can stand for an address
-abbrev pub standing_at : List ℕ → ℕ → ℕ → Option Candidate
-standing_at image address i =
-    option_map_or (λ c. cond (can_stand_for image address (tuple_of (strings_of image) c)) (Some c) None)
+abbrev pub eligible_at : List ℕ → ℕ → ℕ → Option Candidate
+eligible_at image address i =
+    option_map_or (λ c. cond (is_eligible image address (tuple_of (strings_of image) c)) (Some c) None)
     (numbered_at image i) None
 
 -- one of the candidates that have numbers
@@ -124,9 +124,9 @@ abbrev pub AreNumbered : List Candidate → ℕ → Type 0
 AreNumbered candidates count = (c : Candidate) → Contains candidates c → (0 < c.sect) × (c.sect ≤ count)
 
 -- a candidate that can stand for an address
-abbrev pub StandsAt : List ℕ → List Candidate → ℕ → Candidate → Type 0
-StandsAt image candidates address c =
-    Contains candidates c × (can_stand_for image address (tuple_of (strings_of image) c) ≡ true)
+abbrev pub IsEligibleAmong : List ℕ → List Candidate → ℕ → Candidate → Type 0
+IsEligibleAmong image candidates address c =
+    Contains candidates c × (is_eligible image address (tuple_of (strings_of image) c) ≡ true)
 
 -- the row of a turn by the nearest candidate there
 abbrev pub row_saying : ℕ → Option Candidate → Row

@@ -14,8 +14,8 @@ tuple_cmp c d =
     (ordering_then (slice_cmp nat_cmp c.name d.name) (nat_cmp c.sect d.sect)))
 
 -- whether a candidate can stand for an address: not above it, and its section has it
-unfoldable pub can_stand_for : List ℕ → ℕ → Tuple → Bool
-can_stand_for image address c = nat_le c.value address && is_in_section image c.sect address
+unfoldable pub is_eligible : List ℕ → ℕ → Tuple → Bool
+is_eligible image address c = nat_le c.value address && is_in_section image c.sect address
 
 -- the first of some in the order, where there is any
 pub record IsFirst (among : Tuple → Type 0) (found : Tuple) : Type 0 where
@@ -23,10 +23,10 @@ pub record IsFirst (among : Tuple → Type 0) (found : Tuple) : Type 0 where
   pub first : (other : Tuple) → among other → tuple_cmp other found ≢ Less
 
 -- a candidate that can stand for an address
-abbrev pub StandsFor : List ℕ → ℕ → Tuple → Type 0
-StandsFor image address c = Contains (candidates image) c × (can_stand_for image address c ≡ true)
+abbrev pub IsEligible : List ℕ → ℕ → Tuple → Type 0
+IsEligible image address c = Contains (candidates image) c × (is_eligible image address c ≡ true)
 
 -- the nearest candidate of an address, or none
 abbrev pub IsNearest : List ℕ → ℕ → Option Tuple → Type 0
 IsNearest image address found =
-    MatchOption found ((c : Tuple) → StandsFor image address c → ⊥) (IsFirst (StandsFor image address))
+    MatchOption found ((c : Tuple) → IsEligible image address c → ⊥) (IsFirst (IsEligible image address))

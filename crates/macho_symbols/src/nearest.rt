@@ -3,10 +3,10 @@
 ghost use Rattle.std.specs.Prelude.{◌≡◌};
 ghost use Rattle.std.specs.Option.{option_map};
 ghost use Rattle.macho_symbols.specs.Symbols.{strings_of};
-ghost use Rattle.macho_symbols.specs.Nearest.{can_stand_for};
+ghost use Rattle.macho_symbols.specs.Nearest.{is_eligible};
 ghost use Rattle.macho_symbols.specs.Found.{FindsNearest};
 ghost use Rattle.macho_symbols.specs.Views.{tuple_of, found_view};
-ghost use Rattle.macho_symbols.specs.InnerCandidates.{IsAt, IsLeastOrNone, standing_at};
+ghost use Rattle.macho_symbols.specs.InnerCandidates.{IsAt, IsLeastOrNone, eligible_at};
 
 use crate::candidate::Candidate;
 use crate::compared::ComparedNames;
@@ -16,31 +16,31 @@ use crate::symbols::Symbols;
 
 impl<'a> Scan<'a> {
     /// Whether a candidate can stand for an address.
-    #[tactic(auto, unfolding(crate::specs::Nearest::can_stand_for, crate::specs::Views::tuple_of))]
-    fn can_stand_for(&self, candidate: &Candidate, address: u64) -> bool
-        ensures { result ≡ can_stand_for self.now address (tuple_of (strings_of self.now) candidate.now) }
+    #[tactic(auto, unfolding(crate::specs::Nearest::is_eligible, crate::specs::Views::tuple_of))]
+    fn is_eligible(&self, candidate: &Candidate, address: u64) -> bool
+        ensures { result ≡ is_eligible self.now address (tuple_of (strings_of self.now) candidate.now) }
     {
         candidate.value <= address && self.is_in_section(candidate.sect, address)
     }
 
     /// The candidate that the entry of an index is, if it can stand for an address.
-    fn standing_at(&self, index: usize, address: u64) -> Option<Candidate>
-        ensures { result ≡ standing_at self.now address index }
+    fn eligible_at(&self, index: usize, address: u64) -> Option<Candidate>
+        ensures { result ≡ eligible_at self.now address index }
     {
         match self.candidate_at(index) {
-            Some(candidate) if self.can_stand_for(&candidate, address) => Some(candidate),
+            Some(candidate) if self.is_eligible(&candidate, address) => Some(candidate),
             _ => None,
         }
     }
 
     /// The first of the candidates that can stand for an address.
-    fn first_standing(&self, address: u64) -> Option<Candidate>
-        ensures { IsLeastOrNone (strings_of self.now) (IsAt (standing_at self.now address)) result }
+    fn first_eligible(&self, address: u64) -> Option<Candidate>
+        ensures { IsLeastOrNone (strings_of self.now) (IsAt (eligible_at self.now address)) result }
     {
         let names = ComparedNames::by_pieces(self.symbols.strings());
         let mut best = None;
         'entries: for index in 0..self.symbols.count() {
-            best = Candidate::first_of(best, self.standing_at(index, address), &names);
+            best = Candidate::first_of(best, self.eligible_at(index, address), &names);
         }
         best
     }
@@ -55,7 +55,7 @@ impl<'a> Symbols<'a> {
         ensures { FindsNearest self.now address (option_map found_view result) }
     {
         let scan = Scan::new(self);
-        let candidate = scan.first_standing(address)?;
+        let candidate = scan.first_eligible(address)?;
         Some(scan.found(address, &candidate))
     }
 }

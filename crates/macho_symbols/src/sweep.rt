@@ -5,7 +5,7 @@ ghost use Rattle.std.specs.Prelude.{Contains, length, slice_get, slice_index_or,
 ghost use Rattle.macho_symbols.specs.Symbols.{strings_of};
 ghost use Rattle.macho_symbols.specs.Steps.{AreSteps};
 ghost use Rattle.macho_symbols.specs.InnerCandidates.{AreAbove, AreByValue, AreCandidates, AreFirstsOf, AreNumbered};
-ghost use Rattle.macho_symbols.specs.InnerCandidates.{AreSwept, AreUpTo, IsLeastOrNone, StandsAt};
+ghost use Rattle.macho_symbols.specs.InnerCandidates.{AreSwept, AreUpTo, IsLeastOrNone, IsEligibleAmong};
 ghost use Rattle.macho_symbols.specs.SectionNumbers.{AreSectionsOf};
 ghost use Rattle.macho_symbols.specs.InnerCandidates.{first_of, row_saying};
 ghost use Rattle.macho_symbols.specs.declared.candidate.Candidate.{Candidate};
@@ -109,7 +109,7 @@ fn first_at(
         → names.now ≡ strings_of image → AreCandidates image candidates
         → AreFirstsOf names.now candidates count firsts.now → AreUpTo candidates count address
         → AreAbove candidates count address → IfSome best (λ c. Contains candidates c × (c.value ≡ address))
-        → IsLeastOrNone names.now (StandsAt image candidates address) result }
+        → IsLeastOrNone names.now (IsEligibleAmong image candidates address) result }
 {
     let mut best = best;
     'sections: for index in 0..sections.len() {

@@ -7,7 +7,7 @@ use Rattle.std.proofs.lemmas.Bool.{cases_eq, cases_lt}
 use Rattle.std.proofs.Math.Seq.{take-add}
 use Rattle.sha2.specs.Sha256.{sha256}
 use Rattle.sha2.proofs.Facts256.{length-sha256}
-use Rattle.table_checked_pages.specs.Pages.{AreKept, AreKeptLevels, AreStored, Claim, DigestsTellPages, MayBeStored, digests_from, digests_size}
+use Rattle.table_checked_pages.specs.Pages.{AreKept, AreKeptLevels, AreStored, Claim, DigestsDecidePages, MayBeStored, digests_from, digests_size}
 use Rattle.table_checked_pages.specs.Pages.{digests_size_in, first_of, height, level_of, level_size, page_digests, page_in}
 use Rattle.table_checked_pages.specs.Pages.{page_of, pages_in, root_of, stored, stored_in}
 use Rattle.table_checked_pages.proofs.LevelLemmas.{height_level, level_last, level_within, more_pages, one_page}
@@ -153,7 +153,7 @@ page_stands text all claim are k i low inside =
     part_stands text here (first_of claim k) size (4096 * i) 4096 long there (omega (arith, inside))
 
 pub may_be : (text all : List ℕ) (claim : Claim) → AreStored text claim all → MayBeStored text claim all
-unfolding DigestsTellPages
+unfolding DigestsDecidePages
 may_be text all claim are = record {
   size = are.size;
   root = are.root;
@@ -194,7 +194,7 @@ pub page_is : (text all bytes digest : List ℕ) (claim : Claim) (k i offset n :
     → k ≤ height claim.size → 4096 * i < level_size k claim.size
     → offset ≡ first_of claim k + 4096 * i → n ≡ min 4096 (level_size k claim.size - 4096 * i) → bytes ≡ take n (drop offset text)
     → sha256 bytes ≡ digest → digest ≡ sha256 (page_of (level_of k all) i) → bytes ≡ page_of (level_of k all) i
-unfolding DigestsTellPages
+unfolding DigestsDecidePages
 page_is text all bytes digest claim k i offset n may low inside at long stands has is =
     let here : bytes ≡ page_in text claim k i = stands ∙ ap (λ m. take m (drop offset text)) long
     ∙ ap (λ o. take (min 4096 (level_size k claim.size - 4096 * i)) (drop o text)) at in

@@ -17,16 +17,17 @@ said_as (Ok value) A A' B B' of to h = of value h
 said_as (Err f) A A' B B' of to h = refused_as B B' f to h
 
 -- what is read is read
-pub read_as : {D T : Type 0} (whole : D → Option (List ℕ)) (failures : D → ℕ) (old new : D) (r : Result T CheckFault)
-    (A : List ℕ → T → Type 0) (B : List ℕ → Type 0) (A' : List ℕ → T → Type 0) (B' : List ℕ → Type 0)
-    → ((text : List ℕ) → whole old ≡ Some text → (value : T) → A text value → A' text value)
+pub read_as : {D T : Type 0} {whole : D → Option (List ℕ)} {failures : D → ℕ} {old new : D}
+    {r : Result T CheckFault} {A : List ℕ → T → Type 0} {B : List ℕ → Type 0} {A' : List ℕ → T → Type 0}
+    {B' : List ℕ → Type 0} → ((text : List ℕ) → whole old ≡ Some text → (value : T) → A text value → A' text value)
     → ((text : List ℕ) → whole old ≡ Some text → B text → B' text) → ReadsStored whole failures old new r A B
     → ReadsStored whole failures old new r A' B'
-read_as whole failures old new r A B A' B' of to h = record {
-  says = λ text is. said_as r (A text) (A' text) (B text) (B' text) (of text is) (to text is) (h.says text is);
-  keeps = h.keeps;
-  counts = h.counts;
-}
+read_as {whole = whole} {failures = failures} {old = old} {new = new} {r = r} {A = A} {B = B} {A' = A'}
+    {B' = B'} of to h = record {
+      says = λ text is. said_as r (A text) (A' text) (B text) (B' text) (of text is) (to text is) (h.says text is);
+      keeps = h.keeps;
+      counts = h.counts;
+    }
 
 err_as : {D T U : Type 0} (whole : D → Option (List ℕ)) (failures : D → ℕ) (old new : D) (f : CheckFault)
     (A : List ℕ → T → Type 0) (B : List ℕ → Type 0) (A' : List ℕ → U → Type 0) (B' : List ℕ → Type 0)
@@ -40,21 +41,21 @@ err_as whole failures old new f A B A' B' to h = record {
 }
 
 -- a refusal is passed on by `?`
-pub passed_on : {D T U : Type 0} (whole : D → Option (List ℕ)) (failures : D → ℕ) (old new : D) (f : CheckFault)
-    (r : Result T CheckFault) (s : Result U CheckFault)
-    (A : List ℕ → T → Type 0) (B : List ℕ → Type 0) (A' : List ℕ → U → Type 0) (B' : List ℕ → Type 0)
+pub passed_on : {D T U : Type 0} {whole : D → Option (List ℕ)} {failures : D → ℕ} {old new : D} {f : CheckFault}
+    {r : Result T CheckFault} {s : Result U CheckFault}
+    {A : List ℕ → T → Type 0} {B : List ℕ → Type 0} {A' : List ℕ → U → Type 0} {B' : List ℕ → Type 0}
     → r ≡ Err f → IsErrAnd s (λ g. g ≡ f) → ((text : List ℕ) → whole old ≡ Some text → B text → B' text)
     → ReadsStored whole failures old new r A B → ReadsStored whole failures old new s A' B'
-passed_on whole failures old new f r s A B A' B' was is to h =
+passed_on {whole = whole} {failures = failures} {old = old} {new = new} {f = f} {r = r} {s = s} {A = A} {B = B} {A' = A'} {B' = B'} was is to h =
     let p = err_from_is_err_and s is in
     subst (λ t. ReadsStored whole failures old new t A' B') (sym (p.1 ∙ ap Err p.2))
     (err_as whole failures old new f A B A' B' to (subst (λ t. ReadsStored whole failures old new t A B) was h))
 
 -- what is read after a call that did not fail
-pub after_ok : {D T : Type 0} (whole : D → Option (List ℕ)) (failures : D → ℕ) (old mid new : D)
-    (r : Result T CheckFault) (A : List ℕ → T → Type 0) (B : List ℕ → Type 0)
+pub after_ok : {D T : Type 0} {whole : D → Option (List ℕ)} {failures : D → ℕ} {old mid new : D}
+    {r : Result T CheckFault} {A : List ℕ → T → Type 0} {B : List ℕ → Type 0}
     → whole mid ≡ whole old → failures mid ≡ failures old → ReadsStored whole failures mid new r A B → ReadsStored whole failures old new r A B
-after_ok whole failures old mid new r A B same unfailed h = record {
+after_ok {whole = whole} {failures = failures} {old = old} {mid = mid} {new = new} {r = r} {A = A} {B = B} same unfailed h = record {
   says = λ text is. h.says text (same ∙ is);
   keeps = h.keeps ∙ same;
   counts = subst (λ n. MatchResult r (λ _. failures new ≡ n) (Blames n (failures new))) unfailed h.counts;

@@ -86,8 +86,8 @@ pub record AreStored (text : List ℕ) (claim : Claim) (all : List ℕ) : Type 0
   pub bytes : take (length (stored all)) (drop claim.offset text) ≡ stored all
 
 -- as far as SHA-256 tells, what is there and has the digest of a page of a level of these bytes is that page
-unfoldable pub DigestsTellPages : List ℕ → Claim → List ℕ → Type 0
-DigestsTellPages text claim all =
+unfoldable pub DigestsDecidePages : List ℕ → Claim → List ℕ → Type 0
+DigestsDecidePages text claim all =
     (k i : ℕ) → k ≤ height claim.size → 4096 * i < level_size k claim.size
     → sha256 (page_in text claim k i) ≡ sha256 (page_of (level_of k all) i)
     → page_in text claim k i ≡ page_of (level_of k all) i
@@ -97,7 +97,7 @@ DigestsTellPages text claim all =
 pub record MayBeStored (text : List ℕ) (claim : Claim) (all : List ℕ) : Type 0 where
   pub size : length all ≡ claim.size
   pub root : root_of all ≡ claim.root
-  pub tells : DigestsTellPages text claim all
+  pub tells : DigestsDecidePages text claim all
 
 -- each page that is kept is one of these bytes; a list without bytes keeps none
 abbrev pub AreKept : List (List ℕ) → List ℕ → Type 0

@@ -7,7 +7,7 @@ ghost use Rattle.dwarf_source_frames.specs.FrameViews.{frame_view};
 ghost use Rattle.table_source_frames.specs.FrameViews.{owned_frame_view, owned_path_view};
 
 use dwarf_lines::PathParts;
-use dwarf_source_frames::Frame;
+use dwarf_source_frames::SourceFrame;
 use memory::Heap;
 
 /// The parts of a path. It holds them.
@@ -67,10 +67,10 @@ impl OwnedFrame {
     }
 
     /// The same with its texts borrowed.
-    pub fn borrowed(&self) -> Frame<'_>
+    pub fn borrowed(&self) -> SourceFrame<'_>
         ensures { frame_view result ≡ owned_frame_view self.now }
     {
-        Frame {
+        SourceFrame {
             name: self.borrowed_name(),
             path: self.borrowed_path(),
             line: self.line,

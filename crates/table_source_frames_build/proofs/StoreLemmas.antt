@@ -11,7 +11,7 @@ use Rattle.table_source_frames.specs.LineTable.{IsLineTextWithin}
 use Rattle.table_source_frames.specs.Numbering.{same_chain}
 use Rattle.table_source_frames.specs.Steps.{StepRecord}
 use Rattle.table_source_frames.proofs.SameLemmas.{chain_decides}
-use Rattle.table_source_frames_build.specs.Kept.{Grows, IsKept, IsLocation, KeptRecord, StillTells, chain_at}
+use Rattle.table_source_frames_build.specs.Kept.{Grows, IsKept, IsLocation, KeptRecord, KeepsNumbers, chain_at}
 use Rattle.table_source_frames_build.specs.Lines.{AreLeastSteps, IsWritten, changes_after}
 use Rattle.table_source_frames_build.specs.StepViews.{HaveLocations, changed_after, step_of}
 use Rattle.table_source_frames_build.specs.declared.step.Step.{Step}
@@ -33,11 +33,11 @@ module _ (old new : KeptRecord) (kept : IsKept old) (grows : Grows old new) wher
       } in
       λ i. here i ∷ steps_same steps (All-tail (λ (t : Step). t.location ≤ length old.locations) s steps h) i
 
-  pub still_tells : StillTells old new
+  pub still_tells : KeepsNumbers old new
   still_tells = record { names = name_stays old new kept grows; paths = path_stays old new kept grows; frames = location_stays old new kept grows }
 
-  pub told_before : (value : KeptRecord) → old ≡ value → StillTells value new
-  told_before value e = subst (λ k. StillTells k new) e still_tells
+  pub told_before : (value : KeptRecord) → old ≡ value → KeepsNumbers value new
+  told_before value e = subst (λ k. KeepsNumbers k new) e still_tells
 
   pub taken_same : (steps : List Step) (value : List StepRecord) → HaveLocations old steps
       → map (step_of old) steps ≡ value → map (step_of new) steps ≡ value

@@ -143,7 +143,7 @@ pub record IsLocation (k : KeptRecord) (number : ℕ) (frames : List FrameRecord
   pub is : chain_at k number ≡ frames
 
 -- what numbers told of before they tell of now
-pub record StillTells (old new : KeptRecord) : Type 0 where
+pub record KeepsNumbers (old new : KeptRecord) : Type 0 where
   pub names : (number : ℕ) (name : Option (List ℕ)) → IsName old number name → IsName new number name
   pub paths : (number : ℕ) (path : Option PathRecord) → IsFile old number path → IsFile new number path
   pub frames : (number : ℕ) (frames : List FrameRecord) → IsLocation old number frames → IsLocation new number frames

@@ -7,7 +7,7 @@
 //! have, each thing once and told by number, and `lookups`, what a number tells of; `step` and `store`, `LineStore`,
 //! which takes the frames of addresses; `changes`, the steps at which frames change; `first_uses`, numbers anew by
 //! first use, and `parts`, those of a table; `runs`, `rows` and `texts`, its bytes part by part; `finish`,
-//! `LineStore::finish`; `taker`, a store as a taker of turns; `making`, [`line_table`]; `laws`, what the definitions
+//! `LineStore::finish`; `sink`, a store as a sink of turns; `making`, [`line_table`]; `laws`, what the definitions
 //! say of each other, and why it is enough to take the turns.
 //!
 //! Decided:
@@ -31,9 +31,9 @@ mod numbers;
 mod parts;
 mod rows;
 mod runs;
+mod sink;
 mod step;
 mod store;
-mod taker;
 mod texts;
 
 pub use making::line_table;

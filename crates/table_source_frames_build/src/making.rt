@@ -4,9 +4,9 @@ ghost use Rattle.std.specs.Prelude.{◌≡◌, IfOk};
 ghost use Rattle.table_source_frames.specs.LineTable.{IsLineTable, room_of};
 
 use crate::laws::table_by_turns;
+use crate::sink::StoreSink;
 use crate::store::LineStore;
-use crate::taker::StoreTaker;
-use dwarf_frame_changes::give_turns;
+use dwarf_frame_changes::push_turns;
 use macho_image::Image;
 use memory::{Heap, NoMemory};
 use table_source_frames::HEAD_LEN;
@@ -21,14 +21,14 @@ fn room_for(image: &Image) -> u64
 }
 
 /// The line table of an image: that of its steps, if it fits into four times the bytes of the image, and else one that
-/// has no lines. It takes the time of [`give_turns`] and of a sort of the turns, and the memory of what frames have,
+/// has no lines. It takes the time of [`push_turns`] and of a sort of the turns, and the memory of what frames have,
 /// each thing once, of 16 bytes for each turn, and of the table.
 pub fn line_table(heap: Heap, image: &Image) -> Result<Vec<u8, Heap>, NoMemory>
     ensures { IfOk result (λ bytes. IsLineTable image.now bytes.items) }
 {
     table_by_turns();
     let store = LineStore::new(heap.share());
-    let mut taker = StoreTaker { store };
-    give_turns(heap.share(), image, &mut taker)?;
-    taker.store.finish(heap, room_for(image))
+    let mut sink = StoreSink { store };
+    push_turns(heap.share(), image, &mut sink)?;
+    sink.store.finish(heap, room_for(image))
 }

@@ -38,7 +38,7 @@ impl<'a> LineStore<'a> {
     ghost use Rattle.dwarf_lines.specs.PathViews.{path_view};
     ghost use Rattle.dwarf_source_frames.specs.Frames.{FrameRecord};
     ghost use Rattle.dwarf_source_frames.specs.FrameViews.{frame_view};
-    ghost use Rattle.table_source_frames_build.specs.Kept.{IsFile, IsLocation, IsName, StillTells};
+    ghost use Rattle.table_source_frames_build.specs.Kept.{IsFile, IsLocation, IsName, KeepsNumbers};
 
     /// No address.
     pub fn new(heap: Heap) -> LineStore<'a>
@@ -57,7 +57,7 @@ impl<'a> LineStore<'a> {
     /// before.
     pub fn name(&mut self, name: Option<&'a [u8]>) -> Result<u32, NoMemory>
         ensures is { IfOk result (λ number. IsName self.new.kept number (option_map (λ n. n.now) name.entry)) }
-        ensures tells { StillTells self.old.kept self.new.kept }
+        ensures tells { KeepsNumbers self.old.kept self.new.kept }
         ensures taken { self.new.taken ≡ self.old.taken }
     {
         self.kept.name(name)
@@ -67,7 +67,7 @@ impl<'a> LineStore<'a> {
     /// before.
     pub fn path(&mut self, path: Option<PathParts<'a>>) -> Result<u32, NoMemory>
         ensures is { IfOk result (λ number. IsFile self.new.kept number (option_map path_view path.entry)) }
-        ensures tells { StillTells self.old.kept self.new.kept }
+        ensures tells { KeepsNumbers self.old.kept self.new.kept }
         ensures taken { self.new.taken ≡ self.old.taken }
     {
         self.kept.file(path)
@@ -97,7 +97,7 @@ impl<'a> LineStore<'a> {
             (n : Option (List ℕ)) (p : Option PathRecord) (outer : List FrameRecord) → IsName self.old.kept name n
             → IsFile self.old.kept path p → IsLocation self.old.kept callers outer
             → IsLocation self.new.kept number (record { name = n; path = p; line = line; column = column } ∷ outer)) }
-        ensures tells { StillTells self.old.kept self.new.kept }
+        ensures tells { KeepsNumbers self.old.kept self.new.kept }
         ensures taken { self.new.taken ≡ self.old.taken }
     {
         self.kept.location_number(LocationKey {

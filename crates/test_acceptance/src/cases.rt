@@ -108,7 +108,7 @@
 //! `WRONG`.
 
 use crate::folder::Folder;
-use crate::sweeps::{tell_growths, tell_sweep};
+use crate::sweeps::{print_growths, print_sweep};
 use crate::tasks::Task;
 use crate::texts::{TextFault, cut_case};
 use crate::verdicts::Step;
@@ -119,8 +119,8 @@ use std::mem;
 use std::rt::Files;
 use test_calls::{Call, Desk, Tried};
 use test_parts::{
-    CaseFault, FileLimit, Left, Limits, Store, Sweep, bytes_of, first_word, number, tell_left,
-    tell_line_fault, tell_room, tell_room_of_bytes, tell_same, words_of,
+    CaseFault, FileLimit, Left, Limits, Store, Sweep, bytes_of, first_word, number, print_left,
+    print_line_fault, print_room, print_room_of_bytes, print_same, words_of,
 };
 
 // How often the next case is carried out.
@@ -162,13 +162,13 @@ pub fn carry_out<R: Files + AllocGlobal>(
     Ok(bench.carry_out(folder, case)?)
 }
 
-// Tells the command of a line, what stands at each of its names, and its plan.
-fn tell_line(line: &Line, told: &mut String) -> Result<(), NoMemory> {
-    write!(told, "  {}", line.name)?;
+// Prints the command of a line, what stands at each of its names, and its plan.
+fn print_line(line: &Line, printed: &mut String) -> Result<(), NoMemory> {
+    write!(printed, "  {}", line.name)?;
     for (argument, values) in line.arguments().iter().zip(&line.values) {
-        write!(told, " {} {values:?}", argument.name)?;
+        write!(printed, " {} {values:?}", argument.name)?;
     }
-    writeln!(told, "\n  {:?}", Plan::of(line))
+    writeln!(printed, "\n  {:?}", Plan::of(line))
 }
 
 // Adds a line to what has to come of the last one.
@@ -225,41 +225,41 @@ impl<'t> Bench<'t> {
         &mut self,
         line: &'t str,
         folder: &Folder<'_, R>,
-        told: &mut String,
+        printed: &mut String,
     ) -> Result<(), CaseFault> {
         if line.is_empty() || line.starts_with('#') || line.starts_with("= ") {
             return Ok(());
         }
         let (verb, words) = line.split_once(' ').unwrap_or((line, ""));
         match verb {
-            "file" => self.keep(words, told),
-            "line" => self.keep_line(words, told),
-            "same" => self.compare(words, told),
+            "file" => self.keep(words, printed),
+            "line" => self.keep_line(words, printed),
+            "same" => self.compare(words, printed),
             "hold" => self.hold(words),
             "each" => self.sweep(words),
             "lay" => folder.lay(&self.store, words),
-            "fetch" => folder.fetch(&mut self.store, words, told),
+            "fetch" => folder.fetch(&mut self.store, words, printed),
             "link" => folder.link(words),
-            "program" => self.run_over_files(words, folder, told),
-            "unread" => folder.run_unread(words, told),
-            "room-of-bytes" => Ok(tell_room_of_bytes(self.alloc, number(words)?, told)?),
-            "room" => Ok(tell_room(self.alloc, number(words)?, told)?),
-            "plan" => self.plan(words, told),
-            "run" => self.run(words, told),
-            _ => self.carry(Task::Call(Call::of_verb(verb, words)), None, told),
+            "program" => self.run_over_files(words, folder, printed),
+            "unread" => folder.run_unread(words, printed),
+            "room-of-bytes" => Ok(print_room_of_bytes(self.alloc, number(words)?, printed)?),
+            "room" => Ok(print_room(self.alloc, number(words)?, printed)?),
+            "plan" => self.plan(words, printed),
+            "run" => self.run(words, printed),
+            _ => self.carry(Task::Call(Call::of_verb(verb, words)), None, printed),
         }
     }
 
     // Keeps bytes under a name.
-    fn keep(&mut self, words: &str, told: &mut String) -> Result<(), CaseFault> {
+    fn keep(&mut self, words: &str, printed: &mut String) -> Result<(), CaseFault> {
         let (name, parts) = first_word(words);
         let bytes = bytes_of(self.alloc, &self.store, parts)?;
-        writeln!(told, "  {} bytes", bytes.len())?;
+        writeln!(printed, "  {} bytes", bytes.len())?;
         self.store.keep(self.alloc, name, bytes)
     }
 
     // Puts a line of text after a file, which may be new.
-    fn keep_line(&mut self, words: &str, told: &mut String) -> Result<(), CaseFault> {
+    fn keep_line(&mut self, words: &str, printed: &mut String) -> Result<(), CaseFault> {
         let (name, text) = words.split_once(' ').unwrap_or((words, ""));
         let mut bytes = Vec::new(self.alloc);
         if let Some(before) = self.store.bytes(name) {
@@ -267,15 +267,15 @@ impl<'t> Bench<'t> {
         }
         bytes.extend_from_slice(text.as_bytes())?;
         bytes.push(b'\n')?;
-        writeln!(told, "  {} bytes", bytes.len())?;
+        writeln!(printed, "  {} bytes", bytes.len())?;
         self.store.keep(self.alloc, name, bytes)
     }
 
-    // Tells whether a file has these bytes.
-    fn compare(&self, words: &str, told: &mut String) -> Result<(), CaseFault> {
+    // Prints whether a file has these bytes.
+    fn compare(&self, words: &str, printed: &mut String) -> Result<(), CaseFault> {
         let (name, parts) = first_word(words);
         let bytes = bytes_of(self.alloc, &self.store, parts)?;
-        Ok(tell_same(self.store.named(name)?, &bytes, told)?)
+        Ok(print_same(self.store.named(name)?, &bytes, printed)?)
     }
 
     // Sets a limit of the next case.
@@ -328,20 +328,20 @@ impl<'t> Bench<'t> {
         parse_command_line(self.alloc, &all)
     }
 
-    // Tells what a command line asks for.
-    fn plan(&self, words: &str, told: &mut String) -> Result<(), CaseFault> {
+    // Prints what a command line asks for.
+    fn plan(&self, words: &str, printed: &mut String) -> Result<(), CaseFault> {
         match self.read(words) {
-            Ok(line) => tell_line(&line, told)?,
-            Err(fault) => tell_line_fault(&fault, told)?,
+            Ok(line) => print_line(&line, printed)?,
+            Err(fault) => print_line_fault(&fault, printed)?,
         }
         Ok(())
     }
 
     // Carries out a command line.
-    fn run(&mut self, words: &str, told: &mut String) -> Result<(), CaseFault> {
+    fn run(&mut self, words: &str, printed: &mut String) -> Result<(), CaseFault> {
         match self.read(words) {
-            Ok(line) => self.carry(Task::Run(&line), line.out_path(), told),
-            Err(fault) => Ok(tell_line_fault(&fault, told)?),
+            Ok(line) => self.carry(Task::Run(&line), line.out_path(), printed),
+            Err(fault) => Ok(print_line_fault(&fault, printed)?),
         }
     }
 
@@ -350,14 +350,19 @@ impl<'t> Bench<'t> {
         &mut self,
         words: &str,
         folder: &Folder<'_, R>,
-        told: &mut String,
+        printed: &mut String,
     ) -> Result<(), CaseFault> {
         let most = mem::replace(&mut self.limits, Limits::AMPLE).report;
-        folder.run(words, most, told)
+        folder.run(words, most, printed)
     }
 
     // Carries out a case, keeps what it left in OUT under its name, and sets what holds for the next one back.
-    fn carry(&mut self, task: Task, out: Option<&str>, told: &mut String) -> Result<(), CaseFault> {
+    fn carry(
+        &mut self,
+        task: Task,
+        out: Option<&str>,
+        printed: &mut String,
+    ) -> Result<(), CaseFault> {
         let mode = mem::replace(&mut self.mode, Mode::Once);
         let limits = mem::replace(&mut self.limits, Limits::AMPLE);
         let desk = Desk {
@@ -367,12 +372,12 @@ impl<'t> Bench<'t> {
             tried: Tried::Plain,
         };
         match mode {
-            Mode::Growths => tell_growths(desk, task, told),
-            Mode::Sweep(sweep) => tell_sweep(desk, sweep, task, told),
+            Mode::Growths => print_growths(desk, task, printed),
+            Mode::Sweep(sweep) => print_sweep(desk, sweep, task, printed),
             Mode::Once => {
                 let left = task.carry_out(desk)?;
-                tell_left(&left, told)?;
-                tell_others(desk, task, &left, told)?;
+                print_left(&left, printed)?;
+                print_rest(desk, task, &left, printed)?;
                 self.keep_out(out, left.out)
             }
         }
@@ -394,14 +399,14 @@ fn file_limit(words: &str) -> Result<FileLimit<'_>, CaseFault> {
     Ok(FileLimit { name, len })
 }
 
-// Tells where it makes a difference that the archive is the other one, or that the inputs come in small pieces.
-fn tell_others(desk: Desk, task: Task, left: &Left, told: &mut String) -> Result<(), CaseFault> {
+// Prints where it makes a difference that the archive is the other one, or that the inputs come in small pieces.
+fn print_rest(desk: Desk, task: Task, left: &Left, printed: &mut String) -> Result<(), CaseFault> {
     for (tried, pieces) in [(Tried::Plain, 1), (Tried::Indexed, 7)] {
         let mut other = Desk { tried, ..desk };
         other.limits.pieces = pieces;
         if task.carry_out(other)? != *left {
             writeln!(
-                told,
+                printed,
                 "  WRONG: another end on {tried:?} with inputs in pieces of {pieces}"
             )?;
         }

@@ -7,7 +7,7 @@ use std::io::{self, ErrorKind};
 use std::os::unix::fs::symlink;
 use std::rt::Files;
 use std::{fs, process};
-use test_parts::{CaseFault, Store, StrictSink, first_word, tell_report, words_of};
+use test_parts::{CaseFault, Store, StrictSink, first_word, print_report, words_of};
 
 /// A folder, whose files a command line names by words that begin with `@`.
 #[derive(Drop)]
@@ -64,46 +64,51 @@ impl<'a, R: Files + AllocGlobal> Folder<'a, R> {
     }
 
     /// Reads a file of the folder into memory, and tells the number of its bytes, or that it is not there.
-    pub fn fetch(&self, store: &mut Store, word: &str, told: &mut String) -> Result<(), CaseFault> {
+    pub fn fetch(
+        &self,
+        store: &mut Store,
+        word: &str,
+        printed: &mut String,
+    ) -> Result<(), CaseFault> {
         let (name, _) = first_word(word);
         let path = self.path_of(name)?;
         if !fs::exists(self.rt, &path)? {
-            return Ok(writeln!(told, "  not there")?);
+            return Ok(writeln!(printed, "  not there")?);
         }
         let bytes = fs::read(self.rt, &path)?;
-        writeln!(told, "  {} bytes", bytes.len())?;
+        writeln!(printed, "  {} bytes", bytes.len())?;
         store.keep(self.rt.alloc(), name, bytes)
     }
 
     /// Carries out the words of a command line over files of the folder, with a report that takes so many bytes, and
     /// tells the report, standard error, and the status.
-    pub fn run(&self, words: &str, most: usize, told: &mut String) -> Result<(), CaseFault> {
-        self.tell_run(Ok(self.line_of(words)?), most, told)
+    pub fn run(&self, words: &str, most: usize, printed: &mut String) -> Result<(), CaseFault> {
+        self.print_run(Ok(self.line_of(words)?), most, printed)
     }
 
     /// The same of words that could not be read: one is no text, or there was no memory for them.
-    pub fn run_unread(&self, why: &str, told: &mut String) -> Result<(), CaseFault> {
+    pub fn run_unread(&self, why: &str, printed: &mut String) -> Result<(), CaseFault> {
         let error = match why {
             "text" => ErrorKind::InvalidData,
             "memory" => ErrorKind::OutOfMemory,
             _ => return Err(CaseFault::BadLine),
         };
-        self.tell_run(Err(error.into()), usize::MAX, told)
+        self.print_run(Err(error.into()), usize::MAX, printed)
     }
 
-    fn tell_run(
+    fn print_run(
         &self,
         words: io::Result<Vec<String>>,
         most: usize,
-        told: &mut String,
+        printed: &mut String,
     ) -> Result<(), CaseFault> {
         let mut report = StrictSink::new(Heap::new(self.rt.alloc())?, most);
         let mut errors = StrictSink::new(Heap::new(self.rt.alloc())?, usize::MAX);
         let mut files = SystemFiles::new(self.rt.alloc(), self.rt, self.process);
         let status = run(words, &mut files, &mut report, &mut errors);
-        tell_report(report.as_slice(), told)?;
-        self.tell_errors(errors.as_slice(), told)?;
-        Ok(writeln!(told, "  status {status}")?)
+        print_report(report.as_slice(), printed)?;
+        self.print_errors(errors.as_slice(), printed)?;
+        Ok(writeln!(printed, "  status {status}")?)
     }
 
     // The words of a command line, which stand after the program's name.
@@ -119,13 +124,13 @@ impl<'a, R: Files + AllocGlobal> Folder<'a, R> {
         Ok(line)
     }
 
-    // Tells the lines of standard error, in which `@` stands for the folder.
-    fn tell_errors(&self, errors: &[u8], told: &mut String) -> Result<(), CaseFault> {
+    // Prints the lines of standard error, in which `@` stands for the folder.
+    fn print_errors(&self, errors: &[u8], printed: &mut String) -> Result<(), CaseFault> {
         let text = str::from_utf8(errors).ok().ok_or(CaseFault::BadLine)?;
         for line in text.lines() {
             match line.split_once(self.path.as_str()) {
-                Some((before, behind)) => writeln!(told, "  {before}@{behind}")?,
-                None => writeln!(told, "  {line}")?,
+                Some((before, behind)) => writeln!(printed, "  {before}@{behind}")?,
+                None => writeln!(printed, "  {line}")?,
             }
         }
         Ok(())

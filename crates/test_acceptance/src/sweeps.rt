@@ -7,18 +7,18 @@ use test_parts::{CaseFault, Left, Sweep};
 
 /// Carries out a case at each point of a sweep, the last of which is the uncut one, and tells the points in groups of
 /// one outcome.
-pub fn tell_sweep<'a>(
+pub fn print_sweep<'a>(
     desk: Desk<'a>,
     sweep: Sweep<'a>,
     task: Task,
-    told: &mut String,
+    printed: &mut String,
 ) -> Result<(), CaseFault> {
     let whole = task.carry_out(desk)?;
     let groups = sweep_points(desk, sweep, task, &whole)?;
-    told.push_str(&groups)?;
+    printed.push_str(&groups)?;
     let tried = Tried::Indexed;
     if sweep_points(Desk { tried, ..desk }, sweep, task, &whole)? != groups {
-        writeln!(told, "  WRONG: other outcomes on {tried:?}")?;
+        writeln!(printed, "  WRONG: other outcomes on {tried:?}")?;
     }
     Ok(())
 }
@@ -39,21 +39,26 @@ fn sweep_points<'a>(
         let left = task.carry_out(Desk { limits, ..desk })?;
         let outcome = outcome_at(desk.alloc, point, &left, whole)?;
         if outcome != before {
-            tell_group(first, point, &before, &mut groups)?;
+            print_group(first, point, &before, &mut groups)?;
             first = point;
             before = outcome;
         }
     }
-    tell_group(first, last.saturating_add(1), &before, &mut groups)?;
+    print_group(first, last.saturating_add(1), &before, &mut groups)?;
     Ok(groups)
 }
 
-// Tells the outcome of the points from one to before another, if there are some.
-fn tell_group(first: usize, end: usize, outcome: &str, told: &mut String) -> Result<(), NoMemory> {
+// Prints the outcome of the points from one to before another, if there are some.
+fn print_group(
+    first: usize,
+    end: usize,
+    outcome: &str,
+    printed: &mut String,
+) -> Result<(), NoMemory> {
     match end.saturating_sub(first) {
         0 => Ok(()),
-        1 => writeln!(told, "  {first}: {outcome}"),
-        _ => writeln!(told, "  {first} to {}: {outcome}", end.saturating_sub(1)),
+        1 => writeln!(printed, "  {first}: {outcome}"),
+        _ => writeln!(printed, "  {first} to {}: {outcome}", end.saturating_sub(1)),
     }
 }
 
@@ -73,51 +78,51 @@ const MOST_GROWTHS: u64 = 100_000;
 
 /// Carries out a case on either archive with each number of growths from 0 on, until it meets no refusal, however it
 /// ends then, and tells how many met one. A sweep that meets none shows nothing.
-pub fn tell_growths(desk: Desk, task: Task, told: &mut String) -> Result<(), CaseFault> {
+pub fn print_growths(desk: Desk, task: Task, printed: &mut String) -> Result<(), CaseFault> {
     let whole = task.carry_out(desk)?;
     for tried in Tried::BOTH {
-        tell_refusals(Desk { tried, ..desk }, task, &whole, told)?;
+        print_refusals(Desk { tried, ..desk }, task, &whole, printed)?;
     }
     Ok(())
 }
 
-fn tell_refusals(
+fn print_refusals(
     mut desk: Desk,
     task: Task,
     whole: &Left,
-    told: &mut String,
+    printed: &mut String,
 ) -> Result<(), CaseFault> {
     let tried = desk.tried;
     for growths in 0..MOST_GROWTHS {
         desk.limits.growths = growths;
         let left = task.carry_out(desk)?;
         if !left.end.wants_memory() {
-            return tell_last_growth(tried, growths, left == *whole, told);
+            return print_last_growth(tried, growths, left == *whole, printed);
         }
         if !left.may_want_memory(whole, task.writes_as_it_reads()) {
             writeln!(
-                told,
+                printed,
                 "  WRONG: growth {growths} was refused on {tried:?}, and something was written"
             )?;
         }
     }
-    Ok(writeln!(told, "  WRONG: every run was refused on {tried:?}")?)
+    Ok(writeln!(printed, "  WRONG: every run was refused on {tried:?}")?)
 }
 
-// Tells how many runs met a refusal, and whether the first that met none left what ample memory leaves.
-fn tell_last_growth(
+// Prints how many runs met a refusal, and whether the first that met none left what ample memory leaves.
+fn print_last_growth(
     tried: Tried,
     growths: u64,
     same: bool,
-    told: &mut String,
+    printed: &mut String,
 ) -> Result<(), CaseFault> {
     if growths == 0 {
-        return Ok(writeln!(told, "  WRONG on {tried:?}: no growth was refused")?);
+        return Ok(writeln!(printed, "  WRONG on {tried:?}: no growth was refused")?);
     }
     let wrong = if same { "" } else { "WRONG on " };
     let end = if same { "the same" } else { "not the same" };
     Ok(writeln!(
-        told,
+        printed,
         "  {wrong}{tried:?}: {growths} refusals, then {end} as with ample memory"
     )?)
 }

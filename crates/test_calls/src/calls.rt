@@ -1,6 +1,6 @@
 //! A call below the commands.
 
-use crate::changes::tell_change;
+use crate::changes::print_change;
 use crate::desk::{Desk, Tried};
 use crate::subjects::Change;
 use archive_core::Archive;
@@ -9,9 +9,9 @@ use archive_index::{IndexedArchive, PlainArchive};
 use memory::Heap;
 use test_parts::{
     CaseFault, End, Ended, Failing, Left, Picked, Texts, addresses_of, bytes_of, first_word,
-    number, tell_asked, tell_fat, tell_front, tell_heaps, tell_image, tell_kind, tell_merging,
-    tell_named, tell_nearest, tell_operations, tell_pairs, tell_part, tell_reading, tell_slice,
-    tell_summary, tell_text, tell_whole, tell_writing, text_of,
+    number, print_asked, print_fat, print_front, print_heaps, print_image, print_kind,
+    print_merging, print_named, print_nearest, print_operations, print_pairs, print_part,
+    print_reading, print_slice, print_summary, print_text, print_whole, print_writing, text_of,
 };
 use text_inputs::{Script, read_script};
 
@@ -36,16 +36,16 @@ impl<'t> Call<'t> {
 impl<'a> Desk<'a> {
     /// Makes a call on the archive that is tried, and tells what it gives.
     pub fn make(self, call: Call<'a>) -> Result<Left, CaseFault> {
-        let mut told = String::new(self.alloc);
+        let mut printed = String::new(self.alloc);
         let ended = match self.tried {
-            Tried::Plain => self.call::<PlainArchive>(call, &mut told)?,
-            Tried::Indexed => self.call::<IndexedArchive>(call, &mut told)?,
+            Tried::Plain => self.call::<PlainArchive>(call, &mut printed)?,
+            Tried::Indexed => self.call::<IndexedArchive>(call, &mut printed)?,
         };
         Ok(Left {
             end: End::of_call(ended),
             out: Vec::new(self.alloc),
             is_draft: false,
-            report: told.into_bytes(),
+            report: printed.into_bytes(),
         })
     }
 
@@ -53,32 +53,32 @@ impl<'a> Desk<'a> {
     fn call<A: Archive + Drop>(
         self,
         call: Call<'a>,
-        told: &mut String,
+        printed: &mut String,
     ) -> Result<Ended, CaseFault> {
         let bytes = self.named(call.name)?;
         Ok(match call.verb {
-            "kind" => tell_kind(bytes, told),
-            "fat" => tell_fat(bytes, told),
-            "image" => tell_image(bytes, told),
-            "check" => tell_slice(self.heap()?, bytes, told),
+            "kind" => print_kind(bytes, printed),
+            "fat" => print_fat(bytes, printed),
+            "image" => print_image(bytes, printed),
+            "check" => print_slice(self.heap()?, bytes, printed),
             "nearest" => {
                 let addresses = addresses_of(self.alloc, call.words)?;
-                tell_nearest(self.heap()?, bytes, &addresses, told)
+                print_nearest(self.heap()?, bytes, &addresses, printed)
             }
             "named" => {
                 let name = bytes_of(self.alloc, self.store, call.words)?;
-                tell_named(bytes, &name, told)
+                print_named(bytes, &name, printed)
             }
             "reading" => {
                 let (failing, size) = failing_of(call.words)?;
-                tell_reading(bytes, failing, size, told)
+                print_reading(bytes, failing, size, printed)
             }
-            "asked" => tell_asked(bytes, told),
+            "asked" => print_asked(bytes, printed),
             "writing" => {
                 let (failing, size) = failing_of(call.words)?;
-                tell_writing(bytes, failing, size, told)
+                print_writing(bytes, failing, size, printed)
             }
-            _ => return self.call_on_source::<A>(call, told),
+            _ => return self.call_on_source::<A>(call, printed),
         })
     }
 
@@ -86,26 +86,26 @@ impl<'a> Desk<'a> {
     fn call_on_source<A: Archive + Drop>(
         self,
         call: Call<'a>,
-        told: &mut String,
+        printed: &mut String,
     ) -> Result<Ended, CaseFault> {
         let mut source = self.source(call.name)?;
         Ok(match call.verb {
-            "front" => tell_front::<A>(self.heap()?, &mut source, told),
-            "whole" => tell_whole::<A>(self.heap()?, &mut source, told),
+            "front" => print_front::<A>(self.heap()?, &mut source, printed),
+            "whole" => print_whole::<A>(self.heap()?, &mut source, printed),
             "part" => match Picked::of_words(call.words) {
                 Ok((picked, questions)) => {
-                    tell_part::<A>(self.heap()?, picked, questions, &mut source, told)
+                    print_part::<A>(self.heap()?, picked, questions, &mut source, printed)
                 }
                 Err(fault) => return Err(fault),
             },
-            "operations" => tell_operations(self.heap()?, &mut source, told),
-            "summary" => tell_summary(self.heap()?, &mut source, told),
+            "operations" => print_operations(self.heap()?, &mut source, printed),
+            "summary" => print_summary(self.heap()?, &mut source, printed),
             "merge-streams" => {
                 let mut right = self.source(call.words)?;
                 let most = self.limits.out;
-                tell_merging(&self.heap()?, &mut source, &mut right, most, told)
+                print_merging(&self.heap()?, &mut source, &mut right, most, printed)
             }
-            _ => return self.call_on_archives::<A>(call, told),
+            _ => return self.call_on_archives::<A>(call, printed),
         })
     }
 
@@ -113,22 +113,22 @@ impl<'a> Desk<'a> {
     fn call_on_archives<A: Archive + Drop>(
         self,
         call: Call<'a>,
-        told: &mut String,
+        printed: &mut String,
     ) -> Result<Ended, CaseFault> {
         let bytes = self.named(call.name)?;
         Ok(match call.verb {
             "pairs" => {
                 let (pairs, seed) = first_word(call.words);
-                tell_pairs::<A>(bytes, number(pairs)?, number(seed)?, told)
+                print_pairs::<A>(bytes, number(pairs)?, number(seed)?, printed)
             }
-            "heaps" => tell_heaps::<A>(self.texts(call)?, told),
+            "heaps" => print_heaps::<A>(self.texts(call)?, printed),
             "world" => {
                 let script = read_script(Heap::new(self.alloc)?, bytes).ok();
                 let script = script.ok_or(CaseFault::BadLine)?;
                 let sites = call.words.parse::<u32>()?;
-                tell_world::<A>(self.heap()?, &script, sites, told)
+                print_world::<A>(self.heap()?, &script, sites, printed)
             }
-            _ => tell_change::<A>(self.change(call)?, told),
+            _ => print_change::<A>(self.change(call)?, printed),
         })
     }
 
@@ -194,18 +194,18 @@ fn failing_of(words: &str) -> Result<(Failing, usize), CaseFault> {
 }
 
 // Carries out the events of a script on so many sites, and tells how many there were, and what each site holds.
-fn tell_world<A: Archive + Drop>(
+fn print_world<A: Archive + Drop>(
     heap: Heap,
     script: &Script,
     sites: u32,
-    told: &mut String,
+    printed: &mut String,
 ) -> Ended {
-    let alloc = *told.allocator();
+    let alloc = *printed.allocator();
     let (world, outcomes) = run::<A>(heap, sites, &script.events)?;
-    writeln!(told, "{} events", outcomes.len())?;
+    writeln!(printed, "{} events", outcomes.len())?;
     for number in 0..world.sites() {
-        write!(told, "site {number} ")?;
-        tell_text(&text_of(alloc, world.site(number).archive())?, told)?;
+        write!(printed, "site {number} ")?;
+        print_text(&text_of(alloc, world.site(number).archive())?, printed)?;
     }
     Ok(())
 }

@@ -3,56 +3,59 @@
 use crate::subjects::{Change, Observation, Subject};
 use archive_core::Archive;
 use memory::{Heap, NoMemory};
-use test_parts::{CallFault, Ended, answers_of, read, tell_text};
+use test_parts::{CallFault, Ended, answers_of, print_text, read};
 
 /// Makes a call, and tells what it gives and what is there then.
 ///
 /// Where memory is refused, what is there has to be what the call promises, and the call made again has to come to what
 /// it comes to with ample memory.
-pub fn tell_change<A: Archive + Drop>(change: Change, told: &mut String) -> Ended {
+pub fn print_change<A: Archive + Drop>(change: Change, printed: &mut String) -> Ended {
     let heap = Heap::new(change.alloc)?;
     let mut subject = Subject::<A>::begin(&heap, change)?;
-    let ended = subject.act(&heap, change, told);
+    let ended = subject.act(&heap, change, printed);
     match ended {
         Ok(()) => {
-            let seen = subject.see(&heap, change, told)?;
-            tell_seen(&seen, change, told)?;
-            tell_other_answers::<A>(&seen, change, told)?;
+            let seen = subject.see(&heap, change, printed)?;
+            print_seen(&seen, change, printed)?;
+            print_other_answers::<A>(&seen, change, printed)?;
         }
         Err(CallFault::OutOfMemory(_)) => {
-            tell_stopped::<A>(change, told)?;
-            tell_again(subject, &heap, change, told)?;
+            print_stopped::<A>(change, printed)?;
+            print_again(subject, &heap, change, printed)?;
         }
         Err(_) => {
-            let seen = subject.see(&heap, change, told)?;
-            if seen != seen_before::<A>(change, told)? {
-                writeln!(told, "WRONG: refused, and changed")?;
+            let seen = subject.see(&heap, change, printed)?;
+            if seen != seen_before::<A>(change, printed)? {
+                writeln!(printed, "WRONG: refused, and changed")?;
             }
         }
     }
     ended
 }
 
-fn tell_seen(seen: &Observation, change: Change, told: &mut String) -> Result<(), NoMemory> {
-    told.push_str("held: ")?;
-    tell_text(&seen.held, told)?;
+fn print_seen(seen: &Observation, change: Change, printed: &mut String) -> Result<(), NoMemory> {
+    printed.push_str("held: ")?;
+    print_text(&seen.held, printed)?;
     if change.saved.is_some() {
-        told.push_str("saved: ")?;
-        tell_text(&seen.saved, told)?;
+        printed.push_str("saved: ")?;
+        print_text(&seen.saved, printed)?;
     }
-    told.push_str(&seen.answers)
+    printed.push_str(&seen.answers)
 }
 
-// Tells where an archive that is read from the text of another one answers otherwise.
-fn tell_other_answers<A: Archive + Drop>(
+// Prints where an archive that is read from the text of another one answers otherwise.
+fn print_other_answers<A: Archive + Drop>(
     seen: &Observation,
     change: Change,
-    told: &mut String,
+    printed: &mut String,
 ) -> Ended {
     let heap = Heap::new(change.alloc)?;
     let archive: A = read(heap.share(), &seen.held)?;
-    if answers_of(&heap, &archive, change.questions, told)? != seen.answers {
-        writeln!(told, "WRONG: an archive of the same text answers otherwise")?;
+    if answers_of(&heap, &archive, change.questions, printed)? != seen.answers {
+        writeln!(
+            printed,
+            "WRONG: an archive of the same text answers otherwise"
+        )?;
     }
     Ok(())
 }
@@ -60,37 +63,37 @@ fn tell_other_answers<A: Archive + Drop>(
 // What is seen before the call.
 fn seen_before<A: Archive + Drop>(
     change: Change,
-    told: &mut String,
+    printed: &mut String,
 ) -> Result<Observation, CallFault> {
     let heap = Heap::new(change.alloc)?;
-    Subject::<A>::begin(&heap, change)?.see(&heap, change, told)
+    Subject::<A>::begin(&heap, change)?.see(&heap, change, printed)
 }
 
 // How the call ends, and what is seen then.
 fn seen_after<A: Archive + Drop>(
     change: Change,
-    told: &mut String,
+    printed: &mut String,
 ) -> Result<(Ended, Observation), CallFault> {
     let heap = Heap::new(change.alloc)?;
     let mut subject = Subject::<A>::begin(&heap, change)?;
     let mut aside = String::new(change.alloc);
     let ended = subject.act(&heap, change, &mut aside);
-    Ok((ended, subject.see(&heap, change, told)?))
+    Ok((ended, subject.see(&heap, change, printed)?))
 }
 
-// Tells where a refused call left what it does not promise.
-fn tell_stopped<A: Archive + Drop>(change: Change, told: &mut String) -> Ended {
-    let (_, stopped) = seen_after::<A>(change, told)?;
-    tell_other_answers::<A>(&stopped, change, told)?;
-    let before = seen_before::<A>(change, told)?;
+// Prints where a refused call left what it does not promise.
+fn print_stopped<A: Archive + Drop>(change: Change, printed: &mut String) -> Ended {
+    let (_, stopped) = seen_after::<A>(change, printed)?;
+    print_other_answers::<A>(&stopped, change, printed)?;
+    let before = seen_before::<A>(change, printed)?;
     let stands = if change.is_done_in_parts() {
-        let (_, whole) = seen_after::<A>(change.with_ample_memory(), told)?;
+        let (_, whole) = seen_after::<A>(change.with_ample_memory(), printed)?;
         is_between::<A>(change, &before, &stopped, &whole)?
     } else {
         stopped == before
     };
     if !stands {
-        writeln!(told, "WRONG: refused, and left otherwise")?;
+        writeln!(printed, "WRONG: refused, and left otherwise")?;
     }
     Ok(())
 }
@@ -109,21 +112,21 @@ fn is_between<A: Archive + Drop>(
     Ok(is_one_saved && held.covers(&least) && most.covers(&held))
 }
 
-// Tells where a refused call, made again, comes to something else than it comes to at once.
-fn tell_again<A: Archive + Drop>(
+// Prints where a refused call, made again, comes to something else than it comes to at once.
+fn print_again<A: Archive + Drop>(
     mut subject: Subject<A>,
     heap: &Heap,
     change: Change,
-    told: &mut String,
+    printed: &mut String,
 ) -> Ended {
     let change = change.with_ample_memory();
     let mut aside = String::new(change.alloc);
     heap.grant(u64::MAX);
     let ended = subject.act(heap, change, &mut aside);
-    let again = subject.see(heap, change, told)?;
-    let (ended_at_once, at_once) = seen_after::<A>(change, told)?;
+    let again = subject.see(heap, change, printed)?;
+    let (ended_at_once, at_once) = seen_after::<A>(change, printed)?;
     if ended != ended_at_once || again != at_once {
-        writeln!(told, "WRONG: made again, it comes to something else")?;
+        writeln!(printed, "WRONG: made again, it comes to something else")?;
     }
     Ok(())
 }

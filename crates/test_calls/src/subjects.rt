@@ -9,7 +9,7 @@ use join_core::Join;
 use memory::Heap;
 use std::alloc::Global;
 use test_parts::{
-    CallFault, Ended, answers_of, read, tell_answers, tell_beside, tell_each_taking, tell_text,
+    CallFault, Ended, answers_of, print_answers, print_beside, print_each_taking, print_text, read,
     text_of,
 };
 use text_reports::Text;
@@ -77,12 +77,12 @@ impl<A: Archive + Drop> Subject<A> {
     }
 
     /// Makes the call, and tells what it gives.
-    pub fn act(&mut self, heap: &Heap, change: Change, told: &mut String) -> Ended {
+    pub fn act(&mut self, heap: &Heap, change: Change, printed: &mut String) -> Ended {
         match self {
-            Subject::Archive(archive) => tell_on_archive(archive, heap, change, told),
+            Subject::Archive(archive) => print_on_archive(archive, heap, change, printed),
             Subject::Site(site) => {
                 heap.grant(change.growths);
-                tell_at_site(site, heap, change, told)
+                print_at_site(site, heap, change, printed)
             }
         }
     }
@@ -92,12 +92,12 @@ impl<A: Archive + Drop> Subject<A> {
         mut self,
         heap: &Heap,
         change: Change,
-        told: &mut String,
+        printed: &mut String,
     ) -> Result<Observation, CallFault> {
         heap.grant(0);
         let held = text_of(change.alloc, self.archive())?;
         heap.grant(u64::MAX);
-        let answers = answers_of(heap, self.archive(), change.questions, told)?;
+        let answers = answers_of(heap, self.archive(), change.questions, printed)?;
         let mut saved = Vec::new(change.alloc);
         if let Subject::Site(site) = &mut self {
             site.stop()?;
@@ -118,31 +118,31 @@ impl<A: Archive + Drop> Subject<A> {
     }
 }
 
-fn tell_on_archive<A: Archive + Drop>(
+fn print_on_archive<A: Archive + Drop>(
     archive: &mut A,
     heap: &Heap,
     change: Change,
-    told: &mut String,
+    printed: &mut String,
 ) -> Ended {
     match change.verb {
         "ask" => {
             heap.grant(change.growths);
-            tell_answers(heap, archive, change.questions, told)?;
+            print_answers(heap, archive, change.questions, printed)?;
         }
-        "take" => tell_each_taking(archive, operations_of(heap, change)?, told)?,
+        "take" => print_each_taking(archive, operations_of(heap, change)?, printed)?,
         "take-each" => {
             let new = take_each(archive, operations_of(heap, change)?)?;
-            writeln!(told, "{new} new")?;
+            writeln!(printed, "{new} new")?;
         }
         "join" => {
-            let other = other_of(archive, heap, change, told)?;
+            let other = other_of(archive, heap, change, printed)?;
             archive.join(&other)?;
-            tell_beside(archive, &other, told)?;
+            print_beside(archive, &other, printed)?;
         }
         "absorb" => {
-            let other = other_of(archive, heap, change, told)?;
+            let other = other_of(archive, heap, change, printed)?;
             take_all(archive, other)?;
-            writeln!(told, "{} records", archive.len())?;
+            writeln!(printed, "{} records", archive.len())?;
         }
         _ => return Err(CallFault::NoSuchCall),
     }
@@ -161,36 +161,36 @@ fn other_of<A: Archive + Drop>(
     archive: &A,
     heap: &Heap,
     change: Change,
-    told: &mut String,
+    printed: &mut String,
 ) -> Result<A, CallFault> {
     let other = read(heap.share(), change.input)?;
-    tell_beside(archive, &other, told)?;
+    print_beside(archive, &other, printed)?;
     heap.grant(change.growths);
     Ok(other)
 }
 
-fn tell_at_site<A: Archive + Drop>(
+fn print_at_site<A: Archive + Drop>(
     site: &mut Site<A>,
     heap: &Heap,
     change: Change,
-    told: &mut String,
+    printed: &mut String,
 ) -> Ended {
     let input = change.input;
     match change.verb {
         "new" => *site = Site::new(heap.share())?,
         "take" => {
             for row in site.take_file(input)? {
-                writeln!(told, "{}", Text(row))?;
+                writeln!(printed, "{}", Text(row))?;
             }
         }
         "retire" => {
             let slice = Slice::check(input)?;
             let new = site.retire(slice.key(), slice.digest())?;
-            writeln!(told, "new: {new}")?;
+            writeln!(printed, "new: {new}")?;
         }
-        "full" => tell_text(&site.full()?, told)?,
-        "ask" => tell_text(&site.ask()?, told)?,
-        "reply" => tell_text(&site.reply(input)?, told)?,
+        "full" => print_text(&site.full()?, printed)?,
+        "ask" => print_text(&site.ask()?, printed)?,
+        "reply" => print_text(&site.reply(input)?, printed)?,
         "deliver" => site.deliver(input)?,
         "save" => site.save()?,
         "stop" => site.stop()?,

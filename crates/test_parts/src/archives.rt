@@ -2,7 +2,7 @@
 
 use crate::devices::{StrictSink, StrictSource};
 use crate::faults::Ended;
-use crate::tellings::tell_text;
+use crate::printing::print_text;
 use archive_core::{Archive, Operation, Record};
 use archive_merge::merge_streams;
 use archive_read::{read_archive, read_front, read_ops};
@@ -14,14 +14,14 @@ use text_reports::Text;
 use text_values::Spelled;
 
 /// Reads an archive's text from the front of an input, and tells what is left of it.
-pub fn tell_front<A: Archive + Drop>(
+pub fn print_front<A: Archive + Drop>(
     heap: Heap,
     source: &mut StrictSource,
-    told: &mut String,
+    printed: &mut String,
 ) -> Ended {
     let records = read_front::<A, _>(heap, source)?.len();
     let (left, end) = count_left(source);
-    Ok(writeln!(told, "{records} records, {left} bytes are left{end}")?)
+    Ok(writeln!(printed, "{records} records, {left} bytes are left{end}")?)
 }
 
 // How many bytes an input still gives, and how it ends.
@@ -38,81 +38,81 @@ fn count_left(source: &mut StrictSource) -> (u64, &'static str) {
 }
 
 /// Reads an archive's text, and tells how many records it has, and how many entries its summary.
-pub fn tell_whole<A: Archive + Drop>(
+pub fn print_whole<A: Archive + Drop>(
     heap: Heap,
     source: &mut StrictSource,
-    told: &mut String,
+    printed: &mut String,
 ) -> Ended {
     let archive = read_archive::<A, _>(heap.share(), source)?;
     let records = archive.len();
     let entries = Summary::of(heap, &archive)?.len();
-    Ok(writeln!(told, "{records} records, {entries} entries")?)
+    Ok(writeln!(printed, "{records} records, {entries} entries")?)
 }
 
 /// Reads operations, and tells how many there are.
-pub fn tell_operations(heap: Heap, source: &mut StrictSource, told: &mut String) -> Ended {
+pub fn print_operations(heap: Heap, source: &mut StrictSource, printed: &mut String) -> Ended {
     let operations = read_ops(heap, source)?.len();
-    Ok(writeln!(told, "{operations} operations")?)
+    Ok(writeln!(printed, "{operations} operations")?)
 }
 
 /// Reads a summary, and tells how many entries it has.
-pub fn tell_summary(heap: Heap, source: &mut StrictSource, told: &mut String) -> Ended {
+pub fn print_summary(heap: Heap, source: &mut StrictSource, printed: &mut String) -> Ended {
     let entries = read_summary(heap, source)?.len();
-    Ok(writeln!(told, "{entries} entries")?)
+    Ok(writeln!(printed, "{entries} entries")?)
 }
 
 /// Merges two archives as they come into an output that takes so many bytes, and tells how large the join is, or what
 /// stopped it, and what was written.
-pub fn tell_merging(
+pub fn print_merging(
     heap: &Heap,
     left: &mut StrictSource,
     right: &mut StrictSource,
     most: usize,
-    told: &mut String,
+    printed: &mut String,
 ) -> Ended {
-    let mut out = StrictSink::new(Heap::new(*told.allocator())?, most);
+    let mut out = StrictSink::new(Heap::new(*printed.allocator())?, most);
     match merge_streams(heap, left, right, &mut out) {
-        Ok(sizes) => writeln!(told, "{} records, {} bytes", sizes.records, sizes.bytes)?,
-        Err(stopped) => tell_stopped(stopped, told)?,
+        Ok(sizes) => writeln!(printed, "{} records, {} bytes", sizes.records, sizes.bytes)?,
+        Err(stopped) => print_stopped(stopped, printed)?,
     }
-    Ok(tell_text(out.as_slice(), told)?)
+    Ok(print_text(out.as_slice(), printed)?)
 }
 
-// Tells what stopped a merge, and after how many bytes.
-fn tell_stopped(stopped: MergeFault, told: &mut String) -> Result<(), NoMemory> {
+// Prints what stopped a merge, and after how many bytes.
+fn print_stopped(stopped: MergeFault, printed: &mut String) -> Result<(), NoMemory> {
     match stopped.cause {
-        MergeCause::Left(fault) => write!(told, "Left: {:?} at {}", fault.kind, fault.offset)?,
-        MergeCause::Right(fault) => write!(told, "Right: {:?} at {}", fault.kind, fault.offset)?,
-        MergeCause::Write => write!(told, "Write")?,
+        MergeCause::Left(fault) => write!(printed, "Left: {:?} at {}", fault.kind, fault.offset)?,
+        MergeCause::Right(fault) => write!(printed, "Right: {:?} at {}", fault.kind, fault.offset)?,
+        MergeCause::Write => write!(printed, "Write")?,
     }
-    writeln!(told, "; {} bytes written", stopped.written)
+    writeln!(printed, "; {} bytes written", stopped.written)
 }
 
 /// Takes operations into an archive in turn, and tells of each whether it was new.
-pub fn tell_each_taking<A: Archive>(
+pub fn print_each_taking<A: Archive>(
     archive: &mut A,
     operations: Vec<Operation, Heap>,
-    told: &mut String,
+    printed: &mut String,
 ) -> Ended {
     for operation in operations {
-        tell_taking(archive, operation, told)?;
+        print_taking(archive, operation, printed)?;
     }
-    Ok(writeln!(told, "{} records", archive.len())?)
+    Ok(writeln!(printed, "{} records", archive.len())?)
 }
 
 // Takes an operation, and tells whether it was new. One that is refused leaves the archive as it was.
-fn tell_taking<A: Archive>(archive: &mut A, operation: Operation, told: &mut String) -> Ended {
-    let alloc = *told.allocator();
+fn print_taking<A: Archive>(archive: &mut A, operation: Operation, printed: &mut String) -> Ended {
+    let alloc = *printed.allocator();
     let before = text_of(alloc, archive)?;
     let held = archive.holds(&operation);
-    tell_record(&operation.lend(), told)?;
+    print_record(&operation.lend(), printed)?;
     match archive.take(operation) {
-        Ok(true) => writeln!(told, " new")?,
-        Ok(false) if held => writeln!(told, " held")?,
-        Ok(false) => writeln!(told, " covered")?,
+        Ok(true) => writeln!(printed, " new")?,
+        Ok(false) if held => writeln!(printed, " held")?,
+        Ok(false) => writeln!(printed, " covered")?,
         Err(refused) => {
             if text_of(alloc, archive)? != before {
-                writeln!(told, " WRONG: refused, and taken")?;
+                writeln!(printed, " WRONG: refused, and taken")?;
             }
             return Err(refused.into());
         }
@@ -120,14 +120,19 @@ fn tell_taking<A: Archive>(archive: &mut A, operation: Operation, told: &mut Str
     Ok(())
 }
 
-/// Tells a record, and does not end the line.
-pub fn tell_record(record: &Record, told: &mut String) -> Result<(), NoMemory> {
+/// Prints a record, and does not end the line.
+pub fn print_record(record: &Record, printed: &mut String) -> Result<(), NoMemory> {
     match record {
         Record::Admit(slice) => {
             let key = Text(slice.key());
-            write!(told, "admit {key} {}", Spelled(slice.digest()))
+            write!(printed, "admit {key} {}", Spelled(slice.digest()))
         }
-        Record::Retire(key, digest) => write!(told, "retire {} {}", Text(*key), Spelled(*digest)),
+        Record::Retire(key, digest) => write!(
+            printed,
+            "retire {} {}",
+            Text(*key),
+            Spelled(*digest)
+        ),
     }
 }
 
@@ -145,9 +150,13 @@ pub fn text_of<A: Archive>(alloc: Global, archive: &A) -> Result<Vec<u8>, NoMemo
     }
 }
 
-/// Tells how many records an archive has, and whether it has all of the other's.
-pub fn tell_beside<A: Archive>(archive: &A, other: &A, told: &mut String) -> Result<(), NoMemory> {
+/// Prints how many records an archive has, and whether it has all of the other's.
+pub fn print_beside<A: Archive>(
+    archive: &A,
+    other: &A,
+    printed: &mut String,
+) -> Result<(), NoMemory> {
     let records = archive.len();
     let all = if archive.covers(other) { "yes" } else { "no" };
-    writeln!(told, "{records} records, all of the other: {all}")
+    writeln!(printed, "{records} records, all of the other: {all}")
 }

@@ -3,34 +3,38 @@
 use memory::{Heap, NoMemory};
 use std::alloc::Global;
 
-/// Tells what memory with so many growths holds: one vector of numbers, or three that share them.
-pub fn tell_room(alloc: Global, growths: u64, told: &mut String) -> Result<(), NoMemory> {
-    tell_one(Heap::with_growths(alloc, growths)?, told)?;
-    tell_three(Heap::with_growths(alloc, growths)?, told)
+/// Prints what memory with so many growths holds: one vector of numbers, or three that share them.
+pub fn print_room(alloc: Global, growths: u64, printed: &mut String) -> Result<(), NoMemory> {
+    print_one(Heap::with_growths(alloc, growths)?, printed)?;
+    print_three(Heap::with_growths(alloc, growths)?, printed)
 }
 
-/// Tells what memory with so many bytes holds: one vector of numbers of 8 bytes.
-pub fn tell_room_of_bytes(alloc: Global, bytes: u64, told: &mut String) -> Result<(), NoMemory> {
+/// Prints what memory with so many bytes holds: one vector of numbers of 8 bytes.
+pub fn print_room_of_bytes(
+    alloc: Global,
+    bytes: u64,
+    printed: &mut String,
+) -> Result<(), NoMemory> {
     let heap = Heap::new(alloc)?;
     heap.grant_bytes(bytes);
-    tell_one(heap, told)
+    print_one(heap, printed)
 }
 
 // How many numbers are tried.
 const NUMBERS: u64 = 99;
 
-// Tells how many numbers one vector takes. It has room for 4 once it has grown, and then for twice as many.
-fn tell_one(heap: Heap, told: &mut String) -> Result<(), NoMemory> {
+// Prints how many numbers one vector takes. It has room for 4 once it has grown, and then for twice as many.
+fn print_one(heap: Heap, printed: &mut String) -> Result<(), NoMemory> {
     let mut numbers = Vec::new(heap);
     for number in 0..NUMBERS {
         let _ = numbers.push(number);
     }
-    writeln!(told, "  one takes {}", numbers.len())
+    writeln!(printed, "  one takes {}", numbers.len())
 }
 
-// Tells which of three vectors take a number, the first of which is made smaller and goes back before the third is
+// Prints which of three vectors take a number, the first of which is made smaller and goes back before the third is
 // asked, and what the third and a fourth take once a growth more is granted.
-fn tell_three(heap: Heap, told: &mut String) -> Result<(), NoMemory> {
+fn print_three(heap: Heap, printed: &mut String) -> Result<(), NoMemory> {
     let mut first = Vec::new(heap.share());
     let mut second = Vec::new(heap.share());
     let mut third = Vec::new(heap.share());
@@ -41,7 +45,7 @@ fn tell_three(heap: Heap, told: &mut String) -> Result<(), NoMemory> {
     heap.grant(1);
     let granted = [third.push(4u8).is_ok(), Vec::new(heap).push(5u8).is_ok()];
     writeln!(
-        told,
+        printed,
         "  three take {taken:?} {third_took}, then {granted:?}"
     )
 }

@@ -39,15 +39,15 @@ impl<A: Archive + Drop> Apart<A> {
     }
 }
 
-/// Tells what grows where each of two archives has its own memory: each is made to want memory while the other is not.
-pub fn tell_heaps<A: Archive + Drop>(texts: Texts, told: &mut String) -> Ended {
-    tell_copies(texts, told)?;
-    tell_joined::<A>(texts, told)?;
-    tell_absorbed::<A>(texts, told)
+/// Prints what grows where each of two archives has its own memory: each is made to want memory while the other is not.
+pub fn print_heaps<A: Archive + Drop>(texts: Texts, printed: &mut String) -> Ended {
+    print_copies(texts, printed)?;
+    print_joined::<A>(texts, printed)?;
+    print_absorbed::<A>(texts, printed)
 }
 
-// Tells how many operations are copied to a memory, where that of the first ones runs out, and where it itself does.
-fn tell_copies(texts: Texts, told: &mut String) -> Ended {
+// Prints how many operations are copied to a memory, where that of the first ones runs out, and where it itself does.
+fn print_copies(texts: Texts, printed: &mut String) -> Ended {
     let own = Heap::new(texts.alloc)?;
     let theirs = Heap::new(texts.alloc)?;
     let operations = read_ops(theirs.share(), &mut Bytes::new(texts.operations))?;
@@ -57,7 +57,7 @@ fn tell_copies(texts: Texts, told: &mut String) -> Ended {
     own.grant(0);
     let without = count_copies(&own, &operations)?;
     writeln!(
-        told,
+        printed,
         "{with} copied in their own memory, {without} without it"
     )?;
     Ok(())
@@ -73,41 +73,46 @@ fn count_copies(heap: &Heap, operations: &[Operation]) -> Result<u64, NoMemory> 
     Ok(copied)
 }
 
-// Tells whether an archive joins another where its own memory runs out, and what both have when they grow in theirs.
-fn tell_joined<A: Archive + Drop>(texts: Texts, told: &mut String) -> Ended {
+// Prints whether an archive joins another where its own memory runs out, and what both have when they grow in theirs.
+fn print_joined<A: Archive + Drop>(texts: Texts, printed: &mut String) -> Ended {
     let mut apart = Apart::<A>::read(texts)?;
     apart.own.grant(0);
     let joined = apart.archive.join(&apart.other).is_ok();
-    writeln!(told, "joined without its own memory: {joined}")?;
+    writeln!(printed, "joined without its own memory: {joined}")?;
     apart.own.grant(u64::MAX);
     apart.theirs.grant(0);
     apart.archive.join(&apart.other)?;
-    tell_growing("joined", &mut apart.archive, texts, told)?;
+    print_growing("joined", &mut apart.archive, texts, printed)?;
     apart.theirs.grant(u64::MAX);
     apart.own.grant(0);
-    tell_growing("the other", &mut apart.other, texts, told)
+    print_growing("the other", &mut apart.other, texts, printed)
 }
 
-// Tells a join by value in the same way.
-fn tell_absorbed<A: Archive + Drop>(texts: Texts, told: &mut String) -> Ended {
+// Prints a join by value in the same way.
+fn print_absorbed<A: Archive + Drop>(texts: Texts, printed: &mut String) -> Ended {
     let mut apart = Apart::<A>::read(texts)?;
     let other = apart.other;
     apart.own.grant(0);
     let absorbed = take_all(&mut apart.archive, other).is_ok();
-    writeln!(told, "absorbed without its own memory: {absorbed}")?;
+    writeln!(printed, "absorbed without its own memory: {absorbed}")?;
     let mut apart = Apart::<A>::read(texts)?;
     let other = apart.other;
     apart.theirs.grant(0);
     take_all(&mut apart.archive, other)?;
-    tell_growing("absorbed", &mut apart.archive, texts, told)
+    print_growing("absorbed", &mut apart.archive, texts, printed)
 }
 
-// Tells how many records an archive has, and then with each operation that it can take.
-fn tell_growing<A: Archive>(what: &str, archive: &mut A, texts: Texts, told: &mut String) -> Ended {
+// Prints how many records an archive has, and then with each operation that it can take.
+fn print_growing<A: Archive>(
+    what: &str,
+    archive: &mut A,
+    texts: Texts,
+    printed: &mut String,
+) -> Ended {
     let before = archive.len();
     for operation in read_ops(Heap::new(texts.alloc)?, &mut Bytes::new(texts.operations))? {
         let _ = archive.take(operation);
     }
     let after = archive.len();
-    Ok(writeln!(told, "{what}: {before} records, then {after}")?)
+    Ok(writeln!(printed, "{what}: {before} records, then {after}")?)
 }

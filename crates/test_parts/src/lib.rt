@@ -14,7 +14,7 @@
 //! - `streams`, `growths`: streams of std that fail, and memory that is refused;
 //! - `heaps`: two memories, one for each of two archives;
 //! - `pairs`: random pairs of archives, merged and joined;
-//! - `tellings`: what is printed of a case.
+//! - `printing`: what is printed of a case.
 #![tactic(auto)]
 
 mod addresses;
@@ -29,30 +29,30 @@ mod images;
 mod limits;
 mod pairs;
 mod parts;
+mod printing;
 mod questions;
 mod selections;
 mod store;
 mod streams;
-mod tellings;
 mod words;
 
 pub use addresses::addresses_of;
 pub use archives::{
-    read, tell_beside, tell_each_taking, tell_front, tell_merging, tell_operations, tell_summary,
-    tell_whole, text_of,
+    print_beside, print_each_taking, print_front, print_merging, print_operations, print_summary,
+    print_whole, read, text_of,
 };
 pub use devices::{Shelf, StrictSink, StrictSource};
 pub use ends::{End, Left};
 pub use faults::{CallFault, CaseFault, Ended};
-pub use growths::{tell_room, tell_room_of_bytes};
-pub use heaps::{Texts, tell_heaps};
-pub use images::{tell_fat, tell_image, tell_kind, tell_named, tell_nearest, tell_slice};
+pub use growths::{print_room, print_room_of_bytes};
+pub use heaps::{Texts, print_heaps};
+pub use images::{print_fat, print_image, print_kind, print_named, print_nearest, print_slice};
 pub use limits::{FileLimit, Limits, Sweep};
-pub use pairs::tell_pairs;
+pub use pairs::print_pairs;
 pub use parts::{bytes_of, number};
-pub use questions::{answers_of, tell_answers};
-pub use selections::{Picked, tell_part};
+pub use printing::{print_left, print_line_fault, print_report, print_same, print_text};
+pub use questions::{answers_of, print_answers};
+pub use selections::{Picked, print_part};
 pub use store::Store;
-pub use streams::{Failing, tell_asked, tell_reading, tell_writing};
-pub use tellings::{tell_left, tell_line_fault, tell_report, tell_same, tell_text};
+pub use streams::{Failing, print_asked, print_reading, print_writing};
 pub use words::{first_word, words_of};

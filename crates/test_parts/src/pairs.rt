@@ -2,7 +2,7 @@
 
 use crate::archives::{read, text_of};
 use crate::faults::{CallFault, Ended};
-use crate::tellings::tell_text;
+use crate::printing::print_text;
 use archive_core::{Archive, Operation, Slice, take_all};
 use archive_merge::merge_streams;
 use byte_device::{Bytes, Grown};
@@ -47,13 +47,13 @@ fn sides(number: u64, operation: &Operation, dice: &mut Dice) -> (bool, bool) {
 
 /// Merges random pairs of archives, whose slices are made from an image, and tells where a join of the two as values is
 /// another archive, and the digest of all.
-pub fn tell_pairs<A: Archive + Drop>(
+pub fn print_pairs<A: Archive + Drop>(
     image: &[u8],
     pairs: u64,
     seed: u64,
-    told: &mut String,
+    printed: &mut String,
 ) -> Ended {
-    let alloc = *told.allocator();
+    let alloc = *printed.allocator();
     let heap = Heap::new(alloc)?;
     let mut dice = Dice(seed);
     let mut all = Vec::new(alloc);
@@ -66,11 +66,11 @@ pub fn tell_pairs<A: Archive + Drop>(
         take_all(&mut joined, read(heap.share(), &right)?)?;
         let records = sizes.map(|sizes| sizes.records);
         if records != Ok(joined.len()) || merged.as_slice() != text_of(alloc, &joined)?.as_slice() {
-            writeln!(told, "WRONG: pair {number} is merged otherwise")?;
+            writeln!(printed, "WRONG: pair {number} is merged otherwise")?;
         }
         all.extend_from_slice(merged.as_slice())?;
     }
-    Ok(tell_text(&all, told)?)
+    Ok(print_text(&all, printed)?)
 }
 
 // The texts of the pair of this number.

@@ -11,15 +11,20 @@ use std::alloc::Global;
 use text_reports::{Text, find_lines, push_answer};
 
 /// Asks an archive, and tells its answers.
-pub fn tell_answers<A: Archive>(heap: &Heap, archive: &A, words: &str, told: &mut String) -> Ended {
+pub fn print_answers<A: Archive>(
+    heap: &Heap,
+    archive: &A,
+    words: &str,
+    printed: &mut String,
+) -> Ended {
     for question in words.split(' ') {
         match address(question) {
-            Ok(address) => tell_lookups(heap, archive, address, told)?,
+            Ok(address) => print_lookups(heap, archive, address, printed)?,
             Err(_) if question.is_empty() => {}
-            Err(_) if question == "find" => tell_finds(heap, archive, told)?,
+            Err(_) if question == "find" => print_finds(heap, archive, printed)?,
             Err(_) => {
                 for row in archive.find_name(question.as_bytes())?.iter() {
-                    writeln!(told, "{}", Text(row))?;
+                    writeln!(printed, "{}", Text(row))?;
                 }
             }
         }
@@ -27,22 +32,27 @@ pub fn tell_answers<A: Archive>(heap: &Heap, archive: &A, words: &str, told: &mu
     Ok(())
 }
 
-fn tell_lookups<A: Archive>(heap: &Heap, archive: &A, address: u64, told: &mut String) -> Ended {
-    for key in keys_of(*told.allocator(), archive)? {
+fn print_lookups<A: Archive>(
+    heap: &Heap,
+    archive: &A,
+    address: u64,
+    printed: &mut String,
+) -> Ended {
+    for key in keys_of(*printed.allocator(), archive)? {
         let answer = archive.lookup(&key, Where::File(address))?;
         let mut text = String::new(heap.share());
         push_answer(heap, &mut text, address, &answer, &[])?;
-        told.push_str(&text)?;
+        printed.push_str(&text)?;
     }
     Ok(())
 }
 
-fn tell_finds<A: Archive>(heap: &Heap, archive: &A, told: &mut String) -> Result<(), NoMemory> {
+fn print_finds<A: Archive>(heap: &Heap, archive: &A, printed: &mut String) -> Result<(), NoMemory> {
     let mut asked = None;
-    for key in keys_of(*told.allocator(), archive)? {
+    for key in keys_of(*printed.allocator(), archive)? {
         if asked != Some(key.uuid) {
             let rows = archive.find(&key.uuid)?;
-            told.push_str(&find_lines(heap.share(), &rows)?)?;
+            printed.push_str(&find_lines(heap.share(), &rows)?)?;
             asked = Some(key.uuid);
         }
     }
@@ -54,24 +64,28 @@ pub fn answers_of<A: Archive>(
     heap: &Heap,
     archive: &A,
     questions: &str,
-    told: &mut String,
+    printed: &mut String,
 ) -> Result<String, CallFault> {
-    let mut answers = String::new(*told.allocator());
+    let mut answers = String::new(*printed.allocator());
     if !questions.is_empty() {
-        tell_needless(heap, archive, told)?;
-        tell_answers(heap, archive, questions, &mut answers)?;
+        print_needless(heap, archive, printed)?;
+        print_answers(heap, archive, questions, &mut answers)?;
     }
     Ok(answers)
 }
 
-fn tell_needless<A: Archive>(heap: &Heap, archive: &A, told: &mut String) -> Result<(), NoMemory> {
-    for key in keys_of(*told.allocator(), archive)? {
+fn print_needless<A: Archive>(
+    heap: &Heap,
+    archive: &A,
+    printed: &mut String,
+) -> Result<(), NoMemory> {
+    for key in keys_of(*printed.allocator(), archive)? {
         let place = Where::File(0x1040);
         heap.grant(0);
         let refused = archive.lookup(&key, place).is_err();
         heap.grant(u64::MAX);
         if refused && !matches!(&archive.lookup(&key, place)?, Answer::Conflict(_)) {
-            writeln!(told, "WRONG: a lookup without a conflict is refused")?;
+            writeln!(printed, "WRONG: a lookup without a conflict is refused")?;
         }
     }
     Ok(())

@@ -1,10 +1,10 @@
 //! Calls that read an archive and keep a part of it.
 
-use crate::archives::{tell_record, text_of};
+use crate::archives::{print_record, text_of};
 use crate::devices::StrictSource;
 use crate::faults::{CaseFault, Ended};
-use crate::questions::tell_answers;
-use crate::tellings::tell_text;
+use crate::printing::print_text;
+use crate::questions::print_answers;
 use crate::words::first_word;
 use archive_core::{ArchKey, Archive, SliceKey};
 use archive_read::{Under, read_part};
@@ -37,20 +37,20 @@ impl Picked {
 
 /// Reads an archive's text, keeps the records that are picked, and tells each, what text they are, and their answers.
 /// The growths and the bytes that memory has are those of the reading.
-pub fn tell_part<A: Archive + Drop>(
+pub fn print_part<A: Archive + Drop>(
     heap: Heap,
     picked: Picked,
     questions: &str,
     source: &mut StrictSource,
-    told: &mut String,
+    printed: &mut String,
 ) -> Ended {
     let part: A = read_picked(heap.share(), picked, source)?;
     heap.grant(u64::MAX);
     heap.grant_bytes(u64::MAX);
-    tell_records(&part, told)?;
-    told.push_str("held: ")?;
-    tell_text(&text_of(*told.allocator(), &part)?, told)?;
-    tell_answers(&heap, &part, questions, told)
+    print_records(&part, printed)?;
+    printed.push_str("held: ")?;
+    print_text(&text_of(*printed.allocator(), &part)?, printed)?;
+    print_answers(&heap, &part, questions, printed)
 }
 
 // Reads an archive, and keeps the records that are picked.
@@ -65,11 +65,11 @@ fn read_picked<A: Archive + Drop>(
     }
 }
 
-// Tells each record of an archive, and how many there are.
-fn tell_records<A: Archive>(archive: &A, told: &mut String) -> Result<(), NoMemory> {
+// Prints each record of an archive, and how many there are.
+fn print_records<A: Archive>(archive: &A, printed: &mut String) -> Result<(), NoMemory> {
     for index in 0..archive.len() {
-        tell_record(&archive.record_at(index), told)?;
-        told.push_str("\n")?;
+        print_record(&archive.record_at(index), printed)?;
+        printed.push_str("\n")?;
     }
-    writeln!(told, "{} records", archive.len())
+    writeln!(printed, "{} records", archive.len())
 }

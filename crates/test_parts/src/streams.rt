@@ -4,7 +4,7 @@ ghost use Rattle.std.specs.Prelude.{◌≡◌, IfOk, IfSome};
 
 use crate::devices::{StrictSink, StrictSource};
 use crate::faults::Ended;
-use crate::tellings::tell_text;
+use crate::printing::print_text;
 use byte_device::{Failed, Reading, Sink, Source, Writing};
 use memory::{Heap, NoMemory};
 use std::io::{self, Error, ErrorKind, Read, Write};
@@ -79,54 +79,54 @@ impl<W: Write> Write for FailsOnce<W> {
 // How often a stream is asked.
 const CALLS: usize = 4;
 
-/// Tells what four pulls of so many bytes come to, from a reader of std over a file.
-pub fn tell_reading(file: &[u8], failing: Failing, size: usize, told: &mut String) -> Ended {
+/// Prints what four pulls of so many bytes come to, from a reader of std over a file.
+pub fn print_reading(file: &[u8], failing: Failing, size: usize, printed: &mut String) -> Ended {
     let mut reader = FailsOnce {
         stream: file,
         failing,
         calls: 0,
     };
-    let mut piece = Vec::new(*told.allocator());
+    let mut piece = Vec::new(*printed.allocator());
     piece.resize(size, 0u8)?;
     let mut device = Reading::new(&mut reader);
     for _ in 0..CALLS {
-        tell_moved(device.pull(&mut piece), told)?;
+        print_moved(device.pull(&mut piece), printed)?;
     }
-    Ok(writeln!(told, "{} calls", reader.calls)?)
+    Ok(writeln!(printed, "{} calls", reader.calls)?)
 }
 
-/// Tells what the pushes of a file in pieces of so many bytes come to, to a writer of std, and what that has then.
-pub fn tell_writing(file: &[u8], failing: Failing, size: usize, told: &mut String) -> Ended {
+/// Prints what the pushes of a file in pieces of so many bytes come to, to a writer of std, and what that has then.
+pub fn print_writing(file: &[u8], failing: Failing, size: usize, printed: &mut String) -> Ended {
     let mut writer = FailsOnce {
-        stream: Vec::new(*told.allocator()),
+        stream: Vec::new(*printed.allocator()),
         failing,
         calls: 0,
     };
     let mut device = Writing::new(&mut writer);
     for piece in file.chunks(size.max(1)) {
-        tell_moved(device.push(piece), told)?;
+        print_moved(device.push(piece), printed)?;
     }
-    writeln!(told, "{} calls", writer.calls)?;
-    Ok(tell_text(&writer.stream, told)?)
+    writeln!(printed, "{} calls", writer.calls)?;
+    Ok(print_text(&writer.stream, printed)?)
 }
 
-/// Tells what the devices of cases come to that are asked for a file, again, and for no byte, and that are given none.
-pub fn tell_asked(file: &[u8], told: &mut String) -> Ended {
+/// Prints what the devices of cases come to that are asked for a file, again, and for no byte, and that are given none.
+pub fn print_asked(file: &[u8], printed: &mut String) -> Ended {
     let mut piece = [0u8; 8];
     let mut source = StrictSource::new(file, usize::MAX, usize::MAX);
     for _ in 0..CALLS {
-        tell_moved(source.pull(&mut piece), told)?;
+        print_moved(source.pull(&mut piece), printed)?;
     }
     let mut source = StrictSource::new(file, usize::MAX, usize::MAX);
-    tell_moved(source.pull(&mut piece[..0]), told)?;
-    let mut sink = StrictSink::new(Heap::new(*told.allocator())?, usize::MAX);
-    tell_moved(sink.push(&[]), told)?;
-    Ok(tell_moved(sink.push(file), told)?)
+    print_moved(source.pull(&mut piece[..0]), printed)?;
+    let mut sink = StrictSink::new(Heap::new(*printed.allocator())?, usize::MAX);
+    print_moved(sink.push(&[]), printed)?;
+    Ok(print_moved(sink.push(file), printed)?)
 }
 
-fn tell_moved(moved: Result<usize, Failed>, told: &mut String) -> Result<(), NoMemory> {
+fn print_moved(moved: Result<usize, Failed>, printed: &mut String) -> Result<(), NoMemory> {
     match moved {
-        Ok(n) => writeln!(told, "moved {n}"),
-        Err(Failed) => writeln!(told, "failed"),
+        Ok(n) => writeln!(printed, "moved {n}"),
+        Err(Failed) => writeln!(printed, "failed"),
     }
 }

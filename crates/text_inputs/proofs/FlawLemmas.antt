@@ -2,7 +2,7 @@
 use Rattle.std.proofs.Common.{◌≡◌, ◌∙◌, ap, arith, refl, ℕ, ◌<◌, true, false, Bool, nat_eq, List, [], ◌∷◌, codes}
 use Rattle.std.proofs.Common.{length, Option, Some, None, is_some, option_map, Bor}
 use Rattle.text_values.specs.Flaws.{line_flaw}
-use Rattle.text_values.specs.Lines.{Field, fields, fields_behind, parts}
+use Rattle.text_values.specs.Lines.{Field, fields, fields_after, parts}
 use Rattle.text_values.proofs.Fields.{some_part}
 use Rattle.text_inputs.specs.ScriptFlaws.{event_flaw, flaw_or, script_flaw, sites_flaw}
 use Rattle.text_inputs.specs.declared.script_flaws.ScriptFlaw.TheVariants as flaw
@@ -10,7 +10,7 @@ use Rattle.text_inputs.specs.declared.script.ScriptFault.TheVariants.{NoSites, B
 
 -- more than one field after `sites`
 pub sites_longer : (text : List ℕ) (number : Field) (more : Option (Bor (List ℕ))) → number
-    ∷ fields_behind (option_map (λ r. r.now) more) ≡ parts text → is_some more ≡ true
+    ∷ fields_after (option_map (λ r. r.now) more) ≡ parts text → is_some more ≡ true
     → flaw.Sites ≡ sites_flaw (codes "sites" ∷ parts text)
 sites_longer text number None cut some = cc
 sites_longer text number (Some rest) cut some = by (parts rest.now) (some_part rest.now) ∙ ap (λ (fs : List Field). sites_flaw (codes "sites" ∷ fs)) cut

@@ -25,8 +25,8 @@ abbrev pub is_about_message : Field → Bool
 is_about_message word = bytes_eq word (codes "reply") || bytes_eq word (codes "deliver")
 
 -- how many fields stand after the word of an event
-abbrev pub count_behind : Field → Option ℕ
-count_behind word =
+abbrev pub count_after : Field → Option ℕ
+count_after word =
     if is_plain word then Some 1
     else if bytes_eq word (codes "take") || is_about_message word then Some 2
     else if bytes_eq word (codes "retire") then Some 4
@@ -43,10 +43,10 @@ abbrev pub one_flaw : Field → Field → ScriptFlaw
 one_flaw word field = if bytes_eq word (codes "take") then flaw.Bytes else flaw.Message (number_flaw field)
 
 -- what is wrong with the fields after a word and a site, of which there is one, or there are those of a slice
-abbrev pub flaw_behind_site : Field → List Field → ScriptFlaw
-flaw_behind_site word [] = flaw.FieldCount
-flaw_behind_site word (field ∷ []) = one_flaw word field
-flaw_behind_site word (uuid ∷ arch ∷ _) = key_flaw (parsed uuid) (arch_of arch)
+abbrev pub flaw_after_site : Field → List Field → ScriptFlaw
+flaw_after_site word [] = flaw.FieldCount
+flaw_after_site word (field ∷ []) = one_flaw word field
+flaw_after_site word (uuid ∷ arch ∷ _) = key_flaw (parsed uuid) (arch_of arch)
 
 -- what is wrong with a field for a site, or else with those after it
 abbrev pub site_or : Option ℕ → NumberFlaw → ScriptFlaw → ScriptFlaw
@@ -55,7 +55,7 @@ site_or (Some _) _ behind = behind
 
 abbrev pub site_flaw : Field → List Field → ScriptFlaw
 site_flaw word [] = flaw.FieldCount
-site_flaw word (site ∷ behind) = site_or (number_of site) (number_flaw site) (flaw_behind_site word behind)
+site_flaw word (site ∷ behind) = site_or (number_of site) (number_flaw site) (flaw_after_site word behind)
 
 -- what is wrong with the fields after a word that so many should stand after
 abbrev pub counted_flaw : Field → Option ℕ → List Field → ScriptFlaw
@@ -65,7 +65,7 @@ counted_flaw word (Some count) behind = if length behind == count then site_flaw
 -- what is wrong with fields that are no event
 abbrev pub event_flaw : List Field → ScriptFlaw
 event_flaw [] = flaw.Word
-event_flaw (word ∷ behind) = counted_flaw word (count_behind word) behind
+event_flaw (word ∷ behind) = counted_flaw word (count_after word) behind
 
 -- what is wrong with N of `sites N`: it is no number, or above 64, or else 0
 abbrev pub count_flaw : Option ℕ → NumberFlaw → ScriptFlaw

@@ -4,7 +4,7 @@ ghost use Rattle.std.specs.Prelude.{◌≡◌, ◌∷◌, Some, codes, length};
 ghost use Rattle.uuid.specs.Text.{parsed};
 ghost use Rattle.text_values.specs.Lines.{fields, parts};
 ghost use Rattle.text_values.specs.Words.{arch_of};
-ghost use Rattle.text_inputs.specs.ScriptFlaws.{count_behind, count_flaw, counted_flaw, event_flaw, flaw_behind_site};
+ghost use Rattle.text_inputs.specs.ScriptFlaws.{count_after, count_flaw, counted_flaw, event_flaw, flaw_after_site};
 ghost use Rattle.text_inputs.specs.ScriptFlaws.{flaw_or, key_flaw, one_flaw, script_flaw, site_flaw, sites_flaw};
 ghost use Rattle.text_inputs.specs.Numbers.{number_flaw, number_of};
 
@@ -75,13 +75,13 @@ fn sites_flaw_in(text: &str) -> ScriptFlaw
 {
     let (word, behind) = cut_field(text);
     match behind {
-        Some(behind) if word == "sites" => number_behind_flaw(behind),
+        Some(behind) if word == "sites" => number_after_flaw(behind),
         _ => ScriptFlaw::Sites,
     }
 }
 
 // What is wrong with what stands after `sites`, where one field has to.
-fn number_behind_flaw(text: &str) -> ScriptFlaw
+fn number_after_flaw(text: &str) -> ScriptFlaw
     ensures { result ≡ sites_flaw (codes "sites" ∷ parts text.now) }
 {
     let (number, more) = cut_field(text);
@@ -114,7 +114,7 @@ fn flaw_in(text: &str) -> ScriptFlaw
     ensures { result ≡ event_flaw (parts text.now) }
 {
     let (word, behind) = cut_field(text);
-    match (count_behind(word), behind) {
+    match (count_after(word), behind) {
         (None, _) => ScriptFlaw::Word,
         (Some(_), None) => ScriptFlaw::FieldCount,
         (Some(count), Some(behind)) => counted_flaw(word, count, behind),
@@ -122,8 +122,8 @@ fn flaw_in(text: &str) -> ScriptFlaw
 }
 
 // How many fields stand after the word of an event.
-fn count_behind(word: &str) -> Option<usize>
-    ensures { result ≡ count_behind word.now }
+fn count_after(word: &str) -> Option<usize>
+    ensures { result ≡ count_after word.now }
 {
     if word == "full" || word == "ask" || word == "save" || word == "stop" {
         Some(1)
@@ -158,7 +158,7 @@ fn site_flaw(word: &str, text: &str) -> ScriptFlaw
     let (site, behind) = cut_field(text);
     match (read_number(site), behind) {
         (None, _) => ScriptFlaw::Site(number_flaw(site)),
-        (Some(_), Some(behind)) => flaw_behind_site(word, behind),
+        (Some(_), Some(behind)) => flaw_after_site(word, behind),
         (Some(_), None) => ScriptFlaw::FieldCount,
     }
 }
@@ -173,8 +173,8 @@ fn one_flaw(word: &str, field: &str) -> ScriptFlaw
     }
 }
 
-fn flaw_behind_site(word: &str, text: &str) -> ScriptFlaw
-    ensures { result ≡ flaw_behind_site word.now (parts text.now) }
+fn flaw_after_site(word: &str, text: &str) -> ScriptFlaw
+    ensures { result ≡ flaw_after_site word.now (parts text.now) }
 {
     let (first, behind) = cut_field(text);
     match behind {

@@ -8,7 +8,7 @@ ghost use Rattle.text_reports.specs.FrameLists.{lists_view};
 use crate::Text;
 use crate::frames::{push_at, push_each};
 use archive_core::{Answer, Digest, Own};
-use dwarf_source_frames::Frame;
+use dwarf_source_frames::SourceFrame;
 use macho_symbols::Found;
 use memory::{Heap, NoMemory};
 use std::{fmt, str};
@@ -128,7 +128,7 @@ fn push_owns(
     heap: &Heap,
     text: &mut String<Heap>,
     owns: &[(Digest, Own<'_>)],
-    frames: &[&[Frame<'_>]],
+    frames: &[&[SourceFrame<'_>]],
 ) -> Result<(), NoMemory>
     ensures { OnOk result (string_bytes text.new
         ≡ string_bytes text.old ++ owns_lines owns.now (lists_view frames.now)) }
@@ -150,7 +150,7 @@ pub fn push_answer(
     text: &mut String<Heap>,
     address: u64,
     answer: &Answer<'_>,
-    frames: &[&[Frame<'_>]],
+    frames: &[&[SourceFrame<'_>]],
 ) -> Result<(), NoMemory>
     ensures { OnOk result (string_bytes text.new ≡ string_bytes text.old
         ++ answer_lines address answer.now (lists_view frames.now)) }

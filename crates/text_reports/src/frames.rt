@@ -11,7 +11,7 @@ ghost use Rattle.dwarf_source_frames.specs.FrameViews.{frame_view};
 use crate::Escaped;
 use crate::answers::EscapedByte;
 use dwarf_lines::PathParts;
-use dwarf_source_frames::Frame;
+use dwarf_source_frames::SourceFrame;
 use memory::{Heap, NoMemory};
 
 // Whether the bytes after a space of a name, and the space after the name, begin with `at `.
@@ -78,7 +78,7 @@ fn push_path(
 }
 
 #[tactic(auto, unfolding(crate::specs::Frames::frame_text))]
-fn push_frame(heap: &Heap, text: &mut String<Heap>, frame: &Frame<'_>) -> Result<(), NoMemory>
+fn push_frame(heap: &Heap, text: &mut String<Heap>, frame: &SourceFrame<'_>) -> Result<(), NoMemory>
     ensures { OnOk result (string_bytes text.new ≡ string_bytes text.old ++ frame_line (frame_view frame.now)) }
 {
     write!(text, "    ")?;
@@ -94,7 +94,7 @@ fn push_frame(heap: &Heap, text: &mut String<Heap>, frame: &Frame<'_>) -> Result
 pub(crate) fn push_frames(
     heap: &Heap,
     text: &mut String<Heap>,
-    frames: &[Frame<'_>],
+    frames: &[SourceFrame<'_>],
 ) -> Result<(), NoMemory>
     ensures { OnOk result (string_bytes text.new ≡ string_bytes text.old
         ++ frame_lines (list_view frames.now)) }
@@ -108,7 +108,7 @@ pub(crate) fn push_frames(
 pub(crate) fn push_each(
     heap: &Heap,
     text: &mut String<Heap>,
-    frames: &[&[Frame<'_>]],
+    frames: &[&[SourceFrame<'_>]],
 ) -> Result<(), NoMemory>
     ensures { OnOk result (string_bytes text.new ≡ string_bytes text.old
         ++ flat_map frame_lines (lists_view frames.now)) }
@@ -123,7 +123,7 @@ pub(crate) fn push_each(
 pub(crate) fn push_at(
     heap: &Heap,
     text: &mut String<Heap>,
-    frames: &[&[Frame<'_>]],
+    frames: &[&[SourceFrame<'_>]],
     index: usize,
 ) -> Result<(), NoMemory>
     ensures { OnOk result (string_bytes text.new ≡ string_bytes text.old

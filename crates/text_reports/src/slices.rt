@@ -120,7 +120,7 @@ fn answers_beside(companions: &[FindRow], row: FindRow) -> bool
 }
 
 // Of live rows those of slices that answer.
-fn answering_among(heap: Heap, live: &[FindRow]) -> Result<Vec<FindRow, Heap>, NoMemory>
+fn answering_entries(heap: Heap, live: &[FindRow]) -> Result<Vec<FindRow, Heap>, NoMemory>
     ensures { IfOk result (λ rows. AreExactly row_key (λ row. Contains live.now row
         × AnswersIn live.now row) rows.items) }
 {
@@ -140,7 +140,7 @@ fn answering_rows(heap: Heap, pool: &[FindRow]) -> Result<Vec<FindRow, Heap>, No
     ensures ascending { IfOk result (λ rows. IsStrictlySortedBy slice_row_cmp rows.items) }
 {
     let live = live_rows(heap.share(), pool)?;
-    let mut rows = answering_among(heap, &live)?;
+    let mut rows = answering_entries(heap, &live)?;
     rows.sort_unstable_by(|a, b| compare_rows(a, b));
     rows.dedup_by(|a, b| compare_rows(a, b).is_eq());
     Ok(rows)

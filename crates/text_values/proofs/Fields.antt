@@ -7,7 +7,7 @@ use Rattle.std.proofs.lemmas.Str.Pattern.{IsSplitOnceResult, split_once_first}
 use Rattle.std.specs.Str.{IsUtf8, is_utf8}
 use Rattle.std.proofs.lemmas.Bool.{cond-false, cond-true, false_from_ne_true}
 use Rattle.std.proofs.lemmas.Str.{IsUtf8-from_is_utf8, is_utf8-from_IsUtf8}
-use Rattle.text_values.specs.Lines.{Field, fields, fields_behind, parts}
+use Rattle.text_values.specs.Lines.{Field, fields, fields_after, parts}
 
 -- a text without a space is one part
 one_part : (text : List ℕ) → position_or_len (λ b. b == 32) text ≡ length text → parts text ≡ text ∷ []
@@ -26,10 +26,10 @@ cut text r x h e =
 
 -- a field, and those of what stands after it
 pub cut_again : (text : List ℕ) (first : Field) (behind : Option (Bor (List ℕ))) (b : Bor (List ℕ)) (further : List Field)
-    → first ∷ fields_behind (option_map (λ r. r.now) behind) ≡ parts text → behind ≡ Some b → further ≡ parts b.now
+    → first ∷ fields_after (option_map (λ r. r.now) behind) ≡ parts text → behind ≡ Some b → further ≡ parts b.now
     → first ∷ further ≡ parts text
 cut_again text first behind b further cut is again =
-    ap (λ fs. first ∷ fs) (again ∙ sym (ap (λ o. fields_behind (option_map (λ r. r.now) o)) is)) ∙ cut
+    ap (λ fs. first ∷ fs) (again ∙ sym (ap (λ o. fields_after (option_map (λ r. r.now) o)) is)) ∙ cut
 
 pub some_part : (text : List ℕ) → 0 < length (parts text)
 some_part text = omega (arith, length-slice_split (λ b. b == 32) text)

@@ -4,7 +4,7 @@ use Rattle.std.proofs.Common.{eq-eqb, ne_eqb, nat_eq, ◌==◌, Bool, true, fals
 use Rattle.std.proofs.Math.Nat.{pow-le-pow_right}
 use Rattle.std.specs.List.{slice_range, starts_with}
 use Rattle.std.specs.Str.{bytes_eq}
-use Rattle.text_values.specs.Words.{arch_key_of, cpu_of, number_of}
+use Rattle.text_values.specs.Words.{arch_key_of, arch_in_cpu_form, number_of}
 
 -- ---- numbers of hex digits
 
@@ -30,19 +30,19 @@ third_fails : {X : Type 0} (a b c : Bool) (x : Option X) → c ≡ false → Non
 third_fails a b c x fails = grind arith
 
 -- a text of another length, or with another byte before the numbers
-pub other_length : (text : List ℕ) → ¬ (length text ≡ 21) → None ≡ cpu_of text
+pub other_length : (text : List ℕ) → ¬ (length text ≡ 21) → None ≡ arch_in_cpu_form text
 other_length text other = rw (ne_eqb (length text) 21 other) refl
 
-pub other_start : (text : List ℕ) → starts_with nat_eq text (codes "cpu:") ≡ false → None ≡ cpu_of text
+pub other_start : (text : List ℕ) → starts_with nat_eq text (codes "cpu:") ≡ false → None ≡ arch_in_cpu_form text
 other_start text other = second_fails (length text == 21) _ (bytes_eq (slice_range text 12 15) (codes "/00"))
     (arch_key_of (number_of (slice_range text 4 12)) (number_of (slice_range text 13 21))) other
 
-pub other_middle : (text : List ℕ) → bytes_eq (slice_range text 12 15) (codes "/00") ≡ false → None ≡ cpu_of text
+pub other_middle : (text : List ℕ) → bytes_eq (slice_range text 12 15) (codes "/00") ≡ false → None ≡ arch_in_cpu_form text
 other_middle text other = third_fails (length text == 21) (starts_with nat_eq text (codes "cpu:")) _
     (arch_key_of (number_of (slice_range text 4 12)) (number_of (slice_range text 13 21))) other
 
 -- a text of the form
 pub two_numbers : (text : List ℕ) → length text ≡ 21 → starts_with nat_eq text (codes "cpu:") ≡ true
     → bytes_eq (slice_range text 12 15) (codes "/00") ≡ true
-    → arch_key_of (number_of (slice_range text 4 12)) (number_of (slice_range text 13 21)) ≡ cpu_of text
+    → arch_key_of (number_of (slice_range text 4 12)) (number_of (slice_range text 13 21)) ≡ arch_in_cpu_form text
 two_numbers text sized start middle = rw (eq-eqb (length text) 21 sized, start, middle) refl

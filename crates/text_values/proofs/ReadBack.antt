@@ -20,7 +20,7 @@ use Rattle.archive_core.proofs.Answering.{one_arch}
 use Rattle.archive_core.specs.Find.{is_arch}
 use Rattle.archive_core.specs.declared.keys.ArchKey.{ArchKey}
 use Rattle.archive_core.specs.declared.keys.Digest.{Digest}
-use Rattle.text_values.specs.Words.{NamedArch, address_of, address_text, arch_of, arch_text, cpu_of, cpu_text}
+use Rattle.text_values.specs.Words.{NamedArch, address_of, address_text, arch_of, arch_text, arch_in_cpu_form, cpu_text}
 use Rattle.text_values.specs.Words.{digest_of, digest_text, hex_digits, named_archs, number_of}
 
 -- ---- digits
@@ -107,7 +107,7 @@ middle_part arch small =
     let second : arch.cpusubtype / 16 / 16 / 16 / 16 / 16 / 16 ≡ 0 = omega arith in
     rw (first, second) refl
 
-cpu_back : (arch : ArchKey) → arch.cputype < 2 ^ 32 → arch.cpusubtype < 2 ^ 24 → cpu_of (cpu_text arch) ≡ Some arch
+cpu_back : (arch : ArchKey) → arch.cputype < 2 ^ 32 → arch.cpusubtype < 2 ^ 24 → arch_in_cpu_form (cpu_text arch) ≡ Some arch
 cpu_back arch cputype cpusubtype =
     rw (
       sized_cpu arch,

@@ -58,9 +58,9 @@ abbrev pub parts : List ℕ → List Field
 parts text = slice_split (λ b. b == space) text
 
 -- the fields after a field: those of what stands after the space after it, if one follows
-abbrev pub fields_behind : Option (List ℕ) → List Field
-fields_behind None = []
-fields_behind (Some text) = parts text
+abbrev pub fields_after : Option (List ℕ) → List Field
+fields_after None = []
+fields_after (Some text) = parts text
 
 -- the fields of a line. A line that is no UTF-8 text has none
 abbrev pub fields : Line → List Field

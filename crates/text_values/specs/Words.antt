@@ -105,12 +105,12 @@ is_cpu_form text = (length text == 21) && (starts_with nat_eq text (codes "cpu:"
     && bytes_eq (slice_range text 12 15) (codes "/00"))
 
 -- what is read as the numbers of an architecture: eight hex digits each, and the high byte of CPUSUBTYPE is clear
-abbrev pub cpu_of : List ℕ → Option ArchKey
-cpu_of text =
+abbrev pub arch_in_cpu_form : List ℕ → Option ArchKey
+arch_in_cpu_form text =
     if is_cpu_form text
     then arch_key_of (number_of (slice_range text 4 12)) (number_of (slice_range text 13 21))
     else None
 
 -- what is read as an architecture: its name, or else its numbers
 abbrev pub arch_of : List ℕ → Option ArchKey
-arch_of text = option_or (arch_named text) (cpu_of text)
+arch_of text = option_or (arch_named text) (arch_in_cpu_form text)

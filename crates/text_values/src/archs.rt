@@ -1,6 +1,6 @@
 //! The word of an architecture.
 ghost use Rattle.std.specs.Prelude.{◌≡◌};
-ghost use Rattle.text_values.specs.Words.{arch_key_of, arch_of, cpu_of};
+ghost use Rattle.text_values.specs.Words.{arch_key_of, arch_of, arch_in_cpu_form};
 
 use crate::machine::{arch_named, name_of};
 use crate::numbers::{EightDigits, read_eight_digits};
@@ -65,7 +65,7 @@ fn arch_key(cputype: Option<u32>, cpusubtype: Option<u32>) -> Option<ArchKey>
 
 // An architecture as `cpu:` and its two numbers, of which the second has a clear high byte.
 fn read_cpu(text: &[u8]) -> Option<ArchKey>
-    ensures { result ≡ cpu_of text.now }
+    ensures { result ≡ arch_in_cpu_form text.now }
 {
     if text.len() != 21 || !text.starts_with(b"cpu:") || text[12..15] != b"/00"[..] {
         return None;

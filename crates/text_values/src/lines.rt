@@ -1,7 +1,7 @@
 //! The lines of a file that count, and their fields.
 
 ghost use Rattle.std.specs.Prelude.{◌≡◌, ◌<◌, ◌^◌, ◌∷◌, All, IfOk, length, option_map, slice_get};
-ghost use Rattle.text_values.specs.Lines.{counting, counts, fields_behind, line_at, line_count, lines, parts, seen};
+ghost use Rattle.text_values.specs.Lines.{counting, counts, fields_after, line_at, line_count, lines, parts, seen};
 
 use memory::{Heap, NoMemory};
 
@@ -32,14 +32,14 @@ fn line_counts(line: &[u8]) -> bool
 pub fn line_at(bytes: &[u8], number: u64) -> &[u8]
     ensures { result.now ≡ line_at bytes.now number }
 {
-    match line_behind(bytes, number.saturating_sub(1) as usize) {
+    match line_after(bytes, number.saturating_sub(1) as usize) {
         Some(line) => line,
         None => &[],
     }
 }
 
 // The line after so many others.
-fn line_behind(bytes: &[u8], others: usize) -> Option<&[u8]>
+fn line_after(bytes: &[u8], others: usize) -> Option<&[u8]>
     ensures { option_map (λ line. line.now) result ≡ slice_get (lines bytes.now) others }
 {
     bytes.split(|byte| *byte == b'\n').nth(others)
@@ -59,7 +59,7 @@ pub fn number_of_lines(bytes: &[u8]) -> u64
 
 /// The first field of a text, and what stands after the space after it, if one follows.
 pub fn cut_field(text: &str) -> (&str, Option<&str>)
-    ensures { result.0.now ∷ fields_behind (option_map (λ rest. rest.now) result.1) ≡ parts text.now }
+    ensures { result.0.now ∷ fields_after (option_map (λ rest. rest.now) result.1) ≡ parts text.now }
 {
     match text.split_once(' ') {
         Some((field, behind)) => (field, Some(behind)),

@@ -4,4 +4,4 @@ use Rattle.archive_read.proofs.operations.read_ops.Goals as goal
 
 pub returns : goal.returns
 returns g c = told_whole Operations (λ operations. operations.items) g.R.Source.left g.R.Source.failures c.args.r.now
-    c.tell_text.new.r c.tell_text.result c.tell_text.ensures
+    c.read_answer.new.r c.read_answer.result c.read_answer.ensures

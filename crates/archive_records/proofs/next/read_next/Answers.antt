@@ -1,7 +1,7 @@
 use Rattle.std.proofs.Common.{refl}
 use Rattle.std.proofs.lemmas.Bool.{false≢true}
 use Rattle.archive_records.proofs.Ends.{open_end, open_ended}
-use Rattle.archive_records.proofs.Steps.{step_to}
+use Rattle.archive_records.proofs.RecordSteps.{step_to}
 use Rattle.archive_records.proofs.FaultKinds.{unended_behind}
 use Rattle.archive_records.proofs.next.read_next.Goals as goal
 

@@ -21,8 +21,8 @@ returns-in-None-clause-stops g c = λ format is.
     ))
     (λ e. c.in-None.ensures.none format is (ap (take at) c.deref.ensures.value ∙ e))
 
-pub returns-else-begins-clause-stops : goal.returns-else-begins-clause-stops
-returns-else-begins-clause-stops g c = λ format is.
+pub returns-else-magic_begins_with-clause-stops : goal.returns-else-magic_begins_with-clause-stops
+returns-else-magic_begins_with-clause-stops g c = λ format is.
     let at = c.fill.new.buffer.at in
     let items = c.fill.new.buffer.bytes.items in
     let value = c.deref-in-Err-Truncated.ensures.value in
@@ -33,17 +33,17 @@ returns-else-begins-clause-stops g c = λ format is.
       c.fill.ensures.fills.within,
       length-take at items,
     ))
-    (λ e. false≢true (sym c.if-begins.false ∙ (rw value at (c.begins.ensures format is)).1 e))
+    (λ e. false≢true (sym c.if-magic_begins_with.false ∙ (rw value at (c.magic_begins_with.ensures format is)).1 e))
 
 pub returns-in-None-clause-reader : goal.returns-in-None-clause-reader
 returns-in-None-clause-reader g c = text_blames g.R.Source.left g.R.Source.failures c.args.r.now c.fill.new.r BadMagic
     (λ e. cc) (λ e. cc) c.in-Ok.ensures.reader
 
-pub returns-then-begins-clause-reader : goal.returns-then-begins-clause-reader
-returns-then-begins-clause-reader g c = rw c.in-Err-Truncated.field-0-is at c.in-Err-Truncated.ensures.reader
+pub returns-then-magic_begins_with-clause-reader : goal.returns-then-magic_begins_with-clause-reader
+returns-then-magic_begins_with-clause-reader g c = rw c.in-Err-Truncated.field-0-is at c.in-Err-Truncated.ensures.reader
 
-pub returns-else-begins-clause-reader : goal.returns-else-begins-clause-reader
-returns-else-begins-clause-reader g c = text_blames g.R.Source.left g.R.Source.failures c.args.r.now c.fill.new.r
+pub returns-else-magic_begins_with-clause-reader : goal.returns-else-magic_begins_with-clause-reader
+returns-else-magic_begins_with-clause-reader g c = text_blames g.R.Source.left g.R.Source.failures c.args.r.now c.fill.new.r
     BadMagic (λ e. cc) (λ e. cc) ((rw c.in-Err-Truncated.field-0-is at c.in-Err-Truncated.ensures.reader).1 (λ e. cc))
 
 pub returns-in-Err-Device-clause-reader : goal.returns-in-Err-Device-clause-reader

@@ -3,7 +3,7 @@ use Rattle.archive_records.specs.Kind.{IsItemOf, kind_of}
 use Rattle.archive_records.specs.Reader.{DropsLast, MakeThemselves}
 use Rattle.archive_records.specs.Text.{taken_of}
 use Rattle.archive_records.proofs.Taken.{taken_none, taken_push, taken_pass, made_taken}
-use Rattle.archive_records.proofs.Steps.{HasRead-grows, HasReadAll-grows, Stopped-fails, Stopped-unkept, step-never_trailing}
+use Rattle.archive_records.proofs.RecordSteps.{HasRead-grows, HasReadAll-grows, Stopped-fails, Stopped-unkept, step-never_trailing}
 use Rattle.archive_records.proofs.records.take_records.Goals as goal
 
 pub taking-init : goal.taking-init

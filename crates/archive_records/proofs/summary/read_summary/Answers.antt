@@ -3,4 +3,5 @@ use Rattle.archive_records.proofs.Made.{told_whole}
 use Rattle.archive_records.proofs.summary.read_summary.Goals as goal
 
 pub returns : goal.returns
-returns g c = told_whole Summary (λ summary. summary) g.R.Source.left g.R.Source.failures c.args.r.now c.tell_text.new.r c.tell_text.result c.tell_text.ensures
+returns g c = told_whole Summary (λ summary. summary) g.R.Source.left g.R.Source.failures c.args.r.now c.read_answer.new.r c.read_answer.result
+    c.read_answer.ensures

@@ -1,7 +1,7 @@
 use Rattle.std.proofs.Common.{◌∙◌, ap, map, sym}
 use Rattle.clap.specs.Words.{fault_of, is_simple, is_simple_and_free, subcommand_of, takes}
 use Rattle.cli_arguments.specs.Lines.{are_accepted, error_kinds, named_command}
-use Rattle.cli_arguments.proofs.Simple.{symarch_free, symarch_simple}
+use Rattle.cli_arguments.proofs.SimpleCommand.{symarch_free, symarch_simple}
 use Rattle.cli_arguments.proofs.LineFaultLemmas.{asked_is_help, other_is_refusal, symarch_kinds}
 use Rattle.cli_arguments.proofs.parsing.matches_of.Goals as goal
 

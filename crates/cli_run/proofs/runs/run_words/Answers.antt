@@ -12,7 +12,7 @@ pub returns-in-Err : goal.returns-in-Err
 returns-in-Err g c =
     let words = map string_bytes c.args.words.now in inr (
       record { asked = refl; uncalled = none_called _ _ c.requires.6 c.requires.5 },
-      no_plan words c.in-Err.fault _ _ _ c.end_without_line.ensures
+      no_plan words c.in-Err.fault _ _ _ c.end_with_line_fault.ensures
           (λ faultless ordered. c.in-Err.ensures.err (accepted_if_faultless words faultless) ordered)
           c.in-Err.ensures.help c.in-Err.ensures.version c.in-Err.ensures.refusal c.in-Err.ensures.told,
     )

@@ -1,5 +1,5 @@
 use Rattle.std.proofs.Common.{take, string_bytes}
-use Rattle.command_frames.specs.InnerTold.{ShowsFrames}
+use Rattle.command_frames.specs.InnerKeyReplies.{ShowsFrames}
 use Rattle.command_frames.proofs.replies.answer_frames_by_keys.Given as goal
 
 abbrev pub invariant-frames : goal.invariant-frames

@@ -2,7 +2,7 @@ use Rattle.std.proofs.Common.{List, ℕ, [], ◌∷◌, ap, length, refl, sym, s
 use Rattle.std.specs.Prelude.{None}
 use Rattle.std.proofs.lemmas.Option.{slice_get_read}
 use Rattle.text_values.specs.Words.{address_text}
-use Rattle.command_common.specs.declared.faults.Status.TheVariants.{Refused}
+use Rattle.command_common.specs.declared.faults.Status.TheVariants.{SomeRefused}
 use Rattle.command_frames.specs.Refusals.{reply_text}
 use Rattle.command_frames.proofs.replies.push_reply.Goals as goal
 
@@ -21,7 +21,7 @@ returns-in_ok-push_str-in-Told c =
 
 pub returns-in_ok-writeln-in-Refused : goal.returns-in_ok-writeln-in-Refused
 returns-in_ok-writeln-in-Refused c = record {
-  printed = record { status = Refused; text = reply_text c.args.address None };
+  printed = record { status = SomeRefused; text = reply_text c.args.address None };
   printed_is = rw c.in-Refused.is (refl, refl);
   status_is = c.status_with-in-Refused.ensures;
   text_is = c.in_ok-writeln-in-Refused.ensures.bytes ∙ ap (λ (t : List ℕ). string_bytes c.args.text.now ++ t)

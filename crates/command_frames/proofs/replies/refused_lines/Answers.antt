@@ -1,6 +1,6 @@
 use Rattle.std.proofs.Common.{List, ℕ, ◌++◌, ap, sym, ◌∙◌, arith}
 use Rattle.std.specs.Option.{option_to_list}
-use Rattle.command_frames.specs.InnerTold.{refusal_in}
+use Rattle.command_frames.specs.InnerKeyReplies.{refusal_in}
 use Rattle.command_frames.specs.Refusals.{refusal_lines}
 use Rattle.command_frames.proofs.Shown.{refusals_more}
 use Rattle.command_frames.proofs.replies.refused_lines.Goals as goal

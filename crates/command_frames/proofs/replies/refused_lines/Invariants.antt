@@ -1,5 +1,5 @@
 use Rattle.std.proofs.Common.{◌≡◌, take, string_bytes}
-use Rattle.command_frames.specs.InnerTold.{refusals_in}
+use Rattle.command_frames.specs.InnerKeyReplies.{refusals_in}
 use Rattle.command_frames.specs.Refusals.{refusal_lines}
 use Rattle.command_frames.proofs.replies.refused_lines.Given as goal
 

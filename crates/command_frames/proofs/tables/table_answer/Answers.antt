@@ -1,7 +1,7 @@
 use Rattle.std.proofs.Common.{List, ℕ, refl, ap, ◌∙◌, ◌++◌}
 use Rattle.text_reports.specs.Answers.{answer_lines}
 use Rattle.command_queries.specs.Places.{address_in}
-use Rattle.command_frames.specs.InnerTold.{shown_at}
+use Rattle.command_frames.specs.InnerKeyReplies.{shown_at}
 use Rattle.command_frames.proofs.tables.table_answer.Goals as goal
 
 pub returns : goal.returns
@@ -12,6 +12,6 @@ returns c =
       address_is = refl;
       is_said = (c.in_ok-answer.ensures, refl);
       status_is = c.status_after-status.ensures;
-      text_is = rw (← c.address_in.ensures) (c.in_ok-push_told.ensures
+      text_is = rw (← c.address_in.ensures) (c.in_ok-push_table_answer.ensures
           ∙ ap (λ (t : List ℕ). t ++ answer_lines c.address_in.result c.in_ok-answer.answer frames) c.new-text.ensures.bytes);
     }

@@ -4,7 +4,7 @@ use Rattle.std.proofs.lemmas.Option.{slice_get-get_or}
 use Rattle.archive_core.specs.declared.lookup.Where.TheVariants.{File}
 use Rattle.command_queries.specs.Places.{IsPlaceTold}
 use Rattle.command_queries.proofs.Placed.{placed_more}
-use Rattle.command_frames.specs.InnerTold.{IsAnswerIn}
+use Rattle.command_frames.specs.InnerKeyReplies.{IsAnswerIn}
 use Rattle.command_frames.proofs.tables.table_answers.Goals as goal
 
 pub places-init : goal.places-init

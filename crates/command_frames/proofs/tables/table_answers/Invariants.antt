@@ -1,7 +1,7 @@
 use Rattle.std.proofs.Common.{take}
 use Rattle.std.specs.List.{AllZip}
 use Rattle.command_queries.specs.Places.{IsPlaceTold}
-use Rattle.command_frames.specs.InnerTold.{IsAnswerIn}
+use Rattle.command_frames.specs.InnerKeyReplies.{IsAnswerIn}
 use Rattle.command_frames.proofs.tables.table_answers.Given as goal
 
 abbrev pub invariant-places : goal.invariant-places

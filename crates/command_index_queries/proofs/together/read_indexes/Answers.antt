@@ -30,8 +30,8 @@ indexes-preserved g c =
     let number = c.indexes.number in
     let index = c.index-indexes-number.result in
     let archive = c.index-archives-number.result in
-    let after = c.read_with_tables.new.index in
-    let later = c.read_with_tables.new.archive in
+    let after = c.read_matching_index.new.index in
+    let later = c.read_matching_index.new.archive in
     let inv = c.indexes.invariant in
     let lt : number < length old = omega arith in
     let lt_at : number < length before = omega arith in
@@ -89,9 +89,9 @@ returns-in_err-push-clause-read g c =
     let well = rw (← c.index-indexes-number.is, ← c.index-archives-number.is) at c.in_ok-tables.ensures.read.unfailed in
     let p = err_from_is_err_and c.from_residual-in_err-push.result c.from_residual-in_err-push.ensures.1 in
     rw (p.1, p.2) (
-      unfailed_more g.I.Placed.whole g.I.Placed.failures old now number index c.read_with_tables.new.index lt
+      unfailed_more g.I.Placed.whole g.I.Placed.failures old now number index c.read_matching_index.new.index lt
           c.indexes.auto.indexes (same_at now old number index inv.rest c.index-indexes-number.is) inv.unfailed well.0,
-      unfailed_more g.P.Placed.whole g.P.Placed.failures before seen number archive c.read_with_tables.new.archive lt_at
+      unfailed_more g.P.Placed.whole g.P.Placed.failures before seen number archive c.read_matching_index.new.archive lt_at
           c.indexes.auto.archives (same_at seen before number archive inv.rest_at c.index-archives-number.is)
           inv.unfailed_at well.1,
     )

@@ -3,7 +3,7 @@ use Rattle.text_reports.specs.Answers.{answer_lines}
 use Rattle.text_reports.specs.FrameLists.{lists_view}
 use Rattle.archive_core.specs.Lookup.{answer_view}
 use Rattle.command_queries.specs.Places.{address_in}
-use Rattle.command_queries.proofs.Sourced.{answered_by}
+use Rattle.command_queries.proofs.AnswersWithFrames.{answered_by}
 use Rattle.command_queries.proofs.places.answer_place.Goals as goal
 
 pub returns : goal.returns

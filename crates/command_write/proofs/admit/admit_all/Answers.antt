@@ -1,7 +1,7 @@
 use Rattle.std.proofs.Common.{refl, map, Ok}
 use Rattle.std.proofs.lemmas.Result.{on_ok_weaker}
 use Rattle.byte_device.proofs.Known.{Appends-none}
-use Rattle.byte_openings.specs.declared.openings.Opening.TheVariants.{Fine}
+use Rattle.byte_lazy_inputs.specs.declared.openings.Opening.TheVariants.{Fine}
 use Rattle.command_common.specs.Inputs.{reader, readers}
 use Rattle.command_common.specs.Outputs.{out_of, outs, writer}
 use Rattle.command_write.specs.Admit.{MakesAdmitted}

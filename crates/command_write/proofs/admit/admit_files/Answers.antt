@@ -1,7 +1,7 @@
 use Rattle.std.proofs.Common.{◌≡◌, ◌<◌, ◌++◌, ◌∷◌, [], Ok, length, arith, refl, ap, ◌∙◌}
 use Rattle.std.proofs.lemmas.List.{map-append}
 use Rattle.archive_records.proofs.Blamed.{failed}
-use Rattle.byte_openings.specs.declared.openings.Opening.TheVariants.{Fine}
+use Rattle.byte_lazy_inputs.specs.declared.openings.Opening.TheVariants.{Fine}
 use Rattle.command_common.specs.declared.faults.InputName.TheVariants.{File}
 use Rattle.join_core.specs.Listing.{listing}
 use Rattle.archive_core.specs.Content.{Operations}

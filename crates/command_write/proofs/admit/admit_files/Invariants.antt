@@ -1,5 +1,5 @@
 use Rattle.std.proofs.Common.{◌≡◌, ℕ, List, Ok, map, take, drop}
-use Rattle.byte_openings.specs.declared.openings.Opening.TheVariants.{Fine}
+use Rattle.byte_lazy_inputs.specs.declared.openings.Opening.TheVariants.{Fine}
 use Rattle.command_write.specs.InnerArriving.{HasCome}
 use Rattle.command_common.specs.Inputs.{EachUnfailed, readers}
 use Rattle.command_write.proofs.admit.admit_files.Given as goal

@@ -1,5 +1,5 @@
 use Rattle.dwarf_source_frames.specs.DebugSections.{debug_sections}
-use Rattle.dwarf_frame_changes.proofs.StayLemmas.{empty_before}
+use Rattle.dwarf_frame_changes.proofs.FramesStay.{empty_before}
 use Rattle.dwarf_frame_changes.proofs.laws.empty_before_turns.Goals as goal
 
 pub returns : goal.returns

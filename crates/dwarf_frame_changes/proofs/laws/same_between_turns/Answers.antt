@@ -1,5 +1,5 @@
 use Rattle.dwarf_source_frames.specs.DebugSections.{debug_sections}
-use Rattle.dwarf_frame_changes.proofs.StayLemmas.{frames_stay}
+use Rattle.dwarf_frame_changes.proofs.FramesStay.{frames_stay}
 use Rattle.dwarf_frame_changes.proofs.laws.same_between_turns.Goals as goal
 
 pub returns : goal.returns

@@ -1,4 +1,4 @@
-use Rattle.dwarf_frame_changes.proofs.StartLemmas.{next_is}
+use Rattle.dwarf_frame_changes.proofs.StepWalks.{next_is}
 use Rattle.dwarf_frame_changes.proofs.next_start.next_start.Goals as goal
 
 pub returns : goal.returns

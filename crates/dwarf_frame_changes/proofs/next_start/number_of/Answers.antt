@@ -1,6 +1,6 @@
 use Rattle.std.proofs.Common.{◌-◌, arith}
 use Rattle.std.proofs.lemmas.List.{get_or_default}
-use Rattle.dwarf_frame_changes.proofs.StartLemmas.{step_none, step_some}
+use Rattle.dwarf_frame_changes.proofs.StepWalks.{step_none, step_some}
 use Rattle.dwarf_frame_changes.proofs.next_start.number_of.Goals as goal
 
 pub returns-then-count-eq0-clause-is : goal.returns-then-count-eq0-clause-is

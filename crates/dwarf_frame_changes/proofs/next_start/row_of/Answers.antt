@@ -1,5 +1,5 @@
 use Rattle.std.proofs.Common.{◌-◌, None, arith}
-use Rattle.dwarf_frame_changes.proofs.StartLemmas.{step_none, step_some}
+use Rattle.dwarf_frame_changes.proofs.StepWalks.{step_none, step_some}
 use Rattle.dwarf_frame_changes.proofs.next_start.row_of.Goals as goal
 
 pub returns-then-count-eq0 : goal.returns-then-count-eq0

@@ -10,8 +10,8 @@ use Rattle.dwarf_frame_changes.proofs.numbers.push_linked.Goals as goal
 
 pub returns-then-link-eq0-clause-linked : goal.returns-then-link-eq0-clause-linked
 returns-then-link-eq0-clause-linked g c =
-    let N = g.T.FrameTaker.tells_name c.name_of.new.taker in
-    let F = g.T.FrameTaker.tells_frames c.name_of.new.taker in
+    let N = g.T.FrameSink.numbers_name c.number_of_name.new.sink in
+    let F = g.T.FrameSink.numbers_frames c.number_of_name.new.sink in
     let lines = lines_view c.args.lines.now in
     let links = links_view c.args.links.now.links.items in
     let link = c.index-link.result.now in
@@ -24,8 +24,8 @@ returns-then-link-eq0-clause-linked g c =
     c.index-link.ensures) in
     let is = linked_at N F lines links (length all) (link_view link) next there
     (record { name = told; outer = []; are_outer = c.if-link-eq0.true; callers = c.no_frames-callers.ensures }) in
-    let before = linked_still (g.T.FrameTaker.tells_name c.args.taker.now) N
-    (g.T.FrameTaker.tells_frames c.args.taker.now) F c.name_of.ensures.names c.name_of.ensures.frames lines links
+    let before = linked_still (g.T.FrameSink.numbers_name c.args.sink.now) N
+    (g.T.FrameSink.numbers_frames c.args.sink.now) F c.number_of_name.ensures.names c.number_of_name.ensures.frames lines links
     (length all) all c.requires.linked in
     subst (λ (xs : List Linked). AreLinked N F lines links (length xs) xs) (sym c.in_ok-push.ensures.items) (linked_more N F lines links all next before is)
 
@@ -49,19 +49,19 @@ frames-requires g c = λ κs.
     let n = link.caller - 1 in
     let within : n < length all = omega (arith, low, c.if-link-eq0.false) in
     let inside : n < length c.args.links.now.links.items = omega (arith, within, c.requires.within) in
-    let of = numbers_of (g.T.FrameTaker.tells_name c.args.taker.now) (g.T.FrameTaker.tells_frames c.args.taker.now)
+    let of = numbers_of (g.T.FrameSink.numbers_name c.args.sink.now) (g.T.FrameSink.numbers_frames c.args.sink.now)
     lines c.args.links.now.links.items (length all) all n c.index-outer.result.now c.requires.linked within
     c.index-outer.ensures inside in
-    let named = c.number.ensures.names _ _ (c.name_of.ensures.names _ _ of.2.name) in
-    let called = c.number.ensures.frames _ _ (c.name_of.ensures.frames _ _ of.2.callers) in
+    let named = c.number.ensures.names _ _ (c.number_of_name.ensures.names _ _ of.2.name) in
+    let called = c.number.ensures.frames _ _ (c.number_of_name.ensures.frames _ _ of.2.callers) in
     ((refl, tt), ((of.0.name, named), ((path_in lines link.call.file, c.in_ok-path.ensures.is), (of.2.outer, called))))
 
 pub returns-clause-linked : goal.returns-clause-linked
 returns-clause-linked g c =
-    let P = g.T.FrameTaker.tells_name in
-    let Q = g.T.FrameTaker.tells_frames in
-    let N = g.T.FrameTaker.tells_name c.frames.new.self in
-    let F = g.T.FrameTaker.tells_frames c.frames.new.self in
+    let P = g.T.FrameSink.numbers_name in
+    let Q = g.T.FrameSink.numbers_frames in
+    let N = g.T.FrameSink.numbers_name c.frames.new.self in
+    let F = g.T.FrameSink.numbers_frames c.frames.new.self in
     let lines = lines_view c.args.lines.now in
     let links = links_view c.args.links.now.links.items in
     let link = c.index-link.result.now in
@@ -74,11 +74,11 @@ returns-clause-linked g c =
     let within : n < length all = omega (arith, low, c.if-link-eq0.false) in
     let inside : n < length c.args.links.now.links.items = omega (arith, within, c.requires.within) in
     let some : link.caller ≡ suc n = omega (arith, c.if-link-eq0.false) in
-    let of = numbers_of (P c.args.taker.now) (Q c.args.taker.now) lines c.args.links.now.links.items (length all) all n
+    let of = numbers_of (P c.args.sink.now) (Q c.args.sink.now) lines c.args.links.now.links.items (length all) all n
     c.index-outer.result.now c.requires.linked within c.index-outer.ensures inside in
     let told = c.in_ok-callers.ensures.is of.0.name (path_in lines link.call.file) of.2.outer
-    (c.number.ensures.names _ _ (c.name_of.ensures.names _ _ of.2.name)) c.in_ok-path.ensures.is
-    (c.number.ensures.frames _ _ (c.name_of.ensures.frames _ _ of.2.callers)) in
+    (c.number.ensures.names _ _ (c.number_of_name.ensures.names _ _ of.2.name)) c.in_ok-path.ensures.is
+    (c.number.ensures.frames _ _ (c.number_of_name.ensures.frames _ _ of.2.callers)) in
     let named = c.in_ok-name.ensures.is link (slice_get_read c.args.links.now.links.items
     (length c.args.links.now.links.items) c.len-index.result link refl (omega (arith, count, c.requires.within))
     c.index-link.ensures) in
@@ -89,17 +89,18 @@ returns-clause-linked g c =
       are_outer = frames_of_link lines links link.call link.caller n of.0 of.2.outer some of.1 (c.requires.callers n of.0 of.1) of.2.are_outer;
       callers = told;
     }) in
-    let names = still_more (P c.args.taker.now) (P c.number.new.taker) N
-    (still_more (P c.args.taker.now) (P c.name_of.new.taker) (P c.number.new.taker) c.name_of.ensures.names
+    let names = still_more (P c.args.sink.now) (P c.number.new.sink) N
+    (still_more (P c.args.sink.now) (P c.number_of_name.new.sink) (P c.number.new.sink) c.number_of_name.ensures.names
     c.number.ensures.names) c.frames.ensures.names in
-    let frames = still_more (Q c.args.taker.now) (Q c.number.new.taker) F
-    (still_more (Q c.args.taker.now) (Q c.name_of.new.taker) (Q c.number.new.taker) c.name_of.ensures.frames
+    let frames = still_more (Q c.args.sink.now) (Q c.number.new.sink) F
+    (still_more (Q c.args.sink.now) (Q c.number_of_name.new.sink) (Q c.number.new.sink) c.number_of_name.ensures.frames
     c.number.ensures.frames) c.frames.ensures.frames in
-    let before = linked_still (P c.args.taker.now) N (Q c.args.taker.now) F names frames lines links (length all) all c.requires.linked in
+    let before = linked_still (P c.args.sink.now) N (Q c.args.sink.now) F names frames lines links (length all) all c.requires.linked in
     subst (λ (xs : List Linked). AreLinked N F lines links (length xs) xs) (sym c.in_ok-push-2.ensures.items) (linked_more N F lines links all next before is)
 
 pub returns-clause-names : goal.returns-clause-names
 returns-clause-names g c =
-    let P = g.T.FrameTaker.tells_name in
-    names_still (P c.name_of.new.taker) (P c.frames.new.self) c.args.links.now c.name_of.new.self
-    (still_more (P c.name_of.new.taker) (P c.number.new.taker) (P c.frames.new.self) c.number.ensures.names c.frames.ensures.names) c.in_ok-name.ensures.known
+    let P = g.T.FrameSink.numbers_name in
+    names_still (P c.number_of_name.new.sink) (P c.frames.new.self) c.args.links.now c.number_of_name.new.self
+    (still_more (P c.number_of_name.new.sink) (P c.number.new.sink) (P c.frames.new.self) c.number.ensures.names c.frames.ensures.names)
+    c.in_ok-name.ensures.known

@@ -1,6 +1,6 @@
 use Rattle.std.proofs.Common.{nat_le, rules}
 use Rattle.std.proofs.lemmas.List.Sorted.{IsPartitionPoint-from_clause}
-use Rattle.dwarf_frame_changes.proofs.StartLemmas.{count_of_point, parted}
+use Rattle.dwarf_frame_changes.proofs.StepWalks.{count_of_point, parted}
 use Rattle.dwarf_frame_changes.proofs.unit_steps.count_to.Goals as goal
 
 pub returns : goal.returns

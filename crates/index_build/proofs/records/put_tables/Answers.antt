@@ -66,7 +66,8 @@ taking-preserved g c =
       gathers = λ a first read put.
           put_more a _ _ g.W.Sink.held g.W.Sink.failures first c.taking.w c.put_record.new.w c.taking.entries.items
           c.taking.reader c.advance.new.self c.taking.done (c.taking.invariant.gathers a first read put)
-          c.push.new.self.items c.in_ok-entry.entry p.0 c.in_ok-entry.end step.0 (near, c.in_ok-entry.ensures.near.1) c.in_ok-entry.ensures.bytes c.in_default.ensures.items p.1 entry p.3;
+          c.push.new.self.items c.in_ok-entry.entry p.0 c.in_ok-entry.end step.0
+          (near, c.in_ok-entry.ensures.near.1) c.in_ok-entry.ensures.bytes c.in_default.ensures.items p.1 entry p.3;
       file = step.0.file_is ∙ c.taking.invariant.file;
       unfailed = step.1 ∙ c.taking.invariant.unfailed;
       short = c.in_ok-entry.ensures.short;

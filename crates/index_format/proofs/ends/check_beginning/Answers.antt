@@ -12,17 +12,21 @@ returns-then-is_earlier-clause-checked c = λ text size beginning. record {
 
 pub returns-then-not-begins-clause-checked : goal.returns-then-not-begins-clause-checked
 returns-then-not-begins-clause-checked c = λ text size beginning. record {
-  fails = magic_fails text (ap (λ t. bytes_eq t earlier_magic) (sym beginning) ∙ sym c.if-is_earlier.ensures) (sym (asked text c.args.beginning.now c.args.size size beginning c.requires) ∙ sym c.if-not-begins.ensures);
+  fails = magic_fails text (ap (λ t. bytes_eq t earlier_magic) (sym beginning) ∙ sym c.if-is_earlier.ensures)
+      (sym (asked text c.args.beginning.now c.args.size size beginning c.requires) ∙ sym c.if-not-begins.ensures);
   offset_is = refl;
 }
 
 pub returns-then-not-has_room-clause-checked : goal.returns-then-not-has_room-clause-checked
 returns-then-not-has_room-clause-checked c = λ text size beginning. let short : 49 ≤ c.args.size → ⊥ = λ room. cc (c.if-not-has_room.ensures.1 room) in record {
-  fails = room_fails text (ap (λ t. bytes_eq t earlier_magic) (sym beginning) ∙ sym c.if-is_earlier.ensures) (sym (asked text c.args.beginning.now c.args.size size beginning c.requires)
-      ∙ sym c.if-not-begins.ensures) (omega (arith, size, short));
+  fails = room_fails text (ap (λ t. bytes_eq t earlier_magic) (sym beginning) ∙ sym c.if-is_earlier.ensures)
+      (sym (asked text c.args.beginning.now c.args.size size beginning c.requires) ∙ sym c.if-not-begins.ensures)
+      (omega (arith, size, short));
   offset_is = omega (arith, size, c.saturating_sub.ensures);
 }
 
 pub returns-clause-checked : goal.returns-clause-checked
 returns-clause-checked c = λ text size beginning.
-    front_passes text (ap (λ t. bytes_eq t earlier_magic) (sym beginning) ∙ sym c.if-is_earlier.ensures) (sym (asked text c.args.beginning.now c.args.size size beginning c.requires) ∙ sym c.if-not-begins.ensures) (omega (arith, size))
+    front_passes text (ap (λ t. bytes_eq t earlier_magic) (sym beginning) ∙ sym c.if-is_earlier.ensures)
+    (sym (asked text c.args.beginning.now c.args.size size beginning c.requires) ∙ sym c.if-not-begins.ensures)
+    (omega (arith, size))

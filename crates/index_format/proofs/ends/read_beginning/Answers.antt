@@ -9,7 +9,7 @@ use Rattle.index_format.proofs.ends.read_beginning.Goals as goal
 pub returns-in_err-size-clause-read : goal.returns-in_err-size-clause-read
 returns-in_err-size-clause-read g c =
     let p = err_from_is_err_and c.from_residual.result c.from_residual.ensures.1 in
-    passed_on _ _ _ _ _ _ _ _ _ _ _ c.in_err-size.was (p.1 ∙ ap Err p.2)
+    passed_on c.in_err-size.was (p.1 ∙ ap Err p.2)
     (λ text known refused. refused_as (λ t f. ⊥) FailsInBeginning text _ (λ none. absurd none) refused)
     c.read_size.ensures
 
@@ -17,9 +17,9 @@ pub returns-in_err-beginning-clause-read : goal.returns-in_err-beginning-clause-
 returns-in_err-beginning-clause-read g c =
     let p = err_from_is_err_and c.from_residual-in_err-beginning.result c.from_residual-in_err-beginning.ensures.1 in
     let sized = c.in_ok-size.ensures in
-    passed_on _ _ _ _ _ _ _ _ _ _ _ c.in_err-beginning.was (p.1 ∙ ap Err p.2)
+    passed_on c.in_err-beginning.was (p.1 ∙ ap Err p.2)
     (λ text known refused. part_unread FailsInBeginning 0 _ text _ (inl refl) (omega (arith, sized.says text known, c.min.ensures)) refused)
-    (after_ok _ _ _ _ _ _ _ _ sized.keeps sized.counts c.read_part.ensures.read)
+    (after_ok sized.keeps sized.counts c.read_part.ensures.read)
 
 -- the bytes of the front
 front_bytes : (text beginning : List ℕ) (size n : ℕ) → size ≡ length text → n ≡ min size 8 → beginning ≡ take n (drop 0 text) → beginning ≡ take 8 text
@@ -28,7 +28,7 @@ front_bytes text beginning size n same least is = is ∙ ap (λ (k : ℕ). take 
 pub returns-in_err-check_beginning-clause-read : goal.returns-in_err-check_beginning-clause-read
 returns-in_err-check_beginning-clause-read g c =
     let sized = c.in_ok-size.ensures in
-    let read = after_ok _ _ _ _ _ _ _ _ sized.keeps sized.counts c.in_ok-beginning.ensures.read in
+    let read = after_ok sized.keeps sized.counts c.in_ok-beginning.ensures.read in
     let faulty = c.in_err-check_beginning.ensures in
     rw (failed c.from_residual-in_err-check_beginning.result c.in_err-check_beginning.field-0.0 c.from_residual-in_err-check_beginning.ensures.1)
     (record {
@@ -42,7 +42,7 @@ returns-in_err-check_beginning-clause-read g c =
 pub returns-clause-read : goal.returns-clause-read
 returns-clause-read g c =
     let sized = c.in_ok-size.ensures in
-    let read = after_ok _ _ _ _ _ _ _ _ sized.keeps sized.counts c.in_ok-beginning.ensures.read in
+    let read = after_ok sized.keeps sized.counts c.in_ok-beginning.ensures.read in
     record {
       says = λ text known. record {
         size_is = sized.says text known;

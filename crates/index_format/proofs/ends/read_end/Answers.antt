@@ -16,7 +16,7 @@ last_part text size n same = ap (λ (k : ℕ). take n (drop (k - n) text)) same
 pub returns-in_err-end-clause-read : goal.returns-in_err-end-clause-read
 returns-in_err-end-clause-read g c =
     let p = err_from_is_err_and c.from_residual.result c.from_residual.ensures.1 in
-    passed_on _ _ _ _ _ _ _ _ _ _ _ c.in_err-end.was (p.1 ∙ ap Err p.2)
+    passed_on c.in_err-end.was (p.1 ∙ ap Err p.2)
     (λ text known refused. inr (λ fronted. part_unread FailsAtEnd (c.args.size - 41) 41 text _
     (inr (inl (ap (λ (n : ℕ). n - 41) fronted.size_is))) (omega (arith, fronted.size_is, c.requires)) refused))
     c.read_part.ensures.read

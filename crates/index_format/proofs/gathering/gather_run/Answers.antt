@@ -10,7 +10,7 @@ use Rattle.index_format.specs.InnerGathering.{AreGathered, FailsOf, IsGathered}
 use Rattle.index_format.specs.Runs.{is_tagged}
 use Rattle.index_format.proofs.RunLemmas.{length_run}
 use Rattle.index_format.proofs.Gathered.{fails_at, fails_behind, gathered_more, gathered_none, gathered_rest, refused_behind, stale_at}
-use Rattle.index_format.proofs.Ordered.{in_run}
+use Rattle.index_format.proofs.EntryOrder.{in_run}
 use Rattle.index_format.proofs.gathering.gather_run.Goals as goal
 
 pub run-init : goal.run-init

@@ -17,7 +17,7 @@ are_entries text bytes ends are is = is ∙ (λ i. take (122 * are.count_is i) (
 pub returns-in_err-bytes-clause-read : goal.returns-in_err-bytes-clause-read
 returns-in_err-bytes-clause-read g c =
     let p = err_from_is_err_and c.from_residual.result c.from_residual.ensures.1 in
-    passed_on _ _ _ _ _ _ _ _ _ _ _ c.in_err-bytes.was (p.1 ∙ ap Err p.2)
+    passed_on c.in_err-bytes.was (p.1 ∙ ap Err p.2)
     (λ text known refused. inr (λ are. part_unread FailsDigest _ _ text _ (inr (inr are.start_is)) (omega (arith, ends_fill text c.args.ends.now are)) refused))
     c.read_part.ensures.read
 

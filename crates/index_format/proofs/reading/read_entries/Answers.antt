@@ -2,7 +2,7 @@ use Rattle.std.proofs.Common.{◌≡◌, ◌∙◌, List, ℕ, Err, Ok, ap, sym,
 use Rattle.std.specs.Prelude.{◌⊎◌, IfErr, IfOk, MatchResult, Result}
 use Rattle.std.proofs.lemmas.Result.{err_from_is_err_and}
 use Rattle.index_format.specs.Fault.{FailsDigest, FailsInEntries, FailsInPlaces}
-use Rattle.index_format.specs.InnerReading.{AreEndsOf, AreEntriesOf, AreReadOf, FailsBehindEnds}
+use Rattle.index_format.specs.InnerReading.{AreEndsOf, AreEntriesOf, AreReadOf, FailsAfterEnds}
 use Rattle.index_format.specs.Reading.{IsRefused}
 use Rattle.index_format.specs.declared.ends.Ends.{Ends}
 use Rattle.index_format.specs.declared.entry.IndexEntry.{IndexEntry}
@@ -14,8 +14,8 @@ use Rattle.index_format.proofs.reading.read_entries.Goals as goal
 pub returns-in_err-bytes-clause-read : goal.returns-in_err-bytes-clause-read
 returns-in_err-bytes-clause-read g c =
     let p = err_from_is_err_and c.from_residual.result c.from_residual.ensures.1 in
-    passed_on _ _ _ _ _ _ _ _ _ _ _ c.in_err-bytes.was (p.1 ∙ ap Err p.2)
-    (λ text known refused. inr (λ are. refused_as FailsDigest FailsBehindEnds text _ (λ fault. inl fault)
+    passed_on c.in_err-bytes.was (p.1 ∙ ap Err p.2)
+    (λ text known refused. inr (λ are. refused_as FailsDigest FailsAfterEnds text _ (λ fault. inl fault)
     (flat FailsDigest text _ refused (λ under. under are)))) c.read_bytes.ensures.read
 
 -- what the checks say of the text
@@ -24,7 +24,7 @@ said : {T : Type 0} (r : Result T IndexFault) (ends : Ends) (bytes text : List �
     → IfErr r (λ f. ((f.kind ≡ OutOfMemory) × (f.offset ≡ ends.start))
     ⊎ ((t : List ℕ) → AreEndsOf t ends → AreEntriesOf t bytes → FailsInEntries t f ⊎ FailsInPlaces t f))
     → (AreEndsOf text ends → AreEntriesOf text bytes)
-    → MatchResult r (λ v. AreEndsOf text ends → AreReadOf text (entries_of v)) (λ f. AreEndsOf text ends → IsRefused FailsBehindEnds text f)
+    → MatchResult r (λ v. AreEndsOf text ends → AreReadOf text (entries_of v)) (λ f. AreEndsOf text ends → IsRefused FailsAfterEnds text f)
 said (Ok v) ends bytes text entries_of read faulty are_entries = λ are. read text are (are_entries are)
 said (Err f) ends bytes text entries_of read (inl machine) are_entries = λ are. inl (inr machine.0, inr (inr (machine.1 ∙ are.start_is)))
 said (Err f) ends bytes text entries_of read (inr fault) are_entries = λ are. inr (inr (fault text are (are_entries are)))

@@ -6,7 +6,7 @@ use Rattle.index_format.specs.Entry.{entry_bytes, placed_bytes}
 use Rattle.index_format.specs.Runs.{IsRun, is_tagged}
 use Rattle.index_format.proofs.Fronts.{fronts_of}
 use Rattle.index_format.proofs.RunLemmas.{begins, parts_items, run_found, run_whole}
-use Rattle.index_format.proofs.Ordered.{long_enough}
+use Rattle.index_format.proofs.EntryOrder.{long_enough}
 use Rattle.index_format.proofs.runs.run_under.Goals as goal
 
 pub returns-clause-placed : goal.returns-clause-placed

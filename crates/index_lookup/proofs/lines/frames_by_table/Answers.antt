@@ -12,7 +12,7 @@ use Rattle.index_lookup.proofs.lines.frames_by_table.Goals as goal
 pub returns-in_err-lines : goal.returns-in_err-lines
 returns-in_err-lines g c =
     let claim = claim_view c.args.table.pages.claim in
-    passed_on _ _ _ _ _ _ _ _ _ _ _ c.in_err-lines.was c.from_residual.ensures.1
+    passed_on c.in_err-lines.was c.from_residual.ensures.1
     (λ text known absent opened slice all is stored.
     let here = lines_here c.args.table c.into_lines-pages.result.0 c.into_lines-pages.result.1 claim text slice all is
     c.into_lines-pages.ensures.lines opened (may_be text all claim stored) in
@@ -45,7 +45,7 @@ pub returns-in_err-lists : goal.returns-in_err-lists
 returns-in_err-lists g c =
     let claim = claim_view c.args.table.pages.claim in
     let lines = c.in_ok-lines.ensures.read in
-    passed_on _ _ _ _ _ _ _ _ _ _ _ c.in_err-lists.was c.from_residual-in_err-lists.ensures.1
+    passed_on c.in_err-lists.was c.from_residual-in_err-lists.ensures.1
     (λ text known absent opened slice all is stored.
     let here = lines_here c.args.table c.into_lines-pages.result.0 c.into_lines-pages.result.1 claim text slice all is
     c.into_lines-pages.ensures.lines opened (may_be text all claim stored) in
@@ -53,13 +53,13 @@ returns-in_err-lists g c =
     (lines.says text known slice all is.lines here.0 here.1 is.are_lines) in
     absent slice all found.0 (subst (λ fields. AreStored text (claim_view fields) all)
     (sym (c.in_ok-lines.ensures.claim ∙ c.into_lines-pages.ensures.claim)) stored) found.1 found.2)
-    (after_ok _ _ _ _ _ _ _ _ lines.keeps lines.counts c.frames_of_each.ensures)
+    (after_ok lines.keeps lines.counts c.frames_of_each.ensures)
 
 pub returns : goal.returns
 returns g c =
     let claim = claim_view c.args.table.pages.claim in
     let lines = c.in_ok-lines.ensures.read in
-    let lists = after_ok _ _ _ _ _ _ _ _ lines.keeps lines.counts c.in_ok-lists.ensures in
+    let lists = after_ok lines.keeps lines.counts c.in_ok-lists.ensures in
     record {
       says = λ text known opened.
           zip_as _ _ c.args.asked.now _ (λ place frames told. record {

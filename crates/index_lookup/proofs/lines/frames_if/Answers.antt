@@ -10,7 +10,7 @@ found_if (Some value) IsNone IsTrue wanted told = λ _. told
 
 pub returns-then-lines-clause-read : goal.returns-then-lines-clause-read
 returns-then-lines-clause-read g c =
-    read_as _ _ _ _ _ _ _ _ _ (λ text known found told opened. found_if found _ _ c.args.lines (told opened))
+    read_as (λ text known found told opened. found_if found _ _ c.args.lines (told opened))
     (λ text known absent. absent) c.frames_by_table.ensures
 
 pub returns-clause-read : goal.returns-clause-read

@@ -8,7 +8,7 @@ use Rattle.index_lookup.proofs.lines.frames_of.Goals as goal
 
 pub returns-in-Some-clause-read : goal.returns-in-Some-clause-read
 returns-in-Some-clause-read g c =
-    read_as _ _ _ _ _ _ _ _ _
+    read_as
     (λ text known frames says. record {
       of_slice = λ slice all steps are base opened.
           let at : file_address slice c.args.asked ≡ Some c.in-Some.address =

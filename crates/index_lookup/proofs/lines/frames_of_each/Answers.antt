@@ -48,12 +48,12 @@ asked-preserved g c =
 
 pub returns-in_err-frames : goal.returns-in_err-frames
 returns-in_err-frames g c =
-    passed_on _ _ _ _ _ _ _ _ _ _ _ c.in_err-frames.was c.from_residual.ensures.1
+    passed_on c.in_err-frames.was c.from_residual.ensures.1
     (λ text known absent slice all steps stored are opened.
     absent slice all steps (subst (λ claim. AreStored text (claim_view claim) all) (sym c.asked.invariant.claim) stored)
     are (still c.args.table.now c.args.pages.now c.asked.pages text all steps
     (c.asked.invariant.keeps text all known) opened))
-    (after_ok _ _ _ _ _ _ _ _ c.asked.invariant.whole c.asked.invariant.unfailed c.frames_of.ensures.read)
+    (after_ok c.asked.invariant.whole c.asked.invariant.unfailed c.frames_of.ensures.read)
 
 pub returns : goal.returns
 returns g c = record {

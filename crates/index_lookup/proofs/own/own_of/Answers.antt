@@ -8,7 +8,7 @@ use Rattle.index_lookup.proofs.own.own_of.Goals as goal
 
 pub returns-in-Some-clause-read : goal.returns-in-Some-clause-read
 returns-in-Some-clause-read g c =
-    read_as _ _ _ _ _ _ _ _ _
+    read_as
     (λ text known own says slice t bytes is opened.
     let at : file_address slice c.args.asked ≡ Some c.in-Some.address =
     ap (λ (b : Option ℕ). address_by b c.args.asked) (sym (c.text_base.ensures ∙ opened.head.base ∙ is.base))

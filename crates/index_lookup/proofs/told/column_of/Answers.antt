@@ -13,7 +13,7 @@ use Rattle.index_lookup.proofs.told.column_of.Goals as goal
 
 pub returns-in_err-table-clause-read : goal.returns-in_err-table-clause-read
 returns-in_err-table-clause-read g c =
-    passed_on _ _ _ _ _ _ _ _ _ _ _ c.in_err-table.was c.from_residual.ensures.1
+    passed_on c.in_err-table.was c.from_residual.ensures.1
     (λ text known absent long slice all is stored. absent long slice all is
     (subst (λ claim. AreStored text claim all) c.args.numbered.now.fields.claim_is stored))
     c.owns_by_claim.ensures.read
@@ -22,18 +22,18 @@ pub returns-in_err-frames-clause-read : goal.returns-in_err-frames-clause-read
 returns-in_err-frames-clause-read g c =
     let owns = c.in_ok-table.ensures.read in
     let named = sym c.in_ok-table.ensures.claim in
-    passed_on _ _ _ _ _ _ _ _ _ _ _ c.in_err-frames.was c.from_residual-in_err-frames.ensures.1
+    passed_on c.in_err-frames.was c.from_residual-in_err-frames.ensures.1
     (λ text known absent long slice all is stored.
     absent (subst (λ (fields : Claim). IsTableBy text (claim_view fields) c.in_ok-table.table) named (owns.says text known).0) slice all is
     (subst (λ (fields : Claim). AreStored text (claim_view fields) all) named
     (subst (λ claim. AreStored text claim all) c.args.numbered.now.fields.claim_is stored)))
-    (after_ok _ _ _ _ _ _ _ _ owns.keeps owns.counts c.frames_if.ensures.read)
+    (after_ok owns.keeps owns.counts c.frames_if.ensures.read)
 
 pub returns-in_default-clause-read : goal.returns-in_default-clause-read
 returns-in_default-clause-read g c =
     let owns = c.in_ok-table.ensures.read in
     let named = c.in_ok-table.ensures.claim in
-    let frames = after_ok _ _ _ _ _ _ _ _ owns.keeps owns.counts c.in_ok-frames.ensures.read in
+    let frames = after_ok owns.keeps owns.counts c.in_ok-frames.ensures.read in
     record {
       says = λ text known.
           let opened = subst (λ (fields : Claim). IsTableBy text (claim_view fields) c.in_ok-table.table) (sym named) (owns.says text known).0 in
@@ -46,7 +46,7 @@ pub returns-clause-read : goal.returns-clause-read
 returns-clause-read g c =
     let owns = c.in_ok-table.ensures.read in
     let named = c.in_ok-table.ensures.claim in
-    let frames = after_ok _ _ _ _ _ _ _ _ owns.keeps owns.counts c.in_ok-frames.ensures.read in
+    let frames = after_ok owns.keeps owns.counts c.in_ok-frames.ensures.read in
     record {
       says = λ text known.
           let told = owns.says text known in

@@ -9,24 +9,24 @@ use Rattle.index_lookup.proofs.told.owns_by_claim.Goals as goal
 
 pub returns-in_err-table-clause-read : goal.returns-in_err-table-clause-read
 returns-in_err-table-clause-read g c =
-    passed_on _ _ _ _ _ _ _ _ _ _ _ c.in_err-table.was c.from_residual.ensures.1
+    passed_on c.in_err-table.was c.from_residual.ensures.1
     (λ text known absent long slice all is stored. absent long is.is_table.0 is.is_table.2
     (subst (AreStored text (claim_view c.args.claim)) is.is_table.3 stored)) c.open.ensures.read
 
 pub returns-in_err-owns-clause-read : goal.returns-in_err-owns-clause-read
 returns-in_err-owns-clause-read g c =
     let opened = c.in_ok-table.ensures.read in
-    passed_on _ _ _ _ _ _ _ _ _ _ _ c.in_err-owns.was c.from_residual-in_err-owns.ensures.1
+    passed_on c.in_err-owns.was c.from_residual-in_err-owns.ensures.1
     (λ text known absent long slice all is stored.
     let here = subst (AreStored text (claim_view c.args.claim)) is.is_table.3 stored in
     absent is.is_table.0 (opened.says text known is.is_table.0 is.is_table.2 (may_be text (table_bytes is.is_table.0) (claim_view c.args.claim) here))
     (subst (λ claim. AreStored text (claim_view claim) (table_bytes is.is_table.0)) (sym c.in_ok-table.ensures.claim) here))
-    (after_ok _ _ _ _ _ _ _ _ opened.keeps opened.counts c.owns_of.ensures.read)
+    (after_ok opened.keeps opened.counts c.owns_of.ensures.read)
 
 pub returns-clause-read : goal.returns-clause-read
 returns-clause-read g c =
     let opened = c.in_ok-table.ensures.read in
-    let asked = after_ok _ _ _ _ _ _ _ _ opened.keeps opened.counts c.in_ok-owns.ensures.read in
+    let asked = after_ok opened.keeps opened.counts c.in_ok-owns.ensures.read in
     record {
       says = λ text known. (
         record {

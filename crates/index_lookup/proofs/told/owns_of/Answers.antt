@@ -31,11 +31,11 @@ asked-preserved g c =
 
 pub returns-in_err-found-clause-read : goal.returns-in_err-found-clause-read
 returns-in_err-found-clause-read g c =
-    passed_on _ _ _ _ _ _ _ _ _ _ _ c.in_err-found.was c.from_residual.ensures.1
+    passed_on c.in_err-found.was c.from_residual.ensures.1
     (λ text known absent t opened stored.
     absent t (c.asked.invariant.keeps text t known opened)
     (subst (λ claim. AreStored text (claim_view claim) (table_bytes t)) (sym c.asked.invariant.claim) stored))
-    (after_ok _ _ _ _ _ _ _ _ c.asked.invariant.whole c.asked.invariant.unfailed c.own_of.ensures.read)
+    (after_ok c.asked.invariant.whole c.asked.invariant.unfailed c.own_of.ensures.read)
 
 pub returns-clause-read : goal.returns-clause-read
 returns-clause-read g c = record {

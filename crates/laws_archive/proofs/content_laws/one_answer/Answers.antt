@@ -10,7 +10,7 @@ use Rattle.archive_core.specs.declared.keys.SliceKey.{SliceKey}
 use Rattle.archive_core.specs.declared.lookup.Where.{Where}
 use Rattle.laws_archive.proofs.Answerers.{some_answering}
 use Rattle.laws_archive.proofs.Given.{one_zipped}
-use Rattle.command_queries.proofs.Sourced.{one_answering}
+use Rattle.command_queries.proofs.AnswersWithFrames.{one_answering}
 use Rattle.laws_archive.proofs.content_laws.one_answer.Goals as goal
 
 module _ (one : (image : List ℕ) (address : ℕ) (found other : Option Tuple) → IsNearest image address found

@@ -20,12 +20,12 @@ returns-clause-same_operations g c = λ sites others events later i j same.
 
 pub returns-clause-same_bytes : goal.returns-clause-same_bytes
 returns-clause-same_bytes g c = λ sites others events later i j same records.
-    let held = c.same_reached.ensures sites others events later i j same in
+    let held = c.same_operations_same_content.ensures sites others events later i j same in
     let content = c.records_make_contents.ensures.held sites events _ i records in
     let text = written ((state sites events (length events)).held i) in
     (text, record { content = content; is = refl }, subst (λ (o : Operations). IsArchiveTextOf text o) held (record { content = content; is = refl }))
 
 pub returns-clause-same_answers : goal.returns-clause-same_answers
 returns-clause-same_answers g c = λ sites others events later i j same key asked answer.
-    let held = c.same_reached.ensures sites others events later i j same in
+    let held = c.same_operations_same_content.ensures sites others events later i j same in
     (subst (λ (o : Operations). IsAnswer o key asked answer) held, subst (λ (o : Operations). IsAnswer o key asked answer) (sym held))

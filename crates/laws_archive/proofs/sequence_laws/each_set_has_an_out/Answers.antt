@@ -4,7 +4,7 @@ use Rattle.std.specs.Cmp.Lexicographic.{nat_list_cmp_total}
 use Rattle.std.specs.FinSet as set
 use Rattle.std.specs.List.{AllByRecursion, concat}
 use Rattle.join_core.specs.Listing.{listing}
-use Rattle.join_core.proofs.Merge.{along_members}
+use Rattle.join_core.proofs.SortedUnion.{along_members}
 use Rattle.archive_core.specs.Content.{Operations, content_of, new_among, with_records}
 use Rattle.archive_core.specs.Record.{IsOperation, IsRecord, record_bytes}
 use Rattle.archive_core.specs.declared.operations.Operation.{Operation}

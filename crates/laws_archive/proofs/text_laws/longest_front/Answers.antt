@@ -1,14 +1,14 @@
 use Rattle.std.proofs.Common.{◌≡◌, ℕ, ◌+◌, List, inl, inr, ◌⊎◌}
 use Rattle.archive_records.specs.declared.fault.RecordFaultKind.TheVariants.{Trailing}
 use Rattle.archive_records.specs.declared.fault.RecordFault.{RecordFault}
-use Rattle.archive_records.specs.Fault.{IsMagicFault, IsFaultOf, IsFaultBehind}
+use Rattle.archive_records.specs.Fault.{IsMagicFault, IsFaultOf, IsFaultAfter}
 use Rattle.archive_records.specs.declared.format.Format.{Format}
 use Rattle.archive_records.specs.Front.{IsLongestFront, front_length}
 use Rattle.archive_records.proofs.Exact.{fault_longest}
 use Rattle.laws_archive.proofs.text_laws.longest_front.Goals as goal
 
 place : (file : Format) (records : List (List ℕ)) (rest : List ℕ) (fault : RecordFault)
-    → IsFaultBehind file records rest fault → (fault.offset ≡ front_length records)
+    → IsFaultAfter file records rest fault → (fault.offset ≡ front_length records)
     ⊎ ((fault.kind ≡ Trailing) × (fault.offset ≡ front_length records + 9))
 place file records rest fault (inl f) = inl f.1
 place file records rest fault (inr t) = inr (t.0, t.2)

@@ -1,4 +1,4 @@
-use Rattle.laws_index.proofs.Right.{right, right_alone}
+use Rattle.laws_index.proofs.IndexesAreRight.{right, right_alone}
 use Rattle.laws_index.proofs.laws.right_among.Goals as goal
 
 pub returns-clause-several : goal.returns-clause-several

@@ -1,4 +1,4 @@
-use Rattle.laws_index.proofs.Right.{tied}
+use Rattle.laws_index.proofs.IndexesAreRight.{tied}
 use Rattle.laws_index.proofs.laws.tied_among.Goals as goal
 
 pub returns : goal.returns

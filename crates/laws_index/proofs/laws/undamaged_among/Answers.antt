@@ -1,4 +1,4 @@
-use Rattle.laws_index.proofs.Right.{lineless, none_damaged, undamaged}
+use Rattle.laws_index.proofs.IndexesAreRight.{lineless, none_damaged, undamaged}
 use Rattle.laws_index.proofs.laws.undamaged_among.Goals as goal
 
 pub returns : goal.returns

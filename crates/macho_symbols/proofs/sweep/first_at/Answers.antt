@@ -1,6 +1,6 @@
 use Rattle.std.proofs.Common.{◌∙◌, ◌+◌, None, get_or, ap, arith, subst, sym}
 use Rattle.macho_symbols.specs.Symbols.{strings_of}
-use Rattle.macho_symbols.specs.InnerCandidates.{AreFirstsOf, IsLeastOrNone, StandsAt, first_of}
+use Rattle.macho_symbols.specs.InnerCandidates.{AreFirstsOf, IsLeastOrNone, IsEligibleAmong, first_of}
 use Rattle.macho_symbols.proofs.SweepLemmas.{Seen, seen_all, seen_inside, seen_none, seen_outside}
 use Rattle.macho_symbols.proofs.sweep.first_at.Goals as goal
 use Rattle.macho_symbols.proofs.sweep.first_at.Goals.{then-is_inside, else-is_inside}
@@ -29,6 +29,6 @@ sections-preserved c = λ image candidates count of strings are firsts up above 
 
 pub returns : goal.returns
 returns c = λ image candidates count of strings are firsts up above some.
-    subst (λ s. IsLeastOrNone s (StandsAt image candidates c.args.address) c.sections.best) (sym strings)
+    subst (λ s. IsLeastOrNone s (IsEligibleAmong image candidates c.args.address) c.sections.best) (sym strings)
     (seen_all image c.args.sections.now candidates c.args.address of are c.args.best c.sections.best c.sections.index (omega (arith, c.sections-test.false))
     (c.sections.invariant image candidates count of strings are firsts up above some))

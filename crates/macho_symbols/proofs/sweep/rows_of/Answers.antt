@@ -3,7 +3,7 @@ use Rattle.std.specs.Prelude.{All}
 use Rattle.std.proofs.lemmas.List.{map-append, take_all, take_more}
 use Rattle.std.proofs.lemmas.List.Elements.{All-push}
 use Rattle.macho_symbols.specs.Steps.{SaysNearest}
-use Rattle.macho_symbols.specs.InnerCandidates.{AreNumbered, IsLeastOrNone, StandsAt}
+use Rattle.macho_symbols.specs.InnerCandidates.{AreNumbered, IsLeastOrNone, IsEligibleAmong}
 use Rattle.macho_symbols.specs.declared.row.Row.{Row}
 use Rattle.macho_symbols.proofs.SweepLemmas.{are_steps, start_said, turn_says, up_to_later}
 use Rattle.macho_symbols.proofs.sweep.rows_of.Goals as goal
@@ -32,7 +32,7 @@ turns-preserved c =
           (c.note_up_to-count.ensures.below (c.turns.invariant.below image is c.turns-test.true))
           c.note_up_to-count.ensures.above c.note_up_to-count.ensures.best in
           let says = turn_says image cs a c.first_at-nearest.result c.saying.result is.candidates_are
-          (subst (λ s. IsLeastOrNone s (StandsAt image cs a) c.first_at-nearest.result) is.strings_are found)
+          (subst (λ s. IsLeastOrNone s (IsEligibleAmong image cs a) c.first_at-nearest.result) is.strings_are found)
           c.saying.ensures in
           subst (All (λ (r : Row). SaysNearest image r.start r)) (sym c.in_ok-push.ensures.items)
           (All-push (λ (r : Row). SaysNearest image r.start r) c.turns.rows.items c.saying.result

@@ -20,11 +20,11 @@ halving-init g c = record {
 
 pub returns-in_err-below-clause-read : goal.returns-in_err-below-clause-read
 returns-in_err-below-clause-read g c =
-    passed_on _ _ _ _ _ _ _ _ _ _ _ c.in_err-below.was c.from_residual.ensures.1
+    passed_on c.in_err-below.was c.from_residual.ensures.1
     (λ text known absent all stored pages held.
     absent all (subst (λ claim. AreStored text (claim_view claim) all) (sym c.halving.invariant.claim) stored)
     (c.halving.invariant.keeps text all known pages) held)
-    (after_ok _ _ _ _ _ _ _ _ c.halving.invariant.whole c.halving.invariant.unfailed c.is_below.ensures.read)
+    (after_ok c.halving.invariant.whole c.halving.invariant.unfailed c.is_below.ensures.read)
 
 pub returns-in_err-below-clause-keeps : goal.returns-in_err-below-clause-keeps
 returns-in_err-below-clause-keeps g c = λ text all known pages.

@@ -7,12 +7,12 @@ use Rattle.table_source_frames_build.proofs.making.line_table.Goals as goal
 
 pub returns : goal.returns
 returns c =
-    let given = c.in_ok-give_turns.ensures.0 in
-    let took = c.in_ok-give_turns.ensures.1 [] (ap (λ (s : StoreRecord). s.taken) c.new-store.ensures) in
+    let given = c.in_ok-push_turns.ensures.0 in
+    let took = c.in_ok-push_turns.ensures.1 [] (ap (λ (s : StoreRecord). s.taken) c.new-store.ensures) in
     let image = c.args.image.now in
-    let store = c.give_turns.new.taker.store.taken in
+    let store = c.push_turns.new.sink.store.taken in
     IfOk-weaker c.finish.result (λ bytes. IsWritten c.room_for.result store bytes.items) (λ bytes. IsLineTable image bytes.items)
     (λ bytes written.
-    c.table_by_turns.ensures image given bytes.items c.in_ok-give_turns.ensures.2
+    c.table_by_turns.ensures image given bytes.items c.in_ok-push_turns.ensures.2
     (subst (λ taken. IsWritten (room_of image) taken bytes.items) took (subst (λ room. IsWritten room store bytes.items) c.room_for.ensures written)))
     c.finish.ensures

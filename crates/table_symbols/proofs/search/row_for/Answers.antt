@@ -7,7 +7,7 @@ use Rattle.table_symbols.proofs.search.row_for.Goals as goal
 
 pub returns-in_err-end-clause-read : goal.returns-in_err-end-clause-read
 returns-in_err-end-clause-read g c =
-    passed_on _ _ _ _ _ _ _ _ _ _ _ c.in_err-end.was c.from_residual.ensures.1
+    passed_on c.in_err-end.was c.from_residual.ensures.1
     (λ text known absent all stored pages held. absent all stored pages held)
     c.partition_point.ensures.read
 
@@ -23,16 +23,16 @@ returns-then-end-eq0-clause-read g c = record {
 pub returns-in_err-row-clause-read : goal.returns-in_err-row-clause-read
 returns-in_err-row-clause-read g c =
     let end = c.in_ok-end.ensures.read in
-    passed_on _ _ _ _ _ _ _ _ _ _ _ c.in_err-row.was c.from_residual-in_err-row.ensures.1
+    passed_on c.in_err-row.was c.from_residual-in_err-row.ensures.1
     (λ text known absent all stored pages held.
     absent all (subst (λ claim. AreStored text (claim_view claim) all) (sym c.in_ok-end.ensures.claim) stored)
     (c.in_ok-end.ensures.keeps text all known pages) (omega (arith, held, c.in_ok-end.ensures.within.1, c.if-end-eq0.false)))
-    (after_ok _ _ _ _ _ _ _ _ end.keeps end.counts c.row_at.ensures.read)
+    (after_ok end.keeps end.counts c.row_at.ensures.read)
 
 pub returns-clause-read : goal.returns-clause-read
 returns-clause-read g c =
     let end = c.in_ok-end.ensures.read in
-    let row = after_ok _ _ _ _ _ _ _ _ end.keeps end.counts c.in_ok-row.ensures.read in
+    let row = after_ok end.keeps end.counts c.in_ok-row.ensures.read in
     record {
       says = λ text known all rows pages are long stands.
           let edge = end.says text known all rows pages (are, long, stands) in

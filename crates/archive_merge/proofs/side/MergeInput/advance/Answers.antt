@@ -2,7 +2,7 @@ use Rattle.std.proofs.Common.{Some, refl}
 use Rattle.std.proofs.lemmas.Result.{err_from_is_err_and}
 use Rattle.archive_merge.specs.Sides.{side_with}
 use Rattle.archive_merge.proofs.Starts.{stands_held, counts_of}
-use Rattle.archive_records.proofs.Steps.{Stopped-with, HasReadAll-grows}
+use Rattle.archive_records.proofs.RecordSteps.{Stopped-with, HasReadAll-grows}
 use Rattle.archive_merge.proofs.side.MergeInput.advance.Goals as goal
 
 pub returns-in_err-advance_beside-clause-stands : goal.returns-in_err-advance_beside-clause-stands

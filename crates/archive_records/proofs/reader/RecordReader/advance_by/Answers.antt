@@ -6,7 +6,7 @@ use Rattle.archive_records.proofs.Blamed.{bounds_kept}
 use Rattle.archive_records.proofs.FaultKinds.{cut_off, memory_blames}
 use Rattle.archive_records.proofs.Forms.{item-found}
 use Rattle.archive_records.proofs.FoundOut.{found_last, nothing_last}
-use Rattle.archive_records.proofs.Steps.{step_refused, refused_blames}
+use Rattle.archive_records.proofs.RecordSteps.{step_refused, refused_blames}
 use Rattle.archive_records.proofs.Undecided.{kept_uncovered}
 use Rattle.archive_records.proofs.reader.RecordReader.advance_by.Goals as goal
 

@@ -1,4 +1,4 @@
-use Rattle.archive_records.proofs.Steps.{Stopped-behind, Stopped-end}
+use Rattle.archive_records.proofs.RecordSteps.{Stopped-behind, Stopped-end}
 use Rattle.archive_records.proofs.reader.RecordReader.finish.Goals as goal
 
 pub returns-in-Ok-false-clause-stopped : goal.returns-in-Ok-false-clause-stopped

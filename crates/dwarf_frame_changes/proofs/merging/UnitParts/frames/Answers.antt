@@ -19,9 +19,9 @@ pub returns-then-number-eq0-clause-told : goal.returns-then-number-eq0-clause-to
 returns-then-number-eq0-clause-told g c = record {
   paths = c.in_ok-alone.ensures.kept;
   callers = c.requires.told.callers;
-  linked = linked_still (g.T.FrameTaker.tells_name c.args.taker.now)
-      (g.T.FrameTaker.tells_name c.frames_of_row.new.taker) (g.T.FrameTaker.tells_frames c.args.taker.now)
-      (g.T.FrameTaker.tells_frames c.frames_of_row.new.taker)
+  linked = linked_still (g.T.FrameSink.numbers_name c.args.sink.now)
+      (g.T.FrameSink.numbers_name c.frames_of_row.new.sink) (g.T.FrameSink.numbers_frames c.args.sink.now)
+      (g.T.FrameSink.numbers_frames c.frames_of_row.new.sink)
       c.frames_of_row.ensures.names c.frames_of_row.ensures.frames (lines_view c.args.lines.now)
       (links_view c.args.self.now.links.links.items) (length c.args.self.now.links.links.items)
       c.args.self.now.linked.items c.requires.told.linked;
@@ -33,7 +33,7 @@ frames-requires g c = λ κs.
     let told = c.requires.told.linked in
     let within : n < length c.args.self.now.linked.items = omega (arith, told.count_is, c.requires.within, c.if-number-eq0.false) in
     let inside : n < length c.args.self.now.links.links.items = omega (arith, c.requires.within, c.if-number-eq0.false) in
-    let of = numbers_of (g.T.FrameTaker.tells_name c.args.taker.now) (g.T.FrameTaker.tells_frames c.args.taker.now)
+    let of = numbers_of (g.T.FrameSink.numbers_name c.args.sink.now) (g.T.FrameSink.numbers_frames c.args.sink.now)
     (lines_view c.args.lines.now) c.args.self.now.links.links.items (length c.args.self.now.links.links.items)
     c.args.self.now.linked.items n c.index-of.result.now told within c.index-of.ensures inside in (
       (refl, tt),
@@ -55,7 +55,7 @@ returns-clause-is g c =
     let told = c.requires.told.linked in
     let within : n < length c.args.self.now.linked.items = omega (arith, told.count_is, c.requires.within, c.if-number-eq0.false) in
     let inside : n < length c.args.self.now.links.links.items = omega (arith, c.requires.within, c.if-number-eq0.false) in
-    let of = numbers_of (g.T.FrameTaker.tells_name c.args.taker.now) (g.T.FrameTaker.tells_frames c.args.taker.now)
+    let of = numbers_of (g.T.FrameSink.numbers_name c.args.sink.now) (g.T.FrameSink.numbers_frames c.args.sink.now)
     lines c.args.self.now.links.links.items (length c.args.self.now.links.links.items) c.args.self.now.linked.items
     n c.index-of.result.now told within c.index-of.ensures inside in
     let place : ◌≡◌ {A = SourceLocation} c.of_row-place.result (location_of_row c.args.row) = c.of_row-place.ensures in
@@ -71,16 +71,16 @@ returns-clause-is g c =
 
 pub returns-clause-told : goal.returns-clause-told
 returns-clause-told g c =
-    let P = g.T.FrameTaker.tells_name in
-    let Q = g.T.FrameTaker.tells_path in
-    let F = g.T.FrameTaker.tells_frames in
+    let P = g.T.FrameSink.numbers_name in
+    let Q = g.T.FrameSink.numbers_path in
+    let F = g.T.FrameSink.numbers_frames in
     let lines = lines_view c.args.lines.now in
-    let names = still_more (P c.args.taker.now) (P c.number.new.taker) (P c.frames.new.self) c.number.ensures.names c.frames.ensures.names in
-    let frames = still_more (F c.args.taker.now) (F c.number.new.taker) (F c.frames.new.self) c.number.ensures.frames c.frames.ensures.frames in
+    let names = still_more (P c.args.sink.now) (P c.number.new.sink) (P c.frames.new.self) c.number.ensures.names c.frames.ensures.names in
+    let frames = still_more (F c.args.sink.now) (F c.number.new.sink) (F c.frames.new.self) c.number.ensures.frames c.frames.ensures.frames in
     record {
-      paths = paths_still (Q c.number.new.taker) (Q c.frames.new.self) lines c.number.new.self c.frames.ensures.paths c.in_ok-path.ensures.kept;
+      paths = paths_still (Q c.number.new.sink) (Q c.frames.new.self) lines c.number.new.self c.frames.ensures.paths c.in_ok-path.ensures.kept;
       callers = c.requires.told.callers;
-      linked = linked_still (P c.args.taker.now) (P c.frames.new.self) (F c.args.taker.now) (F c.frames.new.self) names
+      linked = linked_still (P c.args.sink.now) (P c.frames.new.self) (F c.args.sink.now) (F c.frames.new.self) names
           frames lines (links_view c.args.self.now.links.links.items) (length c.args.self.now.links.links.items)
           c.args.self.now.linked.items c.requires.told.linked;
     }

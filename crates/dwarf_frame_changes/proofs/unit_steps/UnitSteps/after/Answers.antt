@@ -1,7 +1,7 @@
 use Rattle.std.proofs.Common.{ℕ, ◌∙◌, List, slice_get, ap, subst, sym}
 use Rattle.dwarf_asked_addresses.specs.Rising.{AreRising}
 use Rattle.dwarf_frame_changes.specs.Between.{IsCountTo}
-use Rattle.dwarf_frame_changes.proofs.StartLemmas.{next_above}
+use Rattle.dwarf_frame_changes.proofs.StepWalks.{next_above}
 use Rattle.dwarf_frame_changes.proofs.unit_steps.UnitSteps.after.Goals as goal
 
 pub returns : goal.returns

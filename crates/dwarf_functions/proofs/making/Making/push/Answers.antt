@@ -19,7 +19,8 @@ returns-then-outer-eq0-clause-kept c =
     (is_pushed c.args.self.now.all.now.functions.items c.args.self.now.links.items c.push.new.self.items
     c.args.self.now.last c.args.outer c.args.index c.len-number.result c.count_of-count.result
     c.index-function.result.now c.caller_of-caller.result
-    c.requires.made c.requires.outer c.requires.index c.index-function.ensures c.count_of-count.ensures c.caller_of-caller.ensures c.in_ok-push.ensures.items (search rules))
+    c.requires.made c.requires.outer c.requires.index c.index-function.ensures c.count_of-count.ensures
+    c.caller_of-caller.ensures c.in_ok-push.ensures.items (search rules))
 
 pub returns-then-outer-eq0-clause-link : goal.returns-then-outer-eq0-clause-link
 returns-then-outer-eq0-clause-link c =
@@ -28,7 +29,8 @@ returns-then-outer-eq0-clause-link c =
     (is_pushed c.args.self.now.all.now.functions.items c.args.self.now.links.items c.push.new.self.items
     c.args.self.now.last c.args.outer c.args.index c.len-number.result c.count_of-count.result
     c.index-function.result.now c.caller_of-caller.result
-    c.requires.made c.requires.outer c.requires.index c.index-function.ensures c.count_of-count.ensures c.caller_of-caller.ensures c.in_ok-push.ensures.items (search rules))
+    c.requires.made c.requires.outer c.requires.index c.index-function.ensures c.count_of-count.ensures
+    c.caller_of-caller.ensures c.in_ok-push.ensures.items (search rules))
 
 pub returns-else-outer-eq0-clause-made : goal.returns-else-outer-eq0-clause-made
 returns-else-outer-eq0-clause-made c =

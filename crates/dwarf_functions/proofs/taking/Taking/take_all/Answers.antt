@@ -17,7 +17,14 @@ loop-index-preserved c =
     let functions : List Function = c.args.self.now.making.all.now.functions.items in
     let read : List Function = c.deref-function-items.result.now in
     let ranges : List CodeRange = c.deref.result.now in
-    let none : Function = record { name = None; name_number = 0; call = record { file = None; line = 0; column = 0 }; is_subprogram = false; end = 0; ranges_end = 0 } in
+    let none : Function = record {
+      name = None;
+      name_number = 0;
+      call = record { file = None; line = 0; column = 0 };
+      is_subprogram = false;
+      end = 0;
+      ranges_end = 0;
+    } in
     let function : Function = get_or read index none in
     let there : slice_get functions index ≡ Some function =
     subst (λ (fs : List Function). slice_get fs index ≡ Some function) c.deref-function-items.ensures.value

@@ -18,7 +18,7 @@ pub returns-then-level_size-le-PAGE_LEN-clause-read : goal.returns-then-level_si
 returns-then-level_size-le-PAGE_LEN-clause-read g t c =
     let claim = c.args.self.now.claim in
     let small : level_size c.args.level claim.size ≤ 4096 = omega (arith, c.level_size.ensures, c.if-level_size-le-PAGE_LEN.true) in
-    read_as _ _ _ _ _ _ _ _ _ (λ text known value is. is)
+    read_as (λ text known value is. is)
     (λ text known absent all stored are. absent all stored
     (root_is all claim.root claim.size c.args.level c.args.index stored.root stored.size c.requires.level small c.requires.page))
     c.fetch.ensures.read
@@ -71,8 +71,8 @@ returns-clause-read g t c =
     let above : ℕ = c.args.level + 1 in
     let some : 0 < length (page_at c.bring.new.self above (c.args.index / 128)) =
     omega (arith, c.in_ok-bring.ensures.long, level_next c.args.level size, c.requires.page) in
-    after_ok _ _ _ _ _ _ _ _ c.in_ok-bring.ensures.read.keeps c.in_ok-bring.ensures.read.counts
-    (read_as _ _ _ _ _ _ _ _ _ (λ text known value is. is)
+    after_ok c.in_ok-bring.ensures.read.keeps c.in_ok-bring.ensures.read.counts
+    (read_as (λ text known value is. is)
     (λ text known absent all stored are.
     let mid = c.in_ok-bring.ensures.keeps text all (sym c.in_ok-bring.ensures.read.keeps ∙ known) are in
     absent all (subst (λ claim. AreStored text (claim_view claim) all) (sym c.in_ok-bring.ensures.claim) stored)

@@ -20,7 +20,7 @@ read_checked-requires g c =
 
 pub returns-in_err-page-clause-read : goal.returns-in_err-page-clause-read
 returns-in_err-page-clause-read g c =
-    passed_on _ _ _ _ _ _ _ _ _ _ _ c.in_err-page.was c.from_residual.ensures.1
+    passed_on c.in_err-page.was c.from_residual.ensures.1
     (λ text known absent all stored is. page_is_there text all c.args.digest.now (claim_view c.args.self.now.claim)
     c.args.level c.args.index c.page_offset-offset.result c.page_len-len.result stored c.requires.level c.requires.page
     c.page_offset-offset.ensures c.page_len-len.ensures is absent) c.read_checked.ensures.read

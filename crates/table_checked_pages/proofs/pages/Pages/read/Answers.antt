@@ -36,11 +36,11 @@ returns-in_err-part-clause-keeps g c = λ text all is are.
 
 pub returns-in_err-part-clause-read : goal.returns-in_err-part-clause-read
 returns-in_err-part-clause-read g c =
-    passed_on _ _ _ _ _ _ _ _ _ _ _ c.in_err-part.was c.from_residual.ensures.1
+    passed_on c.in_err-part.was c.from_residual.ensures.1
     (λ text known absent all stored are inside.
     absent all (subst (λ claim. AreStored text (claim_view claim) all) (sym c.pages.invariant.claim) stored)
     (c.pages.invariant.keeps text all known are))
-    (after_ok _ _ _ _ _ _ _ _ c.pages.invariant.whole c.pages.invariant.unfailed c.part.ensures.read)
+    (after_ok c.pages.invariant.whole c.pages.invariant.unfailed c.part.ensures.read)
 
 pub returns-clause-read : goal.returns-clause-read
 returns-clause-read g c = record {

@@ -6,7 +6,7 @@ use Rattle.table_source_frames.proofs.runs.UppersBelowSought.is_below.Goals as g
 
 pub returns-in_err-row-clause-read : goal.returns-in_err-row-clause-read
 returns-in_err-row-clause-read g c =
-    passed_on _ _ _ _ _ _ _ _ _ _ _ c.in_err-row.was c.from_residual.ensures.1
+    passed_on c.in_err-row.was c.from_residual.ensures.1
     (λ text known absent all stored pages held. absent all held.0 stored (opened_of _ _ _ _ _ pages held.1))
     c.run_at.ensures.read
 

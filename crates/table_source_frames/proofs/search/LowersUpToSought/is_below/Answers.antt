@@ -7,7 +7,7 @@ use Rattle.table_source_frames.proofs.search.LowersUpToSought.is_below.Goals as 
 
 pub returns-in_err-step-clause-read : goal.returns-in_err-step-clause-read
 returns-in_err-step-clause-read g c =
-    passed_on _ _ _ _ _ _ _ _ _ _ _ c.in_err-step.was c.from_residual.ensures.1
+    passed_on c.in_err-step.was c.from_residual.ensures.1
     (λ text known absent all stored pages held. absent all held.0 stored (opened_of _ _ _ _ _ pages held.1))
     c.step_at.ensures.read
 

@@ -13,7 +13,7 @@ returns-in_default-clause-read g c = record {
 
 pub returns-in_err-read-clause-read : goal.returns-in_err-read-clause-read
 returns-in_err-read-clause-read g c =
-    passed_on _ _ _ _ _ _ _ _ _ _ _ c.in_err-read.was c.from_residual.ensures.1
+    passed_on c.in_err-read.was c.from_residual.ensures.1
     (λ text known absent all steps path stored opened is.
     absent all stored opened.are_pages (omega (arith, opened_long _ _ _ _ _ opened, c.in-Some.ensures.inside, c.first_file.ensures, c.read.auto.buf)))
     c.read.ensures.read

@@ -32,17 +32,17 @@ returns-then-len-eq-MOST_FRAMES-clause-read g c = record {
 
 pub returns-in_err-row-clause-read : goal.returns-in_err-row-clause-read
 returns-in_err-row-clause-read g c =
-    passed_on _ _ _ _ _ _ _ _ _ _ _ c.in_err-row.was c.from_residual.ensures.1
+    passed_on c.in_err-row.was c.from_residual.ensures.1
     (λ text known absent all steps chain stored opened is few.
     let told = c.callers.invariant.told text all steps chain known opened is few in
     let next = maybe_cons (parts_of steps) c.callers.number told.0 c.callers-test.true told.1 in
     absent all steps next.0 next.1 (subst (λ claim. AreStored text (claim_view claim) all) (sym c.callers.invariant.claim) stored)
     (kept _ _ _ _ _ _ opened (c.callers.invariant.keeps text all known opened.are_pages)) next.3)
-    (after_ok _ _ _ _ _ _ _ _ c.callers.invariant.whole c.callers.invariant.unfailed c.location.ensures.read)
+    (after_ok c.callers.invariant.whole c.callers.invariant.unfailed c.location.ensures.read)
 
 pub returns-then-row-number-clause-read : goal.returns-then-row-number-clause-read
 returns-then-row-number-clause-read g c =
-    let row = after_ok _ _ _ _ _ _ _ _ c.callers.invariant.whole c.callers.invariant.unfailed c.in_ok-row.ensures.read in
+    let row = after_ok c.callers.invariant.whole c.callers.invariant.unfailed c.in_ok-row.ensures.read in
     record {
       says = λ text known all steps chain stored opened is few.
           let told = c.callers.invariant.told text all steps chain known opened is few in
@@ -55,8 +55,8 @@ returns-then-row-number-clause-read g c =
 
 pub returns-in_err-frame-clause-read : goal.returns-in_err-frame-clause-read
 returns-in_err-frame-clause-read g c =
-    let row = after_ok _ _ _ _ _ _ _ _ c.callers.invariant.whole c.callers.invariant.unfailed c.in_ok-row.ensures.read in
-    passed_on _ _ _ _ _ _ _ _ _ _ _ c.in_err-frame.was c.from_residual-in_err-frame.ensures.1
+    let row = after_ok c.callers.invariant.whole c.callers.invariant.unfailed c.in_ok-row.ensures.read in
+    passed_on c.in_err-frame.was c.from_residual-in_err-frame.ensures.1
     (λ text known absent all steps chain stored opened is few.
     let told = c.callers.invariant.told text all steps chain known opened is few in
     let next = maybe_cons (parts_of steps) c.callers.number told.0 c.callers-test.true told.1 in
@@ -64,12 +64,12 @@ returns-in_err-frame-clause-read g c =
     let here = row.says text known all steps next.0 next.1 mid next.3 in
     absent all steps next.0 next.1 (subst (λ claim. AreStored text (claim_view claim) all) (sym (c.in_ok-row.ensures.claim ∙ c.callers.invariant.claim)) stored)
     (kept _ _ _ _ _ _ mid (c.in_ok-row.ensures.keeps text all (c.callers.invariant.whole ∙ known) mid.are_pages)) here.0)
-    (after_ok _ _ _ _ _ _ _ _ row.keeps row.counts c.frame.ensures.read)
+    (after_ok row.keeps row.counts c.frame.ensures.read)
 
 pub callers-preserved : goal.callers-preserved
 callers-preserved g c =
-    let row = after_ok _ _ _ _ _ _ _ _ c.callers.invariant.whole c.callers.invariant.unfailed c.in_ok-row.ensures.read in
-    let frame = after_ok _ _ _ _ _ _ _ _ row.keeps row.counts c.in_ok-frame.ensures.read in
+    let row = after_ok c.callers.invariant.whole c.callers.invariant.unfailed c.in_ok-row.ensures.read in
+    let frame = after_ok row.keeps row.counts c.in_ok-frame.ensures.read in
     record {
       claim = c.in_ok-frame.ensures.claim ∙ c.in_ok-row.ensures.claim ∙ c.callers.invariant.claim;
       whole = frame.keeps;

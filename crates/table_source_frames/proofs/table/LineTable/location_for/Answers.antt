@@ -8,7 +8,7 @@ use Rattle.table_source_frames.proofs.table.LineTable.location_for.Goals as goal
 
 pub returns-in_err-count-clause-read : goal.returns-in_err-count-clause-read
 returns-in_err-count-clause-read g c =
-    passed_on _ _ _ _ _ _ _ _ _ _ _ c.in_err-count.was c.from_residual.ensures.1
+    passed_on c.in_err-count.was c.from_residual.ensures.1
     (λ text known absent all steps stored opened. absent all steps stored opened)
     c.steps_up_to.ensures.read
 
@@ -23,11 +23,11 @@ returns-then-count-eq0-clause-read g c = record {
 pub returns-in_err-step-clause-read : goal.returns-in_err-step-clause-read
 returns-in_err-step-clause-read g c =
     let count = c.in_ok-count.ensures.read in
-    passed_on _ _ _ _ _ _ _ _ _ _ _ c.in_err-step.was c.from_residual-in_err-step.ensures.1
+    passed_on c.in_err-step.was c.from_residual-in_err-step.ensures.1
     (λ text known absent all steps stored opened.
     absent all steps (subst (λ claim. AreStored text (claim_view claim) all) (sym c.in_ok-count.ensures.claim) stored)
     (kept _ _ _ _ _ _ opened (c.in_ok-count.ensures.keeps text all known opened.are_pages)))
-    (after_ok _ _ _ _ _ _ _ _ count.keeps count.counts c.step_at.ensures.read)
+    (after_ok count.keeps count.counts c.step_at.ensures.read)
 
 pub returns-clause-read : goal.returns-clause-read
 returns-clause-read g c =

@@ -13,7 +13,7 @@ returns-then-number-eq0-clause-read g c = record {
 
 pub returns-in_err-text-clause-read : goal.returns-in_err-text-clause-read
 returns-in_err-text-clause-read g c =
-    passed_on _ _ _ _ _ _ _ _ _ _ _ c.in_err-text.was c.from_residual.ensures.1
+    passed_on c.in_err-text.was c.from_residual.ensures.1
     (λ text known absent all steps told stored opened is.
     let some = some_text (parts_of steps) c.args.number told c.if-number-eq0.false is in
     absent all steps some.0 stored opened some.2)

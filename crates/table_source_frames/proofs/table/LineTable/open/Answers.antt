@@ -6,7 +6,7 @@ use Rattle.table_source_frames.proofs.table.LineTable.open.Goals as goal
 
 pub returns-in_err-read-clause-read : goal.returns-in_err-read-clause-read
 returns-in_err-read-clause-read g c =
-    passed_on _ _ _ _ _ _ _ _ _ _ _ c.in_err-read.was c.from_residual.ensures.1
+    passed_on c.in_err-read.was c.from_residual.ensures.1
     (λ text known absent image all bytes stored pages stands is.
     absent all stored pages (omega (arith, stands.0, ap length stands.1, length-drop c.args.offset all, table_long image bytes is, c.read.auto.buf)))
     c.read.ensures.read

@@ -7,36 +7,36 @@ use Rattle.table_source_frames.proofs.table.LineTable.path_of.Goals as goal
 
 pub returns-in_err-base-clause-read : goal.returns-in_err-base-clause-read
 returns-in_err-base-clause-read g c =
-    passed_on _ _ _ _ _ _ _ _ _ _ _ c.in_err-base.was c.from_residual.ensures.1
+    passed_on c.in_err-base.was c.from_residual.ensures.1
     (λ text known absent all steps told stored opened is. absent all steps told.base stored opened is.base)
     c.text.ensures.read
 
 pub returns-in_err-directory-clause-read : goal.returns-in_err-directory-clause-read
 returns-in_err-directory-clause-read g c =
     let base = c.in_ok-base.ensures.read in
-    passed_on _ _ _ _ _ _ _ _ _ _ _ c.in_err-directory.was c.from_residual-in_err-directory.ensures.1
+    passed_on c.in_err-directory.was c.from_residual-in_err-directory.ensures.1
     (λ text known absent all steps told stored opened is.
     absent all steps told.directory (subst (λ claim. AreStored text (claim_view claim) all) (sym c.in_ok-base.ensures.claim) stored)
     (kept _ _ _ _ _ _ opened (c.in_ok-base.ensures.keeps text all known opened.are_pages)) is.directory)
-    (after_ok _ _ _ _ _ _ _ _ base.keeps base.counts c.text-2.ensures.read)
+    (after_ok base.keeps base.counts c.text-2.ensures.read)
 
 pub returns-in_err-name-clause-read : goal.returns-in_err-name-clause-read
 returns-in_err-name-clause-read g c =
     let base = c.in_ok-base.ensures.read in
-    let directory = after_ok _ _ _ _ _ _ _ _ base.keeps base.counts c.in_ok-directory.ensures.read in
-    passed_on _ _ _ _ _ _ _ _ _ _ _ c.in_err-name.was c.from_residual-in_err-name.ensures.1
+    let directory = after_ok base.keeps base.counts c.in_ok-directory.ensures.read in
+    passed_on c.in_err-name.was c.from_residual-in_err-name.ensures.1
     (λ text known absent all steps told stored opened is.
     absent all steps told.name (subst (λ claim. AreStored text (claim_view claim) all)
     (sym (c.in_ok-directory.ensures.claim ∙ c.in_ok-base.ensures.claim)) stored)
     (kept _ _ _ _ _ _ opened (c.in_ok-directory.ensures.keeps text all (base.keeps ∙ known)
     (c.in_ok-base.ensures.keeps text all known opened.are_pages))) is.name)
-    (after_ok _ _ _ _ _ _ _ _ directory.keeps directory.counts c.text-3.ensures.read)
+    (after_ok directory.keeps directory.counts c.text-3.ensures.read)
 
 pub returns-clause-read : goal.returns-clause-read
 returns-clause-read g c =
     let base = c.in_ok-base.ensures.read in
-    let directory = after_ok _ _ _ _ _ _ _ _ base.keeps base.counts c.in_ok-directory.ensures.read in
-    let name = after_ok _ _ _ _ _ _ _ _ directory.keeps directory.counts c.in_ok-name.ensures.read in
+    let directory = after_ok base.keeps base.counts c.in_ok-directory.ensures.read in
+    let name = after_ok directory.keeps directory.counts c.in_ok-name.ensures.read in
     record {
       says = λ text known all steps told opened is.
           let second = kept _ _ _ _ _ _ opened (c.in_ok-base.ensures.keeps text all known opened.are_pages) in

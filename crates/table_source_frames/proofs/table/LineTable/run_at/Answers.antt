@@ -5,7 +5,7 @@ use Rattle.table_source_frames.proofs.table.LineTable.run_at.Goals as goal
 
 pub returns-in_err-read-clause-read : goal.returns-in_err-read-clause-read
 returns-in_err-read-clause-read g c =
-    passed_on _ _ _ _ _ _ _ _ _ _ _ c.in_err-read.was c.from_residual.ensures.1
+    passed_on c.in_err-read.was c.from_residual.ensures.1
     (λ text known absent all steps stored opened. absent all stored opened.are_pages
     (omega (arith, opened_long _ _ _ _ _ opened, c.requires, c.runs_offset.ensures, c.read.auto.buf)))
     c.read.ensures.read

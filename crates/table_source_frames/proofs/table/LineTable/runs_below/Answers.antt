@@ -7,7 +7,7 @@ use Rattle.table_source_frames.proofs.table.LineTable.runs_below.Goals as goal
 
 pub returns-clause-read : goal.returns-clause-read
 returns-clause-read g c =
-    read_as _ _ _ _ _ _ _ _ _
+    read_as
     (λ text known place says all steps rising opened.
     below_edge (run_halves steps) c.args.limit 0 c.args.self.now.runs place (uppers_rise steps rising)
     (omega (arith, opened.head.runs, runs_long steps)) (omega arith)

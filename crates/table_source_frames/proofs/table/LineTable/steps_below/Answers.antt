@@ -10,7 +10,7 @@ use Rattle.table_source_frames.proofs.table.LineTable.steps_below.Goals as goal
 
 pub returns-in_err-runs-clause-read : goal.returns-in_err-runs-clause-read
 returns-in_err-runs-clause-read g c =
-    passed_on _ _ _ _ _ _ _ _ _ _ _ c.in_err-runs.was c.from_residual.ensures.1
+    passed_on c.in_err-runs.was c.from_residual.ensures.1
     (λ text known absent all steps stored opened. absent all steps stored opened)
     c.runs_below.ensures.read
 
@@ -25,11 +25,11 @@ returns-then-runs-eq0-clause-read g c = record {
 pub returns-in_err-last-clause-read : goal.returns-in_err-last-clause-read
 returns-in_err-last-clause-read g c =
     let runs = c.in_ok-runs.ensures.read in
-    passed_on _ _ _ _ _ _ _ _ _ _ _ c.in_err-last.was c.from_residual-in_err-last.ensures.1
+    passed_on c.in_err-last.was c.from_residual-in_err-last.ensures.1
     (λ text known absent all steps stored opened.
     absent all steps (subst (λ claim. AreStored text (claim_view claim) all) (sym c.in_ok-runs.ensures.claim) stored)
     (kept _ _ _ _ _ _ opened (c.in_ok-runs.ensures.keeps text all known opened.are_pages)))
-    (after_ok _ _ _ _ _ _ _ _ runs.keeps runs.counts c.run_at.ensures.read)
+    (after_ok runs.keeps runs.counts c.run_at.ensures.read)
 
 pub returns-then-count-self-clause-read : goal.returns-then-count-self-clause-read
 returns-then-count-self-clause-read g c =

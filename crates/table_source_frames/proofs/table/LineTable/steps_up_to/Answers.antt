@@ -9,25 +9,25 @@ use Rattle.table_source_frames.proofs.table.LineTable.steps_up_to.Goals as goal
 
 pub returns-in_err-low-clause-read : goal.returns-in_err-low-clause-read
 returns-in_err-low-clause-read g c =
-    passed_on _ _ _ _ _ _ _ _ _ _ _ c.in_err-low.was c.from_residual.ensures.1
+    passed_on c.in_err-low.was c.from_residual.ensures.1
     (λ text known absent all steps stored opened. absent all steps stored opened)
     c.steps_below.ensures.read
 
 pub returns-in_err-high-clause-read : goal.returns-in_err-high-clause-read
 returns-in_err-high-clause-read g c =
     let low = c.in_ok-low.ensures.read in
-    passed_on _ _ _ _ _ _ _ _ _ _ _ c.in_err-high.was c.from_residual-in_err-high.ensures.1
+    passed_on c.in_err-high.was c.from_residual-in_err-high.ensures.1
     (λ text known absent all steps stored opened.
     absent all steps (subst (λ claim. AreStored text (claim_view claim) all) (sym c.in_ok-low.ensures.claim) stored)
     (kept _ _ _ _ _ _ opened (c.in_ok-low.ensures.keeps text all known opened.are_pages)))
-    (after_ok _ _ _ _ _ _ _ _ low.keeps low.counts c.steps_below-2.ensures.read)
+    (after_ok low.keeps low.counts c.steps_below-2.ensures.read)
 
 pub returns-clause-read : goal.returns-clause-read
 returns-clause-read g c =
     let low = c.in_ok-low.ensures.read in
     let high = c.in_ok-high.ensures.read in
     let keeps = high.keeps ∙ low.keeps in
-    read_as _ _ _ _ _ _ _ _ _
+    read_as
     (λ text known place says all steps rising opened.
     let first = c.in_ok-low.ensures.keeps text all known opened.are_pages in
     let second = c.in_ok-high.ensures.keeps text all (low.keeps ∙ known) first in
@@ -44,4 +44,4 @@ returns-clause-read g c =
     let second = c.in_ok-high.ensures.keeps text all (low.keeps ∙ known) first in
     absent all (subst (λ claim. AreStored text (claim_view claim) all)
     (sym (c.in_ok-high.ensures.claim ∙ c.in_ok-low.ensures.claim)) stored) second (steps, text_of _ _ _ _ _ opened))
-    (after_ok _ _ _ _ _ _ _ _ keeps (high.counts ∙ low.counts) c.partition_point.ensures.read)
+    (after_ok keeps (high.counts ∙ low.counts) c.partition_point.ensures.read)

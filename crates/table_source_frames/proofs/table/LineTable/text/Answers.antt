@@ -19,24 +19,24 @@ returns-in_default-clause-read g c = record {
 
 pub returns-in_err-row-clause-read : goal.returns-in_err-row-clause-read
 returns-in_err-row-clause-read g c =
-    passed_on _ _ _ _ _ _ _ _ _ _ _ c.in_err-row.was c.from_residual.ensures.1
+    passed_on c.in_err-row.was c.from_residual.ensures.1
     (λ text known absent all steps told stored opened is. absent all steps stored opened)
     c.text_row.ensures.read
 
 pub returns-in_err-bytes-clause-read : goal.returns-in_err-bytes-clause-read
 returns-in_err-bytes-clause-read g c =
     let row = c.in_ok-row.ensures.read in
-    passed_on _ _ _ _ _ _ _ _ _ _ _ c.in_err-bytes.was c.from_residual-in_err-bytes.ensures.1
+    passed_on c.in_err-bytes.was c.from_residual-in_err-bytes.ensures.1
     (λ text known absent all steps told stored opened is.
     absent all steps c.in-Some.index (subst (λ claim. AreStored text (claim_view claim) all) (sym c.in_ok-row.ensures.claim) stored)
     (kept _ _ _ _ _ _ opened (c.in_ok-row.ensures.keeps text all known opened.are_pages)) (omega (arith, c.in-Some.ensures.inside, opened.head.texts))
     (row.says text known all steps opened))
-    (after_ok _ _ _ _ _ _ _ _ row.keeps row.counts c.text_of.ensures.read)
+    (after_ok row.keeps row.counts c.text_of.ensures.read)
 
 pub returns-clause-read : goal.returns-clause-read
 returns-clause-read g c =
     let row = c.in_ok-row.ensures.read in
-    let bytes = after_ok _ _ _ _ _ _ _ _ row.keeps row.counts c.in_ok-bytes.ensures.read in
+    let bytes = after_ok row.keeps row.counts c.in_ok-bytes.ensures.read in
     record {
       says = λ text known all steps told opened is.
           let there = bytes.says text known all steps c.in-Some.index

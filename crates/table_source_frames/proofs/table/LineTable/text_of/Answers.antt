@@ -15,7 +15,7 @@ returns-then-end-self-clause-read g c = record {
 
 pub returns-in_err-read-clause-read : goal.returns-in_err-read-clause-read
 returns-in_err-read-clause-read g c =
-    passed_on _ _ _ _ _ _ _ _ _ _ _ c.in_err-read.was c.from_residual-in_err-read.ensures.1
+    passed_on c.in_err-read.was c.from_residual-in_err-read.ensures.1
     (λ text known absent all steps index stored opened within is.
     absent all stored opened.are_pages
     (omega (

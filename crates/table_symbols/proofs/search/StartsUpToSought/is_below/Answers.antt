@@ -5,7 +5,7 @@ use Rattle.table_symbols.proofs.search.StartsUpToSought.is_below.Goals as goal
 
 pub returns-in_err-row-clause-read : goal.returns-in_err-row-clause-read
 returns-in_err-row-clause-read g c =
-    passed_on _ _ _ _ _ _ _ _ _ _ _ c.in_err-row.was c.from_residual.ensures.1
+    passed_on c.in_err-row.was c.from_residual.ensures.1
     (λ text known absent all stored pages held. absent all stored pages (omega (arith, held, c.requires)))
     c.row_at.ensures.read
 

@@ -10,7 +10,7 @@ use Rattle.table_symbols.proofs.table.Table.found.Goals as goal
 pub returns-clause-read : goal.returns-clause-read
 returns-clause-read g c =
     let symbol = c.in_ok-symbol.ensures.read in
-    let names = after_ok _ _ _ _ _ _ _ _ symbol.keeps symbol.counts c.in_ok-names.ensures.read in
+    let names = after_ok symbol.keeps symbol.counts c.in_ok-names.ensures.read in
     record {
       says = λ text known image t bytes is opened.
           let said = subst (IsSaid image c.args.address) c.in-Some.is (symbol.says text known image t bytes is opened) in
@@ -29,8 +29,8 @@ returns-clause-read g c =
 pub returns-in_err-names-clause-read : goal.returns-in_err-names-clause-read
 returns-in_err-names-clause-read g c =
     let symbol = c.in_ok-symbol.ensures.read in
-    passed_on _ _ _ _ _ _ _ _ _ _ _ c.in_err-names.was c.from_residual-in_err-names.ensures.1
+    passed_on c.in_err-names.was c.from_residual-in_err-names.ensures.1
     (λ text known absent t opened stored.
     absent t (c.in_ok-symbol.ensures.keeps text t known opened)
     (subst (λ claim. AreStored text (claim_view claim) (table_bytes t)) (sym c.in_ok-symbol.ensures.claim) stored))
-    (after_ok _ _ _ _ _ _ _ _ symbol.keeps symbol.counts c.section_names.ensures.read)
+    (after_ok symbol.keeps symbol.counts c.section_names.ensures.read)

@@ -13,7 +13,7 @@ use Rattle.table_symbols.proofs.table.Table.nearest.Goals as goal
 
 pub returns-in_err-row-clause-read : goal.returns-in_err-row-clause-read
 returns-in_err-row-clause-read g c =
-    passed_on _ _ _ _ _ _ _ _ _ _ _ c.in_err-row.was c.from_residual.ensures.1
+    passed_on c.in_err-row.was c.from_residual.ensures.1
     (λ text known absent t opened stored. absent (table_bytes t) stored opened.pages
     (omega (arith, length-table t opened.fits, opened.head.rows, opened.head.sections, c.first_row-first.ensures)))
     c.row_for.ensures.read
@@ -42,17 +42,17 @@ returns-then-row-eq0-clause-read g c = record {
 pub returns-in_err-name-clause-read : goal.returns-in_err-name-clause-read
 returns-in_err-name-clause-read g c =
     let row = c.in_ok-row.ensures.read in
-    passed_on _ _ _ _ _ _ _ _ _ _ _ c.in_err-name.was c.from_residual-in_err-name.ensures.1
+    passed_on c.in_err-name.was c.from_residual-in_err-name.ensures.1
     (λ text known absent t opened stored.
     absent (table_bytes t) (subst (λ claim. AreStored text (claim_view claim) (table_bytes t)) (sym c.in_ok-row.ensures.claim) stored)
     (c.in_ok-row.ensures.keeps text (table_bytes t) known opened.pages)
     (omega (arith, length-table t opened.fits, opened.head.rows, opened.head.sections, opened.head.strings, c.first_string-first.ensures)))
-    (after_ok _ _ _ _ _ _ _ _ row.keeps row.counts c.name_from.ensures.read)
+    (after_ok row.keeps row.counts c.name_from.ensures.read)
 
 pub returns-clause-read : goal.returns-clause-read
 returns-clause-read g c =
     let row = c.in_ok-row.ensures.read in
-    let name = after_ok _ _ _ _ _ _ _ _ row.keeps row.counts c.in_ok-name.ensures.read in
+    let name = after_ok row.keeps row.counts c.in_ok-name.ensures.read in
     record {
       says = λ text known image t bytes is opened.
           let first = rows_stand t c.first_row-first.result opened.fits (omega (arith, c.first_row-first.ensures, opened.head.sections)) in

@@ -15,7 +15,7 @@ returns-in_err-pages-clause-read g c =
 
 pub returns-in_err-read-clause-read : goal.returns-in_err-read-clause-read
 returns-in_err-read-clause-read g c =
-    passed_on _ _ _ _ _ _ _ _ _ _ _ c.in_err-read.was c.from_residual-in_err-read.ensures.1
+    passed_on c.in_err-read.was c.from_residual-in_err-read.ensures.1
     (λ text known absent long t fits stored.
     absent (table_bytes t) (subst (λ claim. AreStored text (claim_view claim) (table_bytes t)) (sym c.in_ok-pages.ensures.claim) stored)
     (c.in_ok-pages.ensures.opened text (table_bytes t) (may_be text (table_bytes t) (claim_view c.args.claim) stored))

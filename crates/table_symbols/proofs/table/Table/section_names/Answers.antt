@@ -20,7 +20,7 @@ returns-then-sect-eq0-clause-read g c = record {
 
 pub returns-in_err-read-clause-read : goal.returns-in_err-read-clause-read
 returns-in_err-read-clause-read g c =
-    passed_on _ _ _ _ _ _ _ _ _ _ _ c.in_err-read.was c.from_residual.ensures.1
+    passed_on c.in_err-read.was c.from_residual.ensures.1
     (λ text known absent t opened stored.
     absent (table_bytes t) stored opened.pages
     (omega (

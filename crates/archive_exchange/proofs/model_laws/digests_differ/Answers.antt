@@ -1,0 +1,5 @@
+use Rattle.archive_exchange.proofs.Telling.{telling}
+use Rattle.archive_exchange.proofs.model_laws.digests_differ.Goals as goal
+
+pub returns : goal.returns
+returns g c = telling

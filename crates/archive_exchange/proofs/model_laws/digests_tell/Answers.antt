@@ -1,5 +1,0 @@
-use Rattle.archive_exchange.proofs.Telling.{telling}
-use Rattle.archive_exchange.proofs.model_laws.digests_tell.Goals as goal
-
-pub returns : goal.returns
-returns g c = telling

@@ -1,0 +1,93 @@
+//! What indexes tell of the places that frames mean, key by key.
+
+ghost use Rattle.std.specs.Prelude.{◌≡◌, ◌∷◌, [], length};
+ghost use Rattle.archive_core.specs.Key.{key_bytes};
+ghost use Rattle.command_common.specs.Inputs.{readers};
+ghost use Rattle.index_lookup.specs.AmongAsked.{HaveTexts};
+ghost use Rattle.command_frames.specs.Asking.{IsAnsweredAt};
+ghost use Rattle.command_frames.specs.InnerAsking.{AsksBy, AsksKeys, IsRefusedUnder};
+ghost use Rattle.command_frames.specs.InnerKeyReplies.{AreTold, IsKeyReply, IsRefusedAfter, IsRefusedAt};
+
+use crate::places::AskedKey;
+use crate::tables::{KeyReply, answer_by_tables};
+use crate::tied::answer_by_slices;
+use archive_core::{Archive, SliceKey, Where};
+use byte_device::Placed;
+use command_common::CommandFault;
+use index_format::Index;
+use memory::Heap;
+
+/// A key that was asked for, and what is told of its places, or that it is refused.
+#[derive(Drop)]
+pub(crate) struct KeyAnswers<'k> {
+    pub(crate) asked: &'k AskedKey,
+    pub(crate) told: KeyReply,
+}
+
+/// What is told of places under a key: by the tables of the indexes, or by the slices that these name under it, if two
+/// are tied.
+fn answer_key<A: Archive + Drop, I: Placed, P: Placed>(
+    heap: &Heap,
+    read: &[Index],
+    indexes: &mut [I],
+    archives: &mut [P],
+    key: &SliceKey,
+    lines: bool,
+    slices: bool,
+    places: &[Where],
+) -> Result<KeyReply, CommandFault>
+    requires same { length read.now ≡ length indexes.old }
+    requires many { length read.now ≡ length archives.old }
+    ensures { let known = readers P.whole P.failures archives.old archives.old in
+        AsksKeys I.whole I.failures P.whole P.failures lines slices (key_bytes key.now ∷ []) read.now indexes.old
+        indexes.new archives.old archives.new result
+        (IsKeyReply (IsAnsweredAt (HaveTexts I.whole indexes.old) known read.now lines key.now)
+        (IsRefusedAt (HaveTexts I.whole indexes.old) known read.now lines key.now) slices places.now) }
+{
+    match answer_by_tables(heap, read, indexes, key, lines, slices, places)? {
+        Some(told) => Ok(told),
+        None => answer_by_slices::<A, P>(heap, read, archives, key, lines, slices, places),
+    }
+}
+
+/// What is told under keys, one after another: what is refused is of the first key of which something is. If slices are
+/// wanted, a table that was changed, or has no lines, and a slice that changed, refuse their key alone.
+pub(crate) fn answer_keys<'k, A: Archive + Drop, I: Placed, P: Placed>(
+    heap: &Heap,
+    read: &[Index],
+    indexes: &mut [I],
+    archives: &mut [P],
+    lines: bool,
+    slices: bool,
+    asked: &'k [AskedKey],
+) -> Result<Vec<KeyAnswers<'k>, Heap>, CommandFault>
+    requires same { length read.now ≡ length indexes.old }
+    requires many { length read.now ≡ length archives.old }
+    ensures { let known = readers P.whole P.failures archives.old archives.old in
+        let IsSaid = IsAnsweredAt (HaveTexts I.whole indexes.old) known read.now lines in
+        let IsRefused = IsRefusedAt (HaveTexts I.whole indexes.old) known read.now lines in
+        AsksBy I.whole I.failures P.whole P.failures indexes.old indexes.new archives.old archives.new result
+        (λ told. AreTold IsSaid IsRefused slices asked.now told.items)
+        (λ at why. IsRefusedAfter IsSaid IsRefused slices asked.now
+        (λ keys. IsRefusedUnder I.whole I.failures P.whole P.failures lines slices read.now indexes.old indexes.new
+        archives.old archives.new keys at why)) }
+{
+    let mut told = Vec::new(heap.share());
+    'keys: for one in asked {
+        let answers = answer_key::<A, I, P>(
+            heap,
+            read,
+            indexes,
+            archives,
+            &one.key,
+            lines,
+            slices,
+            &one.places,
+        )?;
+        told.push(KeyAnswers {
+            asked: one,
+            told: answers,
+        })?;
+    }
+    Ok(told)
+}

@@ -1,7 +1,0 @@
-use Rattle.std.proofs.Common.{◌≡◌, map, take}
-use Rattle.command_queries.specs.InnerSources.{frames_in}
-use Rattle.text_reports.specs.FrameLists.{lists_view}
-use Rattle.command_queries.proofs.sources.Sources.at.Given as goal
-
-abbrev pub invariant-slices : goal.invariant-slices
-invariant-slices l = lists_view l.lists.items ≡ map (frames_in l.place) (take l.it-index l.self.found.items)

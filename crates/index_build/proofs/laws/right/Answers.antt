@@ -1,5 +1,0 @@
-use Rattle.index_build.proofs.Contents.{has_table, told}
-use Rattle.index_build.proofs.laws.right.Goals as goal
-
-pub returns : goal.returns
-returns c = record { table = has_table; told = told }

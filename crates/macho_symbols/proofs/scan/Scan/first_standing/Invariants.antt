@@ -1,7 +1,0 @@
-use Rattle.macho_symbols.specs.Symbols.{strings_of}
-use Rattle.macho_symbols.specs.InnerCandidates.{IsLeastOrNone, standing_at}
-use Rattle.macho_symbols.proofs.Standing.{IsBelow}
-use Rattle.macho_symbols.proofs.scan.Scan.first_standing.Given as goal
-
-abbrev pub invariant-entries : goal.invariant-entries
-invariant-entries l = IsLeastOrNone (strings_of l.self) (IsBelow (standing_at l.self l.address) l.index) l.best
