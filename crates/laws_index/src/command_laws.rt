@@ -209,8 +209,8 @@ pub fn undecided_by_indexes<I: Placed, P: Placed>()
 {}
 
 /// By the indexes of contents a table is refused for a device alone, or if lines are wanted at the entry of a slice that
-/// answers under a key of the frames and has none, whatever bytes the archives have. By the indexes of these very archives all that is refused is so, and
-/// a key that is refused alone is so for such a slice.
+/// answers under a key of the frames and has none, whatever bytes the archives have. By the indexes of these very
+/// archives all that is refused is so, and a key that is refused alone is so for such a slice.
 pub fn undamaged_by_indexes<I: Placed, P: Placed>()
     ensures tables { (lines slices : Bool) (frames : List Frame) (inputs : List (Reader I))
         (archives : List (Reader P)) (os : List Operations) (at : InputName) (why : Why) → AreIndexesGiven inputs os
