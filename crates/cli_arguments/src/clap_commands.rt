@@ -85,7 +85,7 @@ pub fn symarch_command<'a>(alloc: Global) -> Result<Command<'a>, AllocError>
     ensures app { IfOk result (λ c. app_of c ≡ symarch_command) }
     ensures local { IfOk result (λ c. (out-Command c).has_globals ≡ false) }
 {
-    let about = "Keep Mach-O images in archives, and name the functions of a crash";
+    let about = "Keep Mach-O images and dSYMs in archives, and name the functions of a crash";
     let command = Command::new(alloc, "symarch").about(about);
     let command = with_table(alloc, command, table())?;
     Ok(command.version(VERSION).subcommand_required(true))

@@ -86,13 +86,13 @@ const ARCHIVE: Argument = Argument {
 
 const OTHER: Argument = Argument {
     name: "OTHER",
-    help: "Also search this archive; results are as if all were merged",
+    help: "Also search this archive, as if it were merged with ARCHIVE; may be repeated",
     count: Count::Often("with"),
     role: Role::Reads(Kind::Archive),
 };
 
 const TOGETHER: Argument = Argument {
-    help: "The archives to search; results are as if all were merged",
+    help: "The archives to search, as if all were merged",
     count: Count::Several,
     ..ARCHIVE
 };
@@ -105,7 +105,7 @@ const INDEX: Argument = Argument {
 };
 
 const INDEXES: Argument = Argument {
-    help: "Use this index; repeat once per archive, in the same order",
+    help: "Use this index instead of reading the whole archive; one for each archive, in their order",
     count: Count::Often("index"),
     ..INDEX
 };
@@ -123,17 +123,17 @@ const OUT: Argument = Argument {
 };
 
 const SUMMARY_OUT: Argument = Argument {
-    help: "The summary to write; one of symarch's files at this path is replaced",
+    help: "The summary to write; only an empty file or a summary at this path is replaced",
     ..OUT
 };
 
 const INDEX_OUT: Argument = Argument {
-    help: "The index to write; one of symarch's files at this path is replaced",
+    help: "The index to write; only an empty file or an index at this path is replaced",
     ..OUT
 };
 
 const SLICE_OUT: Argument = Argument {
-    help: "The slice to write; only an empty file or the same slice at this path is replaced",
+    help: "The file to write; only an empty file or the same slice at this path is replaced",
     ..OUT
 };
 
@@ -145,7 +145,7 @@ const IMAGES: Argument = Argument {
 };
 
 const ARCHIVES: Argument = Argument {
-    help: "The archives to merge with it",
+    help: "The archives to merge with IN",
     role: Role::Reads(Kind::Archive),
     ..IMAGES
 };
@@ -159,21 +159,21 @@ const OPS: Argument = Argument {
 
 const SUMMARY: Argument = Argument {
     name: "SUMMARY",
-    help: "The summary of the archive that asks",
+    help: "The summary of the site that lacks the records",
     role: Role::Reads(Kind::Summary),
     ..ARCHIVE
 };
 
 const SCRIPT: Argument = Argument {
     name: "SCRIPT",
-    help: "The script of the events",
+    help: "The script, a line for each event",
     role: Role::Reads(Kind::Script),
     ..ARCHIVE
 };
 
 const FRAMES: Argument = Argument {
     name: "FRAMES",
-    help: "The file of frames, one line UUID ARCH LOAD ADDRESS for each",
+    help: "The file with a line UUID ARCH LOAD ADDRESS for each frame",
     role: Role::Reads(Kind::Frames),
     ..ARCHIVE
 };
@@ -210,7 +210,7 @@ const DIGEST: Argument = Argument {
 };
 
 const WANTED_DIGEST: Argument = Argument {
-    help: "Which slice, by its SHA-256, as find prints it",
+    help: "The slice with this SHA-256, as find prints it, even if it does not answer",
     count: Count::Perhaps("digest"),
     ..DIGEST
 };
@@ -224,7 +224,7 @@ const SYMBOL_NAME: Argument = Argument {
 
 const LOAD: Argument = Argument {
     name: "HEX",
-    help: "The address where the image was loaded, in hexadecimal, with or without 0x",
+    help: "The address at which the image was loaded; without it an ADDRESS is one in the file",
     count: Count::Perhaps("load"),
     role: Role::Says(Form::Number),
 };
@@ -245,49 +245,49 @@ const SLICES: Argument = Argument {
 
 const KEEP_GOING: Argument = Argument {
     name: "KEEP_GOING",
-    help: "Pass over each FILE that is refused, with a line for it; the exit status is 2 then",
+    help: "Omit each FILE that is refused, and print a line for it; the exit status is then 2",
     count: Count::Flag("keep-going"),
     role: Role::Says(Form::Plain),
 };
 
 const ADDRESSES: Argument = Argument {
     name: "ADDRESS",
-    help: "The addresses to look up, in hexadecimal, with or without 0x",
+    help: "The addresses to look up",
     count: Count::Several,
     role: Role::Says(Form::Number),
 };
 
 /// What `symbolicate` and `frames` print for an address, and what their exit status 1 says.
-const ANSWERS: &str = "Each address gets one line: the nearest symbol, or\n\
-    -   if there is none: the address is in no section, or below its section's first symbol\n\
-    ?   if the archive has no slice with this UUID and ARCH\n\
-    !N  if N slices answer; a line for each follows\n\
-    With --lines each line of a slice is followed by one for each frame, innermost first:\n\
-    four spaces and NAME at PATH:LINE:COLUMN, with ? for what is unknown.\n\
-    With --slices a line UUID ARCH dsym DIGEST, or with image, follows for each slice that\n\
-    answers under a UUID, and a line UUID ARCH absent for each key without one. By INDEX a\n\
-    key is refused alone if its table is damaged or has no lines: ADDR ! for each address,\n\
-    a last line UUID ARCH refused with the fault, and the exit status 2.\n\
-    The exit status is 1 if any answer is not exactly one symbol.\n\
+const ANSWERS: &str = "Each address gets a line: the address, and its nearest symbol or\n\
+    -   no symbol is nearest: the address is in no section, or below its section's first symbol\n\
+    ?   the archive has no slice of this UUID and ARCH\n\
+    !N  N slices answer, each with a line below\n\
+    With --lines a line for each frame follows that of a slice, innermost first: four spaces\n\
+    and NAME at PATH:LINE:COLUMN, where ? is an unknown NAME or PATH, and 0 an unknown number.\n\
+    With --slices these lines follow all answers: UUID ARCH dsym DIGEST, or with image, for each\n\
+    slice that answers under a UUID asked for; UUID ARCH absent for a UUID and ARCH without one.\n\
+    With --slices and --index a table that is damaged or has no lines refuses only its UUID and\n\
+    ARCH: ! for each address, a last line UUID ARCH refused with the fault, and the exit status 2.\n\
+    The exit status is 1 if an answer is not exactly one symbol.\n\
     Numbers are hexadecimal, also without 0x.";
 
 /// What `extract` does without a slice, and what its exit status 1 says.
 const UNDECIDED: &str =
-    "The dSYM is written, if there is one for this UUID and ARCH, and otherwise the image.\n\
+    "The dSYM of this UUID and ARCH is written, or the image if the archive has no dSYM.\n\
     The exit status is 1 if there is no such slice, or if several answer, which are then\n\
-    printed as find does: repeat the command with --digest.";
+    printed as by find: repeat the command with the --digest of one.";
 
 /// The commands, in the order in which help lists them.
 const COMMANDS: &[Signature] = &[
     Signature {
         name: "new",
-        about: "Write the empty archive",
+        about: "Write an empty archive",
         more: None,
         arguments: &[OUT],
     },
     Signature {
         name: "admit",
-        about: "Add Mach-O images to an archive",
+        about: "Add Mach-O images and dSYMs to an archive",
         more: None,
         arguments: &[IN, OUT, KEEP_GOING, IMAGES],
     },
@@ -299,7 +299,7 @@ const COMMANDS: &[Signature] = &[
     },
     Signature {
         name: "merge",
-        about: "Merge archives",
+        about: "Merge archives into one",
         more: None,
         arguments: &[IN, OUT, ARCHIVES],
     },
@@ -311,25 +311,25 @@ const COMMANDS: &[Signature] = &[
     },
     Signature {
         name: "apply",
-        about: "Apply the records of an operations file",
+        about: "Apply an operations file to an archive",
         more: None,
         arguments: &[IN, OUT, OPS],
     },
     Signature {
         name: "find",
-        about: "List what an archive has for a UUID",
+        about: "List the slices and retirements of a UUID",
         more: None,
         arguments: &[ARCHIVE, SOUGHT_UUID, OTHER, INDEXES],
     },
     Signature {
         name: "list",
-        about: "List everything in an archive",
+        about: "List all slices and retirements of an archive",
         more: None,
         arguments: &[ARCHIVE, INDEX],
     },
     Signature {
         name: "extract",
-        about: "Write a slice as a file, as it came in",
+        about: "Write a slice to a file, byte for byte as it was added",
         more: Some(UNDECIDED),
         arguments: &[
             ARCHIVE,
@@ -349,7 +349,7 @@ const COMMANDS: &[Signature] = &[
     },
     Signature {
         name: "symbolicate",
-        about: "Print the nearest symbols of addresses",
+        about: "Print the symbols nearest to addresses of an image",
         more: Some(ANSWERS),
         arguments: &[
             ARCHIVE, IMAGE_UUID, ARCH, LOAD, LINES, SLICES, OTHER, INDEXES, ADDRESSES,
@@ -357,31 +357,31 @@ const COMMANDS: &[Signature] = &[
     },
     Signature {
         name: "frames",
-        about: "Print the nearest symbols of all frames of a crash",
+        about: "Print the symbols nearest to the frames of a crash",
         more: Some(ANSWERS),
         arguments: &[FRAMES, LINES, SLICES, INDEXES, TOGETHER],
     },
     Signature {
         name: "summary",
-        about: "Write the summary of an archive, which has no slices",
+        about: "Write the summary of an archive, by which a site asks for missing records",
         more: None,
         arguments: &[ARCHIVE, SUMMARY_OUT, INDEX],
     },
     Signature {
         name: "index",
-        about: "Write the index of an archive",
+        about: "Write the index of an archive, for lookups by --index",
         more: None,
         arguments: &[ARCHIVE, INDEX_OUT],
     },
     Signature {
         name: "delta",
-        about: "Write the records that a summary lacks",
+        about: "Write the archive of the records that a summary lacks",
         more: None,
         arguments: &[ARCHIVE, SUMMARY, OUT],
     },
     Signature {
         name: "rehearse",
-        about: "Run events at sites that exchange archives",
+        about: "Simulate sites that exchange archives, by a script of events",
         more: None,
         arguments: &[SCRIPT],
     },
