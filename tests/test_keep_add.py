@@ -699,7 +699,7 @@ class Faults(RoomCase):
             f"symarch-keep: {self.folder}/nowhere: No such file or directory"
         ])
         self.room.archive = self.folder
-        told = f"is a folder, and ARCHIVE comes first: symarch-keep add ARCHIVE {self.folder} one"
+        told = f"is a folder, and ARCHIVE is first: symarch-keep add ARCHIVE {self.folder} one"
         same("errors", self.room.add("one", status=3)[1], [f"symarch-keep: {self.folder} {told}"])
 
     def test_full_disk(self) -> None:

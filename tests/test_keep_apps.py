@@ -176,7 +176,7 @@ class Retired(BuildsCase):
         before = state_of(self.folder)
         for app, day in (("com.example.shop", "2025-01-01"), ("com.example", "2999-01-01")):
             out, errors = self.room.call("retire", "--app", app, "--before", day, self.room.archive, status=1)
-            told = f"symarch-keep: {self.room.archive} has no build of {app} that came in before {day}"
+            told = f"symarch-keep: {self.room.archive} has no build of {app} from before {day}"
             same("what is said", (out, errors), ([], [told]))
         same("files", state_of(self.folder), before)
 
@@ -204,7 +204,7 @@ class Retired(BuildsCase):
         text = self.beside().read_bytes()
         self.beside().write_bytes(text.replace(b" none\n", b" none!\n"))
         _, errors = self.room.call("retire", *self.words, self.room.archive, status=4)
-        told = "what other apps have may be among the damaged names; call `exchange`, and then this again"
+        told = "slices of other apps may be among the damaged names; call `exchange`, and then this again"
         same("errors", errors[1:], [f"symarch-keep: {told}; the archive is as it was"])
         self.room.has(archive([*self.made, self.more]))
         self.room.call("retire", *self.words, self.room.archive)
@@ -216,7 +216,7 @@ class Retired(BuildsCase):
         with self.room.start("retire", *self.words, self.room.archive, stdout=writer) as process:
             os.close(writer)
             errors = process.communicate()[1].decode()
-        told = "symarch-keep: what was to be retired could not be printed; the archive is as it was\n"
+        told = "symarch-keep: the slices to retire could not be printed; the archive is as it was\n"
         same("status, errors", (process.returncode, errors), (4, told))
         self.room.has(archive([*self.made, self.more]))
 

@@ -16,7 +16,7 @@ UUID = "4c4c4419-5555-3144-a1d2-4341c97782f0"
 LOADED = ["--load", "0x104d38000"]
 ADDRESSES = ["0x104d38410", "0x104d383f8"]
 COPY_BODY = "0x0000000104d38410 _copy_body + 12 (__TEXT,__text)"
-OF_ANOTHER = f"symarch-keep: {UUID} is held under arm64, and not under arm64e\n".encode()
+OF_ANOTHER = f"symarch-keep: {UUID} is in the archive under arm64, and not under arm64e\n".encode()
 
 
 class AskCase(RoomCase):
@@ -147,7 +147,7 @@ class Unvouched(AskCase):
         rows = [it.split(" ") for it in call([symarch, "list", today]).lines]
         digest, other = ([row[3] for row in rows if row[1] == arch][0] for arch in ("arm64", "x86_64"))
         change(today, today.read_bytes().index(b"_copy_body") + 1)
-        told = f"changed since it came in: run symarch-keep check {self.room.archive}"
+        told = f"changed since it was added: run symarch-keep check {self.room.archive}"
         self.refused(self.words[0], f"{UUID} arm64 {digest} {told}")
         same("names and lines by tables", [self.asked(self.words[at]).lines for at in (1, 5)], by_tables)
         came = self.asked(["name", "_start"])

@@ -496,19 +496,19 @@ class Exchanged(BuildsCase):
             path = self.put(builds(*sorted([good, longest, one])))
             number = sorted([good, longest, one]).index(one) + 2
             _, errors = east.exchange(status=2)
-            same(f"of {one!r}", errors[0], f"symarch-keep: {path}: line {number} is of no build; the rest is taken")
+            same(f"of {one!r}", errors[0], f"symarch-keep: {path}: line {number} is of no build; the rest is read")
             same("names", self.of(east), builds(good, longest))
             path.unlink()
         text = FIRST + f"{sha('x')[:16]} {good}\n" + "z" * 5000 + "\n" + "\n" * 9
         path = self.put(f"{text}sha256 {sha(text)}\n".encode())
         _, errors = east.exchange(status=2)
-        told = "line 2 is of no build, and 10 others are none; the rest is taken"
+        told = "line 2 is of no build, and 10 others are none; the rest is read"
         same("a wrong sum", errors[0], f"symarch-keep: {path}: {told}")
         path.unlink()
         text = FIRST + "z" * 5000 + "\n"
         path = self.put(f"{text}sha256 {sha(text)}\n".encode())
         _, errors = east.exchange(status=2)
-        told = "line 2 is of 5001 bytes, and none has more than 4236; the rest is taken"
+        told = "line 2 is of 5001 bytes, and none has more than 4236; the rest is read"
         same("a long line", errors[0], f"symarch-keep: {path}: {told}")
         path.unlink()
         same("names", self.of(east), builds(good, longest))

@@ -358,7 +358,7 @@ class Several(GetCase):
         errors = [it for it in errors if it != self.no_dsym(rows[0])]
         same("lines", said, sorted(f"conflict {slice_text(one)}" for one in rows))
         words = " ".join(slice_words(rows[0])[:2])
-        same("errors", errors, [f"symarch-keep: {words}: {len(rows)} slices answer, and {told}; --digest says which"])
+        same("errors", errors, [f"symarch-keep: {words}: {len(rows)} slices answer, and {told}; choose by --digest"])
 
     def test_dsyms(self) -> None:
         made = [companion(1, more=more) for more in (b"a", b"b", b"c")]
@@ -384,7 +384,7 @@ class Several(GetCase):
         said, errors = self.get(companion(1))
         same("lines", said, [self.got(companion(1), in_bundle("spool"))])
         words = " ".join(slice_words(image(1))[:2])
-        told = f"{words}: 2 slices answer, and none of them is put beside its dSYM; --digest says which"
+        told = f"{words}: 2 slices answer, and none of them is put next to its dSYM; choose by --digest"
         same("errors", errors, [f"symarch-keep: {told}"])
         self.has({in_bundle("spool"): companion(1)})
         self.get(companion(1), words=["--digest", slice_words(image(1, more=b"b"))[2]])
@@ -418,7 +418,7 @@ class Absent(GetCase):
         digest = slice_words(image(3))[2]
         said, errors = self.get(image(2), companion(1), words=["--digest", digest], status=1)
         same("lines", said, [self.got(companion(1), in_bundle("Shop"))])
-        wanted = [f"nothing is held of {uuid_word(image(2))}", f"no slice of these UUIDs has the DIGEST {digest}"]
+        wanted = [f"the archive has no {uuid_word(image(2))}", f"no slice of these UUIDs has the DIGEST {digest}"]
         same("errors", errors, [f"symarch-keep: {it}" for it in wanted])
 
     def test_nothing_is_made_of_nothing(self) -> None:
@@ -435,7 +435,7 @@ class Absent(GetCase):
         same("lines", said, [self.got(image(1, ARM64), "Shop")])
         self.room.call("retire", self.room.archive, *slice_words(image(1, ARM64)))
         _, errors = self.get(companion(1), status=1)
-        same("errors", errors, [f"symarch-keep: nothing is held of {uuid_word(image(1))}"])
+        same("errors", errors, [f"symarch-keep: the archive has no {uuid_word(image(1))}"])
 
     def test_words_of_another_form(self) -> None:
         self.add("Shop", companion(1))
@@ -443,7 +443,7 @@ class Absent(GetCase):
         for words, told in (
             (["get", "site.sym", "4c4c", "--to", "out"], "UUID is `4c4c`: expected 32 hex digits"),
             (["get", "--digest", "4c", "site.sym", name, "--to", "out"], "DIGEST is `4c`: expected 64 hex digits"),
-            (["get", name, "site.sym", "--to", "out"], f"{name} is no archive, and ARCHIVE comes first: "
+            (["get", name, "site.sym", "--to", "out"], f"{name} is no archive, and ARCHIVE is first: "
                                                        f"symarch-keep get --to out site.sym {name}"),
         ):
             _, errors = self.room.call(*words, status=3)
@@ -504,7 +504,7 @@ class Files(GetCase):
         """It has slices that are retired, which are not got."""
         self.room.archive.write_bytes(archive([companion(1), image(2)], [image(2)], b"MSYMARC1"))
         _, errors = self.get(companion(1), image(2), status=1)
-        same("errors", errors, [f"symarch-keep: nothing is held of {uuid_word(image(2))}"])
+        same("errors", errors, [f"symarch-keep: the archive has no {uuid_word(image(2))}"])
         self.has({in_bundle(uuid_word(image(1))): companion(1)})
 
 
@@ -524,7 +524,7 @@ class Changed(GetCase):
         """The others are got."""
         change(self.room.archive, self.room.archive.read_bytes().index(b"1" * 100) + 50)
         said, errors = self.get(*self.made, status=2)
-        told = f"{slice_text(self.made[1])} changed since it came in: run symarch-keep check {self.room.archive}"
+        told = f"{slice_text(self.made[1])} changed since it was added: run symarch-keep check {self.room.archive}"
         same("errors", errors, [f"symarch-keep: {told}"])
         same("lines", said, [self.got(self.made[number], in_bundle(f"it-{number}")) for number in (0, 2)])
         self.has({in_bundle(f"it-{number}"): self.made[number] for number in (0, 2)})

@@ -138,7 +138,7 @@ class Changed(IndexCase):
         same("check", self.room.call("check", east.archive, status=2)[0], [changed()])
         west.exchange()
         _, errors = east.exchange(status=2)
-        same("errors", errors[0], f"symarch-keep: a slice of {east.archive} changed; `symarch-keep check` says which")
+        same("errors", errors[0], f"symarch-keep: a slice of {east.archive} changed; `symarch-keep check` names it")
         same("answers", east.answers(west), [])
         self.room.file("other", made[0])
         self.room.call("add", "other.sym", "other")
@@ -182,7 +182,8 @@ class Cut(IndexCase):
         for place in (0, 7, *(entries + it for it in (0, 40, 65, 73, 81, 89, 121, 310)), *ends):
             change(kept, place)
             _, errors = self.room.call("repair", self.room.archive, "good.sym", status=4)
-            told = f"{kept} is not as symarch-keep wrote it, so nothing says what changed; the archive is as it was"
+            told = f"{kept} is not as symarch-keep wrote it, so the changed bytes are not known"
+            told += "; the archive is as it was"
             same("errors", errors, [f"symarch-keep: {told}"])
             change(kept, place)
         self.room.call("repair", self.room.archive, "good.sym")

@@ -187,7 +187,7 @@ class Remembered(ThreeSites):
         for text in (kept.read_bytes(), b"text"):
             kept.write_bytes(text)
             _, errors = self.room.call(*self.plain(self.east), status=4)
-            told = f"{kept} says that this site signs, and requires signatures: name --key and --signers"
+            told = f"{kept} shows that this site signs: name --key and --signers"
             same("errors", errors, [f"symarch-keep: {told}; the archive is as it was"])
             before[kept] = text
             after = {path: path.read_bytes() for path in self.folder.rglob("*") if path.is_file()}

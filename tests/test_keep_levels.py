@@ -133,7 +133,7 @@ class Sizes(LevelCase):
     def test_a_fold_of_nothing(self) -> None:
         self.days(8, 3)
         before = [(it.st_ino, it.st_mtime_ns) for it in map(os.stat, self.files())]
-        told = f"symarch-keep: {self.room.archive}: 0 slices, 0 retirements came in"
+        told = f"symarch-keep: {self.room.archive}: 0 slices, 0 retirements joined"
         same("said", self.fold(), ([], [told]))
         same("files", [(it.st_ino, it.st_mtime_ns) for it in map(os.stat, self.files())], before)
 
@@ -421,7 +421,7 @@ class Retired(LevelCase):
     def test_purge(self) -> None:
         waiting = self.waiting()
         _, errors = self.fold("--purge")
-        told = f"1 slices, 5 retirements came in; {waiting} retired bytes were taken out"
+        told = f"1 slices, 5 retirements came in; {waiting} bytes of retired slices were removed"
         same("said", errors, [f"symarch-keep: {self.room.archive}: {told}"])
         same("there", (self.there(), self.waiting()), ([False] * 5, 0))
         self.has(self.wanted)
@@ -582,8 +582,8 @@ class Changed(LevelCase):
         change(index, len(good) - 100)
         change(level, level.read_bytes().index(self.parts[2][0]) + 26)
         _, errors = self.fold(status=4)
-        told = f"{index} is not as symarch-keep wrote it, and nothing says whether {level} is as it was"
-        same("errors", errors, [f"symarch-keep: {told}; `symarch-keep check` says more; the archive is as it was"])
+        told = f"{index} is not as symarch-keep wrote it, and it is not known whether {level} is as it was"
+        same("errors", errors, [f"symarch-keep: {told}; call `symarch-keep check`; the archive is as it was"])
 
     def test_a_level_of_which_nothing_is_known(self) -> None:
         """It is named, and left alone until `symarch index` makes it one; as is what somebody called so."""

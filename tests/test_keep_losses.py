@@ -173,9 +173,9 @@ class Vouched(LossCase):
             self.change_slice(self.made[1])
             damage()
             what = "is not as symarch-keep wrote it"
-            told = f"{self.beside('idx')} {what}, and nothing says whether {self.room.archive} is as it was"
+            told = f"{self.beside('idx')} {what}, and it is not known whether {self.room.archive} is as it was"
             for words in self.WRITING:
-                self.refused(words, f"{told}; `symarch-keep check` says more")
+                self.refused(words, f"{told}; call `symarch-keep check`")
 
     def test_a_dry_run_says_so_too(self) -> None:
         self.change_slice(self.made[1])
@@ -189,7 +189,7 @@ class Vouched(LossCase):
         (self.folder / "shared").mkdir()
         change(self.room.archive, self.text.index(retirement(self.retired[0])) + 40)
         for words in self.WRITING:
-            self.refused(words, f"something in {self.room.archive} changed; `symarch-keep check` says what")
+            self.refused(words, f"something in {self.room.archive} changed; `symarch-keep check` names it")
         self.assertEqual(len(self.word("check", status=2)[0]), 1)
 
 
@@ -326,7 +326,7 @@ class Stated(LossCase):
         return self.beside("log").read_text()
 
     def test_an_index_that_is_damaged(self) -> None:
-        index, more = self.beside("idx"), "`symarch-keep check` says more"
+        index, more = self.beside("idx"), "call `symarch-keep check`"
         self.change_entry()
         self.stated([], [f"{index} is not as symarch-keep wrote it; {more}"])
         index.unlink()
@@ -349,7 +349,7 @@ class Lost(LossCase):
             path.write_bytes(data)
 
     def told(self, slices: int) -> str:
-        how = "`symarch-keep status` names them, and `status --accept` takes as lost what no site has"
+        how = "`symarch-keep status` names them, and `status --accept` gives up those that no site has"
         return f"symarch-keep: {self.east.archive}: lost: slices {slices}, retirements 0; {how}"
 
     def lost_lines(self, status: int) -> List[str]:
@@ -408,7 +408,7 @@ class Lost(LossCase):
         self.restore(backup)
         self.east.exchange(status=2)
         out, errors = self.room.call("status", "--accept", self.east.archive)
-        self.assertEqual(errors, [f"symarch-keep: {self.east.archive}: slices 1, retirements 0 are taken as lost"])
+        self.assertEqual(errors, [f"symarch-keep: {self.east.archive}: slices 1, retirements 0 are given up"])
         self.assertEqual([line for line in out if line.startswith("lost")], [])
         log = pathlib.Path(f"{self.east.archive}.log").read_text()
         self.assertEqual(log.count(f" accepted lost {words_of(image(2))}\n"), 1)

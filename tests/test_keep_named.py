@@ -14,15 +14,15 @@ from .support.program import TOP, call, symarch
 from .support.rooms import RoomCase, today_of
 
 FRONTS = {
-    "an ELF file, which no word takes": b"\x7fELF\2\1\1",
+    "an ELF file, which no command takes": b"\x7fELF\2\1\1",
     "an empty zip file": b"PK\5\6",
     "a gzip file, which has to be unpacked first": gzip.compress(b"text"),
     "a tar file, which has to be unpacked first": b"a.dSYM/".ljust(257, b"\0") + b"ustar\x0000",
-    "a PDB file, which no word takes": b"Microsoft C/C++ MSF 7.00\r\n\x1aDS\0\0\0",
-    "a PE file, which no word takes": b"MZ\x90\0",
-    "a page of HTML, which no word takes": b"\n<!DOCTYPE html>\n<html lang='en'>",
+    "a PDB file, which no command takes": b"Microsoft C/C++ MSF 7.00\r\n\x1aDS\0\0\0",
+    "a PE file, which no command takes": b"MZ\x90\0",
+    "a page of HTML, which no command takes": b"\n<!DOCTYPE html>\n<html lang='en'>",
     "a text as a report begins, which `symbolicate-report` reads": b'{"app_name":"spool"}\n{}',
-    "a Java class file, which no word takes": bytes.fromhex("cafebabe00000037"),
+    "a Java class file, which no command takes": bytes.fromhex("cafebabe00000037"),
     "an archive, which `symarch merge` takes": archive([image(1)]),
     "an empty file": b"",
     "neither a Mach-O file nor a universal one": b"\0\1\2\3\4",
@@ -228,11 +228,11 @@ class Order(RoomCase):
 
     def test_one_that_is_not(self) -> None:
         self.room.file("my dSYMs/one", image(1))
-        told = "my dSYMs is a folder, and ARCHIVE comes first: symarch-keep add new.sym 'my dSYMs'"
+        told = "my dSYMs is a folder, and ARCHIVE is first: symarch-keep add new.sym 'my dSYMs'"
         same("a folder", self.said("my dSYMs", "new.sym"), f"symarch-keep: {told}")
         self.room.file("one", image(1))
         said = self.said("one", "new.sym")
-        same("a file", said, "symarch-keep: one is no archive, and ARCHIVE comes first: symarch-keep add new.sym one")
+        same("a file", said, "symarch-keep: one is no archive, and ARCHIVE is first: symarch-keep add new.sym one")
         same("made", sorted(os.listdir(self.folder)), ["my dSYMs", "one"])
 
     def test_a_path_that_is_not_there(self) -> None:
@@ -246,7 +246,7 @@ class Order(RoomCase):
         (self.folder / "shared").mkdir()
         before = sorted(os.listdir(self.folder))
         _, errors = self.room.call("exchange", "shared", "site.sym", "east", status=3)
-        told = "shared is a folder, and ARCHIVE comes first: symarch-keep exchange site.sym shared east"
+        told = "shared is a folder, and ARCHIVE is first: symarch-keep exchange site.sym shared east"
         same("errors", (errors, sorted(os.listdir(self.folder))), ([f"symarch-keep: {told}"], before))
 
     def test_standard_input(self) -> None:
@@ -281,11 +281,11 @@ class Order(RoomCase):
             (["exchange", "east", "site.sym", "shared"], "exchange site.sym shared east"),
         ):
             _, errors = self.room.call(*words, status=3)
-            told = "is no archive, and ARCHIVE comes first: symarch-keep"
+            told = "is no archive, and ARCHIVE is first: symarch-keep"
             first = words[2 if words[1] == "--" else 1]
             same(f"{words}", errors, [f"symarch-keep: {first} {told} {typed}"])
         _, errors = self.room.call("exchange", "site.sym", "east", "shared", status=3)
-        told = "east is no folder, and FOLDER comes before NAME: symarch-keep exchange site.sym shared east"
+        told = "east is no folder, and FOLDER precedes NAME: symarch-keep exchange site.sym shared east"
         same("a name", errors, [f"symarch-keep: {told}"])
         _, errors = self.room.call("repair", "nowhere", "site.sym", status=4)
         self.assertIn("nowhere: No such file", errors[0])

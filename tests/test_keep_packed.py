@@ -104,7 +104,7 @@ class Taken(PackedCase):
     def test_an_archive_that_stands_last(self) -> None:
         self.room.file("a.zip", zipped(self.members))
         _, errors = self.room.call("add", "--dsyms-only", "a.zip", "new.sym", status=3)
-        told = "a.zip is no archive, and ARCHIVE comes first: symarch-keep add --dsyms-only new.sym a.zip"
+        told = "a.zip is no archive, and ARCHIVE is first: symarch-keep add --dsyms-only new.sym a.zip"
         same("errors, made", (errors, os.listdir(self.folder)), ([f"symarch-keep: {told}"], ["a.zip"]))
 
     def test_standard_input(self) -> None:
@@ -228,7 +228,7 @@ class Refused(PackedCase):
         members = {"first": image(3), ONE: big, TWO: image(2)}
         bomb = changed(zipped(members), 1, (22, ten), (24, ten))
         told = f"{ONE}: unpacks to more than 5000 bytes, and no slice has more"
-        after = "; what comes after it was not read"
+        after = "; the members after it were not read"
         for name, made, numbers, end in (("a.zip", bomb, (3, 2), ""), ("a.tgz", tarred(members), (3,), after)):
             self.room.begin_anew()
             self.room.file(name, made)

@@ -178,7 +178,7 @@ class Month(ThreeSites):
         path = self.question()
         data = path.read_bytes()
         path.write_bytes(data[:20] + bytes([data[20] ^ 1]) + data[21:])
-        return Attack(self.east, path, "has other bytes than its name says")
+        return Attack(self.east, path, "does not have the digest in its name")
 
     def huge(self, day: int) -> Attack:
         path, data, signature = self.real_answer(day)
@@ -268,7 +268,7 @@ class Rules(ThreeSites):
             self.refused(self.east, self.forge(name, data, key=""), "has no signature")
             path = self.forge(name, data, "west")
             beside(path).rename(path.with_suffix(f".{'0' * 16}.sig"))
-            self.refused(self.east, path, "its signature has other bytes than its name says")
+            self.refused(self.east, path, "its signature does not have the digest in its name")
 
     def test_one_of_several_signatures(self) -> None:
         """As after a change of the key."""
@@ -478,7 +478,7 @@ class CopiedFirst(ThreeSites):
                 script = f'{shutil.which("ssh-keygen")} "$@" || exit\n{does}'
                 before = self.east.has()
                 _, errors = self.east.exchange(status=2, environment={"PATH": self.script("ssh-keygen", script)})
-                same("named", named(errors, path), ["has other bytes than its name says"])
+                same("named", named(errors, path), ["does not have the digest in its name"])
                 same("archive", self.east.has(), before)
                 self.assertNotIn(" evil\n", pathlib.Path(f"{self.east.archive}.builds").read_text())
                 for one in (path, beside(path)):

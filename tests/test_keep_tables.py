@@ -115,7 +115,7 @@ class Kept(TableCase):
         entry = next(it for it in entries_in(kept_index(self.room.archive)) if it[25:57] == digest)
         change(self.index(), table_place(entry))
         _, errors = self.room.call(*words, status=2)
-        told = f"{words_of(self.made[3])} changed since it came in: run symarch-keep check {self.room.archive}"
+        told = f"{words_of(self.made[3])} changed since it was added: run symarch-keep check {self.room.archive}"
         same("errors", errors, [f"symarch-keep: {told}"])
 
 
@@ -244,7 +244,8 @@ class OtherKinds(TableCase):
                 self.room.call("check", site)
         self.begin_with(index_without_tables)
         _, errors = self.room.call("repair", site, "none.sym", status=4)
-        told = f"symarch-keep: {site}.idx is of another kind, so nothing says what changed; the archive is as it was"
+        told = f"symarch-keep: {site}.idx is of another kind, so the changed bytes are not known"
+        told += "; the archive is as it was"
         same("repair", errors[-1], told)
 
     def test_commands_that_only_read_change_nothing(self) -> None:

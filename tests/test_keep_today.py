@@ -198,7 +198,7 @@ class Fold(TodayCase):
     def test_twice(self) -> None:
         """A second fold changes nothing, and says so; so does one where nothing came in."""
         made, new = self.made, self.room.make_many(3)
-        counted = f"symarch-keep: {self.room.archive}: {{}} slices, {{}} retirements came in"
+        counted = f"symarch-keep: {self.room.archive}: {{}} slices, {{}} retirements joined"
         self.room.add("many")
         self.room.call("retire", self.room.archive, *slice_words(made[0]))
         same("a fold", self.room.call("fold", self.room.archive), ([], [counted.format(3, 1)]))

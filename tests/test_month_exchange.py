@@ -307,7 +307,7 @@ class Month(RoomCase):
             said, errors = room.add(name, status=2)
             most = 2 * len(made) + 100_000
             count = most // 30_056
-            told = f"unpacks, with what comes before it, to more than {most} bytes; what comes after it was not read"
+            told = f"unpacks, with the members before it, to more than {most} bytes; the members after it were not read"
             same("named", errors[0], f"symarch-keep: {name}: {count}: {told}")
             same("members", len(said), count)
             same("archive", bytes_of(room.archive), archive([*members.values()][:count]))

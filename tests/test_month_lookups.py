@@ -269,7 +269,7 @@ class Addresses(LookupCase):
             (["--decimal", str(2**64)], f"ADDRESS is `{2**64}`: {decimal}"),
             (["--decimal", "--load=1f", "1"], f"HEX is `1f`: {decimal}"),
             (["--offset", "--load=0", "1"],
-             "an --offset is the same wherever the image was loaded, so --load does not stand beside it"),
+             "an --offset is the same wherever the image was loaded, so --load may not be used with it"),
         ):  # fmt: skip
             options, addresses = [it for it in words if it[0] == "-"], [it for it in words if it[0] != "-"]
             _, errors = self.room.call("symbolicate", *options, self.room.archive, UUID, "arm64", *addresses, status=3)
@@ -348,7 +348,7 @@ class Parts(LookupCase):
         out, errors = self.room.call("name", "--part", self.room.archive, "dopy", status=None)
         self.assertEqual(out, [])
         out, errors = self.room.call("name", "--part", self.room.archive, "_body", status=2)
-        self.assertIn("changed since it came in: run symarch-keep check", errors[0])
+        self.assertIn("changed since it was added: run symarch-keep check", errors[0])
 
     def test_hostile_names(self) -> None:
         """Names that are no text, very long ones, and those that share their ends."""

@@ -72,7 +72,7 @@ class Builds(RoomCase):
         most = 100 * len(made) + (64 << 20)
         said, errors = self.room.add("ci.zip", status=2)
         same("lines", said, [line("added", big[number], f"ci.zip: a.zip: b.zip: {number}") for number in ("1", "2")])
-        told = f"unpacks, with what comes before it, to more than {most} bytes; what comes after it was not read"
+        told = f"unpacks, with the members before it, to more than {most} bytes; the members after it were not read"
         same("errors", errors, [f"symarch-keep: ci.zip: a.zip: b.zip: 3: {told}",
                                 "symarch-keep: 2 added, 0 known, 0 retired, 1 refused, passed over 0"])  # fmt: skip
 
@@ -82,7 +82,7 @@ class Builds(RoomCase):
         self.room.file("ci.zip", made)
         most = 100 * len(made) + (64 << 20)
         said, errors = self.room.add("ci.zip", status=2)
-        told = f"unpacks, with what comes before it, to more than {most} bytes; what comes after it was not read"
+        told = f"unpacks, with the members before it, to more than {most} bytes; the members after it were not read"
         same("lines", said, [])
         counts = "symarch-keep: 0 added, 0 known, 0 retired, 1 refused, passed over 1 (other files 1)"
         same("errors", errors, [f"symarch-keep: ci.zip: a.tgz: {told}", counts])

@@ -133,7 +133,7 @@ class Month(RoomCase):
         told = "spool.dSYM is a dSYM: run symarch-keep add builds.sym spool.dSYM, then name builds.sym"
         self.fails(["find", "spool.dSYM", uuid], told, 2)
         for name in ("App.dSYM", "spool.dSYM"):
-            told = f"{name} is a dSYM, and ARCHIVE comes first: symarch-keep add new.sym {name}"
+            told = f"{name} is a dSYM, and ARCHIVE is first: symarch-keep add new.sym {name}"
             self.fails(["add", name, "new.sym"], told, 3)
 
     def step_04_the_archive_is_made_and_its_lock_is_of_the_group(self) -> None:
@@ -172,7 +172,7 @@ class Month(RoomCase):
             ("elsewhere/site.sym.today", "site.sym"),
             ("other.sym.today", "other.sym"),
         ):
-            told = f"{name} is the file for what comes in to {self.folder / place}: name that"
+            told = f"{name} has the newest additions to {self.folder / place}: name that"
             for words in (["add", name], ["add", "--dry-run", name], ["exchange", name, "."]):
                 self.fails([*words, "builds"], told, 3)
         self.assertTrue(today_of(self.room.archive).exists())
@@ -297,7 +297,7 @@ class Month(RoomCase):
     def step_13_a_uuid_is_there_under_another_architecture(self) -> None:
         uuid = "4c4c4419-5555-3144-a1d2-4341c97782f0"
         came = self.ends("symbolicate", "spool.sym", uuid, "arm64e", "100000410")
-        told = f"symarch-keep: {uuid} is held under arm64, and not under arm64e"
+        told = f"symarch-keep: {uuid} is in the archive under arm64, and not under arm64e"
         same("of another", came, (1, ["0x0000000100000410 ?"], [told]))
         same("of its own", self.ends("symbolicate", "spool.sym", uuid, "arm64", "100000410")[2], [])
         none = slice_words(image(900))[0]
@@ -305,7 +305,7 @@ class Month(RoomCase):
 
     def step_14_what_is_not_held_is_said(self) -> None:
         uuid = slice_words(image(900))[0]
-        self.fails(["find", "spool.sym", uuid.upper().replace("-", "")], f"nothing is held of {uuid}", 1)
+        self.fails(["find", "spool.sym", uuid.upper().replace("-", "")], f"the archive has no {uuid}", 1)
 
     def step_15_a_conflict_is_named(self) -> None:
         """By `status`, in JSON too, and by `list`, which marks what other builds have not."""
@@ -394,7 +394,7 @@ class Month(RoomCase):
         for tool, name, words in calls:
             status, out, errors = self.ends(*words, tool=tool)
             same(f"{name}: status", (status, out, len(errors)), (4, [], 1))
-            self.assertTrue(errors[0].startswith(f"{name}: not foreseen: ValueError: two\\x0alines \\x1b[31m"), errors)
+            self.assertTrue(errors[0].startswith(f"{name}: unexpected: ValueError: two\\x0alines \\x1b[31m"), errors)
             for debugged in (["--debug", *words], [*words, "--debug"]):
                 status, _, more = self.ends(*debugged, tool=tool)
                 same("status and line", (status, more[:1]), (4, errors))

@@ -170,10 +170,10 @@ class MostWanted(ReportCase):
     def test_words(self) -> None:
         path = CRASHES / "arm64.crash"
         for words, why in (
-            (["--counts"], "--counts stands beside --missing alone"),
-            (["--missing", "--counts", "--json"], "--counts stands beside --missing alone"),
-            (["--missing", "--frames", "--json"], "--missing stands alone"),
-            (["--frames"], "--frames stands beside --json"),
+            (["--counts"], "--counts needs --missing, without --json"),
+            (["--missing", "--counts", "--json"], "--counts needs --missing, without --json"),
+            (["--missing", "--frames", "--json"], "--missing allows only --counts or --json"),
+            (["--frames"], "--frames needs --json"),
         ):  # fmt: skip
             came = self.report(*words, path, "shipped")
             self.assertEqual((came.status, came.out, came.error_lines[-1]), (3, b"", f"symbolicate-report: {why}"))

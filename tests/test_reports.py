@@ -479,17 +479,17 @@ class Refused(ReportCase):
             (["--text", self.archives / "shipped"], "there is no report before the archive"),
             ([self.archives / "shipped", "both"], "there is no report before the archive"),
             (["--out", out, path], f"there is no archive after {path}"),
-            (["--text", "--text", path, "shipped"], "--text stands twice"),
-            (["--missing", "--missing", path, "shipped"], "--missing stands twice"),
-            (["--out", out, "--out", out, path, "shipped"], "--out stands twice"),
-            (["--missing", "--text", path, "shipped"], "--missing stands alone"),
-            (["--missing", "--raw", path, "shipped"], "--missing stands alone"),
-            (["--demangle", "--raw", path, "shipped"], "--raw keeps what --demangle changes: name one of them"),
-            (["--missing", "--out", out, path, "shipped"], "--missing stands alone"),
-            (["--missing", "--no-lines", path, "shipped"], "--missing stands alone"),
+            (["--text", "--text", path, "shipped"], "--text is repeated"),
+            (["--missing", "--missing", path, "shipped"], "--missing is repeated"),
+            (["--out", out, "--out", out, path, "shipped"], "--out is repeated"),
+            (["--missing", "--text", path, "shipped"], "--missing allows only --counts or --json"),
+            (["--missing", "--raw", path, "shipped"], "--missing allows only --counts or --json"),
+            (["--demangle", "--raw", path, "shipped"], "--raw keeps names that --demangle changes: use one"),
+            (["--missing", "--out", out, path, "shipped"], "--missing allows only --counts or --json"),
+            (["--missing", "--no-lines", path, "shipped"], "--missing allows only --counts or --json"),
             (["--no-lines", "--paths", path, "shipped"],
-             "--no-lines prints no paths, so --paths does not stand beside it"),
-            (["--demangle", "--no-demangle", path, "shipped"], "--demangle and --no-demangle: name one of them"),
+             "--no-lines prints no paths, so --paths may not be used with it"),
+            (["--demangle", "--no-demangle", path, "shipped"], "--demangle and --no-demangle: use one"),
             (["--out"], "argument --out: expected one argument"),
             (["--unknown", path, "shipped"], "there is no option --unknown"),
             ([path, "shipped", "-q"], "there is no option -q"),
@@ -504,18 +504,18 @@ class Refused(ReportCase):
         path, mac, out = CRASHES / "arm64.crash", FIXTURES / "mac.crash", self.folder / "x y"
         typed = "symbolicate-report"
         refused: Sequence[Tuple[List[Any], str]] = (
-            (["shipped", path], f"shipped is an archive, and stands after the reports: {typed} arm64.crash shipped"),
+            (["shipped", path], f"shipped is an archive, and belongs after the reports: {typed} arm64.crash shipped"),
             (
                 ["shipped", path, "--text", mac, "both", "--out", out],
-                f"shipped is an archive, and stands after the reports: "
+                f"shipped is an archive, and belongs after the reports: "
                 f"{typed} --text --out 'x y' arm64.crash mac.crash shipped both",
             ),
             (
                 [path, "shipped", mac],
-                f"shipped is an archive, and stands after the reports: "
+                f"shipped is an archive, and belongs after the reports: "
                 f"{typed} --out FOLDER arm64.crash mac.crash shipped",
             ),
-            (["shipped", "--", "-"], f"shipped is an archive, and stands after the reports: {typed} - shipped"),
+            (["shipped", "--", "-"], f"shipped is an archive, and belongs after the reports: {typed} - shipped"),
             (["frames", path, "shipped"], f"frames is a command of symarch: {typed} arm64.crash shipped"),
             (["symbolicate", path, "shipped"], f"symbolicate is a command of symarch: {typed} arm64.crash shipped"),
             (["symbolicate", "shipped", path], f"symbolicate is a command of symarch: {typed} arm64.crash shipped"),
@@ -535,7 +535,7 @@ class Refused(ReportCase):
         path, out = CRASHES / "arm64.crash", self.folder / "x"
         nameless = "--out writes each report under the name of its file, and standard input has none"
         refused: Sequence[Tuple[List[Any], str]] = (
-            ([path, "-"], "of standard input a report is read, and no archive"),
+            ([path, "-"], "standard input is a report, not an archive"),
             (["--missing", "-", "-", "shipped"], "standard input is read once"),
             (["--out", out, "-", "shipped"], nameless),
         )

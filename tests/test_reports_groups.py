@@ -114,9 +114,9 @@ class Folders(GroupCase):
             (["in", "shipped"], "in may hold several reports: add --out NEWFOLDER, or --group"),
             (["in"], "there is no archive after in"),
             (["--group", "in", "in"], "there is no archive after in"),
-            (["shipped", "in"], "shipped is an archive, and stands after the reports: "
+            (["shipped", "in"], "shipped is an archive, and belongs after the reports: "
              "symbolicate-report --out FOLDER in shipped"),
-            (["--group", "shipped", "in"], "shipped is an archive, and stands after the reports: "
+            (["--group", "shipped", "in"], "shipped is an archive, and belongs after the reports: "
              "symbolicate-report --group in shipped"),
         )
         for words, why in refused:
@@ -259,13 +259,13 @@ class Groups(GroupCase):
 
     def test_words(self) -> None:
         crash = CRASHES / "arm64.crash"
-        beside = "--group prints no report, so {} does not stand beside it"
+        beside = "--group prints no report, so {} may not be used with it"
         refused: Sequence[Any] = (
             (["--text"], beside.format("--text")),
             (["--out", "out"], beside.format("--out")),
-            (["--missing"], "--missing stands alone"),
-            (["--group"], "--group stands twice"),
-            (["--raw", "--demangle"], "--raw keeps what --demangle changes: name one of them"),
+            (["--missing"], "--missing allows only --counts or --json"),
+            (["--group"], "--group is repeated"),
+            (["--raw", "--demangle"], "--raw keeps names that --demangle changes: use one"),
         )
         for words, why in refused:
             came = self.report("--group", *words, crash, crash, "shipped")

@@ -103,8 +103,8 @@ class Json(ReportCase):
     def test_words(self) -> None:
         crash = CRASHES / "arm64.crash"
         for words, why in (
-            (["--missing", "--text"], "--missing stands alone"),
-            (["--group"], "--group prints no report, so --json does not stand beside it"),
+            (["--missing", "--text"], "--missing allows only --counts or --json"),
+            (["--group"], "--group prints no report, so --json may not be used with it"),
         ):
             came = self.report("--json", *words, crash, "shipped")
             self.assertEqual((came.status, came.out), (3, b""))

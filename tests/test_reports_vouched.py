@@ -17,7 +17,7 @@ KEEP = TOP / "tools" / "symarch-keep"
 ARM64, MH_DSYM = struct.pack(">II", 0x0100000C, 0), struct.pack("<I", 10)
 NONE_NAMED = "0 of 4 frames named, 0 named before, 4 not named"
 ALL_NAMED = f"4 of 4 frames named, 0 named before, 0 not named; by dSYM: spool {SPOOL} arm64"
-CHANGED = f"changed since it came in: spool {SPOOL} arm64"
+CHANGED = f"changed since it was added: spool {SPOOL} arm64"
 
 # Renames the index of an archive once a tool has looked for it twice, for however long that takes.
 COMING = """
@@ -39,7 +39,7 @@ archives.looks = looked
 
 
 def advice(uuid: str, kept: object, arch: str = "arm64") -> str:
-    return f"symbolicate-report: {uuid} {arch} changed since it came in: run symarch-keep check {kept}"
+    return f"symbolicate-report: {uuid} {arch} changed since it was added: run symarch-keep check {kept}"
 
 
 class VouchedCase(ReportCase):
@@ -126,7 +126,7 @@ class ChangedTables(VouchedCase):
         counts, *origins = came.error_lines[1].split("; ")
         self.assertEqual(counts, "2 of 15 frames named, 5 named before, 8 not named")
         absent = f"not in the archive: dyld {DYLD}, kernel {KERNEL}"
-        self.assertEqual(origins, [f"by dSYM: spool {SPOOL_2}", f"changed since it came in: spool {SPOOL}", absent])
+        self.assertEqual(origins, [f"by dSYM: spool {SPOOL_2}", f"changed since it was added: spool {SPOOL}", absent])
         lines = named("spindump").splitlines()
         wanted = [line for line in lines if re.search(rb"copy_body \+ 0|start \+ 48", line)]
         self.assertEqual([line for line in came.out.splitlines() if line in wanted], wanted)
@@ -152,7 +152,7 @@ class ChangedTables(VouchedCase):
         two = self.archive("two.sym", "two")
         self.change_table(two)
         path = self.file("unstated", source("crash").replace(b" arm64 <", b" <"))
-        changed = f"changed since it came in: spool {SPOOL}"
+        changed = f"changed since it was added: spool {SPOOL}"
         self.says(advice(SPOOL, "two.sym"), f"{NONE_NAMED}; {changed}", words=[path, two], printed=path.read_bytes())
 
     def test_the_same_key_in_another_archive(self) -> None:
@@ -232,7 +232,7 @@ class ReadSlices(VouchedCase):
         self.assertEqual((came.status, self.shortened(came)[0]), (2, advice(SPOOL, "other.sym")))
         self.assertEqual((self.folder / "calls").read_text().count("\n"), 1)
         _, *origins = came.error_lines[1].split("; ")
-        wanted = [f"by dSYM: spool {SPOOL_2}", f"changed since it came in: spool {SPOOL}"]
+        wanted = [f"by dSYM: spool {SPOOL_2}", f"changed since it was added: spool {SPOOL}"]
         self.assertEqual(origins[:2], wanted)
 
     def test_without_an_index_the_archive_alone_answers(self) -> None:
@@ -244,7 +244,7 @@ class ReadSlices(VouchedCase):
 class OtherArchives(VouchedCase):
     """Archives that were written since their index was, and indexes that are damaged."""
 
-    since = "site.sym was written since site.sym.idx was, which does not vouch for it: run symarch-keep check site.sym"
+    since = "site.sym was written after site.sym.idx, which does not vouch for it: run symarch-keep check site.sym"
     since += ", and if that ends with 0 symarch-keep fold site.sym, which indexes it anew"
 
     def is_not_asked(self, why: str, archive: str = "site.sym") -> None:

@@ -264,7 +264,7 @@ class Builds(ServerCase):
         page = server.ask(f"/builds/{FIRST.upper()}", headers=HTML).text
         for line in lines:
             self.assertIn(line.split(" ")[2], page)
-        self.refuses(server.ask(f"/builds/{ABSENT}"), 404, f"nothing is held of {ABSENT}")
+        self.refuses(server.ask(f"/builds/{ABSENT}"), 404, f"the archive has no {ABSENT}")
         self.refuses(server.ask("/builds/x"), 400, "UUID is `x`: expected 32 hex digits, with or without hyphens")
 
     def test_a_conflict_and_a_retirement(self) -> None:

@@ -201,7 +201,7 @@ class Beside(ServerCase):
             same("lines", (came.status, came.text, came.headers["symarch-status"]), (200, "", "2"))
             self.assertIn("could not be kept or read: ", server.ask("/missing", headers={"Accept": "text/html"}).text)
             path.rmdir() if path.is_dir() else path.unlink()
-        self.assertIn("fault: what reports lack is not kept: ", server.said())
+        self.assertIn("fault: the dSYMs that reports lack are not kept: ", server.said())
         same("report", server.ask("/reports", lacking).status, 200)
         came = server.ask("/missing")
         same("one", (len(came.lines), came.headers["symarch-status"]), (1, "0"))

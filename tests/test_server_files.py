@@ -119,7 +119,7 @@ class Slices(ServerCase):
         at = self.room.archive.read_bytes().index(DSYM[1])
         change(self.room.archive, at + len(DSYM[1]) - 1)
         server = self.serve()
-        said = f"{FIRST} arm64 {slice_words(DSYM[1])[2]} changed since it came in: run symarch-keep check "
+        said = f"{FIRST} arm64 {slice_words(DSYM[1])[2]} changed since it was added: run symarch-keep check "
         self.refuses(server.ask(f"/buildid/{HEX}/debuginfo"), 503, f"{said}{self.room.archive}")
         same("another one", server.ask(f"/buildid/{HEX}/executable").body, SHIPPED[1])
         self.refuses(server.ask(f"/builds/{FIRST}/dsym"), 503)

@@ -342,8 +342,8 @@ class Words(ServerCase):
             ((), 3, "symarch-server: the following arguments are required: ARCHIVE"),
             (("--listen", "x", archive), 3, "symarch-server: --listen is `x`: expected ADDRESS:PORT, as 127.0.0.1:8080 "
              "or [::1]:8080"),
-            (("--listen", "0.0.0.0:0", archive), 3, "symarch-server: 0.0.0.0 stands for every address: --host NAME "
-             "says by which names it is asked"),
+            (("--listen", "0.0.0.0:0", archive), 3, "symarch-server: 0.0.0.0 is every address: --host NAME names the "
+             "server"),
             (("--workers", "0", archive), 3, "symarch-server: --workers is 0: expected 1 to 256"),
             (("--origin", "x", archive), 3, "symarch-server: --origin is `x`: expected one as "
              "https://profiler.firefox.com"),

@@ -61,7 +61,7 @@ class Uploads(ServerCase):
         same("found", self.found(), [])
         other = self.serve()
         came = other.ask("/images/x", GIVEN, "PUT", bearer(TOKEN))
-        self.refuses(came, 403, "nobody uploads here: --uploads says who may")
+        self.refuses(came, 403, "nobody may upload here: --uploads names those who may")
         for method in ("POST", "DELETE", "PATCH"):
             same(method, server.ask("/images/x", GIVEN, method, bearer(TOKEN)).status, 405)
 

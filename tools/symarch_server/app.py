@@ -115,7 +115,7 @@ def refuse_host() -> None:
     """Refuses another name of this machine, as one that a page of elsewhere has made for it."""
     found = HOST.fullmatch(request.environ.get("HTTP_HOST", "").lower())
     if not found or found[1] not in site().settings.hosts:
-        raise Refusal(421, "this server is not asked by this name: --host says by which")
+        raise Refusal(421, "this is no host name of this server: --host adds it")
 
 
 def refuse_origin() -> None:
@@ -126,7 +126,7 @@ def refuse_origin() -> None:
     if is_own(origin) if origin else not is_foreign:
         return
     if request.path != OF_PROFILERS or origin not in site().settings.origins:
-        raise Refusal(403, "a page of another origin may not ask this: --origin says which may")
+        raise Refusal(403, "a page of another origin may not call this: --origin names those that may")
 
 
 def is_own(origin: str) -> bool:

@@ -53,7 +53,7 @@ def build(word: str) -> Page:
     with site().rooms.room() as room, site().work("held", room, uuid=number) as work:
         found = work.members
     if not found["is_there"]:
-        raise Refusal(404, f"nothing is held of {number}")
+        raise Refusal(404, f"the archive has no {number}")
     if wants_json():
         return jsonify(uuid=number, architectures=found["architectures"])
     return render_template("build.html", uuid=number, architectures=found["architectures"])

@@ -15,9 +15,9 @@ NUMBERS = {
     "retirements": "slices that were withdrawn",
     "conflicts": "UUIDs and architectures for which several slices answer",
     "bytes": "bytes of the archive",
-    "today": "bytes of what came in since the last fold",
+    "today": "bytes of the additions since the last fold",
     "levels": "bytes of the levels",
-    "waiting": "bytes of retired slices that a fold takes out",
+    "waiting": "bytes of retired slices that a fold removes",
 }
 
 
@@ -51,7 +51,7 @@ class Metrics:
             yield from starmap(request_line, sorted(self.requests.items()))
             yield from family("symarch_request_seconds", "histogram", "how long requests took")
             yield from chain.from_iterable(map(self.histogram, sorted(self.classes)))
-            yield from family("symarch_frames_total", "counter", "frames of reports by what came of them")
+            yield from family("symarch_frames_total", "counter", "frames of reports by result")
             yield from (f'symarch_frames_total{{kind="{kind}"}} {count}' for kind, count in sorted(self.frames.items()))
         for name, about in NUMBERS.items():
             if isinstance(status.get(name), int):

@@ -86,5 +86,5 @@ def say_where(settings: Settings, bound: socket.socket) -> None:
     host = settings.hosts[0]
     print(f"{NAME}: serves {shown(settings.archive)} at http://{host}:{port}/", flush=True)
     if settings.is_open():
-        print(f"{NAME}: whoever reaches {settings.address} can read all of it: --readers asks for tokens",
+        print(f"{NAME}: whoever reaches {settings.address} can read all of it: --readers requires tokens",
               file=sys.stderr, flush=True)

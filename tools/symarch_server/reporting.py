@@ -42,7 +42,7 @@ def reports() -> Union[str, Response]:
             site().metrics.add_frames(members["frames"])
             fault = site().missing.add(members["missing"])
             if fault:
-                log(f"fault: what reports lack is not kept: {fault}")
+                log(f"fault: the dSYMs that reports lack are not kept: {fault}")
             if is_page:
                 return page_of(name, members)
             return answer_of(work, "--json" in options)

@@ -152,7 +152,7 @@ def fault_of(asked: argparse.Namespace, address: str) -> Optional[str]:
     if not 1 <= asked.seconds <= MOST_SECONDS:
         return f"--seconds is {asked.seconds}: expected 1 to {MOST_SECONDS}"
     if is_every(address) and not asked.host:
-        return f"{address} stands for every address: --host NAME says by which names it is asked"
+        return f"{address} is every address: --host NAME names the server"
     return None
 
 

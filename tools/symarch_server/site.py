@@ -34,7 +34,7 @@ LONG_WAITING, MOST_WAITING = 4, 1_000
 MOST_SENDING, SMALL = 16 << 30, 1 << 20
 # So much is read of what a word says on standard error.
 MOST_SAID = 100_000
-NOT_ASKED = "the archive could not be asked"
+NOT_ASKED = "the archive could not be read"
 
 
 class Work(NamedTuple):
@@ -53,7 +53,7 @@ class Work(NamedTuple):
             return file.read(MOST_SAID).decode(errors="replace").splitlines()
 
     def refusal(self, status: int = 503) -> Refusal:
-        """That the archive could not be asked, as the lines on standard error say it."""
+        """That the archive could not be read, as the lines on standard error say it."""
         said = self.said()
         return Refusal(status, said[0] if said else NOT_ASKED, said[1:])
 

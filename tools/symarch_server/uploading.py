@@ -24,7 +24,7 @@ STATUSES = {0: 200, 1: 422, 2: 422, 3: 400, 4: 503, 126: 503}
 def images(name: str = "") -> Response:
     """Adds a file, which stands in a folder of the name of who uploads it: so that stands in the archive's log too."""
     if site().uploads is None:
-        raise Refusal(403, "nobody uploads here: --uploads says who may")
+        raise Refusal(403, "nobody may upload here: --uploads names those who may")
     g.name = uploader = site().uploader_of(token()) or refuse_token()
     options = flags_of(["dsyms-only"], ["name"])
     most = site().settings.most

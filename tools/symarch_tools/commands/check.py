@@ -21,7 +21,7 @@ DESCRIPTION = """\
 Reads all of ARCHIVE, and compares each record and each table with the SHA-256 that its index has. It changes no
 archive, and works on a disk that is read-only.
 
-  changed UUID ARCH DIGEST OFFSET FILE            the slice that had this SHA-256 has not, or its head has other bytes
+  changed UUID ARCH DIGEST OFFSET FILE            the slice no longer has this SHA-256, or its head has other bytes
   changed retired UUID ARCH DIGEST OFFSET FILE    the retirement has other bytes
   changed table UUID ARCH DIGEST OFFSET FILE      the table of the slice in the index FILE has other bytes,
                                                   or there is none
@@ -126,7 +126,7 @@ def carry_out(arguments: argparse.Namespace) -> int:
 def advice(archive: Archive, file: ArchiveFile) -> str:
     """What takes a file of which nothing is known as it stands."""
     if not file.doubt:
-        return f"{shown(file.path)}: nothing is known of it; the next command that writes takes it as it stands"
+        return f"{shown(file.path)}: nothing is known of it; the next command that writes accepts it as it is"
     path, index = shown(file.path), shown(file.beside(INDEX))
     call = f"symarch index {path} {index}" if file in archive.files.levels else "symarch-keep fold"
-    return f"{path}: to take it as it stands, remove {index}, and call `{call}`"
+    return f"{path}: to accept it as it is, remove {index}, and call `{call}`"

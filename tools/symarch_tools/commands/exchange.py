@@ -62,7 +62,7 @@ def met(
     """The folder, and who this site is there. Fails if it is another one, or signed before and does not now."""
     kept = archive.folder.beside(SIGNERS)
     if not keys and os.path.lexists(kept):
-        raise Failed(f"{shown(kept)} says that this site signs, and requires signatures: name --key and --signers")
+        raise Failed(f"{shown(kept)} shows that this site signs: name --key and --signers")
     senders = Senders(archive.folder, keys) if keys else None
     folder, identity = SharedFolder(os.fsencode(arguments.folder), arguments.name, senders, most), Identity.of(archive)
     if not arguments.take_name:

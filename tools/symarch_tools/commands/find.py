@@ -34,7 +34,7 @@ def carry_out(arguments: argparse.Namespace) -> int:
     with opened_archive(os.fsencode(arguments.archive)) as asked:
         lines, status = asked.answer(AskedCommand("find", [uuid]))
     if status == 1:
-        screen.line(f"nothing is held of {uuid}")
+        screen.line(f"the archive has no {uuid}")
     screen.show([found_line(uuid, line) for line in lines])
     return screen.end(status, {"found": len(lines)})
 

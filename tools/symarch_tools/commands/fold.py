@@ -38,7 +38,7 @@ def carry_out(arguments: argparse.Namespace) -> int:
     came, waited = archive.files.today.content, archive.files.bytes_waiting()
     with archive.folder.room() as room:
         Draft(archive, room, program, screen).fold(arguments.all, arguments.purge)
-    told = f"{len(came.held)} slices, {len(came.retired)} retirements came in"
-    gone = f"; {waited - archive.files.bytes_waiting()} retired bytes were taken out" if arguments.purge else ""
+    told = f"{len(came.held)} slices, {len(came.retired)} retirements joined"
+    gone = f"; {waited - archive.files.bytes_waiting()} bytes of retired slices were removed" if arguments.purge else ""
     screen.line(f"{shown(archive.path)}: {told}{gone}")
     return screen.status()

@@ -128,14 +128,14 @@ def got_line(outcome: str, row: IndexRow, path: Optional[bytes] = None) -> str:
 def say_rest(wishes: Wishes, screen: Screen) -> List[str]:
     """Says what is not got, and returns the lines of conflicts."""
     for one in wishes.absent():
-        screen.fault(f"nothing is held of {uuid_text(one)}")
+        screen.fault(f"the archive has no {uuid_text(one)}")
     for one in wishes.without_dsym():
         screen.line(f"{uuid_text(one)} has no dSYM")
     for digest in sorted(wishes.unused()):
         screen.fault(f"no slice of these UUIDs has the DIGEST {digest.hex()}")
     for undecided in wishes.undecided:
-        told = "none of them is put beside its dSYM" if undecided.has_companion else "none of them is written"
-        screen.fault(f"{key_words(undecided)}: {len(undecided.rows)} slices answer, and {told}; --digest says which")
+        told = "none of them is put next to its dSYM" if undecided.has_companion else "none of them is written"
+        screen.fault(f"{key_words(undecided)}: {len(undecided.rows)} slices answer, and {told}; choose by --digest")
     conflicts = [it for it in wishes.undecided if not it.has_companion]
     return [got_line("conflict", row) for it in conflicts for row in it.rows]
 

@@ -37,7 +37,7 @@ def refuse_order(command: str, options: Sequence[str], names: Sequence[str]) -> 
     another one is."""
     first = names[0]
     if command == "exchange" and not os.path.isdir(names[1]) and os.path.isdir(names[2]) and is_archive(first):
-        refuse(f"{shown(names[1])} is no folder, and FOLDER comes before NAME", command, options, names, first)
+        refuse(f"{shown(names[1])} is no folder, and FOLDER precedes NAME", command, options, names, first)
     if is_archive(first):
         return
     from ..store.slices import is_dsym
@@ -47,7 +47,7 @@ def refuse_order(command: str, options: Sequence[str], names: Sequence[str]) -> 
     if archive is not None and (command != "add" or is_input(first) or os.path.exists(first)):
         kind = "a dSYM" if is_dsym(os.fsencode(first)) else "a folder" if os.path.isdir(first) else "no archive"
         kind = "standard input" if is_standard_input else kind
-        refuse(f"{shown(first)} is {kind}, and ARCHIVE comes first", command, options, names, archive)
+        refuse(f"{shown(first)} is {kind}, and ARCHIVE is first", command, options, names, archive)
     if is_standard_input:
         raise Failed("- is standard input, and ARCHIVE is a file", 3)
 

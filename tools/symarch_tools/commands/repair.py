@@ -80,7 +80,7 @@ def found_in_one(path: bytes, wanted: Dict[bytes, int], screen: Screen) -> Dict[
                     entry = head[1 : 1 + KEY] + digest_in(file, at, length, screen.moved)
                     found.update({entry: SliceSource(path, at, entry[KEY:])} if wanted.get(entry) == length else {})
         except Malformed as fault:
-            screen.line(f"{shown(path)}: {fault}; what stands before that is looked through")
+            screen.line(f"{shown(path)}: {fault}; the bytes before that are checked")
     return found
 
 
@@ -166,7 +166,7 @@ class Mending:
             os.fsync(written.fileno())
         with open(new, "rb") as made:
             if heads_in(made) != self.file.content.heads():
-                raise Failed(f"what was to be written is not {shown(self.file.path)} as it was")
+                raise Failed(f"the bytes to write are not those of {shown(self.file.path)} as it was")
         self.archive.folder.replace(self.room, self.file, self.new_index(new, lacking, screen), lines, screen)
 
     def mend_tables(self, lacking: Sequence[IndexRow], lines: Sequence[str], screen: Screen) -> None:
@@ -275,7 +275,7 @@ def carry_out(arguments: argparse.Namespace) -> int:
     if archive.files.main in others and not archive.files.main.is_known:
         index = archive.files.main.beside(INDEX)
         fault = archive.files.main.fault_of_index() or f"there is no {shown(index)}"
-        raise Failed(f"{fault}, so nothing says what changed")
+        raise Failed(f"{fault}, so the changed bytes are not known")
     archive.see_anew(others, program, screen)
     repair = Repair(archive, other, program, screen)
     lines: List[str] = []

@@ -115,7 +115,7 @@ class App(NamedTuple):
         """What its builds are called where there is none."""
         version = f" of version {field_shown(self.version)}" if self.version is not None else ""
         build = f" of build {field_shown(self.build)}" if self.build is not None else ""
-        before = f" that came in before {self.before}" if self.before else ""
+        before = f" from before {self.before}" if self.before else ""
         return f"build of {field_shown(self.name)}{version}{build}{before}"
 
     def found_in(self, lines: Sequence[Named]) -> Tuple[Optional[Named], Optional[Named]]:
@@ -203,7 +203,7 @@ class Retiring:
         """Withdraws the builds of an app, also what came in with them alone, and returns the status of the command."""
         archive, held, screen = self.archive, self.content.held, self.screen
         if archive.had_damaged_builds and not self.is_dry_run:
-            raise Failed("what other apps have may be among the damaged names; call `exchange`, and then this again")
+            raise Failed("slices of other apps may be among the damaged names; call `exchange`, and then this again")
         going, staying = of_app(held, archive.folder.builds.of(held), app)
         if with_inner:
             count = len(going)
@@ -212,7 +212,7 @@ class Retiring:
         if not going and not staying:
             raise Failed(f"{shown(archive.path)} has no {app.text()}", 1)
         if not screen.show([*told("retiring", going), *told("staying", staying)]):
-            raise Failed("what was to be retired could not be printed")
+            raise Failed("the slices to retire could not be printed")
         if going and not self.is_dry_run:
             self.put(sorted(going), [record_line("retired", it) for it in sorted(going)])
         counts = f"{len(going)} retired of {sum(held[it] for it in going)} bytes, {len(staying)} stay"
@@ -223,7 +223,7 @@ class Retiring:
         """Names the sites that may have some slices in other apps, which programs before 2.4.0 do not say."""
         sites = sorted(Exchanged(self.archive).sites)
         if count and sites:
-            told = f"{count} go that are in no other app, which a program before 2.4.0 does not say"
+            told = f"{count} are retired that are in no other app, which a program before 2.4.0 does not report"
             self.screen.line(f"{told}: see that {', '.join(sites)} have none")
 
     def end(self, retired: int, staying: int, status: int) -> int:

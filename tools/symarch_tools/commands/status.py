@@ -62,7 +62,7 @@ def carry_out(arguments: argparse.Namespace) -> int:
     else:
         archive.say_damaged_builds(screen)
         if archive.lost.fault:
-            screen.fail(f"{shown(archive.lost.path)}: {archive.lost.fault}, so what is lost is not known")
+            screen.fail(f"{shown(archive.lost.path)}: {archive.lost.fault}, so lost records are not known")
     # A command that writes meanwhile has what was asked before, and ARCHIVE and levels have what ARCHIVE.today had
     # before.
     asked = Exchanged(archive)
@@ -103,7 +103,7 @@ def accept(archive: Archive, content: Content, screen: Screen) -> None:
     lines = archive.lost.accept()
     archive.keep_lost()
     archive.folder.log.note([f"accepted {line}" for line in lines], screen)
-    screen.line(f"{shown(archive.path)}: {counted(lines)} are taken as lost")
+    screen.line(f"{shown(archive.path)}: {counted(lines)} are given up")
 
 
 class Record(NamedTuple):
@@ -145,11 +145,11 @@ def see(file: ArchiveFile, screen: Screen) -> Seen:
     is_same = any(file.recall() for _ in looks(file.state, quiet=0))
     index = file.index
     if file.doubt:
-        screen.fail(f"{file.doubt}; `symarch-keep check` says more")
+        screen.fail(f"{file.doubt}; call `symarch-keep check`")
     file.say_other_index(screen)
     lacking = len(index.without_table()) if index and file.has_index() else 0
     if index and lacking:
-        screen.fail(f"{shown(index.path)}: slices without a table: {lacking}; `symarch-keep check` says more")
+        screen.fail(f"{shown(index.path)}: slices without a table: {lacking}; call `symarch-keep check`")
     if not index or not is_same:
         return Seen(file, read(file), is_same, file.size())
     rows = ((row.head(), bool(row.is_companion), file.path, row.at, row.entry[-DIGEST:]) for row in index.rows())

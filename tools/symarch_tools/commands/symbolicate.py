@@ -180,7 +180,7 @@ def addresses_of(arguments: argparse.Namespace) -> List[str]:
 def options_of(arguments: argparse.Namespace) -> List[str]:
     """The options of the program. An offset is an address of an image that was loaded at 0."""
     if arguments.offset and arguments.load is not None:
-        raise Failed("an --offset is the same wherever the image was loaded, so --load does not stand beside it", 3)
+        raise Failed("an --offset is the same wherever the image was loaded, so --load may not be used with it", 3)
     load = "0x0" if arguments.offset else arguments.load
     options = [] if load is None else [f"--load={number_of('HEX', load, arguments.decimal)}"]
     return options + ["--lines"] * arguments.lines
@@ -199,7 +199,7 @@ def carry_out(arguments: argparse.Namespace) -> int:
             lines, status = asked.answer(command)
         others = architectures(asked, key[0]) if any(line.endswith(" ?") for line in lines) else []
     if others and key[1] not in others:
-        screen.line(f"{key[0]} is held under {', '.join(others)}, and not under {key[1]}")
+        screen.line(f"{key[0]} is in the archive under {', '.join(others)}, and not under {key[1]}")
     if not arguments.demangle and not arguments.json:
         screen.show(lines)
         return screen.status(status)

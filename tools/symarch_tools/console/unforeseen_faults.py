@@ -57,7 +57,7 @@ def line_of(error: Exception) -> str:
     last = traceback.extract_tb(error.__traceback__)[-1]
     text = printed(str(error)[:MOST_OF_TEXT])
     what = f"{type(error).__name__}{': ' if text else ''}{text}"
-    return f"not foreseen: {what}, at line {last.lineno} of {os.path.basename(last.filename)}; {DEBUG} says more"
+    return f"unexpected: {what}, at line {last.lineno} of {os.path.basename(last.filename)}; {DEBUG} prints more"
 
 
 def guarded(tool: str, work: Callable[[], int]) -> int:

@@ -90,7 +90,7 @@ class Telling:
                 first, count = first or fault_of(number, line), count + 1
         if count:
             others = f", and {count - 1} others are none" * (count > 1)
-            self.screen.refuse(self.folder.at(one.name), f"{first}{others}; the rest is taken")
+            self.screen.refuse(self.folder.at(one.name), f"{first}{others}; the rest is read")
         else:
             self.asked.joined[one.digest] = len(text)
         return found

@@ -331,7 +331,7 @@ class Exchange:
         with open(answer, "rb") as made:
             self.screen.moved(lacking.size())
             if content_in(made, self.screen.moved) != lacking:
-                raise Failed(f"a slice of {shown(self.archive.path)} changed; `symarch-keep check` says which")
+                raise Failed(f"a slice of {shown(self.archive.path)} changed; `symarch-keep check` names it")
 
     # ---- what is done with
 
@@ -361,7 +361,7 @@ class Exchange:
     def say_what_is_lost(self) -> None:
         lost = lost_lines(self.archive.lost.content)
         if lost:
-            how = "`symarch-keep status` names them, and `status --accept` takes as lost what no site has"
+            how = "`symarch-keep status` names them, and `status --accept` gives up those that no site has"
             self.screen.fail(f"{shown(self.archive.path)}: lost: {counted(lost)}; {how}")
 
 

@@ -87,7 +87,7 @@ class Joining:
             came, size = content_in(file, self.screen.moved, places), os.fstat(file.fileno()).st_size
         news = came.beyond(self.content)
         if len(news):
-            self.screen.begin("testing what came", size)
+            self.screen.begin("testing an answer", size)
             name = os.fsdecode(os.path.basename(path))
             names = {name: shown(self.folder.at(answer.name))}
             self.program.run(Run(["find", name, NO_UUID], folder=self.room, names=names))

@@ -214,7 +214,7 @@ class SharedFolder:
         with regular_file(self.at(one.name)) as source, about(path), open(path, "wb") as file:
             digest = copied(source, file, size, moved)
         if digest != one.digest:
-            raise Unfit("has other bytes than its name says", is_half=True)
+            raise Unfit("does not have the digest in its name", is_half=True)
 
     def read(self, one: Sent, room: bytes, most: int) -> bytes:
         """The bytes of a copy of a file."""
@@ -242,7 +242,7 @@ class SharedFolder:
         if len(data) > MOST_OF_SIGNATURE:
             raise Unfit(f"its signature has more than {MOST_OF_SIGNATURE} bytes")
         if signature_name(f"{name[:-SHORT - len('..sig')]}.", data) != name:
-            raise Unfit("its signature has other bytes than its name says")
+            raise Unfit("its signature does not have the digest in its name")
         return data
 
     def pass_over(self, one: Sent, unfit: Unfit, screen: Screen, is_done: bool = False) -> None:

@@ -4,7 +4,7 @@ from typing import Optional, Tuple
 
 from ..console.packed_kinds import PACKED
 
-UNPACKED, NO_WORD = "which has to be unpacked first", "which no word takes"
+UNPACKED, NO_WORD = "which has to be unpacked first", "which no command takes"
 # How much of a file is looked at: the magic of a tar file stands in its first header.
 MOST_LOOKED_AT, TAR_MAGIC = 512, 257
 BEGINNINGS: Tuple[Tuple[bytes, str], ...] = (

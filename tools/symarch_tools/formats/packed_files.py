@@ -54,7 +54,7 @@ class Allowance:
     def take(self, size: int) -> None:
         self.left -= size
         if self.left < 0:
-            raise TooMuch(f"unpacks, with what comes before it, to more than {self.most} bytes")
+            raise TooMuch(f"unpacks, with the members before it, to more than {self.most} bytes")
 
 
 def faults() -> Tuple[Type[Exception], ...]:

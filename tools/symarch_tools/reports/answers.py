@@ -31,7 +31,7 @@ class Origin(enum.Enum):
 
     DSYM = "by dSYM"
     IMAGE = "without dSYM"
-    CHANGED = "changed since it came in"
+    CHANGED = "changed since it was added"
     OTHER_ARCHITECTURE = "under another architecture"
     ABSENT = "not in the archive"
 

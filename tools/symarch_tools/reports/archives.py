@@ -86,7 +86,7 @@ class NamedArchive:
                     return
         if self.file.is_cut():
             raise cut_short(self.path)
-        why = f"{shown(self.path)} was written since {shown(self.beside(INDEX))} was, which does not vouch for it"
+        why = f"{shown(self.path)} was written after {shown(self.beside(INDEX))}, which does not vouch for it"
         self.refuse(why, f", and if that ends with 0 symarch-keep fold {shown(self.kept)}, which indexes it anew")
 
     def make_index(self, program: FramesProgram, folder: str) -> None:
@@ -253,7 +253,7 @@ class Archives:
         for key in wanted:
             if key in attempt.changed and key not in self.refused:
                 told = f"run symarch-keep check {shown(attempt.changed[key])}"
-                note(f"{key[0]} {key[1]} changed since it came in: {told}")
+                note(f"{key[0]} {key[1]} changed since it was added: {told}")
                 self.refused.add(key)
         others = attempt.keys.architectures()
         for image in images:

@@ -94,7 +94,7 @@ class Once(argparse.Action):
     def __call__(self, parser: argparse.ArgumentParser, namespace: argparse.Namespace, value: Any,
                  option: Optional[str] = None) -> None:
         if getattr(namespace, self.dest) not in (None, False):
-            parser.error(f"{option} stands twice")
+            parser.error(f"{option} is repeated")
         setattr(namespace, self.dest, True if self.nargs == 0 else value)
 
 
@@ -192,19 +192,19 @@ class Options:
         given = self.given()
         others = [option for option in OF_REPORTS if option in given] + ["--out"] * (self.out is not None)
         if self.is_missing and (self.out is not None or set(given) - OF_MISSING):
-            return "--missing stands alone"
+            return "--missing allows only --counts or --json"
         if self.has_counts and (self.is_json or not self.is_missing):
-            return "--counts stands beside --missing alone"
+            return "--counts needs --missing, without --json"
         if self.has_frames and not self.is_json:
-            return "--frames stands beside --json"
+            return "--frames needs --json"
         if self.is_group and others:
-            return f"--group prints no report, so {others[0]} does not stand beside it"
+            return f"--group prints no report, so {others[0]} may not be used with it"
         if self.is_raw and self.is_demangled:
-            return "--raw keeps what --demangle changes: name one of them"
+            return "--raw keeps names that --demangle changes: use one"
         if self.has_no_lines and self.has_paths:
-            return "--no-lines prints no paths, so --paths does not stand beside it"
+            return "--no-lines prints no paths, so --paths may not be used with it"
         if self.is_mangled and self.is_demangled:
-            return "--demangle and --no-demangle: name one of them"
+            return "--demangle and --no-demangle: use one"
         folder = next((path for path in self.reports if is_folder(path) and not is_point(path)), None)
         if folder and self.need_out(self.reports):
             return f"{shown(folder)} may hold several reports: add --out NEWFOLDER, or --group"
@@ -243,9 +243,9 @@ class Options:
             return f"there is no archive after {shown(names[-1])}"
         if is_report_last or any(name in archives for name in self.reports):
             line = self.line([*others, *archives], ["--out", "FOLDER"] if self.need_out(others) else [])
-            return f"{shown(next(iter(archives)))} is an archive, and stands after the reports: {line}"
+            return f"{shown(next(iter(archives)))} is an archive, and belongs after the reports: {line}"
         if names[-1] == STANDARD_INPUT:
-            return "of standard input a report is read, and no archive"
+            return "standard input is a report, not an archive"
         if names.count(STANDARD_INPUT) > 1:
             return "standard input is read once"
         return None

@@ -76,7 +76,7 @@ class Archive:
             self.folder.keep_builds(screen)
         self.lost = Lost(self.folder.beside(LOST))
         if self.lost.fault:
-            screen.fail(f"{shown(self.lost.path)}: {self.lost.fault}, so what is lost is not known")
+            screen.fail(f"{shown(self.lost.path)}: {self.lost.fault}, so lost records are not known")
 
     def say_damaged_builds(self, screen: Screen) -> bool:
         """Says what is damaged of the names of builds, if something is. The rest counts."""
@@ -225,7 +225,7 @@ class Archive:
 
     @staticmethod
     def say_what_is_left(file: ArchiveFile, error: OSError, screen: Screen) -> None:
-        screen.fail(f"{shown(file.path)}: {error.strerror}; the archive has all, and the next call goes on")
+        screen.fail(f"{shown(file.path)}: {error.strerror}; the archive has all, the next call does the rest")
 
     # ---- what a kill left, and what an earlier symarch-keep kept
 

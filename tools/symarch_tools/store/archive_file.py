@@ -207,13 +207,13 @@ class ArchiveFile:
         """Fails if the index by the bytes of the file, which were read, has other digests than the last command left,
         and nothing says which bytes changed: so no index takes the place of one that has others."""
         if self.doubt and not self.says(made):
-            told = f"nothing says whether {shown(self.path)} is as it was; `symarch-keep check` says more"
+            told = f"it is not known whether {shown(self.path)} is as it was; call `symarch-keep check`"
             raise Failed(f"{self.doubt}, and {told}")
         heads = self.index.heads() if self.index else self.content.heads()
         if self.doubt:
             screen.line(f"{self.doubt}, and is made anew: {shown(self.path)} is as it was")
         elif self.is_known and self.exists() and is_same_but_for_retirements(heads, made.heads()):
-            raise Failed(f"something in {shown(self.path)} changed; `symarch-keep check` says what")
+            raise Failed(f"something in {shown(self.path)} changed; `symarch-keep check` names it")
 
     def drop(self, *endings: bytes) -> None:
         for ending in endings:

@@ -160,7 +160,7 @@ class Asked:
         return printed.decode().splitlines(), status
 
     def changed(self, words: str) -> Failed:
-        return Failed(f"{words} changed since it came in: run symarch-keep check {shown(self.archive.path)}", 2)
+        return Failed(f"{words} changed since it was added: run symarch-keep check {shown(self.archive.path)}", 2)
 
     # ---- what the indexes say of an answer
 

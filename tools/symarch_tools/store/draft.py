@@ -159,7 +159,7 @@ class Draft:
         new = os.path.join(self.room, b"new")
         with open(new, "rb") as written:
             if heads_in(written) != content.heads():
-                raise Failed(f"something in {shown(file.path)} changed; `symarch-keep check` says what")
+                raise Failed(f"something in {shown(file.path)} changed; `symarch-keep check` names it")
         index = index_by(content, new)
         self.screen.begin("copying tables")
         return write_index(os.path.join(self.room, b"new.idx"), index, Tables(indexes), self.screen.moved)

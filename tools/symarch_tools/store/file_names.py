@@ -121,7 +121,7 @@ def refuse_part(path: bytes, place: bytes) -> None:
     if level_of is not None:
         raise Failed(f"{shown(path)} is a level of {shown(level_of)}: name that", 3)
     if today_of is not None:
-        raise Failed(f"{shown(path)} is the file for what comes in to {shown(today_of)}: name that", 3)
+        raise Failed(f"{shown(path)} has the newest additions to {shown(today_of)}: name that", 3)
 
 
 def archive_of_link(path: bytes) -> Optional[bytes]:

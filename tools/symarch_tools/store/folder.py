@@ -125,7 +125,7 @@ class ArchiveFolder:
                 file.index.path = file.beside(last)
             file.drop_sums()
         except OSError as error:
-            screen.fail(f"{shown(self.log.path)}: {error.strerror}; the archive has all, and the next call goes on")
+            screen.fail(f"{shown(self.log.path)}: {error.strerror}; the archive has all, the next call does the rest")
 
     def keep_builds(self, screen: Screen) -> None:
         """Keeps names of builds that came in where no archive is written. What is damaged of them is gone then."""

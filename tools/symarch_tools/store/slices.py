@@ -260,7 +260,7 @@ class Finder:
 
     def refuse_member(self, fault: Exception, is_last: bool) -> None:
         told = fault.strerror if isinstance(fault, OSError) else fault
-        self.screen.refuse(self.name, f"{told}; what comes after it was not read" if is_last else told)
+        self.screen.refuse(self.name, f"{told}; the members after it were not read" if is_last else told)
 
     def take_member(self, member: Member, front: bytes) -> None:
         """Takes a member, of which the first bytes may have been read."""

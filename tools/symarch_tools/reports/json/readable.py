@@ -39,7 +39,7 @@ def parts(found: Iterable[Union[JsonReport, TextReport]], notes: List[str]) -> L
             header = part.value if isinstance(part.value, dict) else {}
         elif part.is_full and isinstance(before, TextReport) and len(before.frames):
             before.end = before.heading
-            notes.append("its Full Report is left out, since the text before it says the same")
+            notes.append("its Full Report is omitted, since it repeats the text above it")
         else:
             made.append(ReadableReport(part, header))
     return made
