@@ -31,15 +31,15 @@ between the two, its levels ARCHIVE.1, ARCHIVE.2 and so on. All commands, and `s
 together. Keep all files that begin with the name of ARCHIVE with it.
 
 A command that writes makes a new file, and renames it once all of it is on the disk. If the command is killed, the old
-file or the new one is there, and the next command removes the rest. A lock on ARCHIVE.lock lets one of them work at a
-time. Lookups take no lock, and use the indexes next to the files. An archive of version 1, or without an index, is read
-whole, until the next command that writes makes version 2 of it, and its index.
+file or the new one is there, and the next command removes the rest. A lock on ARCHIVE.lock lets one such command work
+at a time. Lookups take no lock, and use the indexes next to the files. An archive of version 1, or without an index, is
+read whole, until the next command that writes makes version 2 of it, and its index.
 
-With --quiet a command that exits with 0 prints nothing, except slices that `add` finds retired. With --json it prints
-an object of JSON a line; docs/FILES.md has the keys.
+With --quiet a command that exits with 0 prints nothing, except slices that `add` finds retired. With --json a command
+prints an object of JSON for each line; docs/FILES.md has the keys.
 
-The program is the one that SYMARCH names; otherwise the one that ./symarch built, or that was installed with this tool;
-otherwise `symarch` in PATH. The tool builds none.
+The program `symarch` is the one that SYMARCH names; otherwise the one that ./symarch built, or that was installed with
+this tool; otherwise `symarch` in PATH. The tool builds none.
 
 Status:
   0    all was done, and nothing is wrong
@@ -59,7 +59,7 @@ ASKING = ("find", "symbolicate", "name", "list", "has", "get")
 # Commands that print no JSON. Each other one has the keys of its last object, whose values are null if it fails.
 WITHOUT_JSON = ("fold", "repair")
 QUIET = "print nothing if nothing is wrong, since cron mails the output"
-WAIT = "wait at most this long for another command that writes, by default without end"
+WAIT = "wait at most this long for another command that writes, by default without limit"
 JSON = "print an object of JSON for each line, as docs/FILES.md describes them"
 
 

@@ -30,18 +30,19 @@ Adds the Mach-O images and dSYMs of files and folders to ARCHIVE, and makes ARCH
 
 It finds each 64-bit little-endian slice with a UUID by its first bytes, at any depth of a PATH. It follows links to
 files, and adds a file of several names once. It passes over other files, links to folders and broken links: it counts
-them, and names them with --verbose. A PATH without an image is no fault: the status is 1 only if none has one. A file
-that cannot be read, that changes meanwhile or that symarch refuses is reported, and the others are added.
+them, and names them with --verbose. The status is 1 only if no PATH has an image. A file that cannot be read, that
+changes meanwhile or that symarch refuses is reported, and the others are added.
 
-A zip file or a gzipped tar file is read as a folder if it is a PATH, or if its name ends in .zip, .ipa, .tar.gz or
-.tgz, to three levels; - is standard input. It may unpack to a hundred times its length plus 64 MiB; the rest is not
-added. A member that has more than 4294967295 bytes, or is encrypted, cut or damaged, is refused alone, but a fault ends
-a tar file. Packed files in others, and images not in the order of their UUIDs, need temporary files.
+- is standard input. A zip file or a gzipped tar file is read as a folder, at most three levels deep, if it is a PATH or
+its name ends in .zip, .ipa, .tar.gz or .tgz. It may unpack to a hundred times its length plus 64 MiB; the rest is not
+added. In a zip file a member that has more than 4294967295 bytes, or is encrypted, cut or damaged, is refused alone; a
+tar file is read up to such a member. Packed files in others need temporary files, and so do images that are not in the
+order of their UUIDs.
 
 Each slice gets a line, in the order in which they were found:
 
   added UUID ARCH DIGEST PATH
-  known UUID ARCH DIGEST PATH      it was there, or was found before
+  known UUID ARCH DIGEST PATH      the archive had it, or it was found before
   retired UUID ARCH DIGEST PATH    it is withdrawn, so it is not added
 
 DIGEST is the SHA-256 of the slice. In PATH the backslash, and each byte that is no UTF-8 or does not print, is \\x and

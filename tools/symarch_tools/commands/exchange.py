@@ -25,12 +25,12 @@ site, which no other one has: a-z, 0-9, - and _.
 One call joins the answers of the others, asks anew if something changed, answers the others' questions, and removes
 old files. ARCHIVE is made if it does not exist; FOLDER is not.
 
-With --key and --signers each file has a signature by `ssh-keygen -Y sign`, and one counts only if a key of its site
-made it. A site that signed once needs keys from then on. Files that do not count are named, and the call ends with 2;
-so it does as long as something is lost.
+With --key and --signers each file has a signature by `ssh-keygen -Y sign`, and is accepted only if a key of its site
+made that. A site that signed once needs keys from then on. Files that are not accepted are named, and the call exits
+with 2, as it does while something is lost.
 
-The last line on standard error has counts: `not whole` of files that are not yet copied to their end, `refused` of
-those that do not count. The other lines, which ARCHIVE.log keeps with their dates:
+The last line on standard error has counts: `not whole` of files that are not copied to their end yet, `refused` of
+those that are not accepted. The other lines, which ARCHIVE.log keeps with their dates:
 
   added UUID ARCH DIGEST SITE      the slice came from SITE
   retired UUID ARCH DIGEST SITE    the retirement came from SITE
@@ -43,8 +43,8 @@ CALL = "symarch-keep exchange [--quiet] [--wait SECONDS] [--json] [--take-name] 
 USAGE = f"""{CALL}
     {CALL} --key FILE --signers FILE"""
 ABOUT = "exchange with other sites over a folder"
-MOST = """accept no longer file of FOLDER, and send no more in all answers together; BYTES may end in k, M, G or T,
-powers of 1000"""
+MOST = """accept no file of FOLDER with more BYTES, and send no more in all answers together; BYTES may end in k, M, G
+or T, powers of 1000"""
 KEYS = ("added", "retired", "answered", "not_whole", "refused", "lost")
 
 

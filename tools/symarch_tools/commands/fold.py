@@ -14,9 +14,10 @@ Joins ARCHIVE.today with the files of ARCHIVE of similar size. Their content tog
   symarch-keep fold --quiet builds.sym
   symarch-keep fold --all builds.sym
 
-The last file is joined as long as it is less than twice as large as the join so far; so ARCHIVE is written anew only
-once the additions are half as large. Files of less than 64 MiB are always joined. The bytes of a retired slice are
-removed with the next join of its file, or by the first fold after 30 days. The disk needs room for the join.
+From ARCHIVE.today on, the next older file is joined if it is less than twice as large as the join so far; so ARCHIVE
+is written anew only once the additions are half as large. Files of less than 64 MiB are always joined. The bytes of a
+retired slice are removed with the next join of its file, or by the first fold after 30 days. The disk needs room for
+the join.
 
 If it is never called, a command that writes does the same once ARCHIVE.today has a tenth of the whole."""
 USAGE = "symarch-keep fold [--quiet] [--wait SECONDS] [--all] [--purge] ARCHIVE"

@@ -22,8 +22,8 @@ from .arguments import define_archive, digest_of, uuid_of
 
 DESCRIPTION = """\
 Makes dSYM bundles of UUIDs in FOLDER, with the bytes that were added: NAME.dSYM, and next to it NAME, of the slices
-that are no companions. NAME is the first name under which the slice itself was added; or the UUID, if there is none,
-or it cannot be that of a file, has a / or more than 250 bytes.
+that are no companions. NAME is the first name under which the slice itself was added; or the UUID, if there is no such
+name, or one with a / or more than 250 bytes, which no file can have.
 
   symarch-keep get builds.sym 4c4c4419-5555-3144-a1d2-4341c97782f0 --to debug
   (lldb) target symbols add debug/spool.dSYM
@@ -33,7 +33,7 @@ dSYM has several images, none of these is written. FOLDER needs room for each fi
 a folder .symarch-keep-*.making. Each slice gets a line:
 
   got UUID ARCH DIGEST PATH
-  known UUID ARCH DIGEST PATH    it is there with these bytes
+  known UUID ARCH DIGEST PATH    the file is there with these bytes
   conflict UUID ARCH DIGEST      others of this UUID and ARCH answer too, so none is written: choose by --digest
 
 A file at PATH with other bytes stays, and is reported."""

@@ -24,7 +24,7 @@ For example, before a release is shipped, by llvm-dwarfdump, which prints UUIDs 
 
   symarch-keep has builds.sym $(llvm-dwarfdump --uuid Spool.app.dSYM | cut -d ' ' -f 2)
 
-If several slices of a UUID answer, the least counts. The status is 0 if each UUID has its dSYM with DWARF, and
+If several slices of a UUID answer, the worst counts. The status is 0 if each UUID has its dSYM with DWARF, and
 otherwise 1."""
 USAGE = "symarch-keep has [--json] ARCHIVE UUID..."
 ABOUT = "print whether dSYMs are there"

@@ -18,7 +18,7 @@ Prints the builds of which ARCHIVE has slices, in the order of the days: a line 
 of an app.
 
   DAY APP VERSION BUILD UUID ARCH BYTES dsym NAME     its dSYM is there
-  DAY APP VERSION BUILD UUID ARCH BYTES image NAME    it is there without a dSYM
+  DAY APP VERSION BUILD UUID ARCH BYTES image NAME    its image is there, and no dSYM
 
 For example:
 
@@ -26,9 +26,9 @@ For example:
 
 DAY is that on which the Xcode archive was made, or else the first one on which a site added it, in UTC; BYTES counts
 its slices together. APP, VERSION and BUILD are those of Info.plist in the innermost bundle with an identifier, or else
-those of another slice of the UUID and architecture; one that is damaged or above 65536 bytes is ignored. NAME is that
-of the file; ? means unknown. `dsym!N` and `image!N` mean that N slices answer, a conflict. A space in APP, VERSION or
-BUILD is \\x20."""
+those of another slice of the UUID and architecture; an Info.plist that is damaged or above 65536 bytes is ignored. NAME
+is that of the file; ? means unknown. `dsym!N` and `image!N` mean that N slices answer, a conflict. A space in
+APP, VERSION or BUILD is \\x20."""
 USAGE = "symarch-keep list [--json] [--app ID] [--version VERSION] [--build BUILD] [--since DATE] ARCHIVE"
 ABOUT = "print the builds of an archive by name"
 KEYS = ("builds",)

@@ -39,18 +39,18 @@ Examples:
   symbolicate-report --group crashes builds.sym       how many reports in a folder crashed alike
 
 A REPORT is an .ips, a text (.crash), a call tree of `sample`, of `spindump` or of a hang, a payload of MetricKit, or a
-folder or zip file of these. Frames with one answer get its name and offset, its file and line, and the functions
+folder or zip file of these. A frame with one answer gets its name and offset, its file and line, and the functions
 inlined there; the rest is printed as it is. The last line on standard error counts the frames, and prints for each
 image whether its dSYM, the image or nothing answered. docs/OPERATING.md describes the details.
 
 An ARCHIVE is searched with the files that `symarch-keep` has next to it, and several archives as their join. An index
 vouches for each name that it finds.
 
-The program is the one that SYMARCH names; otherwise the one that ./symarch built, or that was installed with this tool;
-otherwise `symarch` in PATH. The tool builds none.
+The program `symarch` is the one that SYMARCH names; otherwise the one that ./symarch built, or that was installed with
+this tool; otherwise `symarch` in PATH. The tool builds none.
 
 Status:
-  0    at least one frame got exactly one name, or --missing was asked for
+  0    at least one frame got exactly one name, or --missing was given
   1    no frame got exactly one name
   2    a REPORT cannot be read or is no report, a folder has no report, a slice changed, an archive is not there or is
        cut short, or a file cannot be written
@@ -128,17 +128,16 @@ TEXT = """print a JSON report as people read a crash: its header, the reason of 
 backtraces with names and offsets, the registers, the images. It omits a `Full Report` that repeats the text above it"""
 NO_LINES = """print only names, without files, lines and inlined functions, as for an archive without dSYMs"""
 PATHS = """print the whole paths of source files, as the compilers wrote them"""
-NO_DEMANGLE = """leave names of C++, Rust and Swift as they are. Otherwise `swift demangle` makes them readable, and the
-first of `llvm-cxxfilt`, `llvm-cxxfilt-N` of the greatest N and `c++filt`: those that are installed, once each for all
-names, if one needs it"""
+NO_DEMANGLE = """leave names of C++, Rust and Swift as they are. By default `swift demangle` makes them readable, and so
+does `llvm-cxxfilt`, the `llvm-cxxfilt-N` of the greatest N, or `c++filt`: the first of these that is installed"""
 DEMANGLE = """make them readable, which is the default, and report if no demangler is installed"""
 RAW = """keep the underscore that a symbol table puts before each name, and leave names as they are"""
 OUT = """write each report to FOLDER under the name of its own file, in the folders that a REPORT folder has, whole or
 not at all, and make FOLDER if it does not exist. It replaces a file there, but never one that this call reads. Several
 reports need it, and so does a folder; two that would be one file are refused"""
-IMAGE = """an image of text that lists none, and where it was loaded, as for `atos -o -l`; without @LOAD the lines have
-to state it, as `0x104d38000 + 1040` or `NAME + 1040`"""
-BUILD = """the same of all images of a build, as `symarch-keep list` prints it"""
+IMAGE = """an image of a text that lists none, and where it was loaded, as for `atos -o -l`; without @LOAD the lines
+have to state that, as `0x104d38000 + 1040` or `NAME + 1040`"""
+BUILD = """the same for all images of a build, as `symarch-keep list` prints it"""
 # Each option without a value: the field of `Options` that it sets, and its help.
 FLAGS = {
     "--missing": ("is_missing", MISSING),
