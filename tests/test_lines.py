@@ -8,7 +8,7 @@ import re
 import struct
 import unittest
 import uuid
-from typing import Dict, List, Optional, Sequence, Tuple
+from typing import Dict, List, Sequence, Tuple
 
 from .model.contents import Source, archive_of
 from .model.dwarf_frames import debug_of, frames_of
@@ -253,34 +253,15 @@ class Built(LinesCase):
     is_side_by_side = True
     seconds = 20
 
-    def symbols(self, path: pathlib.Path) -> Dict[int, List[str]]:
-        """The names of the symbols at each address, as the table of symbols has them."""
-        found: Dict[int, List[str]] = {}
-        for line in llvm.output(llvm.tool("llvm-nm"), "--format=posix", path).decode().splitlines():
-            name, _, value = line.split()[:3]
-            found.setdefault(int(value, 16), []).append(name[1:] if name.startswith("_") else name)
-        return found
-
-    def as_here(self, lines: List[str], ours: List[str], names: Optional[List[str]]) -> List[str]:
-        """What LLVM says, with our outermost name where it takes that of a symbol instead: of a unit that has no
-        linkage names."""
-        if lines and ours and lines != ours and names is not None:
-            name, at, rest = lines[-1].partition(" at ")
-            if name.strip() in names:
-                return [*lines[:-1], ours[-1].partition(" at ")[0] + at + rest]
-        return lines
-
     def compare(self, path: pathlib.Path) -> None:
         content = path.read_bytes()
         said = kept_lines.said_by_llvm(path)
         same(str(path), rows_by_model(content), said.rows)
-        names = [name for its in self.symbols(path).values() for name in its] if "tables" in str(path) else None
         addresses, wanted = asked_of(said)
-        ours = [lines_by_model(content, address) for address in addresses]
-        for address, own, lines in zip(addresses, ours, wanted):
-            same(f"{path} {address:#x}", own, self.as_here(lines, own, names))
-        self.assertGreater(sum(map(len, ours)), 200, path)
-        self.compare_program(str(path), content, addresses, ours)
+        for address, lines in zip(addresses, wanted):
+            same(f"{path} {address:#x}", lines_by_model(content, address), lines)
+        self.assertGreater(sum(map(len, wanted)), 200, path)
+        self.compare_program(str(path), content, addresses, wanted)
 
     def compare_all(self, arch: str, linker: str) -> None:
         for recipe in made_dsyms.all_recipes():

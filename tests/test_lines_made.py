@@ -106,6 +106,5 @@ class Others(MadeCase):
 
     def test_by_llvm(self) -> None:
         for one in others():
-            self.file("companion", one.content)
-            found = frames_by_llvm(self.folder / "companion", [LOWEST + one.address], False)
+            found = frames_by_llvm(one.content, [LOWEST + one.address])
             same(one.rule, [frame_line(it) for it in found[0]], one.by_llvm)

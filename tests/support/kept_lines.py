@@ -80,7 +80,7 @@ def said_by_llvm(path: pathlib.Path) -> Said:
     code = code_of(content)
     near = {it for address, size in code for it in range(max(address - AROUND, 0), address + size + AROUND)}
     addresses = sorted(near)
-    found = llvm.frames(path, addresses, image_of(content).symtab is not None)
+    found = llvm.frames(content, addresses)
     lines = [[frame_line(it) for it in frames] for frames in found]
     return Said(list(spans_of(addresses, lines)), llvm.rows(path))
 

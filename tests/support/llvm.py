@@ -4,9 +4,12 @@ import os
 import pathlib
 import re
 import shutil
+import struct
 import subprocess
+import tempfile
 from typing import Dict, Iterable, List, NamedTuple, Optional, Tuple
 
+from ..model.images import LC_SYMTAB, image_of
 from .cases import Without
 from .program import Word
 
@@ -59,23 +62,34 @@ class Place(NamedTuple):
     column: int
 
 
+UNKNOWN = Place(None, None, 0, 0)
+
+
 def place_of(symbol: Dict[str, object]) -> Place:
     name, path = (str(symbol[it]).encode() or None for it in ("FunctionName", "FileName"))
     line, column = (int(str(symbol[it])) for it in ("Line", "Column"))
     return Place(name, path, line, column)
 
 
-def frames(path: pathlib.Path, addresses: Iterable[int], has_symbols: bool) -> List[List[Place]]:
-    """The frames of each address, the innermost first, with the names as they are linked. Where llvm-symbolizer knows
-    a name alone there is none if that may be the name of a symbol."""
+def without_symbols(content: bytes) -> bytes:
+    """An image whose LC_SYMTAB, if it has one, names no symbols."""
+    symtab = image_of(content).symtab
+    if not symtab:
+        return content
+    return content.replace(struct.pack("<6I", LC_SYMTAB, 24, *symtab), struct.pack("<6I", LC_SYMTAB, 24, *[0] * 4), 1)
+
+
+def frames(content: bytes, addresses: Iterable[int]) -> List[List[Place]]:
+    """The frames of each address by the DWARF of a companion, the innermost first, with the names as they are linked:
+    llvm-symbolizer is asked without the symbols, by which it would call the outermost function."""
     asked = "".join(f"{it:#x}\n" for it in addresses).encode()
-    words = [tool("llvm-symbolizer"), f"--obj={path}", "--inlines", "--no-demangle", "--output-style=JSON"]
-    found = []
-    for line in output(*words, stdin=asked).splitlines():
-        places = [place_of(it) for it in json.loads(line)["Symbol"]]
-        is_name_alone = [it[1:] for it in places] == [(None, 0, 0)]
-        found.append([] if is_name_alone and (has_symbols or places[0].name is None) else places)
-    return found
+    with tempfile.NamedTemporaryFile() as file:
+        file.write(without_symbols(content))
+        file.flush()
+        words = [tool("llvm-symbolizer"), f"--obj={file.name}", "--inlines", "--no-demangle", "--output-style=JSON"]
+        lines = output(*words, stdin=asked).splitlines()
+    found = [[place_of(it) for it in json.loads(line)["Symbol"]] for line in lines]
+    return [[] if it == [UNKNOWN] else it for it in found]
 
 
 def rows(path: pathlib.Path) -> Dict[int, List[Row]]:
