@@ -161,18 +161,23 @@ class Demangling(ReportCase):
         self.demangled(STRIPPED, "llvm-cxxfilt -n failed: it demangles no names", llvm_cxxfilt="sed 1d")
 
     def test_neither(self) -> None:
-        note = "neither swift nor llvm-cxxfilt nor c++filt is there: names are not demangled"
+        note = "neither swift nor c++filt nor llvm-cxxfilt is there: names are not demangled"
         self.demangled(STRIPPED, note)
 
     def test_the_greatest_version(self) -> None:
         wanted = ["spool::copy()", *STRIPPED[1:]]
-        self.demangled(wanted, others=["llvm_cxxfilt_9", "llvm_cxxfilt_14x", "c++filt"], llvm_cxxfilt_14=self.cxx)
+        self.demangled(wanted, others=["llvm_cxxfilt_9", "llvm_cxxfilt_14x"], llvm_cxxfilt_14=self.cxx)
 
     def test_llvm_before_its_versions(self) -> None:
-        self.demangled(["spool::copy()", *STRIPPED[1:]], others=["llvm_cxxfilt_14", "c++filt"], llvm_cxxfilt=self.cxx)
+        self.demangled(["spool::copy()", *STRIPPED[1:]], others=["llvm_cxxfilt_14"], llvm_cxxfilt=self.cxx)
 
-    def test_gnu_alone(self) -> None:
-        self.demangled(["spool::copy()", *STRIPPED[1:]], **{"c++filt": self.cxx})
+    def test_gnu_before_llvm(self) -> None:
+        """It starts sooner, and one that leaves nothing mangled is the only one that is called."""
+        others = ["llvm_cxxfilt", "llvm_cxxfilt_14"]
+        self.demangled(["spool::copy()", *STRIPPED[1:]], others=others, **{"c++filt": self.cxx})
+
+    def test_names_that_gnu_leaves(self) -> None:
+        self.demangled(["spool::copy()", *STRIPPED[1:]], llvm_cxxfilt=self.cxx, **{"c++filt": "cat"})
 
     def test_the_same_by_each(self) -> None:
         """Of the commands themselves, as far as they are installed."""
