@@ -94,14 +94,6 @@ IsOfNoFile (Err (Output n)) = ⊥
 IsOfNoFile (Err (Report n)) = ⊤
 IsOfNoFile (Err OutOfMemory) = ⊤
 
--- It ended with a fault of an input.
-abbrev pub IsOfInput : Result Status CommandFault → Type 0
-IsOfInput (Ok _) = ⊥
-IsOfInput (Err (Input name why)) = ⊤
-IsOfInput (Err (Output n)) = ⊥
-IsOfInput (Err (Report n)) = ⊥
-IsOfInput (Err OutOfMemory) = ⊥
-
 -- It ended with a fault of OUT.
 abbrev pub IsOfOut : Result Status CommandFault → Type 0
 IsOfOut (Ok _) = ⊥

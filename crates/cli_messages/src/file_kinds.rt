@@ -1,4 +1,8 @@
-//! What a file that is refused looks like, by its first bytes, and which command takes it. No contract speaks of it.
+//! What a file that is refused looks like, by its first bytes, and which command takes it.
+
+ghost use Rattle.std.specs.Prelude.{◌≡◌, find, map, nat_eq, option_map};
+ghost use Rattle.std.specs.List.{starts_with};
+ghost use Rattle.cli_messages.specs.FileKinds.{is_class, kind_among, kind_of, other_kind, own_kind};
 
 use archive_records::Format;
 use cli_files::LeadingBytes;
@@ -43,35 +47,67 @@ const BEGINNINGS: [(&[u8], FileKind); 12] = [
 /// and the first version is 45.
 const MOST_SLICES: u32 = 42;
 
-/// symarch's own files.
-const OWN: [(Format, FileKind); 4] = [
-    (Format::Archive, FileKind::Archive),
-    (Format::OldArchive, FileKind::Archive),
-    (Format::Operations, FileKind::Operations),
-    (Format::Summary, FileKind::Summary),
-];
-
 impl FileKind {
     /// What a file with these first bytes looks like, if that is known.
-    pub fn of(leading_bytes: &LeadingBytes) -> Option<FileKind> {
-        let own = OWN
-            .iter()
-            .find(|(format, _)| format.magic() == *leading_bytes);
-        let other = BEGINNINGS
-            .iter()
-            .find(|(begins, _)| leading_bytes.starts_with(begins));
-        match (own, other) {
-            (_, Some((_, FileKind::Universal))) if is_class(*leading_bytes) => Some(
-                FileKind::JavaClass,
-            ),
-            (Some((_, kind)), _) | (None, Some((_, kind))) => Some(*kind),
-            (None, None) => None,
+    pub fn of(leading_bytes: &LeadingBytes) -> Option<FileKind>
+        ensures { result ≡ kind_of leading_bytes.now }
+    {
+        match own_kind(leading_bytes) {
+            Some(kind) => Some(kind),
+            None => match other_kind(leading_bytes) {
+                Some(FileKind::Universal) if is_class(leading_bytes) => Some(FileKind::JavaClass),
+                kind => kind,
+            },
         }
     }
 }
 
+/// Which of symarch's own files begins so.
+fn own_kind(leading_bytes: &LeadingBytes) -> Option<FileKind>
+    ensures { result ≡ own_kind leading_bytes.now }
+{
+    if leading_bytes.starts_with(&Format::Archive.magic())
+        || leading_bytes.starts_with(&Format::OldArchive.magic())
+    {
+        Some(FileKind::Archive)
+    } else if leading_bytes.starts_with(&Format::Operations.magic()) {
+        Some(FileKind::Operations)
+    } else if leading_bytes.starts_with(&Format::Summary.magic()) {
+        Some(FileKind::Summary)
+    } else {
+        None
+    }
+}
+
+/// Which other file begins so.
+fn other_kind(leading_bytes: &LeadingBytes) -> Option<FileKind>
+    ensures { result ≡ other_kind leading_bytes.now }
+{
+    kind_among(&BEGINNINGS, leading_bytes)
+}
+
+/// The kind of the first of these with which the bytes begin.
+fn kind_among(beginnings: &[(&[u8], FileKind)], bytes: &[u8]) -> Option<FileKind>
+    ensures { result ≡ kind_among bytes.now (map (λ row. (row.0.now, row.1)) beginnings.now) }
+{
+    first_kind(beginnings, bytes)
+}
+
+/// It is the same of references.
+fn first_kind(beginnings: &[(&[u8], FileKind)], bytes: &[u8]) -> Option<FileKind>
+    ensures { result
+        ≡ option_map (λ row. row.1) (find (λ row. starts_with nat_eq bytes.now row.0.now) beginnings.now) }
+{
+    beginnings
+        .iter()
+        .find(|(begins, _)| bytes.starts_with(begins))
+        .map(|(_, kind)| *kind)
+}
+
 /// Whether what begins as a universal file is a Java class file.
-fn is_class(leading_bytes: LeadingBytes) -> bool {
+fn is_class(leading_bytes: &LeadingBytes) -> bool
+    ensures { result ≡ is_class leading_bytes.now }
+{
     let slices = u32::from_be_bytes([
         leading_bytes[4],
         leading_bytes[5],

@@ -1,25 +1,31 @@
 //! What helps a person with a failure: which file it was, what the system said, and what a refused file looks like. Of
-//! it contracts say what it is of, the path, the faulty line, the hint for a stale index, and the words of both.
+//! it contracts say what it is of, the path, what was seen of the file, the faulty line, the hint for a stale index, and
+//! the words of both.
 
-ghost use Rattle.std.specs.Prelude.{◌≡◌, ℕ, codes, IfSome, None, Option, Some};
+ghost use Rattle.std.specs.Prelude.{◌≡◌, ℕ, codes, Err, IfSome, None, Option, Some};
 ghost use Rattle.command_common.specs.declared.failures.Failure.TheVariants.{Command};
 ghost use Rattle.command_common.specs.declared.faults.CommandFault.TheVariants.{Input};
 ghost use Rattle.command_common.specs.declared.faults.InputName.{InputName};
+ghost use Rattle.command_common.specs.declared.faults.Why.{Why};
 ghost use Rattle.command_common.specs.declared.faults.Why.TheVariants.{Damaged, NoLines, Stale};
+ghost use Rattle.cli_arguments.specs.Inputs.{inputs_view};
 ghost use Rattle.cli_arguments.specs.LineView.{line_view};
 ghost use Rattle.cli_arguments.specs.Lines.{out_of};
 ghost use Rattle.cli_messages.specs.declared.hints.Hint.TheVariants.{NoSourceLines, DamagedIndex};
-ghost use Rattle.cli_messages.specs.Hints.{IsOfInput, IsOfNoFile, IsOfOut, faulty_line_of, file_of};
+ghost use Rattle.cli_files.specs.OutFiles.{stage_of};
+ghost use Rattle.cli_messages.specs.Hints.{IsOfNoFile, IsOfOut, faulty_line_of, file_of};
 ghost use Rattle.cli_messages.specs.Hints.{other_kind_text, records_word, stale_hint, subject_of, subject_text};
+ghost use Rattle.cli_messages.specs.Names.{input_at};
+ghost use Rattle.cli_messages.specs.Seen.{nothing, seen_at_out, seen_in, seen_of, seen_open, seen_placed};
 
 use crate::file_kinds::FileKind;
 use crate::flaws::FaultyLine;
 use crate::input_names::{input_at, path_at};
 use cli_arguments::{Inputs, Line};
-use cli_files::{Obstacle, OutFile, SystemInput, Unopened};
+use cli_files::{Obstacle, OpenedFile, OutFile, PlacedFile, SystemInput, Unopened};
 use command_common::{CommandFault, Failure, InputName, Status, Why};
 use std::fmt::{self, Display, Write};
-use std::io::{self, ErrorKind};
+use std::io::{self, ErrorKind, Read, Seek};
 use std::rt::Files;
 
 /// What was seen of the file that a command failed at.
@@ -41,28 +47,48 @@ impl Seen {
         obstacle: None,
     };
 
-    /// What was seen of an input.
-    fn of_input<F: Files>(input: &SystemInput<'_, '_, F>) -> Seen
-        ensures { result.obstacle ≡ None }
+    /// What was seen of a file that is read from its start.
+    fn of_open<R: Read + Drop>(file: &OpenedFile<R>) -> Seen
+        ensures { result ≡ seen_open file.now }
     {
-        match (input.input(), input.unopened()) {
-            (Some(file), _) => Seen {
-                reason: file.reason(),
-                kind: FileKind::of(&file.leading_bytes()),
-                obstacle: None,
-            },
-            (None, Some(Unopened::Refused(refused))) => Seen {
+        Seen {
+            reason: file.reason(),
+            kind: FileKind::of(&file.leading_bytes()),
+            obstacle: None,
+        }
+    }
+
+    /// What was seen of a file that is read from any place.
+    fn of_placed<R: Read + Seek + Drop>(file: &PlacedFile<R>) -> Seen
+        ensures { result ≡ seen_placed file.now }
+    {
+        Seen {
+            reason: file.reason(),
+            kind: FileKind::of(&file.leading_bytes()),
+            obstacle: None,
+        }
+    }
+
+    /// What was seen of an input.
+    #[tactic(auto, using(
+        crate::proofs::Seeing::seen_in_open,
+        crate::proofs::Seeing::seen_in_placed
+    ))]
+    fn of_input<F: Files>(input: &SystemInput<'_, '_, F>) -> Seen
+        ensures { result ≡ seen_in input.now.state }
+    {
+        if let Some(file) = input.input() {
+            return Seen::of_open(file);
+        }
+        if let Some(file) = input.places() {
+            return Seen::of_placed(file);
+        }
+        match input.unopened() {
+            Some(Unopened::Refused(refused)) => Seen {
                 reason: Some(refused.reason),
                 ..Seen::NOTHING
             },
-            (None, _) => match input.places() {
-                Some(file) => Seen {
-                    reason: file.reason(),
-                    kind: FileKind::of(&file.leading_bytes()),
-                    obstacle: None,
-                },
-                None => Seen::NOTHING,
-            },
+            Some(Unopened::OutOfMemory) | None => Seen::NOTHING,
         }
     }
 
@@ -72,10 +98,10 @@ impl Seen {
         inputs: &Inputs<SystemInput<'_, '_, F>>,
         out: &OutFile<'_, F>,
     ) -> Seen
-        ensures nothing { IsOfNoFile ended.now
-            → (result.reason ≡ None) × (result.kind ≡ None) × (result.obstacle ≡ None) }
-        ensures out { IsOfOut ended.now → result.kind ≡ None }
-        ensures input { IsOfInput ended.now → result.obstacle ≡ None }
+        ensures nothing { IsOfNoFile ended.now → result ≡ nothing }
+        ensures out { IsOfOut ended.now → result ≡ seen_at_out (stage_of out.now.state) out.now.reason }
+        ensures input { (name : InputName) (why : Why) → ended.now ≡ Err (Input name why)
+            → result ≡ seen_of (input_at (inputs_view inputs.now) name) }
     {
         match ended {
             Err(CommandFault::Input(name, _)) => match input_at(inputs, *name) {
