@@ -33,11 +33,11 @@ files, and adds a file of several names once. It passes over other files, links 
 them, and names them with --verbose. The status is 1 only if no PATH has an image. A file that cannot be read, that
 changes meanwhile or that symarch refuses is reported, and the others are added.
 
-- is standard input. A zip file or a gzipped tar file is read as a folder, at most three levels deep, if it is a PATH or
-its name ends in .zip, .ipa, .tar.gz or .tgz. It may unpack to a hundred times its length plus 64 MiB; the rest is not
-added. In a zip file a member that has more than 4294967295 bytes, or is encrypted, cut or damaged, is refused alone; a
-tar file is read up to such a member. Packed files in others need temporary files, and so do images that are not in the
-order of their UUIDs.
+A PATH `-` is standard input. A zip file or a gzipped tar file is read as a folder, at most three levels deep, if it is
+a PATH or its name ends in .zip, .ipa, .tar.gz or .tgz. It may unpack to a hundred times its length plus 64 MiB; the
+rest is not added. In a zip file a member that has more than 4294967295 bytes, or is encrypted, cut or damaged, is
+refused alone; a tar file is read up to such a member. Packed files in others need temporary files, and so do images
+that are not in the order of their UUIDs.
 
 Each slice gets a line, in the order in which they were found:
 
