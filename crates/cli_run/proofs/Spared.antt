@@ -130,7 +130,7 @@ asking lines slices frames indexes archives at (inl r) = by_indexes indexes arch
 asking lines slices frames indexes archives at (inr (inl r)) = later (r.key ∷ []) indexes archives at r.refused
 asking lines slices frames indexes archives at (inr (inr r)) = go slices r.untold.untold
   where
-    go : (wanted : Bool) → IsTableRefused lines wanted indexes r.untold.answering at CannotOpen → ⊥
+    go : (wanted : Bool) → IsTableRefused lines wanted indexes r.untold.places r.untold.answering at CannotOpen → ⊥
     go false (inl changed) = cc changed.why_is
     go false (inr (inl lineless)) = cc lineless.why_is
     go false (inr (inr unread)) = cc unread.why_is

@@ -56,7 +56,8 @@ earlier (first ∷ asked) (suc n) one other up at there less = elim (in_cons fir
   | inr later ↦ in_rest first (take n asked) other (earlier asked n one other up.1 at later less)
 ]
 
-module _ (IsSaid : SliceKey → Where → AnswerRecord → List (List FrameRecord) → Type 0) (IsRefused : SliceKey → InputName → Why → Type 0) where
+module _ (IsSaid : SliceKey → Where → AnswerRecord → List (List FrameRecord) → Type 0)
+    (IsRefused : SliceKey → List Where → InputName → Why → Type 0) where
   -- a place has an answer under a key with these bytes
   pub record IsSaidUnder (bytes : List ℕ) (place : Where) : Type 0 where
     pub key : SliceKey
@@ -66,7 +67,7 @@ module _ (IsSaid : SliceKey → Where → AnswerRecord → List (List FrameRecor
     pub said : IsSaid key place answer frames
 
   said_of : (bytes : List ℕ) (key : SliceKey) (places : List Where) (told : KeyReply) (place : Where) → key_bytes key ≡ bytes
-      → IsKeyReply (IsSaid key) (IsRefused key) false places told → Contains places place → IsSaidUnder bytes place
+      → IsKeyReply (IsSaid key) (IsRefused key places) false places told → Contains places place → IsSaidUnder bytes place
   said_of bytes key places (Told answers) place key_is is there =
       let one = zip_left (IsPlaceTold (IsSaid key)) places answers.items place is there in
       record { key = key; key_is = key_is; answer = answer_view one.1.row.answer; frames = one.1.row.frames; said = one.1.is_said }

@@ -21,7 +21,7 @@ use Rattle.command_common.specs.declared.faults.InputName.{InputName}
 use Rattle.command_common.specs.declared.faults.Status.{Status}
 use Rattle.command_common.specs.declared.faults.Why.{Why}
 use Rattle.index_lookup.specs.Among.{EntryAt}
-use Rattle.index_lookup.specs.AmongAsked.{BlamesAmong, HasText, HaveTexts, IsUntoldAmong, each_known}
+use Rattle.index_lookup.specs.AmongAsked.{BlamesAmong, HasText, HaveTexts, IsFirstAmong, IsUntoldAmong, each_known}
 use Rattle.index_lookup.specs.declared.fault.AnswerFault.{AnswerFault}
 use Rattle.index_lookup.specs.declared.fault.AnswerFault.TheVariants as answer
 use Rattle.command_index_queries.specs.Several.{AreRefusedLater, AreUnfailedTogether}
@@ -29,9 +29,9 @@ use Rattle.command_index_queries.specs.Together.{AreAllKept, AreReadWith, IsKept
 use Rattle.command_index_queries.proofs.Groups.{later_readers, read_earlier, unfailed_through}
 use Rattle.command_queries.specs.Symbolicate.{asked_of}
 use Rattle.command_frames.specs.Asking.{AreAnsweredBelow, AreGiven, AreRefusedAsking, AreUnread, AreUntold, IsAnsweredAt, IsAnsweredByTables}
-use Rattle.command_frames.specs.Asking.{IsChanged, IsLineless, IsTableRefused, IsUntoldUnder, IsUnreadTable, keys_of}
+use Rattle.command_frames.specs.Asking.{HavePlaces, IsChanged, IsLineless, IsTableRefused, IsUnreadTable, keys_of}
 use Rattle.command_frames.specs.Frames.{AreToldAt}
-use Rattle.command_frames.specs.InnerAsking.{IsKeyFault, IsOfKey, IsRefusedUnder, IsUntoldBy, NoneFailed, RefusesAll, command_fault}
+use Rattle.command_frames.specs.InnerAsking.{IsKeyFault, IsOfKey, IsRefusedUnder, NoneFailed, RefusesAll, command_fault}
 use Rattle.command_frames.specs.InnerPlaces.{AreKeysOf}
 use Rattle.command_frames.specs.InnerReplies.{PrintsFrames}
 use Rattle.command_frames.specs.InnerKeyReplies.{AreTold, IsRefusedAfter, IsRefusedAt}
@@ -42,7 +42,7 @@ use Rattle.command_frames.proofs.Archives.{HaveBytesOf, bytes_kept, kept_then, s
 use Rattle.command_frames.proofs.Before.{said_below}
 use Rattle.command_frames.proofs.Followed.{followed}
 use Rattle.command_frames.proofs.Refused.{part_told}
-use Rattle.command_frames.proofs.Runs.{among_frames}
+use Rattle.command_frames.proofs.Runs.{among_frames, places_of}
 use Rattle.command_frames.proofs.Shown.{only_key, under_as}
 use Rattle.command_frames.proofs.States.{all_kept, fails_alone, none_failed_of, read_before, texts_of}
 
@@ -93,31 +93,37 @@ module _ {I P : Type 0} (left : I → Option (List ℕ)) (failures : I → ℕ) 
 
   -- ---- a table is not told
 
-  changed_of : (answering : List EntryAt) (input number : ℕ) (at : InputName) (why : Why) → command_fault (answer.Damaged input number) ≡ Input at why
-      → ((texts : List (List ℕ)) → HaveTexts left mid texts
-      → IsUntoldAmong texts answering (answer.Damaged input number)) → EachUnfailed named
-      → IsChanged named answering at why
-  changed_of answering input number at why told says unfailed = record {
+  -- what a fault says of entries, and of those before the one that is at fault
+  abbrev Untold : List EntryAt → AnswerFault → Type 0
+  Untold answering fault = (texts : List (List ℕ)) → HaveTexts left mid texts → IsUntoldAmong texts answering fault
+
+  abbrev First : List Where → List EntryAt → AnswerFault → Type 0
+  First places answering fault = (texts : List (List ℕ)) → HaveTexts left mid texts → IsFirstAmong texts lines places answering fault
+
+  changed_of : (places : List Where) (answering : List EntryAt) (input number : ℕ) (at : InputName) (why : Why)
+      → command_fault (answer.Damaged input number) ≡ Input at why → Untold answering (answer.Damaged input number)
+      → First places answering (answer.Damaged input number) → EachUnfailed named → IsChanged lines named places answering at why
+  changed_of places answering input number at why told says first unfailed = record {
     input = input;
     number = number;
     at_is = cc;
     why_is = cc;
     changed = λ texts given. says texts (given_texts texts given);
+    first = λ texts given. first texts (given_texts texts given);
     unfailed = unfailed;
   }
 
-  lineless_of : (answering : List EntryAt) (input number : ℕ) (at : InputName) (why : Why)
-      → command_fault (answer.NoLines input number) ≡ Input at why → lines ≡ true
-      → ((texts : List (List ℕ)) → HaveTexts left mid texts
-      → IsUntoldAmong texts answering (answer.NoLines input number)) → EachUnfailed named
-      → IsLineless lines named answering at why
-  lineless_of answering input number at why told wanted says unfailed = record {
+  lineless_of : (places : List Where) (answering : List EntryAt) (input number : ℕ) (at : InputName) (why : Why)
+      → command_fault (answer.NoLines input number) ≡ Input at why → lines ≡ true → Untold answering (answer.NoLines input number)
+      → First places answering (answer.NoLines input number) → EachUnfailed named → IsLineless lines named places answering at why
+  lineless_of places answering input number at why told wanted says first unfailed = record {
     input = input;
     number = number;
     at_is = cc;
     why_is = cc;
     wanted = wanted;
     lacks = λ texts given. says texts (given_texts texts given);
+    first = λ texts given. first texts (given_texts texts given);
     unfailed = unfailed;
   }
 
@@ -136,48 +142,56 @@ module _ {I P : Type 0} (left : I → Option (List ℕ)) (failures : I → ℕ) 
             (failed.others ∙ ap (λ (ds : List ℕ). slice_set ds input failed.new) counts_kept);
       }
 
-  fault_of : (wanted : Bool) (answering : List EntryAt) (fault : AnswerFault) (at : InputName) (why : Why)
-      → command_fault fault ≡ Input at why → RefusesAll wanted fault
-      → ((texts : List (List ℕ)) → HaveTexts left mid texts → IsUntoldAmong texts answering fault)
-      → BlamesAmong lines answering (each_known failures mid) (each_known failures new) fault → IsTableRefused lines wanted named answering at why
-  fault_of false answering (answer.Damaged input number) at why told refuses says counts =
-      inl (changed_of answering input number at why told says (none_failed_named counts))
-  fault_of false answering (answer.NoLines input number) at why told refuses says counts =
-      inr (inl (lineless_of answering input number at why told counts.0 says (none_failed_named counts.1)))
-  fault_of false answering (answer.Device input offset) at why told refuses says counts = inr (inr (unread_of answering input offset at why told counts))
-  fault_of false answering answer.OutOfMemory at why told refuses says counts = absurd (cc told)
-  fault_of true answering (answer.Damaged input number) at why told refuses says counts = absurd refuses
-  fault_of true answering (answer.NoLines input number) at why told refuses says counts = absurd refuses
-  fault_of true answering (answer.Device input offset) at why told refuses says counts = unread_of answering input offset at why told counts
-  fault_of true answering answer.OutOfMemory at why told refuses says counts = absurd (cc told)
+  fault_of : (wanted : Bool) (places : List Where) (answering : List EntryAt) (fault : AnswerFault) (at : InputName) (why : Why)
+      → command_fault fault ≡ Input at why → RefusesAll wanted fault → Untold answering fault → First places answering fault
+      → BlamesAmong lines answering (each_known failures mid) (each_known failures new) fault
+      → IsTableRefused lines wanted named places answering at why
+  fault_of false places answering (answer.Damaged input number) at why told refuses says first counts =
+      inl (changed_of places answering input number at why told says first (none_failed_named counts))
+  fault_of false places answering (answer.NoLines input number) at why told refuses says first counts =
+      inr (inl (lineless_of places answering input number at why told counts.0 says first (none_failed_named counts.1)))
+  fault_of false places answering (answer.Device input offset) at why told refuses says first counts =
+      inr (inr (unread_of answering input offset at why told counts))
+  fault_of false places answering answer.OutOfMemory at why told refuses says first counts = absurd (cc told)
+  fault_of true places answering (answer.Damaged input number) at why told refuses says first counts = absurd refuses
+  fault_of true places answering (answer.NoLines input number) at why told refuses says first counts = absurd refuses
+  fault_of true places answering (answer.Device input offset) at why told refuses says first counts =
+      unread_of answering input offset at why told counts
+  fault_of true places answering answer.OutOfMemory at why told refuses says first counts = absurd (cc told)
 
   -- a key that is refused alone, for a table
-  table_given : EachUnfailed named → (refusal : KeyRefusal)
-      → IsKeyFault (HaveTexts left mid) all lines (key_bytes refusal.key) refusal.at refusal.why → IsRefusedByTable lines named all refusal
-  table_given unfailed refusal r = record { answering = r.answering; are = r.are; untold = by r.fault r.told_as r.of_key r.says }
-    where
-      by : (fault : AnswerFault) → command_fault fault ≡ Input refusal.at refusal.why → IsOfKey lines fault
-          → ((texts : List (List ℕ)) → HaveTexts left mid texts → IsUntoldAmong texts r.answering fault)
-          → IsChanged named r.answering refusal.at refusal.why ⊎ IsLineless lines named r.answering refusal.at refusal.why
-      by (answer.Damaged input number) told of_key says = inl (changed_of r.answering input number refusal.at refusal.why told says unfailed)
-      by (answer.NoLines input number) told of_key says = inr (lineless_of r.answering input number refusal.at refusal.why told of_key says unfailed)
-      by (answer.Device input offset) told of_key says = absurd of_key
-      by answer.OutOfMemory told of_key says = absurd of_key
-
-  untold_named : (keys : List (List ℕ)) (at : InputName) (why : Why) → IsUntoldBy left failures lines slices keys all mid new at why
-      → IsUntoldUnder lines slices keys named all at why
-  untold_named keys at why r = record {
-    key = r.key;
-    key_is = r.key_is;
+  table_given : EachUnfailed named → (frames : List Frame) (refusal : KeyRefusal) (places : List Where)
+      → HavePlaces frames (key_bytes refusal.key) places
+      → IsKeyFault (HaveTexts left mid) all lines (key_bytes refusal.key) places refusal.at refusal.why
+      → IsRefusedByTable lines frames named all refusal
+  table_given unfailed frames refusal places has r = record {
+    places = places;
+    of_frames = has;
     answering = r.answering;
     are = r.are;
-    untold = fault_of slices r.answering r.fault at why r.told_as r.refuses r.says r.counts;
+    untold = by r.fault r.told_as r.of_key r.says r.first;
   }
+    where
+      by : (fault : AnswerFault) → command_fault fault ≡ Input refusal.at refusal.why → IsOfKey lines fault
+          → Untold r.answering fault → First places r.answering fault
+          → IsChanged lines named places r.answering refusal.at refusal.why ⊎ IsLineless lines named places r.answering refusal.at refusal.why
+      by (answer.Damaged input number) told of_key says first =
+          inl (changed_of places r.answering input number refusal.at refusal.why told says first unfailed)
+      by (answer.NoLines input number) told of_key says first =
+          inr (lineless_of places r.answering input number refusal.at refusal.why told of_key says first unfailed)
+      by (answer.Device input offset) told of_key says first = absurd of_key
+      by answer.OutOfMemory told of_key says first = absurd of_key
 
   -- ---- what is told
 
   same_known : HaveBytesOf (readers whole failures_at seen seen) known
   same_known = same_bytes whole failures_at seen seen before after refl (more_at ∙ long_at) (sym (bytes_kept whole failures_at before seen kept.1))
+
+  abbrev IsSaidLater : SliceKey → Where → AnswerRecord → List (List FrameRecord) → Type 0
+  IsSaidLater = IsAnsweredAt (HaveTexts left mid) (readers whole failures_at seen seen) all lines
+
+  abbrev IsRefusedLater : SliceKey → List Where → InputName → Why → Type 0
+  IsRefusedLater = IsRefusedAt (HaveTexts left mid) (readers whole failures_at seen seen) all lines
 
   said_given : (key : SliceKey) (place : Where) (told : AnswerRecord) (frames : List (List FrameRecord))
       → IsAnsweredAt (HaveTexts left mid) (readers whole failures_at seen seen) all lines key place told frames
@@ -189,13 +203,13 @@ module _ {I P : Type 0} (left : I → Option (List ℕ)) (failures : I → ℕ) 
   said_given key place told frames (inr is) =
       inr (slices_same (readers whole failures_at seen seen) known all lines key place told frames same_known is)
 
-  abbrev IsOneRefused : SliceKey → InputName → Why → Type 0
-  IsOneRefused key at why = IsKeyRefused lines named known all (record { key = key; at = at; why = why })
-
-  refused_given : EachUnfailed named → EachUnfailed known → (key : SliceKey) (at : InputName) (why : Why)
-      → IsRefusedAt (HaveTexts left mid) (readers whole failures_at seen seen) all lines key at why → IsOneRefused key at why
-  refused_given unfailed unfailed_at key at why (inl is) = inl (table_given unfailed (record { key = key; at = at; why = why }) is)
-  refused_given unfailed unfailed_at key at why (inr is) =
+  refused_given : EachUnfailed named → EachUnfailed known → (frames : List Frame) (key : SliceKey) (places : List Where)
+      (at : InputName) (why : Why) → HavePlaces frames (key_bytes key) places
+      → IsRefusedAt (HaveTexts left mid) (readers whole failures_at seen seen) all lines key places at why
+      → IsKeyRefused lines frames named known all (record { key = key; at = at; why = why })
+  refused_given unfailed unfailed_at frames key places at why has (inl is) =
+      inl (table_given unfailed frames (record { key = key; at = at; why = why }) places has is)
+  refused_given unfailed unfailed_at frames key places at why has (inr is) =
       let by : IsRefusedBySlice known all (record { key = key; at = at; why = why }) = record {
         tied = is.0;
         stale = stale_same (readers whole failures_at seen seen) known all (key_bytes key) at why same_known is.1;
@@ -204,26 +218,24 @@ module _ {I P : Type 0} (left : I → Option (List ℕ)) (failures : I → ℕ) 
       inr by
 
   pub frames_told : (keys : List SliceKey) (frames : List Frame) (asked : List AskedKey) (told : List KeyAnswers) → AreKeysOf frames asked
-      → AreRead (AreTold (IsAnsweredAt (HaveTexts left mid) (readers whole failures_at seen seen) all lines)
-      (IsRefusedAt (HaveTexts left mid) (readers whole failures_at seen seen) all lines) slices asked told
-      × (each_known left new ≡ each_known left mid) × AreAllKept whole failures_at seen after)
+      → AreRead (AreTold IsSaidLater IsRefusedLater slices asked told × (each_known left new ≡ each_known left mid) × AreAllKept whole failures_at seen after)
       (NoneFailed failures mid new × EachUnfailed later)
       → (status : Status) (text : List ℕ) → PrintsFrames told slices all keys frames status text
       → AreRead (AreToldAt lines slices named known keys frames status text) (AreUnfailedTogether named known)
   frames_told keys frames asked told of r status text prints =
       let unfailed = unfailed_all r.unfailed in
       let are = r.is.0 in
-      let true_now = All-weaker _ _ (under_as (IsAnsweredAt (HaveTexts left mid) (readers whole failures_at seen seen) all lines)
-      (IsAnsweredAt (AreGiven named) known all lines) (IsRefusedAt (HaveTexts left mid) (readers whole failures_at seen seen) all lines)
-      IsOneRefused said_given (refused_given unfailed.0 unfailed.1) slices) told are.are_true in
-      let now : AreTold (IsAnsweredAt (AreGiven named) known all lines) IsOneRefused slices asked told =
+      let true_now = All-weaker _ _ (under_as IsSaidLater (IsAnsweredAt (AreGiven named) known all lines) IsRefusedLater IsRefusedLater
+      said_given (λ key places at why is. is) slices) told are.are_true in
+      let now : AreTold (IsAnsweredAt (AreGiven named) known all lines) IsRefusedLater slices asked told =
       record { asked_is = are.asked_is; are_true = true_now } in
-      let part = part_told slices now frames of status prints.answers prints.refused prints.shown prints.refused_is in
+      let part = part_told slices now frames of (IsKeyRefused lines frames named known all) (refused_given unfailed.0 unfailed.1 frames)
+      status prints.answers prints.refused prints.shown prints.refused_is in
       record {
         is = record {
           all = all;
           read = read_all;
-          told = followed slices (IsAnsweredAt (AreGiven named) known all lines) (IsKeyRefused lines named known all) all keys frames
+          told = followed slices (IsAnsweredAt (AreGiven named) known all lines) (IsKeyRefused lines frames named known all) all keys frames
               status prints.answers prints.refused text part prints.followed;
         };
         unfailed = unfailed;
@@ -231,24 +243,22 @@ module _ {I P : Type 0} (left : I → Option (List ℕ)) (failures : I → ℕ) 
 
   -- ---- what is refused
 
-  abbrev IsSaidLater : SliceKey → Where → AnswerRecord → List (List FrameRecord) → Type 0
-  IsSaidLater = IsAnsweredAt (HaveTexts left mid) (readers whole failures_at seen seen) all lines
-
-  abbrev IsRefusedLater : SliceKey → InputName → Why → Type 0
-  IsRefusedLater = IsRefusedAt (HaveTexts left mid) (readers whole failures_at seen seen) all lines
-
-  abbrev RefusesUnder : InputName → Why → List (List ℕ) → Type 0
-  RefusesUnder at why keys = IsRefusedUnder left failures whole failures_at lines slices all mid new seen after keys at why
+  abbrev RefusesUnder : InputName → Why → List (List ℕ) → List Where → Type 0
+  RefusesUnder at why keys places = IsRefusedUnder left failures whole failures_at lines slices all mid new seen after keys places at why
 
   module _ (frames : List Frame) (asked : List AskedKey) (of : AreKeysOf frames asked) (at : InputName) (why : Why)
       (r : IsRefusedAfter IsSaidLater IsRefusedLater slices asked (RefusesUnder at why)) where
-    -- its key is one of those of the frames
+    asked_for : Contains asked r.one
+    asked_for = (r.number, slice_get_within asked r.number r.one r.one_is, get_or_from_slice_get asked r.number r.one r.one r.one_is)
+
+    -- its key is one of those of the frames, with the places that these mean
     there : (key : List ℕ) → key_bytes r.one.key ≡ key → Contains (keys_of frames) key
     there key is =
-        let has : Contains asked r.one =
-        (r.number, slice_get_within asked r.number r.one r.one_is, get_or_from_slice_get asked r.number r.one r.one r.one_is) in
         subst (Contains (keys_of frames)) is
-        (among_frames frames asked of (key_bytes r.one.key) (to_map (λ (a : AskedKey). key_bytes a.key) asked r.one has))
+        (among_frames frames asked of (key_bytes r.one.key) (to_map (λ (a : AskedKey). key_bytes a.key) asked r.one asked_for))
+
+    placed : (key : List ℕ) → key_bytes r.one.key ≡ key → HavePlaces frames key r.one.places.items
+    placed key is = subst (λ (k : List ℕ). HavePlaces frames k r.one.places.items) is (places_of frames asked of r.one asked_for)
 
     -- the frames of lower keys have answers
     below : (key : List ℕ) → key_bytes r.one.key ≡ key → slices ≡ false → AreAnsweredBelow (AreGiven named) known all lines frames key
@@ -264,15 +274,22 @@ module _ {I P : Type 0} (left : I → Option (List ℕ)) (failures : I → ℕ) 
           answered = said_given said.key (asked_of frame.load frame.address) said.answer said.frames said.said;
         }
 
-    refused_so : RefusesUnder at why (key_bytes r.one.key ∷ []) → AreRefusedAsking lines slices frames named known at why
-    refused_so (inl (each, untold)) =
-        let u = untold_named (key_bytes r.one.key ∷ []) at why untold in
+    refused_so : RefusesUnder at why (key_bytes r.one.key ∷ []) r.one.places.items → AreRefusedAsking lines slices frames named known at why
+    refused_so (inl (each, u)) =
         let is = only_key (key_bytes r.one.key) u.key u.key_is in
         let told : AreUntold lines slices frames named known at why = record {
           all = all;
           read = read_all;
           unfailed = unfailed_known each;
-          untold = record { key = u.key; key_is = there u.key is; answering = u.answering; are = u.are; untold = u.untold };
+          untold = record {
+            key = u.key;
+            key_is = there u.key is;
+            places = r.one.places.items;
+            answering = u.answering;
+            are = u.are;
+            untold = fault_of slices r.one.places.items u.answering u.fault at why u.told_as u.refuses u.says u.first u.counts;
+          };
+          of_frames = placed u.key is;
           before = below u.key is;
         } in
         inr (inr told)

@@ -42,11 +42,11 @@ module _ {D P : Type 0} (whole : D → Option (List ℕ)) (failures : D → ℕ)
       inr (slices_same (readers whole_at failures_at mid_at mid_at)
       (readers whole_at failures_at first_at first_at) all lines key place told frames same_first is)
 
-  refused_first : (key : SliceKey) (at : InputName) (why : Why)
-      → IsRefusedAt (HaveTexts whole mid) (readers whole_at failures_at mid_at mid_at) all lines key at why
-      → IsRefusedAt (HaveTexts whole first) (readers whole_at failures_at first_at first_at) all lines key at why
-  refused_first key at why (inl is) = inl (fault_first whole failures lines all first mid texts_kept (key_bytes key) at why is)
-  refused_first key at why (inr (tied, is)) =
+  refused_first : (key : SliceKey) (places : List Where) (at : InputName) (why : Why)
+      → IsRefusedAt (HaveTexts whole mid) (readers whole_at failures_at mid_at mid_at) all lines key places at why
+      → IsRefusedAt (HaveTexts whole first) (readers whole_at failures_at first_at first_at) all lines key places at why
+  refused_first key places at why (inl is) = inl (fault_first whole failures lines all first mid texts_kept (key_bytes key) places at why is)
+  refused_first key places at why (inr (tied, is)) =
       inr (
         tied,
         stale_same (readers whole_at failures_at mid_at mid_at) (readers whole_at failures_at first_at first_at) all
@@ -62,21 +62,22 @@ module _ {D P : Type 0} (whole : D → Option (List ℕ)) (failures : D → ℕ)
   true_first one is = under_as _ _ _ _ said_first refused_first slices one is
 
   -- and what is refused under some of these keys is refused under all
-  pub refused_among : (new : List D) (new_at : List P) (keys others : List (List ℕ)) (fault : CommandFault) → length new_at ≡ length mid_at
+  pub refused_among : (new : List D) (new_at : List P) (keys others : List (List ℕ)) (places : List Where) (fault : CommandFault)
+      → length new_at ≡ length mid_at
       → ((key : List ℕ) → Contains keys key → Contains others key)
       → IsRefusal (λ at why. (EachUnfailed (readers whole_at failures_at mid_at new_at)
-      × IsUntoldBy whole failures lines slices keys all mid new at why)
+      × IsUntoldBy whole failures lines slices keys places all mid new at why)
       ⊎ (NoneFailed failures mid new × IsUnreadBy whole_at failures_at slices keys all mid_at new_at at why))
       (NoneFailed failures mid new × EachUnfailed (readers whole_at failures_at mid_at new_at)) fault
       → IsRefusal (λ at why. (EachUnfailed (readers whole_at failures_at first_at new_at)
-      × IsUntoldBy whole failures lines slices others all first new at why)
+      × IsUntoldBy whole failures lines slices others places all first new at why)
       ⊎ (NoneFailed failures first new × IsUnreadBy whole_at failures_at slices others all first_at new_at at why))
       (NoneFailed failures first new × EachUnfailed (readers whole_at failures_at first_at new_at)) fault
-  refused_among new new_at keys others (Input at why) more among (inl (each, r)) = inl (
+  refused_among new new_at keys others places (Input at why) more among (inl (each, r)) = inl (
     unfailed_through whole_at failures_at first_at mid_at new_at long_at (more ∙ long_at) (kept_unfailed whole_at failures_at first_at mid_at kept) each,
-    untold_first whole failures lines all first mid texts_kept slices counts_kept new keys others at why among r,
+    untold_first whole failures lines all first mid texts_kept slices counts_kept new keys others places at why among r,
   )
-  refused_among new new_at keys others (Input at why) more among (inr (none, r)) = inr (
+  refused_among new new_at keys others places (Input at why) more among (inr (none, r)) = inr (
     none ∙ counts_kept,
     record {
       key = r.key;
@@ -88,11 +89,11 @@ module _ {D P : Type 0} (whole : D → Option (List ℕ)) (failures : D → ℕ)
       of_all = r.of_all;
     },
   )
-  refused_among new new_at keys others OutOfMemory more among (none, each) = (
+  refused_among new new_at keys others places OutOfMemory more among (none, each) = (
     none ∙ counts_kept,
     unfailed_through whole_at failures_at first_at mid_at new_at long_at (more ∙ long_at) (kept_unfailed whole_at failures_at first_at mid_at kept) each,
   )
-  refused_among new new_at keys others fault more among r = absurd r
+  refused_among new new_at keys others places fault more among r = absurd r
 
 -- ---- slices after tables, of which two are tied
 
@@ -102,23 +103,24 @@ module _ {D P : Type 0} (whole : D → Option (List ℕ)) (failures : D → ℕ)
   known = readers whole_at failures_at old_at old_at
 
   abbrev IsTold : KeyReply → Type 0
-  IsTold told = IsKeyReply (IsAnsweredAt (HaveTexts whole old) known all lines key) (IsRefusedAt (HaveTexts whole old) known all lines key) slices places told
+  IsTold told = IsKeyReply (IsAnsweredAt (HaveTexts whole old) known all lines key)
+      (IsRefusedAt (HaveTexts whole old) known all lines key places) slices places told
 
   pub by_tables : (told : KeyReply) → IsKeyReply (IsAnsweredByTables (HaveTexts whole old) all lines key)
-      (IsKeyFault (HaveTexts whole old) all lines (key_bytes key)) slices places told → IsTold told
+      (IsKeyFault (HaveTexts whole old) all lines (key_bytes key) places) slices places told → IsTold told
   by_tables told is = key_as (IsAnsweredByTables (HaveTexts whole old) all lines key) (IsAnsweredAt (HaveTexts whole old) known all lines key)
-      (IsKeyFault (HaveTexts whole old) all lines (key_bytes key)) (IsRefusedAt (HaveTexts whole old) known all lines key)
+      (IsKeyFault (HaveTexts whole old) all lines (key_bytes key) places) (IsRefusedAt (HaveTexts whole old) known all lines key places)
       (λ place answer frames is. inl is) (λ at why is. inl is) slices places told is
 
   by_slices : (told : KeyReply) → IsKeyReply (IsAnsweredBySlices known all lines key) (IsKeyStale known all key) slices places told → IsTold told
   by_slices told is = key_as (IsAnsweredBySlices known all lines key) (IsAnsweredAt (HaveTexts whole old) known all lines key)
-      (IsKeyStale known all key) (IsRefusedAt (HaveTexts whole old) known all lines key)
+      (IsKeyStale known all key) (IsRefusedAt (HaveTexts whole old) known all lines key places)
       (λ place answer frames is. inr is) (λ at why is. inr is) slices places told is
 
   pub slices_asked : (result : Result KeyReply CommandFault) → each_known whole new ≡ each_known whole old → NoneFailed failures old new
       → AsksSlices whole_at failures_at slices (key_bytes key ∷ []) all old_at new_at result
       (IsKeyReply (IsAnsweredBySlices known all lines key) (IsKeyStale known all key) slices places)
-      → AsksKeys whole failures whole_at failures_at lines slices (key_bytes key ∷ []) all old new old_at new_at result IsTold
+      → AsksKeys whole failures whole_at failures_at lines slices (key_bytes key ∷ []) places all old new old_at new_at result IsTold
   slices_asked (Ok told) texts none r = record { is = (by_slices told r.is.0, texts, r.is.1); unfailed = (none, r.unfailed) }
   slices_asked (Err (Input at why)) texts none r = inr (none, r)
   slices_asked (Err OutOfMemory) texts none r = (none, r)

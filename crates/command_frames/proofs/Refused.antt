@@ -23,7 +23,7 @@ use Rattle.command_common.specs.declared.faults.Status.TheVariants.{Done, Partia
 use Rattle.command_common.specs.declared.faults.Why.{Why}
 use Rattle.command_queries.specs.Frames.{IsFrameSaid, TellFrames, TellsFrames}
 use Rattle.command_queries.specs.SourceFrames.{IsAnswerWithFrames}
-use Rattle.command_frames.specs.Asking.{keys_of}
+use Rattle.command_frames.specs.Asking.{HavePlaces, keys_of}
 use Rattle.command_frames.specs.Frames.{IsAnsweredOrRefused, IsFrameReplied, TellFramesBesides}
 use Rattle.command_frames.specs.InnerPlaces.{AreKeysOf, key_cmp}
 use Rattle.command_frames.specs.InnerKeyReplies.{AreTold, IsFrameTold, IsKeyReply, IsPrintedOf, IsToldUnder, Printed, ShowsFrames, StandsAt}
@@ -34,7 +34,7 @@ use Rattle.command_frames.specs.declared.places.AskedKey.{AskedKey}
 use Rattle.command_frames.specs.declared.tables.KeyReply.{KeyReply}
 use Rattle.command_frames.specs.declared.tables.KeyReply.TheVariants.{Told, Refused}
 use Rattle.command_frames.specs.declared.key_answers.KeyAnswers.{KeyAnswers}
-use Rattle.command_frames.proofs.Runs.{keys_total, not_same, once, told_ascend}
+use Rattle.command_frames.proofs.Runs.{keys_total, not_same, once, places_of, told_ascend}
 use Rattle.command_frames.proofs.Shown.{of_told, refusals_ascend, to_refusals}
 
 -- what is told under a key is told once
@@ -143,17 +143,21 @@ module _ (IsSaid : SliceKey → Where → AnswerRecord → List (List FrameRecor
 
 -- ---- of what is told
 
-module _ {IsSaid : SliceKey → Where → AnswerRecord → List (List FrameRecord) → Type 0} {IsRefused : SliceKey → InputName → Why → Type 0}
+-- a refusal at the places of the frames of its key is one of these
+abbrev IsOneFor : (SliceKey → List Where → InputName → Why → Type 0) → List Frame → (KeyRefusal → Type 0) → Type 0
+IsOneFor IsRefused frames IsOne = (key : SliceKey) (places : List Where) (at : InputName) (why : Why)
+    → HavePlaces frames (key_bytes key) places → IsRefused key places at why → IsOne (record { key = key; at = at; why = why })
+
+module _ {IsSaid : SliceKey → Where → AnswerRecord → List (List FrameRecord) → Type 0}
+    {IsRefused : SliceKey → List Where → InputName → Why → Type 0}
     {slices : Bool} {asked : List AskedKey} {told : List KeyAnswers}
-    (are : AreTold IsSaid IsRefused slices asked told) (frames : List Frame) (of : AreKeysOf frames asked) where
+    (are : AreTold IsSaid IsRefused slices asked told) (frames : List Frame) (of : AreKeysOf frames asked)
+    (IsOne : KeyRefusal → Type 0) (to_one : IsOneFor IsRefused frames IsOne) where
   abbrev refusals : List KeyRefusal
   refusals = refusals_in told
 
   abbrev bytes_of : KeyRefusal → List ℕ
   bytes_of refusal = key_bytes refusal.key
-
-  abbrev IsOne : KeyRefusal → Type 0
-  IsOne refusal = IsRefused refusal.key refusal.at refusal.why
 
   keys : AreKeysOf frames (asked_in told)
   keys = subst (AreKeysOf frames) (sym are.asked_is) of
@@ -170,9 +174,13 @@ module _ {IsSaid : SliceKey → Where → AnswerRecord → List (List FrameRecor
   refusal_so refusal there =
       let r = of_told told refusal there in
       let one : AskedKey = r.one.asked.now in
-      let is : IsKeyReply (IsSaid one.key) (IsRefused one.key) slices one.places.items (Refused refusal.at refusal.why) =
-      subst (IsKeyReply (IsSaid one.key) (IsRefused one.key) slices one.places.items) r.told_is (own r.one r.is_one) in
-      (is.0, subst (λ (key : SliceKey). IsRefused key refusal.at refusal.why) r.key_is is.1)
+      let is : IsKeyReply (IsSaid one.key) (IsRefused one.key one.places.items) slices one.places.items (Refused refusal.at refusal.why) =
+      subst (IsKeyReply (IsSaid one.key) (IsRefused one.key one.places.items) slices one.places.items) r.told_is (own r.one r.is_one) in
+      let places = places_of frames (asked_in told) keys one (to_map (λ (k : KeyAnswers). k.asked.now) told r.one r.is_one) in (
+        is.0,
+        subst (λ (key : SliceKey). IsOne (record { key = key; at = refusal.at; why = refusal.why })) r.key_is
+            (to_one one.key one.places.items refusal.at refusal.why places is.1),
+      )
 
   refusal_of_frame : (refusal : KeyRefusal) → Contains refusals refusal → Contains (keys_of frames) (key_bytes refusal.key)
   refusal_of_frame refusal there =
@@ -214,8 +222,8 @@ module _ {IsSaid : SliceKey → Where → AnswerRecord → List (List FrameRecor
     reply_so : (t : KeyReply) → one.told ≡ t → IsPrintedOf t frame.address number printed → HasReply frame printed
     reply_so (Told answers) is h =
         let key : AskedKey = one.asked.now in
-        let it : IsKeyReply (IsSaid key.key) (IsRefused key.key) slices key.places.items (Told answers) =
-        subst (IsKeyReply (IsSaid key.key) (IsRefused key.key) slices key.places.items) is (own one stands.is_one) in
+        let it : IsKeyReply (IsSaid key.key) (IsRefused key.key key.places.items) slices key.places.items (Told answers) =
+        subst (IsKeyReply (IsSaid key.key) (IsRefused key.key key.places.items) slices key.places.items) is (own one stands.is_one) in
         let place : Where = asked_of frame.load frame.address in
         let p = zip_get (IsPlaceTold (IsSaid key.key)) key.places.items answers.items number place h.0 it stands.place_is h.1 in
         let address_is : p.row.address ≡ frame.address = p.address_is ∙ address_asked frame.load frame.address in
@@ -342,17 +350,21 @@ module _ {IsSaid : SliceKey → Where → AnswerRecord → List (List FrameRecor
       }
 
 -- what is shown of frames is true of them
-pub part_told : {IsSaid : SliceKey → Where → AnswerRecord → List (List FrameRecord) → Type 0} {IsRefused : SliceKey → InputName → Why → Type 0}
+pub part_told : {IsSaid : SliceKey → Where → AnswerRecord → List (List FrameRecord) → Type 0}
+    {IsRefused : SliceKey → List Where → InputName → Why → Type 0}
     (slices : Bool) {asked : List AskedKey} {told : List KeyAnswers} → AreTold IsSaid IsRefused slices asked told
-    → (frames : List Frame) → AreKeysOf frames asked → (status : Status) (text refused : List ℕ)
-    → ShowsFrames told frames status text → refused ≡ refusal_lines (refusals_in told)
-    → TellFramesPart slices IsSaid (λ refusal. IsRefused refusal.key refusal.at refusal.why) frames status text refused
-part_told {IsSaid} {IsRefused} false {told = told} are frames of status text refused shown is =
-    answers_alone IsSaid (refusals_in told) _ frames status text (none_refused are frames of refl) (besides are frames of status text shown)
-part_told true {told = told} are frames of status text refused shown is = (refusals_in told, besides are frames of status text shown, is)
+    → (frames : List Frame) → AreKeysOf frames asked → (IsOne : KeyRefusal → Type 0) → IsOneFor IsRefused frames IsOne
+    → (status : Status) (text refused : List ℕ) → ShowsFrames told frames status text → refused ≡ refusal_lines (refusals_in told)
+    → TellFramesPart slices IsSaid IsOne frames status text refused
+part_told {IsSaid} {IsRefused} false {told = told} are frames of IsOne to status text refused shown is =
+    answers_alone IsSaid (refusals_in told) IsOne frames status text (none_refused are frames of IsOne to refl)
+    (besides are frames of IsOne to status text shown)
+part_told true {told = told} are frames of IsOne to status text refused shown is =
+    (refusals_in told, besides are frames of IsOne to status text shown, is)
 
 -- and so it is of what records tell, by which no key is refused
 pub records_tell : (lines : Bool) (o : Operations) (frames : List Frame) (asked : List AskedKey) (told : List KeyAnswers) (status : Status) (text : List ℕ)
     → AreKeysOf frames asked → AreTold (λ key. IsAnswerWithFrames o key lines) NoneRefused false asked told
     → ShowsFrames told frames status text → TellsFrames lines o frames status text
-records_tell lines o frames asked told status text of are shown = part_told false are frames of status text (refusal_lines (refusals_in told)) shown refl
+records_tell lines o frames asked told status text of are shown =
+    part_told false are frames of (λ refusal. ⊥) (λ key places at why has none. none) status text (refusal_lines (refusals_in told)) shown refl

@@ -33,7 +33,7 @@ use Rattle.archive_read.specs.Keys.{AreInOrder as AreKeysInOrder}
 use Rattle.command_queries.specs.Symbolicate.{asked_of}
 use Rattle.text_inputs.specs.declared.frame.Frame.{Frame}
 use Rattle.command_common.proofs.Readers.{all_more, all_take}
-use Rattle.command_frames.specs.Asking.{keys_of}
+use Rattle.command_frames.specs.Asking.{HavePlaces, keys_of}
 use Rattle.command_frames.specs.declared.places.AskedKey.{AskedKey}
 use Rattle.command_frames.specs.declared.places.AskedPlace.{AskedPlace}
 use Rattle.command_frames.specs.declared.key_answers.KeyAnswers.{KeyAnswers}
@@ -403,6 +403,16 @@ pub once_asked : (asked : List AskedKey) (a b : AskedKey) → IsStrictlySortedBy
     → Contains asked a → Contains asked b → key_bytes a.key ≡ key_bytes b.key → a ≡ b
 once_asked asked a b up there also same = once keys_total key_in asked a b up there also (λ less. not_same (key_bytes a.key) (key_bytes b.key) less same)
     (λ less. not_same (key_bytes b.key) (key_bytes a.key) less (sym same))
+
+-- under a key are the places that its frames mean
+pub places_of : (frames : List Frame) (asked : List AskedKey) → AreKeysOf frames asked → (one : AskedKey) → Contains asked one
+    → HavePlaces frames (key_bytes one.key) one.places.items
+places_of frames asked of one there = record {
+  whole = λ frame has same.
+      let h = of.whole frame has in
+      let is : h.one ≡ one = once_asked asked h.one one of.order.keys h.is_one there (h.key_is ∙ same) in
+      subst (λ (a : AskedKey). Contains a.places.items (asked_of frame.load frame.address)) is h.place_in;
+}
 
 -- ---- what is told of a place, by two halvings
 

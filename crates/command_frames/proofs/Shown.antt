@@ -33,7 +33,7 @@ use Rattle.command_queries.specs.declared.places.PlaceAnswer.{PlaceAnswer}
 use Rattle.index_lookup.proofs.Columns.{zip_as}
 use Rattle.index_lookup.specs.declared.answers.Answers.{Answers}
 use Rattle.index_lookup.specs.Among.{AreAnsweringAmong, AreTied, EntryAt}
-use Rattle.index_lookup.specs.AmongAsked.{AsksAmong, BlamesAmong, HasText, HaveTexts, each_known}
+use Rattle.index_lookup.specs.AmongAsked.{AsksAmong, BlamesAmong, HasText, HaveTexts, IsFirstAmong, each_known}
 use Rattle.index_lookup.specs.AmongTold.{IsAnswerAmong}
 use Rattle.index_lookup.specs.Views.{IsColumnAt, answer_of, row_at, shown_of}
 use Rattle.index_lookup.specs.declared.answers.EntryAnswers.{EntryAnswers}
@@ -86,14 +86,16 @@ pub key_as : (IsSaid IsMore : Where → AnswerRecord → List (List FrameRecord)
 key_as IsSaid IsMore IsRefused IsNot more also slices places (Told answers) is = places_as IsSaid IsMore more places answers.items is
 key_as IsSaid IsMore IsRefused IsNot more also slices places (Refused at why) (wanted, is) = (wanted, also at why is)
 
-pub under_as : (IsSaid IsMore : SliceKey → Where → AnswerRecord → List (List FrameRecord) → Type 0) (IsRefused IsNot : SliceKey → InputName → Why → Type 0)
+pub under_as : (IsSaid IsMore : SliceKey → Where → AnswerRecord → List (List FrameRecord) → Type 0)
+    (IsRefused IsNot : SliceKey → List Where → InputName → Why → Type 0)
     → ((key : SliceKey) (place : Where) (answer : AnswerRecord) (frames : List (List FrameRecord)) → IsSaid key place answer frames
     → IsMore key place answer frames)
-    → ((key : SliceKey) (at : InputName) (why : Why) → IsRefused key at why → IsNot key at why)
+    → ((key : SliceKey) (places : List Where) (at : InputName) (why : Why) → IsRefused key places at why → IsNot key places at why)
     → (slices : Bool) (one : KeyAnswers) → IsToldUnder IsSaid IsRefused slices one → IsToldUnder IsMore IsNot slices one
 under_as IsSaid IsMore IsRefused IsNot more also slices one is =
     let key : SliceKey = one.asked.now.key in
-    key_as (IsSaid key) (IsMore key) (IsRefused key) (IsNot key) (more key) (also key) slices one.asked.now.places.items one.told is
+    let places : List Where = one.asked.now.places.items in
+    key_as (IsSaid key) (IsMore key) (IsRefused key places) (IsNot key places) (more key) (also key places) slices places one.told is
 
 -- there are as many answers as places
 pub even_of : (IsSaid : Where → AnswerRecord → List (List FrameRecord) → Type 0) (IsRefused : InputName → Why → Type 0)
@@ -146,13 +148,18 @@ module _ {D : Type 0} (whole : D → Option (List ℕ)) (failures : D → ℕ) (
   -- a fault refuses all keys, or the key alone if slices are wanted
   abbrev IsKeyOutcome : Bool → Option KeyReply → Type 0
   IsKeyOutcome slices told = MatchOption told (AreTied (key_bytes key) all)
-      (IsKeyReply (IsAnsweredByTables (HaveTexts whole old) all lines key) (IsKeyFault (HaveTexts whole old) all lines (key_bytes key)) slices places)
+      (IsKeyReply (IsAnsweredByTables (HaveTexts whole old) all lines key)
+      (IsKeyFault (HaveTexts whole old) all lines (key_bytes key) places) slices places)
       × (each_known whole new ≡ each_known whole old)
 
+  -- the entries before the one that is at fault tell
+  abbrev IsFirst : AnswerFault → Type 0
+  IsFirst fault = (texts : List (List ℕ)) → HaveTexts whole old texts → IsFirstAmong texts lines places answering fault
+
   refuses_all : (slices : Bool) (fault : AnswerFault) (at : InputName) (why : Why) → command_fault fault ≡ Input at why
-      → RefusesAll slices fault → AsksAmong whole failures lines answering old new (Err fault) AreColumns
-      → IsUntoldBy whole failures lines slices (key_bytes key ∷ []) all old new at why
-  refuses_all slices fault at why told refuses asks = record {
+      → RefusesAll slices fault → AsksAmong whole failures lines answering old new (Err fault) AreColumns → IsFirst fault
+      → IsUntoldBy whole failures lines slices (key_bytes key ∷ []) places all old new at why
+  refuses_all slices fault at why told refuses asks first = record {
     key = key_bytes key;
     key_is = one_key (key_bytes key);
     answering = answering;
@@ -161,30 +168,40 @@ module _ {D : Type 0} (whole : D → Option (List ℕ)) (failures : D → ℕ) (
     told_as = told;
     refuses = refuses;
     says = asks.says;
+    first = first;
     counts = asks.counts;
   }
 
   refuses_key : (fault : AnswerFault) (at : InputName) (why : Why) → command_fault fault ≡ Input at why
       → IsOfKey lines fault → each_known failures new ≡ each_known failures old
-      → AsksAmong whole failures lines answering old new (Err fault) AreColumns
+      → AsksAmong whole failures lines answering old new (Err fault) AreColumns → IsFirst fault
       → AreRead (IsKeyOutcome true (Some (Refused at why))) (NoneFailed failures old new)
-  refuses_key fault at why told of_key none asks = record {
-    is = ((refl, record { answering = answering; are = are; fault = fault; told_as = told; of_key = of_key; says = asks.says }), asks.keeps);
+  refuses_key fault at why told of_key none asks first = record {
+    is = (
+      (
+        refl,
+        record { answering = answering; are = are; fault = fault; told_as = told; of_key = of_key; says = asks.says; first = first },
+      ),
+      asks.keeps,
+    );
     unfailed = none;
   }
 
   pub fault_told : (slices : Bool) (fault : AnswerFault) → AsksAmong whole failures lines answering old new (Err fault) AreColumns
-      → ReadsInputs (reply_to_fault slices fault) (IsKeyOutcome slices)
-      (IsUntoldBy whole failures lines slices (key_bytes key ∷ []) all old new) (NoneFailed failures old new)
-  fault_told false (faults.Damaged input number) asks = refuses_all false (faults.Damaged input number) (Index input) (why.Damaged number) refl tt asks
-  fault_told false (faults.NoLines input number) asks = refuses_all false (faults.NoLines input number) (Index input) (why.NoLines number) refl tt asks
-  fault_told false (faults.Device input offset) asks = refuses_all false (faults.Device input offset) (Index input) _ refl tt asks
-  fault_told false faults.OutOfMemory asks = asks.counts
-  fault_told true (faults.Damaged input number) asks = refuses_key (faults.Damaged input number) (Index input) (why.Damaged number) refl tt asks.counts asks
-  fault_told true (faults.NoLines input number) asks =
-      refuses_key (faults.NoLines input number) (Index input) (why.NoLines number) refl asks.counts.0 asks.counts.1 asks
-  fault_told true (faults.Device input offset) asks = refuses_all true (faults.Device input offset) (Index input) _ refl tt asks
-  fault_told true faults.OutOfMemory asks = asks.counts
+      → IsFirst fault → ReadsInputs (reply_to_fault slices fault) (IsKeyOutcome slices)
+      (IsUntoldBy whole failures lines slices (key_bytes key ∷ []) places all old new) (NoneFailed failures old new)
+  fault_told false (faults.Damaged input number) asks first =
+      refuses_all false (faults.Damaged input number) (Index input) (why.Damaged number) refl tt asks first
+  fault_told false (faults.NoLines input number) asks first =
+      refuses_all false (faults.NoLines input number) (Index input) (why.NoLines number) refl tt asks first
+  fault_told false (faults.Device input offset) asks first = refuses_all false (faults.Device input offset) (Index input) _ refl tt asks first
+  fault_told false faults.OutOfMemory asks first = asks.counts
+  fault_told true (faults.Damaged input number) asks first =
+      refuses_key (faults.Damaged input number) (Index input) (why.Damaged number) refl tt asks.counts asks first
+  fault_told true (faults.NoLines input number) asks first =
+      refuses_key (faults.NoLines input number) (Index input) (why.NoLines number) refl asks.counts.0 asks.counts.1 asks first
+  fault_told true (faults.Device input offset) asks first = refuses_all true (faults.Device input offset) (Index input) _ refl tt asks first
+  fault_told true faults.OutOfMemory asks first = asks.counts
 
 -- ---- under several keys
 
@@ -199,22 +216,24 @@ module _ {D : Type 0} (whole : D → Option (List ℕ)) (failures : D → ℕ) (
       → IsAnsweredByTables (HaveTexts whole first) all lines key place answer frames
   tables_first key place answer frames is = record { answer_is = λ texts have. is.answer_is texts (texts_first texts have); none_shown = is.none_shown }
 
-  pub fault_first : (key : List ℕ) (at : InputName) (why : Why) → IsKeyFault (HaveTexts whole mid) all lines key at why
-      → IsKeyFault (HaveTexts whole first) all lines key at why
-  fault_first key at why is = record {
+  pub fault_first : (key : List ℕ) (places : List Where) (at : InputName) (why : Why)
+      → IsKeyFault (HaveTexts whole mid) all lines key places at why → IsKeyFault (HaveTexts whole first) all lines key places at why
+  fault_first key places at why is = record {
     answering = is.answering;
     are = is.are;
     fault = is.fault;
     told_as = is.told_as;
     of_key = is.of_key;
     says = λ texts have. is.says texts (texts_first texts have);
+    first = λ texts have. is.first texts (texts_first texts have);
   }
 
   -- what is not told under some keys is not told under others, among which they are
   pub untold_first : (slices : Bool) (counts_kept : each_known failures mid ≡ each_known failures first) (new : List D) (keys others : List (List ℕ))
-      (at : InputName) (why : Why) → ((key : List ℕ) → Contains keys key → Contains others key)
-      → IsUntoldBy whole failures lines slices keys all mid new at why → IsUntoldBy whole failures lines slices others all first new at why
-  untold_first slices counts_kept new keys others at why among r = record {
+      (places : List Where) (at : InputName) (why : Why) → ((key : List ℕ) → Contains keys key → Contains others key)
+      → IsUntoldBy whole failures lines slices keys places all mid new at why
+      → IsUntoldBy whole failures lines slices others places all first new at why
+  untold_first slices counts_kept new keys others places at why among r = record {
     key = r.key;
     key_is = among r.key r.key_is;
     answering = r.answering;
@@ -223,17 +242,19 @@ module _ {D : Type 0} (whole : D → Option (List ℕ)) (failures : D → ℕ) (
     told_as = r.told_as;
     refuses = r.refuses;
     says = λ texts have. r.says texts (texts_first texts have);
+    first = λ texts have. r.first texts (texts_first texts have);
     counts = subst (λ (olds : List ℕ). BlamesAmong lines r.answering olds (each_known failures new) r.fault) counts_kept r.counts;
   }
 
 -- ---- frames
 
 -- there is an answer for each place of a key that is told
-pub even_told : (IsSaid : SliceKey → Where → AnswerRecord → List (List FrameRecord) → Type 0) (IsRefused : SliceKey → InputName → Why → Type 0)
-    (slices : Bool) (asked : List AskedKey) (told : List KeyAnswers) → AreTold IsSaid IsRefused slices asked told → HaveEachTold told
+pub even_told : (IsSaid : SliceKey → Where → AnswerRecord → List (List FrameRecord) → Type 0)
+    (IsRefused : SliceKey → List Where → InputName → Why → Type 0) (slices : Bool) (asked : List AskedKey) (told : List KeyAnswers) → AreTold IsSaid IsRefused slices asked told → HaveEachTold told
 even_told IsSaid IsRefused slices asked told are =
     All-weaker (IsToldUnder IsSaid IsRefused slices) (λ (one : KeyAnswers). HaveEach one.told one.asked.now.places.items)
-    (λ one is. even_of (IsSaid one.asked.now.key) (IsRefused one.asked.now.key) slices one.asked.now.places.items one.told is) told are.are_true
+    (λ one is. even_of (IsSaid one.asked.now.key) (IsRefused one.asked.now.key one.asked.now.places.items) slices
+    one.asked.now.places.items one.told is) told are.are_true
 
 pub more_frames : (told : List KeyAnswers) (frames : List Frame) (i : ℕ) (frame : Frame)
     (status next : Status) (text printed : List ℕ) (one : KeyAnswers) (number : ℕ) → i < length frames → frame

@@ -18,7 +18,7 @@ use Rattle.command_queries.specs.Symbolicate.{asked_of}
 use Rattle.text_inputs.specs.declared.frame.Frame.{Frame}
 use Rattle.index_format.specs.declared.index_fault.IndexFaultKind.TheVariants.{Device}
 use Rattle.index_lookup.specs.Among.{AreAnsweringAmong, AreTied, EntryAt}
-use Rattle.index_lookup.specs.AmongAsked.{IsAskedAt, IsDamagedAt, IsLinelessAt}
+use Rattle.index_lookup.specs.AmongAsked.{IsAskedAt, IsDamagedAt, IsLinelessAt, TellBefore}
 use Rattle.index_lookup.specs.AmongTold.{IsAnswerAmong}
 use Rattle.command_common.specs.Inputs.{Reader, EachUnfailed, IsGiven}
 use Rattle.command_common.specs.declared.faults.InputName.{InputName}
@@ -84,6 +84,11 @@ AreAnsweredBelow AreTexts archives all lines frames bytes =
     (frame : Frame) → Contains frames frame → slice_cmp nat_cmp (key_bytes frame.key) bytes ≡ Less
     → HasAnswer AreTexts archives all lines (key_bytes frame.key) (asked_of frame.load frame.address)
 
+-- Under the key with these bytes the frames mean these places, and maybe others are among them.
+pub record HavePlaces (frames : List Frame) (bytes : List ℕ) (places : List Where) : Type 0 where
+  pub whole : (frame : Frame) → Contains frames frame → key_bytes frame.key ≡ bytes
+      → Contains places (asked_of frame.load frame.address)
+
 -- ---- refused
 
 -- the device of the index of this number failed once, and no other did
@@ -94,26 +99,29 @@ pub record FailsAlone {I : Type 0} (indexes : List (Reader I)) (input : ℕ) : T
   pub before : EachUnfailed (take input indexes)
   pub after : EachUnfailed (drop (input + 1) indexes)
 
--- The table of one of the entries that answer was changed, if all bytes are known, and no device failed.
-pub record IsChanged {I : Type 0} (indexes : List (Reader I)) (answering : List EntryAt) (at : InputName) (why : Why)
-    : Type 0 where
+-- The table of one of the entries that answer was changed, and those before it tell of these places, if all bytes are
+-- known. No device failed.
+pub record IsChanged {I : Type 0} (lines : Bool) (indexes : List (Reader I)) (places : List Where)
+    (answering : List EntryAt) (at : InputName) (why : Why) : Type 0 where
   pub input : ℕ
   pub number : ℕ
   pub at_is : at ≡ Index input
   pub why_is : why ≡ Damaged number
   pub changed : (texts : List (List ℕ)) → AreGiven indexes texts → IsDamagedAt texts answering input number
+  pub first : (texts : List (List ℕ)) → AreGiven indexes texts → TellBefore texts lines places answering input number
   pub unfailed : EachUnfailed indexes
 
--- The table of one of the entries that answer has no lines, which are wanted, if all bytes are known, and no device
--- failed.
-pub record IsLineless {I : Type 0} (lines : Bool) (indexes : List (Reader I)) (answering : List EntryAt)
-    (at : InputName) (why : Why) : Type 0 where
+-- The table of one of the entries that answer has no lines, which are wanted, and those before it tell of these places
+-- and have their frames, if all bytes are known. No device failed.
+pub record IsLineless {I : Type 0} (lines : Bool) (indexes : List (Reader I)) (places : List Where)
+    (answering : List EntryAt) (at : InputName) (why : Why) : Type 0 where
   pub input : ℕ
   pub number : ℕ
   pub at_is : at ≡ Index input
   pub why_is : why ≡ NoLines number
   pub wanted : lines ≡ true
   pub lacks : (texts : List (List ℕ)) → AreGiven indexes texts → IsLinelessAt texts answering input number
+  pub first : (texts : List (List ℕ)) → AreGiven indexes texts → TellBefore texts lines places answering input number
   pub unfailed : EachUnfailed indexes
 
 -- The device of an index failed while the table of one of the entries that answer was read in it.
@@ -128,29 +136,32 @@ pub record IsUnreadTable {I : Type 0} (indexes : List (Reader I)) (answering : L
 
 -- A table of the entries that answer is not told. If slices are wanted, that is for its device alone: otherwise its key
 -- is refused, and the others are answered.
-abbrev pub IsTableRefused : {I : Type 0} → Bool → Bool → List (Reader I) → List EntryAt → InputName → Why → Type 0
-IsTableRefused lines false indexes answering at why =
-    IsChanged indexes answering at why
-    ⊎ (IsLineless lines indexes answering at why ⊎ IsUnreadTable indexes answering at why)
-IsTableRefused lines true indexes answering at why = IsUnreadTable indexes answering at why
+abbrev pub IsTableRefused : {I : Type 0} → Bool → Bool → List (Reader I) → List Where → List EntryAt → InputName → Why
+    → Type 0
+IsTableRefused lines false indexes places answering at why =
+    IsChanged lines indexes places answering at why
+    ⊎ (IsLineless lines indexes places answering at why ⊎ IsUnreadTable indexes answering at why)
+IsTableRefused lines true indexes places answering at why = IsUnreadTable indexes answering at why
 
--- Under one of these keys a table is not told.
+-- Under one of these keys a table is not told, of these places.
 pub record IsUntoldUnder {I : Type 0} (lines slices : Bool) (keys : List (List ℕ)) (indexes : List (Reader I))
     (all : List (List (List ℕ))) (at : InputName) (why : Why) : Type 0 where
   pub key : List ℕ
   pub key_is : Contains keys key
+  pub places : List Where
   pub answering : List EntryAt
   pub are : AreAnsweringAmong key all answering
-  pub untold : IsTableRefused lines slices indexes answering at why
+  pub untold : IsTableRefused lines slices indexes places answering at why
 
--- The indexes were read, and then under the key of one of these frames a table is not told. Unless slices are wanted,
--- the frames of lower keys have answers.
+-- The indexes were read, and then under the key of one of these frames a table is not told, of the places that its
+-- frames mean. Unless slices are wanted, the frames of lower keys have answers.
 pub record AreUntold {I P : Type 0} (lines slices : Bool) (frames : List Frame) (indexes : List (Reader I))
     (archives : List (Reader P)) (at : InputName) (why : Why) : Type 0 where
   pub all : List (List (List ℕ))
   pub read : AreReadWith indexes archives all
   pub unfailed : EachUnfailed archives
   pub untold : IsUntoldUnder lines slices (keys_of frames) indexes all at why
+  pub of_frames : HavePlaces frames untold.key untold.places
   pub before : slices ≡ false → AreAnsweredBelow (AreGiven indexes) archives all lines frames untold.key
 
 -- it is stale at an entry: no record of its archive is there

@@ -76,7 +76,7 @@ pub record AreToldAt {I P : Type 0} (lines slices : Bool) (indexes : List (Reade
   pub all : List (List (List ℕ))
   pub read : AreReadWith indexes archives all
   pub told : TellFramesWith slices (IsAnsweredAt (AreGiven indexes) archives all lines)
-      (IsKeyRefused lines indexes archives all) all keys frames status text
+      (IsKeyRefused lines frames indexes archives all) all keys frames status text
 
 -- what is asked of these archives for frames: what their indexes tell
 abbrev pub frames_by_indexes : {I P : Type 0} → Bool → Bool → List (Reader I) → List (Reader P) → AskedOfFrames

@@ -3,7 +3,8 @@
 use Rattle.std.specs.Prelude.{◌≡◌, ◌⊎◌, ◌&&◌, ℕ, List, [], ◌∷◌, Bool, true, false, Option, Result, Contains}
 use Rattle.index_format.specs.declared.index_fault.IndexFaultKind.TheVariants.{Device as DeviceKind}
 use Rattle.index_lookup.specs.Among.{AreAnsweringAmong, AreTied, EntryAt}
-use Rattle.index_lookup.specs.AmongAsked.{BlamesAmong, HaveTexts, IsUntoldAmong, each_known}
+use Rattle.archive_core.specs.declared.lookup.Where.{Where}
+use Rattle.index_lookup.specs.AmongAsked.{BlamesAmong, HaveTexts, IsFirstAmong, IsUntoldAmong, each_known}
 use Rattle.index_lookup.specs.declared.fault.AnswerFault.{AnswerFault}
 use Rattle.index_lookup.specs.declared.fault.AnswerFault.TheVariants.{Damaged, Device, NoLines, OutOfMemory}
 use Rattle.command_common.specs.Inputs.{EachUnfailed, ReadsInputs, readers}
@@ -39,19 +40,20 @@ RefusesAll true (NoLines input entry) = ⊥
 RefusesAll true (Device input offset) = Unit {0}
 RefusesAll true OutOfMemory = Unit {0}
 
--- Under these bytes a table is not told, for a fault of the key alone that a command tells so.
+-- Under these bytes a table is not told of these places, for a fault of the key alone that a command tells so.
 pub record IsKeyFault (AreTexts : List (List ℕ) → Type 0) (all : List (List (List ℕ))) (lines : Bool) (key : List ℕ)
-    (at : InputName) (why : Why) : Type 0 where
+    (places : List Where) (at : InputName) (why : Why) : Type 0 where
   pub answering : List EntryAt
   pub are : AreAnsweringAmong key all answering
   pub fault : AnswerFault
   pub told_as : command_fault fault ≡ command.Input at why
   pub of_key : IsOfKey lines fault
   pub says : (texts : List (List ℕ)) → AreTexts texts → IsUntoldAmong texts answering fault
+  pub first : (texts : List (List ℕ)) → AreTexts texts → IsFirstAmong texts lines places answering fault
 
--- Under one of these keys a table is not told, for a fault that a command tells so.
+-- Under one of these keys a table is not told of these places, for a fault that a command tells so.
 pub record IsUntoldBy {D : Type 0} (whole : D → Option (List ℕ)) (failures : D → ℕ) (lines slices : Bool)
-    (keys : List (List ℕ)) (all : List (List (List ℕ))) (old new : List D) (at : InputName)
+    (keys : List (List ℕ)) (places : List Where) (all : List (List (List ℕ))) (old new : List D) (at : InputName)
     (why : Why) : Type 0 where
   pub key : List ℕ
   pub key_is : Contains keys key
@@ -61,20 +63,21 @@ pub record IsUntoldBy {D : Type 0} (whole : D → Option (List ℕ)) (failures :
   pub told_as : command_fault fault ≡ command.Input at why
   pub refuses : RefusesAll slices fault
   pub says : (texts : List (List ℕ)) → HaveTexts whole old texts → IsUntoldAmong texts answering fault
+  pub first : (texts : List (List ℕ)) → HaveTexts whole old texts → IsFirstAmong texts lines places answering fault
   pub counts : BlamesAmong lines answering (each_known failures old) (each_known failures new) fault
 
 -- no device failed
 abbrev pub NoneFailed : {D : Type 0} → (D → ℕ) → List D → List D → Type 0
 NoneFailed failures old new = each_known failures new ≡ each_known failures old
 
--- What came of asking the tables under these keys: something of which this is true, and each device has its bytes; or a
--- table is not told.
-abbrev pub AsksTables : {D T : Type 0} → (D → Option (List ℕ)) → (D → ℕ) → Bool → Bool → List (List ℕ)
+-- What came of asking the tables under these keys of these places: something of which this is true, and each device has
+-- its bytes; or a table is not told.
+abbrev pub AsksTables : {D T : Type 0} → (D → Option (List ℕ)) → (D → ℕ) → Bool → Bool → List (List ℕ) → List Where
     → List (List (List ℕ)) → List D → List D → Result T CommandFault
     → (T → Type 0) → Type 0
-AsksTables whole failures lines slices keys all old new result IsTrue =
+AsksTables whole failures lines slices keys places all old new result IsTrue =
     ReadsInputs result (λ value. IsTrue value × (each_known whole new ≡ each_known whole old))
-    (IsUntoldBy whole failures lines slices keys all old new) (NoneFailed failures old new)
+    (IsUntoldBy whole failures lines slices keys places all old new) (NoneFailed failures old new)
 
 -- Under one of these keys two slices are tied, and of the archives, which were kept up to then, one is refused.
 pub record IsUnreadBy {P : Type 0} (whole : P → Option (List ℕ)) (failures : P → ℕ) (slices : Bool)
@@ -95,12 +98,13 @@ AsksSlices whole failures slices keys all old new result IsTrue =
     ReadsInputs result (λ value. IsTrue value × AreAllKept whole failures old new)
     (IsUnreadBy whole failures slices keys all old new) (EachUnfailed (readers whole failures old new))
 
--- under one of these keys a table is not told, or an archive is refused
+-- under one of these keys a table is not told of these places, or an archive is refused
 abbrev pub IsRefusedUnder : {D P : Type 0} → (D → Option (List ℕ)) → (D → ℕ) → (P → Option (List ℕ)) → (P → ℕ) → Bool
-    → Bool → List (List (List ℕ)) → List D → List D → List P → List P → List (List ℕ) → InputName → Why → Type 0
-IsRefusedUnder whole failures whole_at failures_at lines slices all old new old_at new_at keys at why =
+    → Bool → List (List (List ℕ)) → List D → List D → List P → List P → List (List ℕ) → List Where → InputName → Why
+    → Type 0
+IsRefusedUnder whole failures whole_at failures_at lines slices all old new old_at new_at keys places at why =
     (EachUnfailed (readers whole_at failures_at old_at new_at)
-    × IsUntoldBy whole failures lines slices keys all old new at why)
+    × IsUntoldBy whole failures lines slices keys places all old new at why)
     ⊎ (NoneFailed failures old new × IsUnreadBy whole_at failures_at slices keys all old_at new_at at why)
 
 -- What came of asking under these keys: something of which this is true, each index has its bytes, and each archive is
@@ -113,10 +117,10 @@ AsksBy whole failures whole_at failures_at old new old_at new_at result IsTrue R
     × AreAllKept whole_at failures_at old_at new_at) Refuses
     (NoneFailed failures old new × EachUnfailed (readers whole_at failures_at old_at new_at))
 
--- the same, where a table is not told, or an archive is refused, under one of these keys
+-- the same, where a table is not told of these places, or an archive is refused, under one of these keys
 abbrev pub AsksKeys : {D P T : Type 0} → (D → Option (List ℕ)) → (D → ℕ) → (P → Option (List ℕ)) → (P → ℕ) → Bool
-    → Bool → List (List ℕ) → List (List (List ℕ)) → List D → List D → List P → List P → Result T CommandFault
-    → (T → Type 0) → Type 0
-AsksKeys whole failures whole_at failures_at lines slices keys all old new old_at new_at result IsTrue =
+    → Bool → List (List ℕ) → List Where → List (List (List ℕ)) → List D → List D → List P → List P
+    → Result T CommandFault → (T → Type 0) → Type 0
+AsksKeys whole failures whole_at failures_at lines slices keys places all old new old_at new_at result IsTrue =
     AsksBy whole failures whole_at failures_at old new old_at new_at result IsTrue
-    (IsRefusedUnder whole failures whole_at failures_at lines slices all old new old_at new_at keys)
+    (IsRefusedUnder whole failures whole_at failures_at lines slices all old new old_at new_at keys places)

@@ -72,11 +72,11 @@ IsKeyReply IsSaid IsRefused slices places (Refused at why) = (slices ≡ true) �
 abbrev pub IsKeyStale : {P : Type 0} → List (Reader P) → List (List (List ℕ)) → SliceKey → InputName → Why → Type 0
 IsKeyStale archives all key at why = AreTied (key_bytes key) all × IsStaleAt archives all (key_bytes key) at why
 
--- the key is refused for a fault of its own
+-- the key is refused for a fault of its own, at these places of it
 abbrev pub IsRefusedAt : {P : Type 0} → (List (List ℕ) → Type 0) → List (Reader P) → List (List (List ℕ)) → Bool
-    → SliceKey → InputName → Why → Type 0
-IsRefusedAt AreTexts archives all lines key at why =
-    IsKeyFault AreTexts all lines (key_bytes key) at why ⊎ IsKeyStale archives all key at why
+    → SliceKey → List Where → InputName → Why → Type 0
+IsRefusedAt AreTexts archives all lines key places at why =
+    IsKeyFault AreTexts all lines (key_bytes key) places at why ⊎ IsKeyStale archives all key at why
 
 -- what comes of a fault of asking tables
 abbrev pub reply_to_fault : Bool → AnswerFault → Result (Option KeyReply) CommandFault
@@ -102,32 +102,33 @@ asked_in told = map (λ one. one.asked.now) told
 
 -- the same of what is told under a key
 abbrev pub IsToldUnder : (SliceKey → Where → AnswerRecord → List (List FrameRecord) → Type 0)
-    → (SliceKey → InputName → Why → Type 0) → Bool → KeyAnswers → Type 0
+    → (SliceKey → List Where → InputName → Why → Type 0) → Bool → KeyAnswers → Type 0
 IsToldUnder IsSaid IsRefused slices one =
-    IsKeyReply (IsSaid one.asked.now.key) (IsRefused one.asked.now.key) slices one.asked.now.places.items one.told
+    IsKeyReply (IsSaid one.asked.now.key) (IsRefused one.asked.now.key one.asked.now.places.items) slices
+    one.asked.now.places.items one.told
 
 -- Under each of these keys something is told, and this is true of it.
 pub record AreTold (IsSaid : SliceKey → Where → AnswerRecord → List (List FrameRecord) → Type 0)
-    (IsRefused : SliceKey → InputName → Why → Type 0) (slices : Bool) (asked : List AskedKey) (told : List KeyAnswers)
-    : Type 0 where
+    (IsRefused : SliceKey → List Where → InputName → Why → Type 0) (slices : Bool) (asked : List AskedKey)
+    (told : List KeyAnswers) : Type 0 where
   pub asked_is : asked_in told ≡ asked
   pub are_true : All (IsToldUnder IsSaid IsRefused slices) told
 
--- Under the key of this number, of these, it is refused so. Under those before it something is told, and this is true of
--- it.
+-- Under the key of this number, of these, it is refused so, at its places. Under those before it something is told, and
+-- this is true of it.
 pub record IsRefusedAfter (IsSaid : SliceKey → Where → AnswerRecord → List (List FrameRecord) → Type 0)
-    (IsRefused : SliceKey → InputName → Why → Type 0) (slices : Bool) (asked : List AskedKey)
-    (Refuses : List (List ℕ) → Type 0) : Type 0 where
+    (IsRefused : SliceKey → List Where → InputName → Why → Type 0) (slices : Bool) (asked : List AskedKey)
+    (Refuses : List (List ℕ) → List Where → Type 0) : Type 0 where
   pub number : ℕ
   pub one : AskedKey
   pub one_is : slice_get asked number ≡ Some one
   pub told : List KeyAnswers
   pub before : AreTold IsSaid IsRefused slices (take number asked) told
-  pub refused : Refuses (key_bytes one.key ∷ [])
+  pub refused : Refuses (key_bytes one.key ∷ []) one.places.items
 
 -- no key is refused
-abbrev pub NoneRefused : SliceKey → InputName → Why → Type 0
-NoneRefused key at why = ⊥
+abbrev pub NoneRefused : SliceKey → List Where → InputName → Why → Type 0
+NoneRefused key places at why = ⊥
 
 -- Of these keys some are left. Under each of those before them something is told, and this is true of it.
 pub record AreToldSoFar (IsSaid : SliceKey → Where → AnswerRecord → List (List FrameRecord) → Type 0)

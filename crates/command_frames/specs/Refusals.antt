@@ -6,6 +6,7 @@ use Rattle.text_values.specs.Words.{address_text}
 use Rattle.archive_core.specs.Content.{Operations}
 use Rattle.archive_core.specs.Key.{key_bytes}
 use Rattle.archive_core.specs.declared.keys.SliceKey.{SliceKey}
+use Rattle.archive_core.specs.declared.lookup.Where.{Where}
 use Rattle.text_reports.specs.Answers.{answer_lines}
 use Rattle.text_reports.specs.Report.{line}
 use Rattle.text_reports.specs.Rows.{key_text}
@@ -23,7 +24,8 @@ use Rattle.command_queries.specs.Symbolicate.{Answered, is_symbol}
 use Rattle.command_index_queries.specs.Prefixes.{IsStaleFor}
 use Rattle.command_index_queries.specs.Together.{AreNamedBy}
 use Rattle.index_lookup.specs.Among.{AreAnsweringAmong, AreTied, EntryAt}
-use Rattle.command_frames.specs.Asking.{IsChanged, IsLineless}
+use Rattle.text_inputs.specs.declared.frame.Frame.{Frame}
+use Rattle.command_frames.specs.Asking.{HavePlaces, IsChanged, IsLineless}
 
 -- a key that is refused, with the fault
 pub record KeyRefusal : Type 0 where
@@ -37,14 +39,16 @@ refusal_lines refusals =
     flat_map (λ refusal. line (key_text refusal.key ++ codes " refused "
     ++ command_fault_text (Input refusal.at refusal.why))) refusals
 
--- A key is refused for a table: that of one of the entries that answer under it was changed, or has no lines, which are
--- wanted. No device failed.
-pub record IsRefusedByTable {I : Type 0} (lines : Bool) (indexes : List (Reader I)) (all : List (List (List ℕ)))
-    (refusal : KeyRefusal) : Type 0 where
+-- A key of frames is refused for a table: that of the first of the entries that answer under it which does not tell of
+-- the places that its frames mean. It was changed, or has no lines, which are wanted. No device failed.
+pub record IsRefusedByTable {I : Type 0} (lines : Bool) (frames : List Frame) (indexes : List (Reader I))
+    (all : List (List (List ℕ))) (refusal : KeyRefusal) : Type 0 where
+  pub places : List Where
+  pub of_frames : HavePlaces frames (key_bytes refusal.key) places
   pub answering : List EntryAt
   pub are : AreAnsweringAmong (key_bytes refusal.key) all answering
-  pub untold : IsChanged indexes answering refusal.at refusal.why
-      ⊎ IsLineless lines indexes answering refusal.at refusal.why
+  pub untold : IsChanged lines indexes places answering refusal.at refusal.why
+      ⊎ IsLineless lines indexes places answering refusal.at refusal.why
 
 -- Of the entries under these bytes this one of this index is the first that names no record of its archive.
 pub record IsStaleAt {P : Type 0} (archives : List (Reader P)) (all : List (List (List ℕ))) (key : List ℕ)
@@ -69,11 +73,11 @@ pub record IsRefusedBySlice {P : Type 0} (archives : List (Reader P)) (all : Lis
   pub stale : IsStaleAt archives all (key_bytes refusal.key) refusal.at refusal.why
   pub unfailed : EachUnfailed archives
 
--- a key is refused: for a table, or for a slice if two are tied
-abbrev pub IsKeyRefused : {I P : Type 0} → Bool → List (Reader I) → List (Reader P) → List (List (List ℕ))
-    → KeyRefusal → Type 0
-IsKeyRefused lines indexes archives all refusal =
-    IsRefusedByTable lines indexes all refusal ⊎ IsRefusedBySlice archives all refusal
+-- a key of frames is refused: for a table, or for a slice if two are tied
+abbrev pub IsKeyRefused : {I P : Type 0} → Bool → List Frame → List (Reader I) → List (Reader P)
+    → List (List (List ℕ)) → KeyRefusal → Type 0
+IsKeyRefused lines frames indexes archives all refusal =
+    IsRefusedByTable lines frames indexes all refusal ⊎ IsRefusedBySlice archives all refusal
 
 -- a reply to an address: its answer, or none if the key is refused
 pub record Reply : Type 0 where

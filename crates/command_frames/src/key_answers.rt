@@ -39,10 +39,10 @@ fn answer_key<A: Archive + Drop, I: Placed, P: Placed>(
     requires same { length read.now ≡ length indexes.old }
     requires many { length read.now ≡ length archives.old }
     ensures { let known = readers P.whole P.failures archives.old archives.old in
-        AsksKeys I.whole I.failures P.whole P.failures lines slices (key_bytes key.now ∷ []) read.now indexes.old
-        indexes.new archives.old archives.new result
+        AsksKeys I.whole I.failures P.whole P.failures lines slices (key_bytes key.now ∷ []) places.now read.now
+        indexes.old indexes.new archives.old archives.new result
         (IsKeyReply (IsAnsweredAt (HaveTexts I.whole indexes.old) known read.now lines key.now)
-        (IsRefusedAt (HaveTexts I.whole indexes.old) known read.now lines key.now) slices places.now) }
+        (IsRefusedAt (HaveTexts I.whole indexes.old) known read.now lines key.now places.now) slices places.now) }
 {
     match answer_by_tables(heap, read, indexes, key, lines, slices, places)? {
         Some(told) => Ok(told),
@@ -69,8 +69,8 @@ pub(crate) fn answer_keys<'k, A: Archive + Drop, I: Placed, P: Placed>(
         AsksBy I.whole I.failures P.whole P.failures indexes.old indexes.new archives.old archives.new result
         (λ told. AreTold IsSaid IsRefused slices asked.now told.items)
         (λ at why. IsRefusedAfter IsSaid IsRefused slices asked.now
-        (λ keys. IsRefusedUnder I.whole I.failures P.whole P.failures lines slices read.now indexes.old indexes.new
-        archives.old archives.new keys at why)) }
+        (λ keys places. IsRefusedUnder I.whole I.failures P.whole P.failures lines slices read.now indexes.old
+        indexes.new archives.old archives.new keys places at why)) }
 {
     let mut told = Vec::new(heap.share());
     'keys: for one in asked {

@@ -166,10 +166,11 @@ pub(crate) fn answer_by_tables<I: Placed>(
     places: &[Where],
 ) -> Result<Option<KeyReply>, CommandFault>
     requires { length read.now ≡ length indexes.old }
-    ensures { AsksTables I.whole I.failures lines slices (key_bytes key.now ∷ []) read.now indexes.old indexes.new
-        result (λ told. MatchOption told (AreTied (key_bytes key.now) read.now)
+    ensures { AsksTables I.whole I.failures lines slices (key_bytes key.now ∷ []) places.now read.now indexes.old
+        indexes.new result (λ told. MatchOption told (AreTied (key_bytes key.now) read.now)
         (IsKeyReply (IsAnsweredByTables (HaveTexts I.whole indexes.old) read.now lines key.now)
-        (IsKeyFault (HaveTexts I.whole indexes.old) read.now lines (key_bytes key.now)) slices places.now)) }
+        (IsKeyFault (HaveTexts I.whole indexes.old) read.now lines (key_bytes key.now) places.now) slices
+        places.now)) }
 {
     each_told();
     let Some(answering) = answering_entries(heap, key, read)? else {

@@ -167,9 +167,9 @@ are_own (input ∷ inputs) [] (o ∷ os) given own = absurd own
 module _ {I P : Type 0} (inputs : List (Reader I)) (archives : List (Reader P)) (os : List Operations) (lines : Bool)
     (all : List (List (List ℕ))) (read : AreReadWith inputs archives all) where
   -- a table that refuses its key by right indexes does so for lines
-  for_lines : AreTextsOf inputs os → (refusal : KeyRefusal) → IsRefusedByTable lines inputs all refusal
+  for_lines : AreTextsOf inputs os → (frames : List Frame) (refusal : KeyRefusal) → IsRefusedByTable lines frames inputs all refusal
       → IsRefusedForLines lines os refusal
-  for_lines its refusal r =
+  for_lines its frames refusal r =
       let indexes = indexes_are inputs archives all read os its.texts its.given its.files in
       elim r.untold [
         | inl changed ↦ absurd (told.none_damaged os its.texts all indexes (key_bytes refusal.key) r.answering changed.input
@@ -195,15 +195,15 @@ module _ {I P : Type 0} (inputs : List (Reader I)) (archives : List (Reader P)) 
       refusal.at refusal.why found.1.entries found.1.known
       (inr (s.at_is, unfailed_at archives s.number s.archive r.unfailed s.archive_is, (Some s.entry, s.why_is, s.stale))))
 
-  pub own_key : AreOwnIndexes inputs archives os → (refusal : KeyRefusal) → IsKeyRefused lines inputs archives all refusal
-      → IsRefusedForLines lines os refusal
-  own_key are refusal (inl table) = for_lines (texts_of inputs os (own_given inputs archives os are)) refusal table
-  own_key are refusal (inr slice) = absurd (none_stale are refusal slice)
+  pub own_key : AreOwnIndexes inputs archives os → (frames : List Frame) (refusal : KeyRefusal)
+      → IsKeyRefused lines frames inputs archives all refusal → IsRefusedForLines lines os refusal
+  own_key are frames refusal (inl table) = for_lines (texts_of inputs os (own_given inputs archives os are)) frames refusal table
+  own_key are frames refusal (inr slice) = absurd (none_stale are refusal slice)
 
-  key_for : (given : AreIndexesGiven inputs os) (refusal : KeyRefusal) (key : SliceKey) → IsKey key
-      → key_bytes refusal.key ≡ key_bytes key → IsKeyRefused lines inputs archives all refusal → IsRefusedFor lines archives os refusal
-  key_for given refusal key is_key same (inl table) = inl (for_lines (texts_of inputs os given) refusal table)
-  key_for given refusal key is_key same (inr slice) =
+  key_for : (given : AreIndexesGiven inputs os) (frames : List Frame) (refusal : KeyRefusal) (key : SliceKey) → IsKey key
+      → key_bytes refusal.key ≡ key_bytes key → IsKeyRefused lines frames inputs archives all refusal → IsRefusedFor lines archives os refusal
+  key_for given frames refusal key is_key same (inl table) = inl (for_lines (texts_of inputs os given) frames refusal table)
+  key_for given frames refusal key is_key same (inr slice) =
       let its = texts_of inputs os given in
       let indexes = indexes_are inputs archives all read os its.texts its.given its.files in
       let by : IsRefusedForSlice archives os refusal = record {
@@ -298,13 +298,13 @@ module _ {I P : Type 0} (inputs : List (Reader I)) (archives : List (Reader P)) 
   )
 
   refusal_told : (refusal : KeyRefusal) → Contains (keys_of listed) (key_bytes refusal.key)
-      → IsKeyRefused lines inputs archives all refusal → IsRefusedFor lines archives os refusal
+      → IsKeyRefused lines listed inputs archives all refusal → IsRefusedFor lines archives os refusal
   refusal_told refusal there is =
       let frame = in_map (λ (f : Frame). key_bytes f.key) listed (key_bytes refusal.key) there in
-      key_for inputs archives os lines all read given refusal frame.0.key (keyed frame.0 frame.1) frame.2 is
+      key_for inputs archives os lines all read given listed refusal frame.0.key (keyed frame.0 frame.1) frame.2 is
 
   besides_told : (refusals : List KeyRefusal) (s : Status) (t : List ℕ)
-      → TellFramesBesides Entries (IsKeyRefused lines inputs archives all) listed refusals s t
+      → TellFramesBesides Entries (IsKeyRefused lines listed inputs archives all) listed refusals s t
       → TellFramesBesides Sourced (IsRefusedFor lines archives os) listed refusals s t
   besides_told refusals s t by = record {
     replies = by.replies;
@@ -323,19 +323,20 @@ module _ {I P : Type 0} (inputs : List (Reader I)) (archives : List (Reader P)) 
 
   -- what is told is what the content tells, or besides refused keys
   pub listed_told : (slices : Bool) (status : Status) (text : List ℕ)
-      → TellFramesWith slices Entries (IsKeyRefused lines inputs archives all) all keys listed status text
+      → TellFramesWith slices Entries (IsKeyRefused lines listed inputs archives all) all keys listed status text
       → WithSlices slices (TellsFrames lines o listed) (IsAnsweringRow o keys) keys status text
       ⊎ ((slices ≡ true) × TellsFramesBesides lines archives os keys listed status text)
   listed_told false status text by = inl (frames_told status text by)
   listed_told true status text by = and_slices by.refusals by.told by.text_is
     where
-      and_slices : (refusals : List KeyRefusal) → TellFramesBesides Entries (IsKeyRefused lines inputs archives all) listed refusals status by.answers
+      and_slices : (refusals : List KeyRefusal)
+          → TellFramesBesides Entries (IsKeyRefused lines listed inputs archives all) listed refusals status by.answers
           → text ≡ by.answers ++ (by.slices ++ refusal_lines refusals)
           → WithSlices true (TellsFrames lines o listed) (IsAnsweringRow o keys) keys status text
           ⊎ ((true ≡ true) × TellsFramesBesides lines archives os keys listed status text)
       and_slices [] besides is = inl (record {
         answers = by.answers;
-        told = frames_told status by.answers (answers_alone Entries [] (IsKeyRefused lines inputs archives all) listed status by.answers refl besides);
+        told = frames_told status by.answers (answers_alone Entries [] (IsKeyRefused lines listed inputs archives all) listed status by.answers refl besides);
         slices = by.slices;
         tells_slices = slices_told by.slices by.sliced;
         text_is = is ∙ ap (λ (l : List ℕ). by.answers ++ l) (append-nil by.slices);
@@ -518,7 +519,7 @@ module _ {I P : Type 0} (frames : List Frame) (inputs : List (Reader I)) (archiv
       indexes : AreIndexes os t.texts u.all
       indexes = indexes_are inputs archives u.all u.read os t.texts t.given t.files
 
-      by : (wanted : Bool) → IsTableRefused lines wanted inputs u.untold.answering at why → IsDeviceFault why ⊎ IsForLines lines os keys at why
+      by : (wanted : Bool) → IsTableRefused lines wanted inputs u.untold.places u.untold.answering at why → IsDeviceFault why ⊎ IsForLines lines os keys at why
       by true unread = inl (untold_table inputs u.untold.answering unread)
       by false (inl changed) = absurd (told.none_damaged os t.texts u.all indexes u.untold.key u.untold.answering changed.input
           changed.number u.untold.are (changed.changed t.texts t.given))

@@ -220,8 +220,8 @@ pub fn undamaged_by_indexes<I: Placed, P: Placed>()
         (os : List Operations) (at : InputName) (why : Why) → AreOwnIndexes inputs archives os
         → AreRefusedAsking lines slices frames inputs archives at why
         → IsDeviceFault why ⊎ IsForLines lines os (keys_of frames) at why }
-    ensures key { (lines : Bool) (inputs : List (Reader I)) (archives : List (Reader P)) (os : List Operations)
-        (all : List (List (List ℕ))) (refusal : KeyRefusal) → AreOwnIndexes inputs archives os
-        → AreReadWith inputs archives all → IsKeyRefused lines inputs archives all refusal
+    ensures key { (lines : Bool) (frames : List Frame) (inputs : List (Reader I)) (archives : List (Reader P))
+        (os : List Operations) (all : List (List (List ℕ))) (refusal : KeyRefusal) → AreOwnIndexes inputs archives os
+        → AreReadWith inputs archives all → IsKeyRefused lines frames inputs archives all refusal
         → IsRefusedForLines lines os refusal }
 {}

@@ -33,8 +33,8 @@ returns-in_err-answers g c =
     let refused = refused_among g.I.Placed.whole g.I.Placed.failures g.P.Placed.whole g.P.Placed.failures c.args.lines
     c.args.slices c.args.read.now c.args.indexes.now c.keys.indexes c.args.archives.now c.keys.archives
     inv.texts inv.counts inv.kept c.answer_key.new.indexes c.answer_key.new.archives
-    (key_bytes one.key ∷ []) (key_bytes one.key ∷ []) c.in_err-answers.field-0.0 c.answer_key.auto.archives
-    (λ other is. is) c.in_err-answers.ensures in
+    (key_bytes one.key ∷ []) (key_bytes one.key ∷ []) one.places.items c.in_err-answers.field-0.0
+    c.answer_key.auto.archives (λ other is. is) (rw c.deref.ensures.value at c.in_err-answers.ensures) in
     rw (p.1, p.2) (refusal_of _ _ _ _ c.in_err-answers.field-0.0 (λ at why under. record {
       number = c.keys.one-index;
       one = one;

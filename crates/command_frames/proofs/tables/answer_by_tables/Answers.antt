@@ -29,4 +29,4 @@ returns g c =
     let are = rw c.in-Some.is at c.in_ok-answering.ensures in
     rw c.reply_to_fault.ensures (fault_told g.I.Placed.whole g.I.Placed.failures c.args.key.now c.args.read.now
     c.in-Some.answering are c.args.indexes.now c.answer_among.new.devices c.args.lines c.args.places.now
-    c.args.slices c.in-Err.fault c.in-Err.ensures.asks)
+    c.args.slices c.in-Err.fault c.in-Err.ensures.asks c.in-Err.ensures.first)

@@ -8,4 +8,5 @@ pub returns-clause-asked : goal.returns-clause-asked
 returns-clause-asked g c = λ lines slices frames inputs archives os at why are refused. asked_by_device frames inputs archives at why lines slices os are refused
 
 pub returns-clause-key : goal.returns-clause-key
-returns-clause-key g c = λ lines inputs archives os all refusal are read is. own_key inputs archives os lines all read are refusal is
+returns-clause-key g c = λ lines frames inputs archives os all refusal are read is.
+    own_key inputs archives os lines all read are frames refusal is
