@@ -150,7 +150,7 @@ lacks_lines os texts all indexes lines key keys has at why answering input numbe
       };
     }
 
-own_given : {I P : Type 0} (inputs : List (Reader I)) (archives : List (Reader P)) (os : List Operations)
+pub own_given : {I P : Type 0} (inputs : List (Reader I)) (archives : List (Reader P)) (os : List Operations)
     → AreOwnIndexes inputs archives os → AreIndexesGiven inputs os
 own_given inputs archives os are = first_third IsOwnIndex IsIndexGiven inputs archives os (λ x y z is. is.0) are
 
@@ -506,7 +506,7 @@ module _ {I P : Type 0} (frames : List Frame) (inputs : List (Reader I)) (archiv
   abbrev keys : List (List ℕ)
   keys = keys_of frames
 
-  untold_table : (indexes : List (Reader I)) (answering : List EntryAt) → IsUnreadTable indexes answering at why → IsDeviceFault why
+  pub untold_table : (indexes : List (Reader I)) (answering : List EntryAt) → IsUnreadTable indexes answering at why → IsDeviceFault why
   untold_table indexes answering u = subst IsDeviceFault (sym u.why_is) refl
 
   pub untold_by_device : (lines slices : Bool) (os : List Operations) → AreIndexesGiven inputs os

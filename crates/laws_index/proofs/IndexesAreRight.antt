@@ -43,7 +43,7 @@ use Rattle.laws_index.proofs.OfContent.{IsAt, in_turn, one_place, shorter_first}
 
 -- ---- lists place by place
 
-zip_left : {X Y : Type 0} (R : X → Y → Type 0) (xs : List X) (ys : List Y) (x : X) → AllZip R xs ys → Contains xs x → (y : Y) × Contains ys y × R x y
+pub zip_left : {X Y : Type 0} (R : X → Y → Type 0) (xs : List X) (ys : List Y) (x : X) → AllZip R xs ys → Contains xs x → (y : Y) × Contains ys y × R x y
 zip_left R [] ys x all c = absurd (omega (arith, c.1))
 zip_left R (z ∷ xs) [] x all c = absurd all
 zip_left R (z ∷ xs) (y ∷ ys) x all c = elim (in_cons z xs x c) [
@@ -89,7 +89,7 @@ module _ (os : List Operations) (texts : List (List ℕ)) (indexes : List (List 
       )
 
   -- an entry has one record
-  one_record : (x : EntryAt) (r s : List ℕ) → IsRecordOf os texts indexes x r → IsRecordOf os texts indexes x s → r ≡ s
+  pub one_record : (x : EntryAt) (r s : List ℕ) → IsRecordOf os texts indexes x r → IsRecordOf os texts indexes x s → r ≡ s
   one_record x r s a b =
       let t = together x x r s a b refl in
       sym a.record_is ∙ ap (λ (k : ℕ). get_or (listing a.o) k []) (one_place a.o a.file.are.content a.text x.entry a.place b.place a.is t.1) ∙ t.2
@@ -117,7 +117,7 @@ module _ (os : List Operations) (texts : List (List ℕ)) (indexes : List (List 
     pub of : IsOfSlice os texts indexes x slice
     pub answers : IsAnswering (all_joined os) key slice
 
-  before : (key : SliceKey) (x y : EntryAt) (a b : List ℕ) → IsAnsweringSlice key x a → IsAnsweringSlice key y b
+  pub before : (key : SliceKey) (x y : EntryAt) (a b : List ℕ) → IsAnsweringSlice key x a → IsAnsweringSlice key y b
       → StandsBefore x y → order (admission_record a) (admission_record b) ≡ Less
   before key x y a b is_x is_y (inl shorter) =
       shorter_first a b is_x.of.is.valid is_y.of.is.valid
@@ -258,7 +258,7 @@ module _ (os : List Operations) (texts : List (List ℕ)) (indexes : List (List 
       every = all_of indexes
 
       -- an entry that answers is that of a slice that does
-      slice_at : (x : EntryAt) → IsAmong indexes x → answers_among (key_bytes key) every x.entry ≡ true → (slice : List ℕ) × IsAnsweringSlice key x slice
+      pub slice_at : (x : EntryAt) → IsAmong indexes x → answers_among (key_bytes key) every x.entry ≡ true → (slice : List ℕ) × IsAnsweringSlice key x slice
       slice_at x among h =
           let s = slice_of_entry os texts indexes all x among (tagged (key_bytes key) x h) in
           (s.0, record { of = s.1; answers = answers_if os texts indexes all key is_key x s.0 s.1 h })
@@ -305,7 +305,7 @@ module _ (os : List Operations) (texts : List (List ℕ)) (indexes : List (List 
       -- ---- the answer
 
       -- two entries of one slice of different indexes are of the same slice, as far as digests tell
-      one_of_two : (x y : EntryAt) (a b : List ℕ) → DigestsDiffer os → IsOfSlice os texts indexes x a → IsOfSlice os texts indexes y b → IsRepeatOf y x → a ≡ b
+      pub one_of_two : (x y : EntryAt) (a b : List ℕ) → DigestsDiffer os → IsOfSlice os texts indexes x a → IsOfSlice os texts indexes y b → IsRepeatOf y x → a ≡ b
       one_of_two x y a b tell of_x of_y repeat =
           let fronts : key_bytes (key_of a) ++ sha256 a ≡ key_bytes (key_of b)
           ++ sha256 b = ap (drop 1) (sym of_x.is.prefix ∙ sym repeat.slices ∙ of_y.is.prefix) in

@@ -10,4 +10,5 @@ pub mod ByIndex
 pub mod AnsweringRows
 pub mod ByTables
 pub mod FrameKeys
+pub mod OneRefusal
 pub mod Extracted

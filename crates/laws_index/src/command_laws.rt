@@ -49,6 +49,8 @@ ghost use Rattle.laws_index.specs.Refusing.{TellsFramesOrBesides};
 ghost use Rattle.laws_index.specs.Undecided.{TellsUndecided};
 
 use byte_device::{Placed, Source};
+use index_build::laws::one_index;
+use table_source_frames::laws::one_slice_table;
 
 /// The index that `index` makes is the index file of a content, as the other laws ask, if neither it nor the archive has
 /// 2^64 bytes.
@@ -225,3 +227,18 @@ pub fn undamaged_by_indexes<I: Placed, P: Placed>()
         → AreReadWith inputs archives all → IsKeyRefused lines frames inputs archives all refusal
         → IsRefusedForLines lines os refusal }
 {}
+
+/// Two calls for the same frames, by the indexes of these very archives, of the same contents, refuse one input, for one
+/// reason, unless for a device, if no two different slices of several contents have one SHA-256.
+pub fn one_refusal_by_indexes<I: Placed, J: Placed, P: Placed, Q: Placed>()
+    ensures { (lines slices : Bool) (frames : List Frame) (inputs : List (Reader I)) (archives : List (Reader P))
+        (others : List (Reader J)) (more : List (Reader Q)) (os : List Operations) (at other : InputName)
+        (why another : Why) → AreOwnIndexes inputs archives os → AreOwnIndexes others more os → DigestsDiffer os
+        → ((frame : Frame) → Contains frames frame → IsKey frame.key)
+        → AreRefusedAsking lines slices frames inputs archives at why
+        → AreRefusedAsking lines slices frames others more other another
+        → (IsDeviceFault why → ⊥) → (IsDeviceFault another → ⊥) → (at ≡ other) × (why ≡ another) }
+{
+    one_index();
+    one_slice_table();
+}
