@@ -24,6 +24,9 @@ PUBLIC = re.compile(r"^( *)pub (?:const )?fn (\w+)(?:.*\n)*?(?:.* )?\{\}?$", re.
 METHODS_OF = re.compile(r"^impl(?:<.*?>)? (?:.* for )?(\w+).*\{$", re.M)
 # The crates of which few functions have a clause: they are tests.
 OF_TESTS = ("test_acceptance", "test_calls", "test_parts")
+# The calls of the system for OUT, which a person reads, and what calls the system.
+BODIES, MOST_LINES_TO_READ = "system_calls/bodies.rt", 100
+CALL = re.compile(r"\bfs::\w+\(|\bOpenOptions::new\(|\bfiles\s*\.\w+\(|\.(?:sync_all|set_permissions|set_len|sync_data)\(")
 # Help and refusals, which have usage lines; and what these have of options.
 HELPS = "crates/test_acceptance/data/cases/words"
 OPTIONS = re.compile(r"\[OPTIONS\] |--(?:lines|slices|keep-going) |--\w+ <\w+> ")
@@ -96,6 +99,18 @@ class Clauses(unittest.TestCase):
     def test_functions_without_one(self) -> None:
         listed = re.findall(r"^- `(\w+)`: ((?:`[\w:]+`(?:,\s+)?)+)$", text_of("docs/PROOFS.md"), re.M)
         self.assertEqual({crate: re.findall(r"`([\w:]+)`", names) for crate, names in listed}, without_a_clause())
+
+
+class CallsToRead(unittest.TestCase):
+    """The calls of the system for OUT stand in one short file, as PROOFS says."""
+
+    def test_one_file(self) -> None:
+        """No other file of its crate calls the system, but the one that opens inputs."""
+        sources = TOP / "crates/cli_files/src"
+        made = {str(it.relative_to(sources)): CALL.findall(it.read_text(encoding="utf-8")) for it in sources.rglob("*.rt")}
+        opening = made.pop("system_disk.rt")
+        self.assertEqual(({name for name, calls in made.items() if calls}, opening), ({BODIES}, ["fs::open("]))
+        self.assertLess(len((sources / BODIES).read_text(encoding="utf-8").splitlines()), MOST_LINES_TO_READ)
 
 
 def without_a_clause() -> Dict[str, List[str]]:

@@ -1,6 +1,7 @@
 -- The calls of the system for an output.
 use Rattle.std.specs.Prelude.{ℕ, Bool, true, false, ◌&&◌, ◌==◌, if◌then◌else◌, List, [], ◌∷◌, ◌++◌, map, string_bytes}
-use Rattle.std.specs.Prelude.{Option, Some, None, Result, Ok, Err}
+use Rattle.std.specs.Prelude.{◌≡◌, Option, Some, None, Result, Ok, Err, drop, length, min, replicate}
+use Rattle.std.specs.Io.KnownBytes.{Consumes}
 use Rattle.std.specs.IoError.{error_kind}
 use Rattle.std.specs.declared.io.Error.{Error}
 use Rattle.std.specs.declared.io.ErrorKind.{ErrorKind}
@@ -101,6 +102,14 @@ led path (Err error) = failed path (error_kind error) ∷ []
 abbrev pub first_bytes : Option (List ℕ) → List ℕ
 first_bytes None = []
 first_bytes (Some bytes) = bytes
+
+-- This was read of a file of this size, which had those bytes left before and has these after: its next eight, or as
+-- many as it has, with zeros after them; nothing, if it is empty.
+abbrev pub HasRead : Option (List ℕ) → Option (List ℕ) → ℕ → Option (List ℕ) → Type 0
+HasRead before after size None = (size ≡ 0) × (after ≡ before)
+HasRead before after size (Some bytes) =
+    (read : List ℕ) × (length read ≡ min 8 size) × Consumes before after read
+    × (bytes ≡ read ++ drop (length read) (replicate 8 0))
 
 -- what the file there begins with
 abbrev pub begun : List ℕ → Result (Option (List ℕ)) Error → List FileCall

@@ -13,7 +13,7 @@ use crate::found::Found;
 use crate::losses::{check_losses, replaceable_beginning};
 use crate::replaceable::{Obstacle, OutFault, ReplaceRule};
 use crate::sameness::check_sameness;
-use crate::system_calls::{Own, System};
+use crate::system_calls::{Own, System, SystemCalls};
 use memory::NoMemory;
 use std::alloc::Global;
 use std::io::{self, ErrorKind};
@@ -132,7 +132,7 @@ pub fn put_draft<F: Files>(
         remove_draft(system, draft, calls);
         return Err(fault);
     }
-    if let Err(error) = draft.own.sync(calls) {
+    if let Err(error) = system.sync(&draft.own, calls) {
         remove_draft(system, draft, calls);
         return Err(OutFault::NotReplaced(Obstacle::Refused(Some(error))));
     }

@@ -41,13 +41,15 @@ impl FileCalls {
     {}
 
     /// A path was asked of, and the system said this.
-    pub fn note_metadata(&mut self, path: &str, answer: &io::Result<Found>)
-        ensures { self.new.entries ≡ self.old.entries ++ found path.now answer.now }
+    pub fn note_metadata(&mut self, path: &str, answer: io::Result<Found>) -> io::Result<Found>
+        ensures calls { self.new.entries ≡ self.old.entries ++ found path.now answer }
+        ensures same { result ≡ answer }
     {
-        match answer {
+        match &answer {
             Ok(found) => self.note_file(path, found),
             Err(error) => self.note_failure(path, error),
         }
+        answer
     }
 
     // What the system said of a file.
@@ -71,24 +73,28 @@ impl FileCalls {
     }
 
     /// It was asked whether a path itself is a link.
-    pub fn note_is_link(&mut self, path: &str, is_link: bool)
-        ensures { self.new.entries ≡ self.old.entries ++ linked path.now is_link }
+    pub fn note_is_link(&mut self, path: &str, is_link: bool) -> bool
+        ensures calls { self.new.entries ≡ self.old.entries ++ linked path.now is_link }
+        ensures same { result ≡ is_link }
     {
         if is_link {
             self.note(&[9], path.as_bytes(), &[]);
         } else {
             self.note(&[10], path.as_bytes(), &[]);
         }
+        is_link
     }
 
     /// It was asked which path a path leads to.
-    pub fn note_canonical(&mut self, path: &str, answer: &io::Result<String>)
-        ensures { self.new.entries ≡ self.old.entries ++ led path.now answer.now }
+    pub fn note_canonical(&mut self, path: &str, answer: io::Result<String>) -> io::Result<String>
+        ensures calls { self.new.entries ≡ self.old.entries ++ led path.now answer }
+        ensures same { result ≡ answer }
     {
-        match answer {
+        match &answer {
             Ok(target) => self.note(&[11], path.as_bytes(), target.as_bytes()),
             Err(error) => self.note_failure(path, error),
         }
+        answer
     }
 
     /// The first bytes of the file at a path were read; `None` if it is empty.
@@ -120,29 +126,34 @@ impl FileCalls {
     }
 
     /// A file was opened to be read, of which only a failure is noted.
-    pub fn note_failed_open<T>(&mut self, path: &str, answer: &io::Result<T>)
-        ensures { self.new.entries ≡ self.old.entries ++ refused path.now answer.now }
+    pub fn note_failed_open<T>(&mut self, path: &str, answer: io::Result<T>) -> io::Result<T>
+        ensures calls { self.new.entries ≡ self.old.entries ++ refused path.now answer }
+        ensures same { result ≡ answer }
     {
-        if let Err(error) = answer {
+        if let Err(error) = &answer {
             self.note_failure(path, error);
         }
+        answer
     }
 
     /// What is there was to be opened and emptied.
-    pub fn note_truncate<T>(&mut self, path: &str, answer: &io::Result<T>)
-        ensures { self.new.entries ≡ self.old.entries ++ answered (Opens path.now) path.now answer.now }
+    pub fn note_truncate<T>(&mut self, path: &str, answer: io::Result<T>) -> io::Result<T>
+        ensures calls { self.new.entries ≡ self.old.entries ++ answered (Opens path.now) path.now answer }
+        ensures same { result ≡ answer }
     {
-        match answer {
+        match &answer {
             Ok(_) => self.note(&[1], path.as_bytes(), &[]),
             Err(error) => self.note_failure(path, error),
         }
+        answer
     }
 
     /// A file was to be created that was not there, with this mode.
-    pub fn note_create<T>(&mut self, path: &str, mode: u32, answer: &io::Result<T>)
-        ensures { self.new.entries ≡ self.old.entries ++ created path.now mode answer.now }
+    pub fn note_create<T>(&mut self, path: &str, mode: u32, answer: io::Result<T>) -> io::Result<T>
+        ensures calls { self.new.entries ≡ self.old.entries ++ created path.now mode answer }
+        ensures same { result ≡ answer }
     {
-        match answer {
+        match &answer {
             Ok(_) => self.note(&[0, mode as u64], path.as_bytes(), &[]),
             Err(error) if error.kind() == ErrorKind::AlreadyExists => self.note(
                 &[18],
@@ -151,6 +162,7 @@ impl FileCalls {
             ),
             Err(error) => self.note_failure(path, error),
         }
+        answer
     }
 
     /// Bytes were written to the file that was created or opened.
@@ -161,24 +173,33 @@ impl FileCalls {
     }
 
     /// Its bytes, which are at this path, were to be on the disk.
-    pub fn note_sync(&mut self, path: &str, answer: &io::Result<()>)
-        ensures { self.new.entries ≡ self.old.entries ++ answered Syncs path.now answer.now }
+    pub fn note_sync(&mut self, path: &str, answer: io::Result<()>) -> io::Result<()>
+        ensures calls { self.new.entries ≡ self.old.entries ++ answered Syncs path.now answer }
+        ensures same { result ≡ answer }
     {
-        match answer {
+        match &answer {
             Ok(()) => self.note(&[3], &[], &[]),
             Err(error) => self.note_failure(path, error),
         }
+        answer
     }
 
     /// A file was to get the path of another one, which is gone then.
-    pub fn note_rename(&mut self, draft: &str, target: &str, answer: &io::Result<()>)
-        ensures { self.new.entries ≡ self.old.entries
-            ++ answered (Renames draft.now target.now) target.now answer.now }
+    pub fn note_rename(
+        &mut self,
+        draft: &str,
+        target: &str,
+        answer: io::Result<()>,
+    ) -> io::Result<()>
+        ensures calls { self.new.entries ≡ self.old.entries
+            ++ answered (Renames draft.now target.now) target.now answer }
+        ensures same { result ≡ answer }
     {
-        match answer {
+        match &answer {
             Ok(()) => self.note(&[4], draft.as_bytes(), target.as_bytes()),
             Err(error) => self.note_failure(target, error),
         }
+        answer
     }
 
     /// The names of a folder were to be on the disk.

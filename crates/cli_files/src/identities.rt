@@ -7,7 +7,7 @@ ghost use Rattle.cli_files.specs.Identities.{AreApart, IsMet, is_same};
 ghost use Rattle.cli_files.specs.declared.found.Found.{Found};
 
 use crate::file_calls::FileCalls;
-use crate::system_calls::System;
+use crate::system_calls::{System, SystemCalls};
 use std::rt::Files;
 
 /// Whether two paths name one regular file, as other spellings, symbolic links and hard links do.

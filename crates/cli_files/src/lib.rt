@@ -2,7 +2,8 @@
 //!
 //! - `call_log`: a list of calls that only clauses read;
 //! - `file_calls`: the same, of the calls for one output;
-//! - `found`: what the system said of a path; `system_calls`: one function for each call of the system for OUT;
+//! - `found`: what the system said of a path; `system_calls`: the calls of the system for OUT, and in its `bodies` one
+//!   function for each;
 //! - `opened_file`: a file that is read from its start; `placed_file`: one that is read from any place;
 //! - `disks`: [`Disk`], files by their paths; `system_disk`: those of the system;
 //! - `input_state`: an input that is opened at its first read;

@@ -19,7 +19,7 @@ use crate::file_calls::FileCalls;
 use crate::opened_file::LeadingBytes;
 use crate::replaceable::{Obstacle, OutFault, ReplaceRule, check_kind};
 use crate::sides::{ArchiveSide, side_of};
-use crate::system_calls::System;
+use crate::system_calls::{System, SystemCalls};
 use archive_merge::lost_operations;
 use archive_records::{MergeCause, MergeFault, RecordFaultKind};
 use byte_device::Source;

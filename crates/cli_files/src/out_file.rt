@@ -17,7 +17,7 @@ use crate::drafts::{Draft, create_draft, put_draft, remove_draft};
 use crate::file_calls::FileCalls;
 use crate::published::Published;
 use crate::replaceable::{Obstacle, OutFault, ReplaceRule};
-use crate::system_calls::System;
+use crate::system_calls::{System, SystemCalls};
 use crate::ways::{WriteMode, write_mode_of};
 use byte_device::{Failed, Sink};
 use std::alloc::Global;

@@ -1,7 +1,7 @@
 //! Which file at OUT's path is replaced, by what it begins with, and why one is not. What files hold is in no contract.
 
 ghost use Rattle.std.specs.Prelude.{◌≡◌, ◌≢◌, ℕ, IfErr, IfOk, IsOk, List, None, Ok, OnOk, Some, [], false, true};
-ghost use Rattle.cli_files.specs.FileCalls.{first_bytes};
+ghost use Rattle.cli_files.specs.FileCalls.{HasRead, first_bytes};
 ghost use Rattle.cli_files.specs.Replacing.{GivesWay, IsOfKind};
 
 use crate::opened_file::{LEADING_LEN, LeadingBytes};
@@ -86,6 +86,8 @@ pub fn beginning_of<R: Read>(file: &mut R, size: u64) -> io::Result<Option<Leadi
     ensures empty { size ≡ 0 → result ≡ Ok None }
     ensures some { size ≢ 0 → OnOk result (result ≢ Ok None) }
     ensures none { IfOk result (λ beginning. first_bytes beginning ≡ [] → size ≡ 0) }
+    ensures bytes { IfOk result
+        (λ beginning. HasRead (R.remaining file.old) (R.remaining file.new) size beginning) }
 {
     if size == 0 {
         return Ok(None);

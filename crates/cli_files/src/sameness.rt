@@ -11,7 +11,7 @@ ghost use Rattle.cli_files.specs.declared.replaceable.ReplaceRule.TheVariants.{S
 
 use crate::file_calls::FileCalls;
 use crate::replaceable::{Obstacle, OutFault};
-use crate::system_calls::{Opened, System};
+use crate::system_calls::{Opened, System, SystemCalls};
 use std::io::{self, ErrorKind, Read};
 use std::rt::Files;
 

@@ -13,7 +13,7 @@ use crate::descriptors::is_descriptor;
 use crate::file_calls::FileCalls;
 use crate::found::Found;
 use crate::replaceable::{Obstacle, OutFault, ReplaceRule, check_kind};
-use crate::system_calls::System;
+use crate::system_calls::{System, SystemCalls};
 use std::alloc::Global;
 use std::io::{self, ErrorKind};
 use std::rt::Files;
