@@ -128,9 +128,9 @@ TEXT = """print a JSON report as people read a crash: its header, the reason of 
 backtraces with names and offsets, the registers, the images. It omits a `Full Report` that repeats the text above it"""
 NO_LINES = """print only names, without files, lines and inlined functions, as for an archive without dSYMs"""
 PATHS = """print the whole paths of source files, as the compilers wrote them"""
-NO_DEMANGLE = """leave names of C++, Rust and Swift as they are. By default `swift demangle` makes them readable, `c++filt`,
-and, of the names that it leaves, `llvm-cxxfilt` or the `llvm-cxxfilt-N` of the greatest N: each that is installed, once
-for all names"""
+NO_DEMANGLE = """leave names of C++, Rust and Swift as they are. By default those that are installed make them readable:
+`swift demangle` the names of Swift, `c++filt` the others, and `llvm-cxxfilt`, or the `llvm-cxxfilt-N` of the greatest
+N, those that `c++filt` leaves"""
 DEMANGLE = """make them readable, which is the default, and report if no demangler is installed"""
 RAW = """keep the underscore that a symbol table puts before each name, and leave names as they are"""
 OUT = """write each report to FOLDER under the name of its own file, in the folders that a REPORT folder has, whole or
