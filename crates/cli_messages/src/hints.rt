@@ -70,10 +70,7 @@ impl Seen {
     }
 
     /// What was seen of an input.
-    #[tactic(auto, using(
-        crate::proofs::Seeing::seen_in_open,
-        crate::proofs::Seeing::seen_in_placed
-    ))]
+    #[tactic(auto, using(crate::proofs::Seeing::seen_in_open, crate::proofs::Seeing::seen_in_placed))]
     fn of_input<F: Files>(input: &SystemInput<'_, '_, F>) -> Seen
         ensures { result ≡ seen_in input.now.state }
     {

@@ -38,7 +38,8 @@ fn frames_under_key(
 /// followed by the source frames of the address in it. If `slices`, the lines of the slices that answer under the UUID
 /// follow, and the key's if none does under it.
 ///
-/// The status is `Done` where each answer is one symbol, `Refused` where a key is refused alone, and else `Partial`.
+/// The status is `Done` where each answer is one symbol, `SomeRefused` where a key is refused alone,
+/// and else `Partial`.
 ///
 /// # Errors
 ///

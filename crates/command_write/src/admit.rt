@@ -259,7 +259,7 @@ fn admit_all<R: Source, S: Source, T: Target, P: Sink>(
     }
 }
 
-/// `Refused` in place of `Done` if a file was passed over; a fault is kept.
+/// `SomeRefused` in place of `Done` if a file was passed over; a fault is kept.
 fn with_status(passed: bool, ended: Result<Status, CommandFault>) -> Result<Status, CommandFault>
     ensures { result ≡ with_status passed ended }
 {
@@ -300,8 +300,8 @@ fn admit_passing<R: Source, S: Source + Opens, T: Target, P: Sink>(
 /// files are read first, in the order of the command line, each to its end, and then IN is merged with their slices as
 /// it comes, in the memory of these, of one record and of 57 bytes for each retirement. Of each slice of the files that
 /// IN retires a note is added, in the order of their records. A file that is refused is passed over with `keep_going`,
-/// and has a row that says why; the status is `Refused` then. Without it IN is tested to its end, and the command is
-/// refused.
+/// and has a row that says why; the status is `SomeRefused` then. Without it IN is tested to its end, and the
+/// command is refused.
 ///
 /// # Errors
 ///
