@@ -421,7 +421,7 @@ class Retired(LevelCase):
     def test_purge(self) -> None:
         waiting = self.waiting()
         _, errors = self.fold("--purge")
-        told = f"1 slices, 5 retirements came in; {waiting} bytes of retired slices were removed"
+        told = f"1 slices, 5 retirements joined; {waiting} bytes of retired slices were removed"
         same("said", errors, [f"symarch-keep: {self.room.archive}: {told}"])
         same("there", (self.there(), self.waiting()), ([False] * 5, 0))
         self.has(self.wanted)
