@@ -218,9 +218,9 @@ class Order(RoomCase):
         text = archive([image(3)])
         self.room.archive.write_bytes(text)
         before = sorted(os.listdir(self.folder))
-        told = "ARCHIVE comes first: symarch-keep add site.sym dSYMs"
+        told = "ARCHIVE is first: symarch-keep add site.sym dSYMs"
         same("a folder", self.said("dSYMs", "site.sym"), f"symarch-keep: dSYMs is a folder, and {told}")
-        told = "ARCHIVE comes first: symarch-keep add --dry-run site.sym two dSYMs"
+        told = "ARCHIVE is first: symarch-keep add --dry-run site.sym two dSYMs"
         said = self.said("--dry-run", "two", "dSYMs", "site.sym")
         same("a file", said, f"symarch-keep: two is no archive, and {told}")
         self.room.has(text)
@@ -253,7 +253,7 @@ class Order(RoomCase):
         """It is no archive, and what is to be typed does not have it as one."""
         self.room.archive.write_bytes(archive([image(3)]))
         self.room.file("dSYMs/one", image(1))
-        first = "ARCHIVE comes first: symarch-keep add"
+        first = "ARCHIVE is first: symarch-keep add"
         for words, told in (
             (("-", "site.sym"), f"- is standard input, and {first} site.sym -"),
             (("-", "new.sym"), f"- is standard input, and {first} new.sym -"),
@@ -294,6 +294,6 @@ class Order(RoomCase):
 
     def test_what_is_said_may_be_typed(self) -> None:
         self.room.file("dSYMs/one", (TOP / "examples/crash/spool-1").read_bytes())
-        typed = self.said("dSYMs", "new.sym").partition("comes first: symarch-keep ")[2]
+        typed = self.said("dSYMs", "new.sym").partition("is first: symarch-keep ")[2]
         self.room.call(*typed.split(" "))
         self.assertTrue(pathlib.Path(self.folder / "new.sym").exists())
