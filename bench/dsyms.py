@@ -1,9 +1,11 @@
 """Companions with DWARF, for the benchmarks that ask for lines. Clang compiles units of C++ with containers of
 libstdc++, whose objects are copied, each time under other names of symbols. A companion has the sections that dsymutil
 would write, packed from an ELF file, and its symbols: the large one of seven copies of six units, small ones of one
-copy each. Slices of a given size are of such a unit, or of some functions of few bytes."""
+copy each. The plain one is what dsymutil makes of 48 objects for macOS that are not optimised: of one unit, each time
+under other names of its types. Slices of a given size are of such a unit, or of some functions of few bytes."""
 import functools
 import random
+import string
 import struct
 import subprocess
 from concurrent.futures import ThreadPoolExecutor
@@ -15,6 +17,13 @@ from tests.support.made_images import uuid_of
 
 UNITS, COPIES, KINDS = 6, 7, 12
 LOWEST = 0x1_0000_0000
+# The plain one: a character for each of its units.
+FILES = (string.digits + string.ascii_letters)[:48]
+# The headers of this system, which clang would not take for macOS, nor with what it means there by these names.
+HEADERS = ("/usr/include/c++/12", "/usr/include/x86_64-linux-gnu/c++/12", "/usr/lib/llvm-14/lib/clang/14.0.6/include",
+           "/usr/include/x86_64-linux-gnu", "/usr/include")
+FOR_MACOS = ["-target", "x86_64-apple-macos11", "-nostdinc", "-nostdinc++", "-U__nonnull", "-U__nullable",
+             "-D_GNU_SOURCE", *(f"-isystem{it}" for it in HEADERS)]
 # Slices of so many bytes are of a unit of so many kinds; shorter ones of functions of so many addresses, whose numbers
 # have so many digits more than the first ones.
 LEAST_OF_UNIT, KINDS_OF_SLICE, FUNCTION, MOST_OF_NUMBER = 5_000_000, 7, 16, 4
@@ -103,6 +112,35 @@ def large_companion():
         with ThreadPoolExecutor(4) as threads:
             copies = sum(threads.map(objects, range(UNITS)), [])
         path.write_bytes(linked(copies, 0))
+    return path
+
+
+def plain_objects():
+    """The objects of the units for macOS, as `clang -g` makes them. The first is compiled, the others are the same with
+    names of the same length: their tables of names are in another order, which dsymutil makes anew."""
+    place, made = folder / "plain0.cc", [folder / f"plain{unit}.o" for unit in FILES]
+    place.write_text(source(FILES[0]))
+    output(tool("clang++"), *FOR_MACOS, "-std=c++17", "-g", "-c", place, "-o", made[0])
+    place.unlink()
+    content = made[0].read_bytes()
+    for unit, path in zip(FILES[1:], made[1:]):
+        other = content
+        for name in ("Item%s_", "work%s_", "plain%s.cc"):
+            other = other.replace((name % FILES[0]).encode(), (name % unit).encode())
+        path.write_bytes(other)
+    return made
+
+
+def plain_companion():
+    """The path of the plain companion, which is made if it is not there: that takes some minutes."""
+    path, image = folder / "lines-plain.dsym", folder / "lines-plain"
+    if not path.exists():
+        made = plain_objects()
+        version = ["-platform_version", "macos", "11.0", "11.0"]
+        output(tool("ld64.lld"), "-arch", "x86_64", *version, "-dylib", "-undefined", "dynamic_lookup", "-o", image, *made)
+        output(tool("dsymutil"), "-f", "-o", path, image)
+        for file in (image, *made):
+            file.unlink()
     return path
 
 

@@ -70,7 +70,9 @@ def others() -> List[Other]:
     relative = struct.pack("<QQQQ", 0, SIZE, 0, 0)
     far_line = b"\x03\x84\x80\x80\x80\x10" + ONE_ROW
     wide_column = b"\x05\x80\x80\x04" + ONE_ROW
+    aliases = front(2, 0, SIZE) + b"f\0\0" + front(2, 0, SIZE) + b"g\0\0"
     return [
+        Other("functions that overlap", made(aliases, ONE_ROW), 0, ["    f at a:1:0"], ["    g at a:1:0"]),
         Other("a function out of the one around it", made(beside, ONE_ROW), 8, ["    call at a:1:0"],
               ["    call at a:1:0", "    f at a:7:0"]),
         Other("sequences that overlap", made(FUNCTION, apart), 6, ["    f at a:9:0"], ["    f at a:1:0"]),
