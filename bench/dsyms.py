@@ -136,8 +136,8 @@ def plain_companion():
     path, image = folder / "lines-plain.dsym", folder / "lines-plain"
     if not path.exists():
         made = plain_objects()
-        version = ["-platform_version", "macos", "11.0", "11.0"]
-        output(tool("ld64.lld"), "-arch", "x86_64", *version, "-dylib", "-undefined", "dynamic_lookup", "-o", image, *made)
+        how = ["-arch", "x86_64", "-platform_version", "macos", "11.0", "11.0", "-undefined", "dynamic_lookup"]
+        output(tool("ld64.lld"), *how, "-dylib", "-o", image, *made)
         output(tool("dsymutil"), "-f", "-o", path, image)
         for file in (image, *made):
             file.unlink()
