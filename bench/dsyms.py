@@ -4,6 +4,7 @@ would write, packed from an ELF file, and its symbols: the large one of seven co
 copy each. The plain one is what dsymutil makes of 48 objects for macOS that are not optimised: of one unit, each time
 under other names of its types. Slices of a given size are of such a unit, or of some functions of few bytes."""
 import functools
+import pathlib
 import random
 import string
 import struct
@@ -19,11 +20,6 @@ UNITS, COPIES, KINDS = 6, 7, 12
 LOWEST = 0x1_0000_0000
 # The plain one: a character for each of its units.
 FILES = (string.digits + string.ascii_letters)[:48]
-# The headers of this system, which clang would not take for macOS, nor with what it means there by these names.
-HEADERS = ("/usr/include/c++/12", "/usr/include/x86_64-linux-gnu/c++/12", "/usr/lib/llvm-14/lib/clang/14.0.6/include",
-           "/usr/include/x86_64-linux-gnu", "/usr/include")
-FOR_MACOS = ["-target", "x86_64-apple-macos11", "-nostdinc", "-nostdinc++", "-U__nonnull", "-U__nullable",
-             "-D_GNU_SOURCE", *(f"-isystem{it}" for it in HEADERS)]
 # Slices of so many bytes are of a unit of so many kinds; shorter ones of functions of so many addresses, whose numbers
 # have so many digits more than the first ones.
 LEAST_OF_UNIT, KINDS_OF_SLICE, FUNCTION, MOST_OF_NUMBER = 5_000_000, 7, 16, 4
@@ -115,12 +111,22 @@ def large_companion():
     return path
 
 
+def for_macos():
+    """What clang is told to compile for macOS by the headers of this system, which use two names otherwise."""
+    resources = output(tool("clang++"), "-print-resource-dir").decode().strip()
+    system = max(pathlib.Path("/usr/include/c++").glob("[0-9]*"), key=lambda it: int(it.name))
+    machine = pathlib.Path("/usr/include/x86_64-linux-gnu")
+    headers = (system, machine / "c++" / system.name, f"{resources}/include", machine, "/usr/include")
+    names = ["-U__nonnull", "-U__nullable", "-D_GNU_SOURCE"]
+    return ["-target", "x86_64-apple-macos11", "-nostdinc", "-nostdinc++", *names, *(f"-isystem{it}" for it in headers)]
+
+
 def plain_objects():
     """The objects of the units for macOS, as `clang -g` makes them. The first is compiled, the others are the same with
     names of the same length: their tables of names are in another order, which dsymutil makes anew."""
     place, made = folder / "plain0.cc", [folder / f"plain{unit}.o" for unit in FILES]
     place.write_text(source(FILES[0]))
-    output(tool("clang++"), *FOR_MACOS, "-std=c++17", "-g", "-c", place, "-o", made[0])
+    output(tool("clang++"), *for_macos(), "-std=c++17", "-g", "-c", place, "-o", made[0])
     place.unlink()
     content = made[0].read_bytes()
     for unit, path in zip(FILES[1:], made[1:]):
