@@ -117,7 +117,7 @@ class Vouched(LossCase):
         index = self.beside("idx")
         out, errors = self.word("check", status=2)
         self.assertEqual(out, [f"damaged {index}", f"unknown {self.room.archive}"])
-        how = f"to take it as it stands, remove {index}, and call `symarch-keep fold`"
+        how = f"to accept it as it is, remove {index}, and call `symarch-keep fold`"
         self.assertEqual(errors[0], f"symarch-keep: {self.room.archive}: {how}")
         index.unlink()
         self.word("fold")
@@ -182,7 +182,7 @@ class Vouched(LossCase):
         self.change_entry()
         before = state_of(self.folder)
         _, errors = self.room.call("add", "--dry-run", self.room.archive, "new", status=4)
-        self.assertIn("nothing says whether", errors[0])
+        self.assertIn("it is not known whether", errors[0])
         self.assertEqual(state_of(self.folder), before)
 
     def test_a_retirement_that_changed_is_not_taken_for_another(self) -> None:
