@@ -512,10 +512,11 @@ def steps_of(room: Room, trace: pathlib.Path) -> List[str]:
     return [step.replace(f"fsync {room.path.name}", "fsync folder") for step in steps]
 
 
-def put_in_place(name: str, *more: str, names: str = "") -> List[str]:
-    """The steps by which a file takes the place of one, and those of its names and its log."""
-    steps = ["fsync new.idx", *laid("site.sym.log.next", *([names] if names else []))]
-    steps += ["fsync new.idx", f"replace new.idx {name}.idx.next"]
+def put_in_place(name: str, *more: str, names: str = "", made: str = "") -> List[str]:
+    """The steps by which a file takes the place of one, and those of its names, its log and its index, which is one
+    that symarch made and synced, or has tables that are copied."""
+    steps = [*([] if made else ["fsync new.idx"]), *laid("site.sym.log.next", *([names] if names else []))]
+    steps += [f"fsync {made or 'new.idx'}", f"replace {made or 'new.idx'} {name}.idx.next"]
     steps += ["fsync folder", f"replace new {name}", "fsync folder"]
     return steps + [*more, f"replace {name}.idx.next {name}.idx"]
 
@@ -532,7 +533,8 @@ class InPlace(RoomCase):
 
     def test_synced(self) -> None:
         """A new file, which symarch has synced, is renamed, then its folder is synced. Who has the old one open reads
-        that. A fold empties ARCHIVE.today once ARCHIVE has all of it."""
+        that. The index of symarch is renamed too, if it is that of the new file. A fold empties ARCHIVE.today once
+        ARCHIVE has all of it."""
         self.room.file("one", image(1))
         self.room.archive.write_bytes(archive([image(2)]))
         os.chmod(self.room.archive, 0o640)
@@ -545,7 +547,7 @@ class InPlace(RoomCase):
         builds = "site.sym.builds"
         rest = f"replace {builds}.next {builds}", "fsync folder", "fsync site.sym.log"
         steps = ["fsync main.idx", "replace main.idx site.sym.idx"]
-        steps += put_in_place("site.sym.today", *rest, names=f"{builds}.next")
+        steps += put_in_place("site.sym.today", *rest, names=f"{builds}.next", made="came.idx")
         same("steps of add", steps_of(self.room, trace), steps)
         with open(self.room.archive, "rb") as old, open(today_of(self.room.archive), "rb") as old_today:
             self.room.call("fold", self.room.archive, **how)

@@ -5,6 +5,7 @@ import os
 import pathlib
 import random
 import subprocess
+import sys
 from typing import Callable, Dict, List
 
 from .model.indexes import entries_in, table_place
@@ -19,6 +20,18 @@ from .support.rooms import RoomCase, change, kept_index, today_of
 from .support.sites import Site, until_same
 
 CRASH = TOP / "examples" / "crash"
+# Runs the tool where the system copies no bytes by itself.
+WITHOUT_SENDFILE = """
+import errno, os, runpy, sys
+
+def sendfile(*_):
+    raise OSError(errno.EINVAL, "Invalid argument")
+
+os.sendfile = sendfile
+sys.argv = sys.argv[1:]
+sys.path[0] = os.path.dirname(sys.argv[0])
+runpy.run_path(sys.argv[0], run_name="__main__")
+"""
 
 
 def words_of(made: bytes) -> str:
@@ -91,6 +104,14 @@ class Kept(TableCase):
         same("archive", self.room.archive.read_bytes(), archive(self.made[1:], retired=self.made[:1]))
         calls = (self.folder / "calls").read_text().split()
         same("how often tables were made", calls.count("index"), len(self.made) - 2)
+
+    def test_where_the_system_copies_nothing(self) -> None:
+        """The tool copies slices and tables itself."""
+        for number, one in enumerate(self.made[:3]):
+            self.room.file(f"given/{number}", one)
+            self.room.add(f"given/{number}", before=[sys.executable, "-c", WITHOUT_SENDFILE])
+        self.is_indexed(self.room.archive, today_of(self.room.archive))
+        self.room.has(archive(self.made[:3]))
 
     def test_exchange(self) -> None:
         east, west = Site(self.room, "east"), Site(self.room, "west")

@@ -28,7 +28,7 @@ class Retirement(Slice):
     def of(cls, entry: bytes) -> "Retirement":
         return cls(b"", None, 0, 0, 0, RETIREMENT + entry, b"")
 
-    def pieces(self) -> Iterator[bytes]:
+    def sent(self, descriptor: int) -> Iterator[int]:
         return iter(())
 
 

@@ -15,7 +15,8 @@ MAGIC, KEY, DIGEST, LENGTH = 8, 24, 32, 8
 ENTRY = KEY + DIGEST
 EMPTY = MAGICS[0] + END + bytes(LENGTH)
 TOO_LARGE = 1 << 32
-CHUNK = 1 << 20
+# Larger pieces of a file leave the cache of the processor before they are hashed.
+CHUNK = 1 << 17
 
 NAMES = {(0x01000007, 3): "x86_64", (0x01000007, 8): "x86_64h", (0x0100000C, 0): "arm64", (0x0100000C, 2): "arm64e"}
 NUMBERS = {name: numbers for numbers, name in NAMES.items()}

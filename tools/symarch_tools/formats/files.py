@@ -1,5 +1,6 @@
 """Files: their sizes and times, and how bytes are written so that they are on the disk."""
 import contextlib
+import errno
 import os
 import stat
 from typing import Iterable, Optional, Tuple, Union
@@ -9,6 +10,8 @@ from ..console.streams import write
 
 # By what the program gets the files that this tool has open, also those whose paths are no UTF-8.
 DESCRIPTORS = "/dev/fd"
+# What the system says where it copies nothing by itself.
+UNABLE = (errno.EINVAL, errno.ENOSYS, errno.EOPNOTSUPP)
 
 
 def stamp(path: bytes, of: bytes) -> None:
@@ -39,6 +42,19 @@ def write_to_disk(descriptor: int, chunks: Iterable[bytes]) -> None:
     for chunk in chunks:
         write(descriptor, chunk)
     os.fsync(descriptor)
+
+
+def copied(to: int, of: int, at: int, size: int) -> int:
+    """How many bytes of an open file the system wrote to another one: at most so many, from a place on. None of them
+    comes into this process, unless the system copies nothing by itself."""
+    try:
+        return os.sendfile(to, of, at, size)
+    except OSError as error:
+        if error.errno not in UNABLE:
+            raise
+    chunk = os.pread(of, size, at)
+    write(to, chunk)
+    return len(chunk)
 
 
 def append_synced(path: bytes, text: bytes) -> None:

@@ -12,6 +12,7 @@ from ..console.escapes import shown
 from ..console.faults import Failed, about
 from ..console.streams import write
 from .contents import CHUNK, DIGEST, MAGIC, Moved, unmoved
+from .files import copied
 from .indexes import INDEX, NO_ROOT, NO_TABLE, PAGE, Index, IndexRow, index_of, level_sizes, pages_in
 
 
@@ -58,12 +59,11 @@ class Copying:
         while self.begin < self.end:
             descriptor = self.descriptor()
             with about(self.path):
-                chunk = os.pread(descriptor, min(CHUNK, self.end - self.begin), self.begin)
-            if not chunk:
+                count = copied(self.written, descriptor, self.begin, min(CHUNK, self.end - self.begin))
+            if not count:
                 raise Failed(f"{shown(self.path)} ends early: its tables cannot be copied")
-            write(self.written, chunk)
-            self.begin += len(chunk)
-            self.moved(len(chunk))
+            self.begin += count
+            self.moved(count)
 
     def descriptor(self) -> int:
         if self.path not in self.opened:

@@ -154,12 +154,16 @@ class Draft:
 
     def new_index(self, file: ArchiveFile, content: Content, indexes: Sequence[Optional[Index]]) -> Index:
         """The index of the new file of the room, which has a content except for slices that changed in the files from
-        which it was made: these keep their entries, so that `check` finds them. No other slice is read for it, and
-        tables are copied from the indexes of these files."""
+        which it was made: these keep their entries, so that `check` finds them. It is the one that the program made in
+        the room, if that has just this content. Otherwise no other slice is read for it, and tables are copied from the
+        indexes of these files."""
         new = os.path.join(self.room, b"new")
         with open(new, "rb") as written:
             if heads_in(written) != content.heads():
                 raise Failed(f"something in {shown(file.path)} changed; `symarch-keep check` names it")
+        for made in filter(None, indexes):
+            if os.path.dirname(made.path) == self.room and made.content() == content:
+                return made
         index = index_by(content, new)
         self.screen.begin("copying tables")
         return write_index(os.path.join(self.room, b"new.idx"), index, Tables(indexes), self.screen.moved)

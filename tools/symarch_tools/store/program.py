@@ -201,7 +201,11 @@ def give(descriptor: int, run: Run) -> None:
     write(descriptor, MAGICS[0])
     for done, one in enumerate(run.slices):
         write(descriptor, one.head)
-        for chunk in one.pieces() if run.is_read_back else one.chunks():
+        if run.is_read_back:
+            for _ in one.sent(descriptor):
+                run.moved(done)
+            continue
+        for chunk in one.chunks():
             write(descriptor, chunk)
             run.moved(done)
     write(descriptor, END + len(run.slices).to_bytes(LENGTH, "big"))

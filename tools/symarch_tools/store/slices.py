@@ -18,6 +18,7 @@ from ..formats.builds import Build, Sight
 from ..formats.bundles import MOST_OF_LIST, Bundles
 from ..formats.contents import CHUNK, KEY, head_of, words_of
 from ..formats.file_kinds import MOST_LOOKED_AT, ONE, look_of
+from ..formats.files import copied
 from ..formats.mach_images import COMMAND, HEADER
 from ..formats.packed_files import GZIP, MOST_LEVELS, ZIP, Allowance, Damaged, DamagedInner, Inner, Member, Packed
 from ..formats.packed_files import TooMuch, Unpacker, is_named_as_packed, is_of_dsym, packed_at
@@ -69,22 +70,43 @@ class Slice:
     def open(self) -> BinaryIO:
         return self.opens() if self.opens else open(self.path, "rb", buffering=0)
 
-    def pieces(self) -> Iterator[bytes]:
-        """The bytes, of a file that is as long as it was."""
-        left = self.length
+    @contextlib.contextmanager
+    def opened(self) -> Iterator[int]:
+        """Its file, of which what is wrong keeps the slice out."""
         try:
             with self.open() as file:
-                file.seek(self.offset)
-                while left > 0:
-                    chunk = file.read(min(left, CHUNK))
-                    left -= len(chunk)
-                    if not chunk or left == 0 and os.fstat(file.fileno()).st_size != self.size:
-                        raise SliceRefused(CHANGED, self)
-                    yield chunk
+                yield file.fileno()
+        except BrokenPipeError:
+            # The reader of what is sent ended.
+            raise
         except OSError as error:
             raise SliceRefused(str(error.strerror), self) from None
         except Damaged:
             raise SliceRefused(CHANGED, self) from None
+
+    def after(self, file: int, at: int, size: int) -> int:
+        """The place after a piece. The file is as long as it was."""
+        if not size or at + size == self.offset + self.length and os.fstat(file).st_size != self.size:
+            raise SliceRefused(CHANGED, self)
+        return at + size
+
+    def pieces(self) -> Iterator[bytes]:
+        """The bytes."""
+        at, end = self.offset, self.offset + self.length
+        with self.opened() as file:
+            while at < end:
+                piece = os.pread(file, min(end - at, CHUNK), at)
+                at = self.after(file, at, len(piece))
+                yield piece
+
+    def sent(self, descriptor: int) -> Iterator[int]:
+        """Has the system write the bytes to an open file, piece by piece. Nobody looks at them here."""
+        at, end = self.offset, self.offset + self.length
+        with self.opened() as file:
+            while at < end:
+                size = copied(descriptor, file, at, min(end - at, CHUNK))
+                at = self.after(file, at, size)
+                yield size
 
     def chunks(self) -> Iterator[bytes]:
         """The bytes, which have to be those of the first time."""
