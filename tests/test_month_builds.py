@@ -120,7 +120,7 @@ class MonthOfBuilds(BuildsCase):
             self.room.call("exchange", self.room.archive, "shared", "east")
         same("without", len(self.room.call(*words, self.room.archive)[1]), 1)
         _, errors = self.room.call(*words, "--with-inner", self.room.archive)
-        told = "1 go that are in no other app, which a program before 2.4.0 does not say"
+        told = "1 are retired that are in no other app, which a program before 2.4.0 does not report"
         same("named", errors[0], f"symarch-keep: {told}: see that south, west have none")
 
     def test_what_was_there_before(self) -> None:

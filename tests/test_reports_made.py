@@ -601,7 +601,7 @@ class FullReports(ReportCase):
             with self.subTest(end):
                 came = self.report("--text", self.file("mac", data.replace(b"\n", end)), "shipped")
                 self.is_printed(came, named("mac").replace(b"\n", end) + end)
-                self.assertIn("Full Report is left out", came.error_lines[0])
+                self.assertIn("Full Report is omitted", came.error_lines[0])
                 self.assertEqual(came.status, 0)
 
     def test_one_that_is_none(self) -> None:
