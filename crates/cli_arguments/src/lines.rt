@@ -1,4 +1,4 @@
-//! What a command line asks for.
+//! A command line as its command and values.
 
 ghost use Rattle.std.specs.Prelude.{◌≡◌, ◌++◌, OnOk, map, string_bytes, true};
 ghost use Rattle.cli_arguments.specs.ValuesView.{values_view};
@@ -8,7 +8,7 @@ use crate::commands::{Argument, is_input, is_out, signature_named};
 use crate::values::Values;
 use std::alloc::{AllocError, Global};
 
-/// What a command line asks for: a command of the table, and the values of its arguments in the table's order.
+/// A command line: a command of the table, and the values of its arguments in the table's order.
 #[derive(Drop)]
 pub struct Line {
     pub name: String,

@@ -10,7 +10,7 @@ use crate::entry::Entry;
 use crate::unit_header::UnitHeader;
 use crate::unread_entry::skip_entry;
 
-/// The bytes from an offset on, at most so many.
+/// The bytes from an offset on, at most `room` of them.
 fn bytes_at(unit: &[u8], offset: usize, room: usize) -> &[u8]
     ensures { result.now ≡ take room (drop offset unit.now) }
 {
@@ -18,8 +18,8 @@ fn bytes_at(unit: &[u8], offset: usize, room: usize) -> &[u8]
     from.split_at(room.min(from.len())).0
 }
 
-/// The one entry at an offset of its unit, of which at most `room` bytes are read, and how many of these are left;
-/// `None` if the offset lies before the first entry, the entry cannot be read, or it is a null entry.
+/// The entry at an offset of its unit, and the number of bytes left of `room`, the most bytes to read; `None` if the
+/// offset is before the first entry, the entry cannot be read, or it is a null entry.
 pub fn entry_of<'a>(
     abbreviations: &Abbreviations<'a>,
     header: &UnitHeader,

@@ -1,4 +1,4 @@
-//! How instructions are written (DWARF 5, sections 6.2.5 and 7.22).
+//! The encoding of instructions (DWARF 5, sections 6.2.5 and 7.22).
 
 ghost use Rattle.std.specs.Prelude.{◌≡◌, ◌<◌, length};
 ghost use Rattle.std.specs.Option.{option_map};
@@ -16,7 +16,7 @@ use crate::opcodes::{
 };
 use dwarf_encoding::{signed_leb128, u16_le_at, u64_le_at, unsigned_leb128};
 
-/// The bytes after so many unsigned LEB128 operands.
+/// The bytes after `count` unsigned LEB128 operands.
 fn after_operands(count: u8, bytes: &[u8]) -> Option<&[u8]>
     ensures { option_map (λ rest. rest.now) result ≡ after_operands count bytes.now }
 {
@@ -30,7 +30,7 @@ fn after_operands(count: u8, bytes: &[u8]) -> Option<&[u8]>
     Some(rest)
 }
 
-/// An instruction with so many LEB128 operands that changes no register that is kept here.
+/// An instruction with `count` LEB128 operands that changes no register that is kept here.
 fn other(count: u8, bytes: &[u8]) -> Option<(Instruction, &[u8])>
     ensures { option_map (λ x. (x.0, x.1.now)) result ≡ other_at count bytes.now }
 {
@@ -92,8 +92,8 @@ fn standard<'a>(header: &Header<'_>, opcode: u8, bytes: &'a [u8]) -> Option<(Ins
     }
 }
 
-/// The instruction that an extended opcode and its operands are; `None` if there is no byte, or the address of
-/// `DW_LNE_set_address` has not eight.
+/// The instruction of an extended opcode and its operands; `None` if there is no byte, or the address of
+/// `DW_LNE_set_address` does not have eight.
 #[tactic(auto, unfolding(crate::specs::Instructions::extended))]
 fn extended(bytes: &[u8]) -> Option<Instruction>
     ensures { result ≡ extended bytes.now }
