@@ -32,6 +32,10 @@ is_uuid command = u32_le_at command 0 == 0x1b
 abbrev pub is_symtab : List ℕ → Bool
 is_symtab command = u32_le_at command 0 == 0x2
 
+-- load_command.cmd is LC_FUNCTION_STARTS (0x26)
+abbrev pub is_function_starts : List ℕ → Bool
+is_function_starts command = u32_le_at command 0 == 0x26
+
 -- segment_command_64.nsects: the number of its sections
 abbrev pub nsects : List ℕ → ℕ
 nsects segment = u32_le_at segment 64

@@ -6,6 +6,7 @@ use Rattle.macho_image.specs.Layout.{u32_le_at, cputype, cpusubtype, filetype}
 use Rattle.macho_image.specs.Commands.{commands, is_uuid, is_symtab, HasRoom}
 use Rattle.macho_image.specs.Fault.{IsImage}
 use Rattle.macho_image.specs.declared.symtab_command.Symtab.{Symtab}
+use Rattle.macho_image.specs.declared.linkedit_data_command.LinkeditData.{LinkeditData}
 
 -- uuid_command.uuid: sixteen bytes
 abbrev pub uuid_bytes : List ℕ → List ℕ
@@ -20,6 +21,10 @@ symtab_fields command =
       stroff = u32_le_at command 16;
       strsize = u32_le_at command 20;
     }
+
+-- the fields of linkedit_data_command
+abbrev pub linkedit_data_fields : List ℕ → LinkeditData
+linkedit_data_fields command = record { dataoff = u32_le_at command 8; datasize = u32_le_at command 12 }
 
 -- the UUID of the first LC_UUID among commands
 abbrev pub uuid_among : List (List ℕ) → Option (List ℕ)

@@ -88,7 +88,7 @@ impl Contents {
         match LoadCommand::of(offset, command) {
             LoadCommand::Uuid(uuid) => self.with_uuid(number, uuid),
             LoadCommand::Symtab(symtab) => self.with_symtab(number, symtab),
-            LoadCommand::Segment(_) | LoadCommand::Other => Ok(self),
+            LoadCommand::Segment(_) | LoadCommand::FunctionStarts(_) | LoadCommand::Other => Ok(self),
         }
     }
 }

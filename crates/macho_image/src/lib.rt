@@ -1,13 +1,13 @@
 //! Thin 64-bit little-endian Mach-O images, as mach-o/loader.h describes them: the header, the load
-//! commands LC_UUID, LC_SYMTAB and LC_SEGMENT_64, and the sections.
+//! commands LC_UUID, LC_SYMTAB, LC_SEGMENT_64 and LC_FUNCTION_STARTS, and the sections.
 //!
 //! `Image::read` says whether bytes are an image, and else what is wrong with them. An image borrows its
 //! bytes; no call takes memory. File ranges of segments, sections and symbols are not checked here.
 //!
 //! The modules in reading order: `loader`, the constants; `number` and `name`; `fault`; then the structures,
-//! one each: `header`, `uuid_command`, `symtab_command`, `section`, `segment`, `load_command`; `load_commands`
-//! and `sections`, one after another; `contents`, the walk that tests the commands, and `image`; and `laws`,
-//! what the definitions say of each other.
+//! one each: `header`, `uuid_command`, `symtab_command`, `linkedit_data_command`, `section`, `segment`,
+//! `load_command`; `load_commands` and `sections`, one after another; `contents`, the walk that tests the
+//! commands, and `image`; and `laws`, what the definitions say of each other.
 #![tactic(auto)]
 
 mod contents;
@@ -15,6 +15,7 @@ mod fault;
 mod header;
 mod image;
 pub mod laws;
+mod linkedit_data_command;
 mod load_command;
 mod load_commands;
 mod loader;
@@ -28,6 +29,7 @@ mod uuid_command;
 
 pub use fault::ImageFault;
 pub use image::Image;
+pub use linkedit_data_command::LinkeditData;
 pub use load_command::LoadCommand;
 pub use load_commands::LoadCommands;
 pub use name::before_nul;

@@ -6,7 +6,11 @@ ghost use Rattle.macho_image.specs.Commands.{IsCommand, HasRoom};
 ghost use Rattle.macho_image.specs.Inner.{HasNoCommand};
 ghost use Rattle.macho_image.specs.Kinds.{load_command};
 
-use crate::loader::{LC_SEGMENT_64, LC_SYMTAB, LC_UUID, LOAD_COMMAND_LEN};
+use crate::linkedit_data_command::{LinkeditData, linkedit_data_in};
+use crate::loader::{
+    LC_FUNCTION_STARTS, LC_SEGMENT_64, LC_SYMTAB, LC_UUID, LINKEDIT_DATA_COMMAND_LEN,
+    LOAD_COMMAND_LEN,
+};
 use crate::number::number32;
 use crate::segment::SegmentCommand64;
 use crate::symtab_command::{Symtab, symtab_in};
@@ -22,7 +26,9 @@ pub enum LoadCommand<'a> {
     Segment(SegmentCommand64<'a>),
     /// LC_SYMTAB: where the symbol table and its strings lie.
     Symtab(Symtab),
-    /// Any other.
+    /// LC_FUNCTION_STARTS: where the starts of the functions lie.
+    FunctionStarts(LinkeditData),
+    /// Any other, and an LC_FUNCTION_STARTS that is shorter than its structure.
     Other,
 }
 
@@ -62,6 +68,9 @@ impl<'a> LoadCommand<'a> {
             LC_SEGMENT_64 => LoadCommand::Segment(SegmentCommand64::of(offset, bytes)),
             LC_UUID => LoadCommand::Uuid(uuid_in(bytes)),
             LC_SYMTAB => LoadCommand::Symtab(symtab_in(bytes)),
+            LC_FUNCTION_STARTS if bytes.len() >= LINKEDIT_DATA_COMMAND_LEN => {
+                LoadCommand::FunctionStarts(linkedit_data_in(bytes))
+            }
             _ => LoadCommand::Other,
         }
     }

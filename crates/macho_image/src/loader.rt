@@ -21,6 +21,9 @@ pub(crate) const LC_SEGMENT_64: u32 = 0x19;
 /// A `cmd`: `uuid_command`.
 pub(crate) const LC_UUID: u32 = 0x1b;
 
+/// A `cmd`: `linkedit_data_command` of the starts of functions.
+pub(crate) const LC_FUNCTION_STARTS: u32 = 0x26;
+
 /// The size of `segment_command_64`, after which its sections stand.
 pub(crate) const SEGMENT_COMMAND_64_LEN: usize = 72;
 
@@ -38,3 +41,6 @@ pub(crate) const SYMTAB_COMMAND_LEN: usize = 24;
 
 /// The size of `uuid_command`.
 pub(crate) const UUID_COMMAND_LEN: usize = 24;
+
+/// The size of `linkedit_data_command`.
+pub(crate) const LINKEDIT_DATA_COMMAND_LEN: usize = 16;
