@@ -1,15 +1,15 @@
 """The tables of slices, told a second time by docs/FILES.md: made of an image, and asked page by page."""
 import struct
 from functools import lru_cache
-from typing import Dict, List, NamedTuple, Optional, Tuple
+from typing import Dict, List, NamedTuple, Optional, Sequence, Tuple
 
+from .groups import KEYED, Groups, fitted, grouped, signed, unsigned
 from .images import Candidate, Image, image_of
 from .line_tables import LineTable, line_table_of
-from .pages import MOST_ADDRESSES, Changed, Claim, Pages, Take
+from .pages import MOST_ADDRESSES, Changed, Claim, Pages, Take, text_from
 
-HEAD, SECTION, ROW = 48, 32, 21
-MOST_SECTIONS = 255
-PIECE = 64
+HEAD, SECTION = 56, 32
+ROWS, MOST_OF_ROWS, MOST_SECTIONS = 128, 4096, 255
 
 # ---- made
 
@@ -22,11 +22,25 @@ def turns(image: Image) -> List[int]:
     return sorted(it for it in found if it < MOST_ADDRESSES)
 
 
-def row_bytes(start: int, nearest: Optional[Candidate], places: Dict[Candidate, int]) -> bytes:
-    """A row that says what is nearest from an address on."""
-    if nearest is None:
-        return struct.pack(">QQIB", start, 0, 0, 0)
-    return struct.pack(">QQIB", start, nearest.value, places[nearest], nearest.sect)
+# What a row says of an address: its start, the value of the nearest symbol, where its name begins, and its section.
+Row = Tuple[int, int, int, int]
+
+
+def row_of(start: int, nearest: Optional[Candidate], places: Dict[Candidate, int]) -> Row:
+    """The row that says what is nearest from an address on."""
+    return (start, nearest.value, places[nearest], nearest.sect) if nearest else (start, 0, 0, 0)
+
+
+def group_bytes(rows: Sequence[Row]) -> bytes:
+    """A group of rows."""
+    last_start, last_place, made = rows[0][0], 0, bytearray()
+    for start, value, place, sect in rows:
+        made += unsigned(start - last_start) + unsigned(sect)
+        last_start = start
+        if sect:
+            made += unsigned(start - value) + signed(place - last_place)
+            last_place = place
+    return bytes(made)
 
 
 @lru_cache(maxsize=20000)
@@ -36,11 +50,13 @@ def table_of(b: bytes) -> bytes:
     places: Dict[Candidate, int] = {}
     for candidate, place in image.placed_candidates():
         places[candidate] = min(place, places.get(candidate, place))
-    rows = [row_bytes(it, image.nearest(it), places) for it in turns(image)]
+    rows = [row_of(it, image.nearest(it), places) for it in turns(image)]
+    groups, written = grouped(rows, ROWS, group_bytes, lambda it: it[0])
     sections = [it.segment.ljust(16, b"\0") + it.name.ljust(16, b"\0") for it in image.sections[:MOST_SECTIONS]]
     strings, lines = image.strings(), line_table_of(b)
-    numbers = (image.base is not None, image.base or 0, len(sections), len(rows), len(strings), len(lines))
-    return struct.pack(">6Q", *numbers) + b"".join([*sections, *rows, strings, lines])
+    numbers = (image.base is not None, image.base or 0, len(sections), len(rows), len(written), len(strings),
+               len(lines))
+    return struct.pack(">7Q", *numbers) + b"".join([*sections, groups, written, strings, lines])
 
 
 # ---- asked
@@ -60,41 +76,42 @@ class Table:
 
     def __init__(self, take: Take, claim: Claim) -> None:
         self.pages = Pages(take, claim)
-        flag, base, self.sections, self.rows, self.strings, lines = struct.unpack(">6Q", self.pages.read(0, HEAD))
+        flag, base, self.sections, rows, size, self.strings, lines = struct.unpack(">7Q", self.pages.read(0, HEAD))
         self.base: Optional[int] = base if flag else None
-        self.first_row = HEAD + SECTION * self.sections
-        self.first_string = self.first_row + ROW * self.rows
+        self.groups = Groups(self.pages, HEAD + SECTION * self.sections, KEYED, -(-rows // ROWS), size, MOST_OF_ROWS)
+        self.first_string = self.groups.end
         self.first_line = self.first_string + self.strings
         if claim.size != self.first_line + lines:
             raise Changed
 
     def lines(self) -> Optional[LineTable]:
         """The line table, with its head; None where it has no lines."""
-        return LineTable.opened(self.pages, self.first_line)
+        return LineTable.opened(self.pages, (self.first_string, self.strings), self.first_line)
 
     def row_for(self, address: int) -> Optional[Tuple[int, int, int]]:
-        """What the last row says that begins at an address or below it, found by halving."""
-        low, high, found = 0, self.rows, None
-        while low < high:
-            middle = (low + high) // 2
-            start, *said = struct.unpack(">QQIB", self.pages.read(self.first_row + ROW * middle, ROW))
-            if start <= address:
-                found, low = (said[0], said[1], said[2]), middle + 1
-            else:
-                high = middle
-        return found
+        """The value, place and section of the last row that begins at an address or below it; None without any."""
+        found = self.groups.found(address)
+        if not found:
+            return None
+        start, numbers = found
+        place, answer, is_first = 0, None, True
+        while not numbers.are_read:
+            apart = numbers.unsigned()
+            if is_first and apart:
+                raise Changed
+            start, is_first = fitted(start + apart, 64), False
+            if start > address:
+                break
+            sect, answer = numbers.unsigned(), None
+            if sect:
+                value = fitted(start - numbers.unsigned(), 64)
+                place = fitted(place + numbers.signed(), 32)
+                answer = (value, place, sect)
+        return answer
 
     def name_at(self, place: int) -> bytes:
-        """The name from a place of the strings on, read piece by piece."""
-        name = b""
-        while place < self.strings:
-            piece = self.pages.read(self.first_string + place, min(PIECE, self.strings - place))
-            part, nul, _ = piece.partition(b"\0")
-            name += part
-            if nul:
-                break
-            place += len(piece)
-        return name
+        """The name from a place of the strings on."""
+        return text_from(self.pages, self.first_string + place, self.first_line)
 
     def section_names(self, sect: int) -> Tuple[bytes, bytes]:
         if not 1 <= sect <= self.sections:
@@ -104,7 +121,7 @@ class Table:
 
     def nearest(self, address: int) -> Optional[Found]:
         row = self.row_for(address)
-        if row is None or row[2] == 0:
+        if row is None:
             return None
         name = self.name_at(row[1])
         return Found(row[0], name, *self.section_names(row[2]))
