@@ -11,6 +11,7 @@ pub mod Made
 pub mod Versions
 pub mod Blamed
 pub mod RunLemmas
+pub mod PagedLemmas
 pub mod NamedRecord
 pub mod EntryOrder
 pub mod Gathered

@@ -8,6 +8,8 @@ pub mod Places
 pub mod InnerMaking
 pub mod InnerReading
 pub mod Runs
+pub mod Paged
+pub mod Tree
 pub mod IndexFaultText
 pub mod Gathering
 pub mod InnerGathering

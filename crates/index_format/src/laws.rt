@@ -12,6 +12,7 @@ ghost use Rattle.index_format.specs.Fault.{IsIndexFault};
 ghost use Rattle.index_format.specs.Index.{index};
 ghost use Rattle.index_format.specs.Places.{AreNamed, HasIndexedLength, TellsFound};
 ghost use Rattle.index_format.specs.Text.{IsIndexText};
+ghost use Rattle.index_format.specs.Tree.{AreReadUnder, MayHaveEntries};
 ghost use Rattle.index_format.specs.declared.index_fault.IndexFault.{IndexFault};
 
 /// With the index of the archive whose text this is, what is named under a UUID or a key is what the content has there.
@@ -48,4 +49,10 @@ pub fn one_index_fault()
         → IsIndexFault text f → ⊥ }
     ensures alone { (text : List ℕ) (entries others : List (List ℕ)) → IsIndexText text entries
         → IsIndexText text others → entries ≡ others }
+{}
+
+/// Two lists of entries that were read of one text under the same UUIDs are one, if it may have any entries.
+pub fn one_part()
+    ensures { (uuids : List (List ℕ)) (text : List ℕ) (entries some other : List (List ℕ))
+        → MayHaveEntries text entries → AreReadUnder uuids text some → AreReadUnder uuids text other → some ≡ other }
 {}
