@@ -120,8 +120,8 @@ class MonthOfBuilds(BuildsCase):
             self.room.call("exchange", self.room.archive, "shared", "east")
         same("without", len(self.room.call(*words, self.room.archive)[1]), 1)
         _, errors = self.room.call(*words, "--with-inner", self.room.archive)
-        told = "1 are retired that are in no other app, which a program before 2.4.0 does not report"
-        same("named", errors[0], f"symarch-keep: {told}: see that south, west have none")
+        told = "1 of the slices to retire may be in other apps of south, west"
+        same("named", errors[0], f"symarch-keep: {told}, which programs before 2.4.0 do not report")
 
     def test_what_was_there_before(self) -> None:
         """Who else has it is not known, so it stays, also when the archive of an app has it later."""

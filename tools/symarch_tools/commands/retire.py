@@ -223,8 +223,8 @@ class Retiring:
         """Names the sites that may have some slices in other apps, which programs before 2.4.0 do not say."""
         sites = sorted(Exchanged(self.archive).sites)
         if count and sites:
-            told = f"{count} are retired that are in no other app, which a program before 2.4.0 does not report"
-            self.screen.line(f"{told}: see that {', '.join(sites)} have none")
+            told = f"{count} of the slices to retire may be in other apps of {', '.join(sites)}"
+            self.screen.line(f"{told}, which programs before 2.4.0 do not report")
 
     def end(self, retired: int, staying: int, status: int) -> int:
         return self.screen.end(status, dict(zip(KEYS, (retired, staying, self.is_dry_run))))
